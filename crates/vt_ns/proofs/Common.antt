@@ -32,6 +32,7 @@ pub use Rattle.vt_location.proofs.NumberLemmas.{counted_test}
 pub use Rattle.vt_location.specs.Locations.{is_small_node, location_of, number_of}
 pub use Rattle.vt_location.specs.MountValue.{mount_of}
 pub use Rattle.vt_location.specs.Numbers.{counted, inode_number, is_own_number}
+pub use Rattle.vt_mount.proofs.EntryLemmas.{is_some_mapped}
 pub use Rattle.vt_mount.proofs.PlaceLemmas.{counts, numbers}
 pub use Rattle.vt_mount.specs.Attached.{AreOf}
 pub use Rattle.vt_mount.specs.MountsValue.{MountEntry, are_ascending, changed, entry_numbered, mounts_in, stands_over, uses_of, writers_of}
@@ -52,7 +53,7 @@ pub use Rattle.vt_mounting.proofs.detach.Overlaid.{found_plain_one, keeps_itself
 pub use Rattle.vt_mounting.proofs.detach.OverlaysListed.{done_in_store, left_itself, left_still, left_twice}
 pub use Rattle.vt_mounting.proofs.detach.Places.{located_is_named, standing}
 pub use Rattle.vt_mounting.proofs.detach.Remaining.{remade, remade_with}
-pub use Rattle.vt_mounting.proofs.detach.Shown.{is_some_mapped, pins, unpins}
+pub use Rattle.vt_mounting.proofs.detach.Shown.{pins, unpins}
 pub use Rattle.vt_mounting.proofs.detach.Splits.{replaced_split}
 pub use Rattle.vt_mounting.proofs.detach.Staying.{IsDone, after}
 pub use Rattle.vt_mounting.proofs.detach.StoreShown.{files_shown, parents_named_in, store_stands}

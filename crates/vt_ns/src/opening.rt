@@ -91,7 +91,7 @@ fn attach_first(mounts: &mut Mounts, mount: Mount) -> Result<(), AllocError>
     requires { mounts.old ≡ [] }
     ensures { OnOk result (mounts.new ≡ record { mount = mount_of mount; uses = 2; writers = 0 } ∷ []) }
 {
-    mounts.attach(mount)?;
+    mounts.attach(&mount)?;
     mounts.hold(mount.number, false)?;
     mounts.hold(mount.number, false)
 }

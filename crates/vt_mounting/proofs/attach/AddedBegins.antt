@@ -2,14 +2,15 @@
 -- code counts
 -- before it detaches them. So does unshare(2), where a namespace ends with it.
 use Rattle.std.proofs.Common.{◌≡◌, refl, sym, ap, subst, ◌∙◌, ◌⊎◌, ⊎_elim, inl, inr, ℕ, ◌+◌, nat_eq, eqb-true, eq-eqb, Bool, true, false, true≢false, cond, not, ◌&&◌, ◌||◌, List, [], ◌∷◌, ◌++◌, map, flat_map, Option, Some, None, is_some, arith, nat_lt, option_to_list, append-nil}
-use Rattle.vt_spec.proofs.Common.{Filesystem, Location, Mount, Namespace, World, all_locations, and_parts, any_pair, detached, folded, is_among, is_located, is_nowhere_or_attached, is_private, list_all, list_any, map-append, map_alike, map_twice, mount_at, mount_in, mount_lives}
+use Rattle.vt_spec.proofs.Common.{Filesystem, Location, Mount, Namespace, World, all_locations, and_parts, detached, folded, is_among, is_located, is_nowhere_or_attached, is_private, list_all, map-append, map_twice, mount_at, mount_in, mount_lives}
 use Rattle.vt_mounting.proofs.Common.{Among, AreThere, CountsItsMounts, Exchanges, FilesystemEntry, Inode, IsHeld, LocationsStand, MountEntry, MountsStand, OneNumberAMount, Shown, Tasks, WorldValue, all_in_use, among-append, among-append_left, among-append_right, among-from_map, among-map, among_from_all, among_from_list_all, any_among, any_from_among, counted, exchanges_follow, filesystem_seen, inode_at, inodes_of_mount_point, inodes_seen, is_inode, is_on, list_all_from_among, located_while_counted, locations_use_mounts, mount_uses, mounts_in, mounts_of_worlds_stand, or_left, pinned_if, places_of, shown, shown_entry, stands_on_attached, times, times_append, world_of, writes_of}
 use Rattle.vt_laws_mounts.proofs.counts.using.MountRoots as Roots
 use Rattle.vt_laws_mounts.proofs.counts.using.Places.{locations_are_uses, mounts_are_uses}
 use Rattle.vt_laws_mounts.proofs.letting_go.leaving.MountsAdded.{found_before}
 use Rattle.vt_mounting.proofs.detach.MountsLeave.{leaves_alike, merged_alike}
 use Rattle.vt_mounting.specs.Detach.Uses.{Kept, is_unused, merged_seen}
-use Rattle.vt_mounting.proofs.detach.Midway.{IsShown, Midway, NoneUnused, Reached, gone_if, gone_number, point_left, points_left}
+use Rattle.vt_mounting.proofs.detach.Keeping.{nowhere_still}
+use Rattle.vt_mounting.proofs.detach.Midway.{IsShown, Midway, NoneUnused, Reached, gone_if, gone_numbers, one_number_gone, point_left, points_left}
 use Rattle.vt_mounting.proofs.detach.MidwayBegins as Begins
 use Rattle.vt_mounting.proofs.detach.Moving.{Moves}
 use Rattle.vt_mounting.proofs.attach.OverlaysMore.{grown, leaves_grown, merged_grown, mounted_more}
@@ -136,10 +137,10 @@ module _ (value : WorldValue) (whole : IsHeld value) (added : List (Mount ℕ)) 
 
   stand_ended : MountsStand ended
   stand_ended = record {
-    one_number = numbers base.mounts ∙ is.one_number;
+    one_number = one_number_gone goes base.mounts is.one_number;
     nowhere = list_all_from_among is_nowhere_or_attached ended.mounts
         (λ x m. let from = among-from_map (gone_if goes) base.mounts x m in
-        ap is_nowhere_or_attached from.2 ∙ outside from.0 (goes from.0)
+        ap is_nowhere_or_attached from.2 ∙ nowhere_still from.0 (goes from.0)
         (⊎_elim (λ old. among_from_list_all is_nowhere_or_attached world.mounts stand.nowhere from.0 old)
         (λ new. or_left (is_some from.0.namespace) (not (is_some from.0.mount_point) && is_private from.0.propagation)
         (is.attached from.0 new)) (among-append world.mounts added from.0 from.1)));
@@ -148,22 +149,6 @@ module _ (value : WorldValue) (whole : IsHeld value) (added : List (Mount ℕ)) 
         ap (stands_on_attached ended) from.2 ∙ on from.0 from.1 (goes from.0) refl);
   }
     where
-      numbers_one : (x : Mount ℕ) (xs : List (Mount ℕ))
-          → list_any (λ b. nat_eq (gone_if goes x).number b.number) (map (gone_if goes) xs)
-          ≡ list_any (λ b. nat_eq x.number b.number) xs
-      numbers_one x [] = refl
-      numbers_one x (y ∷ ys) = λ i. nat_eq (gone_number goes x i) (gone_number goes y i) || numbers_one x ys i
-
-      numbers : (xs : List (Mount ℕ)) → any_pair (λ (a b : Mount ℕ). nat_eq a.number b.number) (map (gone_if goes) xs)
-          ≡ any_pair (λ (a b : Mount ℕ). nat_eq a.number b.number) xs
-      numbers [] = refl
-      numbers (x ∷ xs) = λ i. numbers_one x xs i || numbers xs i
-
-      outside : (x : Mount ℕ) (b : Bool) → is_nowhere_or_attached x ≡ true
-          → is_nowhere_or_attached (cond b (detached x) x) ≡ true
-      outside x true e = refl
-      outside x false e = e
-
       still : (x : Mount ℕ) → Among x base.mounts → goes x ≡ false → (o : Option (Location ℕ)) → x.mount_point ≡ o
           → list_all (λ place. is_some (mount_at nat_eq ended place).namespace) (option_to_list o) ≡ true
       still x m stays None e = refl
@@ -178,17 +163,12 @@ module _ (value : WorldValue) (whole : IsHeld value) (added : List (Mount ℕ)) 
       on x m true e = refl
       on x m false e = still x m e x.mount_point refl
 
-  same_numbers : map (λ (x : Mount ℕ). x.number) ended.mounts ≡ map (λ (x : Mount ℕ). x.number) base.mounts
-  same_numbers = map_twice (λ (x : Mount ℕ). x.number) (gone_if goes) base.mounts
-      ∙ map_alike (λ (x : Mount ℕ). (gone_if goes x).number) (λ (x : Mount ℕ). x.number) base.mounts
-      (λ x m. gone_number goes x)
-
   located_ended : LocationsStand ended
   located_ended =
       list_all_from_among (λ location. is_among nat_eq location.mount (map (λ x. x.number) ended.mounts))
       (all_locations base)
       (λ location m.
-      ap (is_among nat_eq location.mount) same_numbers ∙ ⊎_elim
+      ap (is_among nat_eq location.mount) (gone_numbers goes base.mounts) ∙ ⊎_elim
       (λ f. old location (subst (λ all. Among location all) (sym is.was)
       (among-append_left is.front (less ++ is.back) location f))) (λ rest. ⊎_elim
       (λ come. among_from_list_all (λ one. is_among nat_eq one.mount (map (λ x. x.number) base.mounts)) more is.there
@@ -210,12 +190,6 @@ module _ (value : WorldValue) (whole : IsHeld value) (added : List (Mount ℕ)) 
 
   -- Filesystems
 
-  shows_still : (c : ℕ) (mounts : List (Mount ℕ))
-      → times (λ (x : Mount ℕ). nat_eq c x.filesystem) (map (gone_if goes) mounts)
-      ≡ times (λ (x : Mount ℕ). nat_eq c x.filesystem) mounts
-  shows_still c [] = refl
-  shows_still c (x ∷ xs) = λ i. cond (nat_eq c ((Begins.gone_shows goes goes_attached x).0 i)) 1 0 + shows_still c xs i
-
   abbrev shown_so : Shown → Shown
   shown_so one = record one {
     inodes = folded (pinned_if (counted one.count)) one.inodes gained;
@@ -235,7 +209,7 @@ module _ (value : WorldValue) (whole : IsHeld value) (added : List (Mount ℕ)) 
   shown_is was m =
       let counts = (among_from_all (CountsItsMounts world) value.filesystems whole.filesystems was m).mounts in
       let all = times_append (λ (x : Mount ℕ). nat_eq (counted was.count) x.filesystem) world.mounts added in
-      let gone = shows_still (counted was.count) base.mounts in
+      let gone = Begins.gone_showing goes goes_attached (counted was.count) base.mounts in
       record {
         was = was;
         among = m;
@@ -313,7 +287,8 @@ module _ (value : WorldValue) (whole : IsHeld value) (added : List (Mount ℕ)) 
   begins_midway = record {
     held = whole;
     merged = keeps.merged ∙ merged_grown value whole added
-        ∙ merged_alike (grown value whole added) ended refl (λ n. shows_still n base.mounts);
+        ∙ merged_alike (grown value whole added) ended refl
+        (λ n. Begins.gone_showing goes goes_attached n base.mounts);
     mounts = ap (map (gone_if goes)) (sym keeps.mounts);
     uses = uses_are;
     writers = λ entry m. let counts = keeps.writers entry m in let same = is.writes entry.mount.number in omega
@@ -331,7 +306,8 @@ module _ (value : WorldValue) (whole : IsHeld value) (added : List (Mount ℕ)) 
         ∙ sym (ap (map (λ (one : Shown). counted one.count)) keeps.filesystems);
     stand = stand_ended;
     located = located_ended;
-    leaves = leaves_alike (grown value whole added) ended refl (λ n. shows_still n base.mounts) value
+    leaves = leaves_alike (grown value whole added) ended refl
+        (λ n. Begins.gone_showing goes goes_attached n base.mounts) value
         (leaves_grown value whole added);
     same = refl;
   }

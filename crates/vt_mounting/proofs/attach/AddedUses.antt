@@ -1,6 +1,6 @@
 -- What mounts that are attached use: their roots and their mount points, and the filesystems that they show.
-use Rattle.std.proofs.Common.{◌≡◌, refl, sym, ap, ◌∙◌, inl, inr, ℕ, ◌+◌, nat_eq, Bool, true, false, cond, List, [], ◌∷◌, ◌++◌, map, Option, Some, None, option_map, if◌then◌else◌, arith, filter_map, append-nil}
-use Rattle.vt_spec.proofs.Common.{Inodes, World, all_locations, any_pair, cons_option, folded, list_all, map-append, map_alike, map_twice, root_of}
+use Rattle.std.proofs.Common.{◌≡◌, refl, sym, ap, ◌∙◌, ℕ, ◌+◌, nat_eq, Bool, true, false, List, [], ◌∷◌, ◌++◌, map, Option, Some, None, if◌then◌else◌, arith, filter_map, append-nil}
+use Rattle.vt_spec.proofs.Common.{Inodes, World, all_locations, any_pair, common_steps, folded, list_all, map-append, map_alike, map_twice, root_of}
 use Rattle.vt_spec.specs.Machine.Mounts as meant
 use Rattle.vt_mounting.proofs.Common.{Among, Exchanges, Inode, Shown, counted, counted_test, inode_at, is_inode, is_on, location_of, mount_of, pinned_if, places_of, times, times_append}
 use Rattle.vt_laws_mounts.proofs.counts.using.Places.{mounts_are_uses}
@@ -37,19 +37,7 @@ pinned_one inode one = record one { inodes = pinned_if (counted one.count) one.i
 
 mounted_one : (count : ℕ) (one : Shown) → mounted_if (counted count) one
     ≡ record one { mounts = one.mounts + (if nat_eq (counted one.count) (counted count) then 1 else 0) }
-mounted_one count one = by (nat_eq (counted count) (counted one.count))
-    ∙ (λ i. record one { mounts = one.mounts + (if turned i then 1 else 0) })
-  where
-    turned : nat_eq (counted count) (counted one.count) ≡ nat_eq (counted one.count) (counted count)
-    turned = counted_eq_back count one.count ∙ sym (counted_test one.count count)
-
-    none : one.mounts ≡ one.mounts + 0
-    none = omega arith
-
-    by : (b : Bool) → cond b (record one { mounts = one.mounts + 1 }) one
-        ≡ record one { mounts = one.mounts + (if b then 1 else 0) }
-    by true = refl
-    by false = λ i. record one { mounts = none i }
+mounted_one count one = grind (arith, common_steps, counted_eq_back, counted_test)
 
 by_one : (mount : Mount) (all : List Shown) → shown_by all mount ≡ map (with_mount_on mount) all
 by_one mount all = ap (map (mounted_if (counted mount.root.filesystem.count))) (pinned_both mount.mount_point)
@@ -117,26 +105,7 @@ module _ (after : World ℕ) where
       → times test (map (inode_at after) (map root_of (map mount_of new))) + times test
       (map (inode_at after) (points_of new)) ≡ times test (gained_by new)
   times_places test [] found = refl
-  times_places test (mount ∷ new) found = by mount.mount_point refl
-      (times_places test new (λ other m. found other (inr m)))
-    where
-      root_same : ◌≡◌ {A = ℕ} (if test (inode_at after (root_of (mount_of mount))) then 1 else 0)
-          (if test (inode_of mount.root) then 1 else 0)
-      root_same = ap (λ inode. if test inode then 1 else 0) (found mount (inl refl)).root
-
-      by : (o : Option Location) → mount.mount_point ≡ o
-          → times test (map (inode_at after) (map root_of (map mount_of new))) + times test
-          (map (inode_at after) (points_of new)) ≡ times test (gained_by new)
-          → (if test (inode_at after (root_of (mount_of mount))) then 1 else 0) + times test
-          (map (inode_at after) (map root_of (map mount_of new)))
-          + times test (map (inode_at after) (cons_option (option_map location_of o) (points_of new)))
-          ≡ (if test (inode_of mount.root) then 1 else 0) + times test (inodes_of_point o ++ gained_by new)
-      by None e rest = omega (arith, rest, root_same)
-      by (Some point) e rest =
-          let point_same : ◌≡◌ {A = ℕ} (if test (inode_at after (location_of point)) then 1 else 0)
-          (if test (inode_of point.node) then 1 else 0) =
-          ap (λ inode. if test inode then 1 else 0) ((found mount (inl refl)).point point e) in
-          omega (arith, rest, root_same, point_same)
+  times_places test (mount ∷ new) found = grind (arith, common_steps, times_places test new, inodes_of_point)
 
   pub gained_uses : (test : Inode → Bool) (new : List Mount) → ((mount : Mount) → Among mount new → IsFoundIn mount)
       → times test (map (inode_at after) (places_of (map mount_of new))) ≡ times test (gained_by new)

@@ -1,8 +1,8 @@
 -- Mounts that come after all others: nothing is on them, and their numbers are greater.
 use Rattle.std.proofs.Common.{◌≡◌, refl, sym, ap, ◌∙◌, inl, inr, ℕ, ◌+◌, ◌<◌, ◌%◌, ◌/◌, ◌==◌, nat_eq, eqb-true, nat_lt, Bool, true, false, true≢false, ◌&&◌, ◌||◌, List, [], ◌∷◌, ◌++◌, map, flat_map, if◌then◌else◌, arith, ltb-true, ne_eqb}
-use Rattle.vt_spec.proofs.Common.{Descriptor, Task, all_locations, is_among, list_all, locations_of}
+use Rattle.vt_spec.proofs.Common.{Task, all_locations, and-false, common_steps, is_among, list_all, locations_of}
 use Rattle.vt_spec.specs.Machine.Mounts as meant
-use Rattle.vt_mounting.proofs.Common.{Among, CountsItsUses, IsHeld, WorldValue, among-append_left, among-append_right, among-from_map, among-map, among_from_list_all, among_numbers, are_ascending, counted, is_among_numbers, is_counted_before, mount_of, mounts_in, times, world_of, writes_of, writes_on}
+use Rattle.vt_mounting.proofs.Common.{Among, CountsItsUses, IsHeld, WorldValue, among-append_left, among-append_right, among-from_map, among-map, among_from_list_all, among_numbers, are_ascending, counted, is_among_numbers, is_counted_before, mount_of, mounts_in, times, world_of, writes_of}
 use Rattle.vt_location.specs.declared.mounts.Mount.{Mount}
 use Rattle.vt_mounting.specs.Detach.Uses.{unused_entry}
 use Rattle.vt_mounting.proofs.attach.Beside.{IsBeside}
@@ -23,21 +23,16 @@ writes_none : (number : ℕ) (tasks : List (Task ℕ))
     → nat_eq number location.mount ≡ false) → writes_of number tasks ≡ 0
 writes_none number [] none = refl
 writes_none number (task ∷ tasks) none =
-    let own = times_none (writes_on number) task.descriptors (λ descriptor m.
-    not_written descriptor (none descriptor.location
-    (among-append_left (locations_of task) (flat_map locations_of tasks) descriptor.location
-    (inr (inr (among-map (λ (d : Descriptor ℕ). d.location) task.descriptors descriptor m)))))) in
-    let rest = writes_none number tasks (λ location m. none location (among-append_right (locations_of task)
-    (flat_map locations_of tasks) location m)) in
-    (λ i. own i + rest i)
-  where
-    not_written : (descriptor : Descriptor ℕ) → nat_eq number descriptor.location.mount ≡ false
-        → writes_on number descriptor ≡ false
-    not_written descriptor other = ap (λ b. descriptor.writes && b) other ∙ by descriptor.writes
-      where
-        by : (b : Bool) → (b && false) ≡ false
-        by true = refl
-        by false = refl
+    grind (
+      arith,
+      common_steps,
+      writes_none number tasks,
+      times_none,
+      among-append_left,
+      among-map,
+      among-append_right,
+      and-false,
+    )
 
 -- Mounts that come after all others: nothing is on them
 module _ (value : WorldValue) (whole : IsBeside value) (new : List Mount)
@@ -86,8 +81,4 @@ lower_numbers value whole counts mount m =
         → (even || ((mount.number % 4 == 1) && less)) ≡ true → mount.number < counted value.next
     by true e less f g = let zero = eqb-true (mount.number % 2) 0 e in absurd (omega (arith, zero, is_odd))
     by false e true f g = let below = ltb-true (mount.number / 4) value.next f in omega (arith, below, is_odd)
-    by false e false f g = absurd (true≢false (sym g ∙ none (mount.number % 4 == 1)))
-      where
-        none : (b : Bool) → (b && false) ≡ false
-        none true = refl
-        none false = refl
+    by false e false f g = absurd (true≢false (sym g ∙ and-false (mount.number % 4 == 1)))

@@ -1,6 +1,6 @@
 -- The events that attach copies of mounts: mount(2) with MS_BIND.
-use Rattle.std.proofs.Common.{◌≡◌, ◌<◌, refl, sym, ap, subst, ◌∙◌, ⊎_elim, ℕ, ◌+◌, ◌*◌, ◌%◌, ◌==◌, nat_eq, eq-eqb, Bool, true, false, true≢false, cond, ◌||◌, ◌&&◌, List, [], ◌∷◌, ◌++◌, map, find, length, Some, is_some, arith}
-use Rattle.vt_spec.proofs.Common.{Permit, TaskName, ToBind, World, among_from_contains, attach, bind_tree, group_of, has_members, holds_of, is_among, is_located_well, is_member_of, length-map, list_all, mount_at, parts_of}
+use Rattle.std.proofs.Common.{◌≡◌, ◌<◌, refl, sym, ap, subst, ◌∙◌, ⊎_elim, ℕ, ◌+◌, ◌*◌, ◌%◌, ◌==◌, nat_eq, eq-eqb, Bool, true, false, true≢false, ◌&&◌, List, [], ◌∷◌, ◌++◌, map, find, length, Some, is_some, arith}
+use Rattle.vt_spec.proofs.Common.{Permit, TaskName, ToBind, World, among_from_contains, attach, bind_tree, common_steps, group_of, has_members, holds_of, is_among, is_located_well, is_member_of, length-map, list_all, mount_at, parts_of}
 use Rattle.vt_spec.specs.Machine.Mounts as meant
 use Rattle.vt_mounting.proofs.Common.{Among, CountsItsMounts, Filesystems, Grouping, HasGroup, IsCounted, IsHeld, IsSeen, KeepsTo, MountEntry, OneNumberAMount, WorldValue, all_in_use, among_from_all, any_from_among, are_ascending, counted, counts_from, found_is_there, inodes_seen, is_counted_before, location_of, mount_of, mounts_in, mounts_of_worlds_stand, new_group, parts_apart, planned_copies, world_of, worlds_have_trees}
 use Rattle.vt_laws_mounts.proofs.counts.using.MountRoots as Roots
@@ -170,14 +170,7 @@ pub found_some : (number : ℕ) (mounts : List (meant.Mount ℕ))
     → is_among nat_eq number (map (λ (mount : meant.Mount ℕ). mount.number) mounts) ≡ true
     → is_some (find (λ (mount : meant.Mount ℕ). nat_eq number mount.number) mounts) ≡ true
 found_some number [] there = absurd (true≢false (sym there))
-found_some number (first ∷ rest) there = by (nat_eq number first.number) there (found_some number rest)
-  where
-    by : (b : Bool) → (b || is_among nat_eq number (map (λ (mount : meant.Mount ℕ). mount.number) rest)) ≡ true
-        → (is_among nat_eq number (map (λ (mount : meant.Mount ℕ). mount.number) rest) ≡ true
-        → is_some (find (λ (mount : meant.Mount ℕ). nat_eq number mount.number) rest) ≡ true)
-        → is_some (cond b (Some first) (find (λ (mount : meant.Mount ℕ). nat_eq number mount.number) rest)) ≡ true
-    by true there later = refl
-    by false there later = later there
+found_some number (first ∷ rest) there = grind (arith, common_steps, found_some number rest)
 
 module _ (value : WorldValue) (whole : IsHeld value) (name : TaskName) (source place : Location) (recursive : Bool)
     (permits : Permits value name (ToBind (location_of source) (location_of place) recursive)) where

@@ -1,7 +1,7 @@
 -- The copies of an attachment stand in the order of their numbers: all at one part, in the order of the tree, then all
 -- at the next.
-use Rattle.std.proofs.Common.{◌≡◌, ◌<◌, ◌≤◌, refl, sym, ap, subst, ◌∙◌, ⊎_elim, inl, inr, true≢false, ℕ, ◌+◌, ◌*◌, nat_eq, eq-eqb, Bool, true, false, cond, ◌&&◌, List, [], ◌∷◌, ◌++◌, map, length, Some, arith, flat_map, if◌then◌else◌, nat_lt, unwrap_or, lt-ltb, ne_eqb}
-use Rattle.vt_spec.proofs.Common.{Mount, World, any_pair, copies_at, copy_at, group_of, index_from, index_of, is_destination, length-map, list_all, list_any, map_twice, mount_at, or_parts, parts_of, twig_of}
+use Rattle.std.proofs.Common.{◌≡◌, ◌<◌, ◌≤◌, refl, sym, ap, subst, ◌∙◌, inl, inr, true≢false, ℕ, ◌+◌, ◌*◌, nat_eq, eq-eqb, true, false, cond, ◌&&◌, List, [], ◌∷◌, ◌++◌, map, length, Some, arith, flat_map, if◌then◌else◌, nat_lt, unwrap_or, lt-ltb, ne_eqb}
+use Rattle.vt_spec.proofs.Common.{Mount, World, any_pair, common_steps, copies_at, copy_at, group_of, index_from, index_of, is_destination, length-map, list_all, list_any, map_twice, mount_at, or_parts, parts_of, twig_of}
 use Rattle.std.proofs.Math.Nat.{mul-le-mul_left}
 use Rattle.vt_mounting.proofs.Common.{Among, OneNumberAMount, among-from_flat_map, among-from_map, are_ascending, counted, flat_map_alike, graft_in, index_bound, list_all_from_among, location_of, mount_of, none_among, numbers_at, parts_apart, planned_copies}
 use Rattle.vt_laws_mounts.proofs.mounts.MountsNumbered.{same_number}
@@ -21,19 +21,7 @@ place_in k all number = unwrap_or (index_from (λ (x : Mount ℕ). nat_eq number
 
 place_low : (k : ℕ) (all : List (Mount ℕ)) (mount : Mount ℕ) → Among mount all → k ≤ place_in k all mount.number
 place_low k [] mount m = absurd m
-place_low k (first ∷ rest) mount m = ⊎_elim (λ same. by (nat_eq mount.number first.number)
-    (eq-eqb mount.number first.number (ap (λ (x : Mount ℕ). x.number) same)))
-    (λ later. low (nat_eq mount.number first.number) (place_low (k + 1) rest mount later)) m
-  where
-    by : (b : Bool) → b ≡ true → k ≤ unwrap_or
-        (cond b (Some k) (index_from (λ (x : Mount ℕ). nat_eq mount.number x.number) (k + 1) rest)) 0
-    by true is = omega arith
-    by false is = absurd (true≢false (sym is))
-
-    low : (b : Bool) → k + 1 ≤ place_in (k + 1) rest mount.number
-        → k ≤ unwrap_or (cond b (Some k) (index_from (λ (x : Mount ℕ). nat_eq mount.number x.number) (k + 1) rest)) 0
-    low true le = omega arith
-    low false le = omega (arith, le)
+place_low k (first ∷ rest) mount m = grind (arith, common_steps, place_low (k + 1) rest mount, eq-eqb)
 
 -- the first of a list, and each later one
 pub place_first : (k : ℕ) (first : Mount ℕ) (rest : List (Mount ℕ)) → place_in k (first ∷ rest) first.number ≡ k

@@ -1,13 +1,10 @@
 -- The groups that an attachment makes, against the types of its copies.
 use Rattle.std.proofs.Common.{◌≡◌, ◌⊎◌, refl, sym, ap, subst, ◌∙◌, true≢false, inl, inr, ℕ, nat_eq, eq-eqb, eqb-true, Bool, true, false, cond, not, List, map, Option, Some, None, is_some, option_map, unwrap_or, filter_map}
-use Rattle.vt_spec.proofs.Common.{Among, Copies, Graft, Location, Mount, Private, Propagation, Shared, Slave, Twig, Unbindable, World, all_from_among, among-filter_map, among-flat_map, among-from_filter_map, among-from_flat_map, among-from_map, among-map, any_among, any_from_among, contains_from_among, copies_at, copy_at, copy_type, graft_of, group_made, group_of, has_members, holds_of, image, is_among, is_among_numbers, is_destination, is_member_of, is_shared, master_after, mount_at, nearest_image, parts_of, then_some, twig_master, twig_of, type_at, type_at_part, when}
+use Rattle.vt_spec.proofs.Common.{Among, Copies, Graft, Location, Mount, Private, Propagation, Shared, Slave, Twig, Unbindable, World, all_from_among, among-filter_map, among-flat_map, among-from_filter_map, among-from_flat_map, among-from_map, among-map, any_among, any_from_among, contains_from_among, copies_at, copy_at, copy_type, graft_of, group_made, group_of, has_members, holds_of, image, is_among, is_among_numbers, is_destination, is_member_of, is_shared, master_after, mount_at, nearest_image, none_is_some, parts_of, then_some, twig_master, twig_of, type_at, type_at_part, when}
 use Rattle.vt_mounting.proofs.Common.{HasGroup}
 use Rattle.vt_laws_mounts.proofs.mounts.MountsFound.{number-mount_in}
 use Rattle.vt_mounting.specs.Attach.AttachedGroups.{FormedGroupsBegin, GroupsOfCopiesAreNamed, HasGroupsOf, all_copies, groups_formed}
 use Rattle.vt_laws_mounts.proofs.Groups.{no_group_of_heir}
-
-none_is_some : {A : Type 0} (a : A) {B : Type 0} → None ≡ Some a → B
-none_is_some a e = absurd (true≢false (sym (ap is_some e)))
 
 -- the first of a pair, where it is given
 first_given : {A B : Type 0} (f : A → B) (o : Option A) (entry : A × B) → option_map (λ a. (a, f a)) o ≡ Some entry

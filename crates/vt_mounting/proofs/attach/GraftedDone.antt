@@ -194,12 +194,17 @@ module _ (value : WorldValue) (whole : IsBeside value) (base : Filesystems) (is_
 
   pub same_numbers : map (λ (f : Filesystem ℕ). f.number) (filesystems_seen base)
       ≡ map (λ (entry : FilesystemEntry). counted entry.count) filesystems
-  same_numbers = map_twice (λ (f : Filesystem ℕ). f.number) filesystem_seen base
-      ∙ sym (map_twice (λ (one : Shown). counted one.count) shown_entry base)
-      ∙ sym (map_twice (λ (one : Shown). counted one.count)
-      (λ (one : Shown). exchanged_on gains losses (showing one.count copies) one) (shown base))
-      ∙ sym (ap (map (λ (one : Shown). counted one.count)) shown_then)
-      ∙ map_twice (λ (one : Shown). counted one.count) shown_entry filesystems
+  same_numbers =
+      cc (
+        map_twice (λ (f : Filesystem ℕ). f.number) filesystem_seen base,
+        map_twice (λ (one : Shown). counted
+            one.count) shown_entry base,
+        map_twice (λ (one : Shown). counted one.count) (λ (one : Shown). exchanged_on gains
+            losses (showing one.count copies) one) (shown base),
+        shown_then,
+        map_twice (λ (one : Shown). counted one.count)
+            shown_entry filesystems,
+      )
 
   pub own_then : (entry : FilesystemEntry) → Among entry filesystems → IsOwn entry.count (inodes_seen entry)
   own_then entry m =

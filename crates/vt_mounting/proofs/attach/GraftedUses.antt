@@ -1,6 +1,6 @@
 -- The uses of inodes where mounts come and others move onto them.
-use Rattle.std.proofs.Common.{◌≡◌, refl, sym, ap, subst, ◌∙◌, inl, inr, true≢false, ℕ, ◌+◌, nat_eq, eqb-true, Bool, true, false, cond, not, ◌&&◌, ◌||◌, List, [], ◌∷◌, ◌++◌, map, find, Option, Some, is_some, arith, All, filter, filter_map, flat_map, option_to_list, unwrap_or, ne_eqb}
-use Rattle.vt_spec.proofs.Common.{Filesystem, IsWorld, ListsNumbers, Propagation, World, all_locations, and_parts, any_pair, cons_option, filesystem_numbered, has_its_root, is_among, is_directory_at, is_directory_node, layers_in, list_all, list_all-append, lookup, map-append, map_alike, map_twice, mount_at, mount_in, named_in, no_mount, node_at, objects_of_overlay, or_else, root_of, used_in, with_mounts}
+use Rattle.std.proofs.Common.{◌≡◌, refl, sym, ap, subst, ◌∙◌, inl, inr, true≢false, ℕ, ◌+◌, nat_eq, eqb-true, Bool, true, false, cond, not, ◌&&◌, ◌||◌, List, [], ◌∷◌, ◌++◌, map, Option, Some, is_some, arith, All, filter, filter_map, flat_map, option_to_list, unwrap_or, ne_eqb}
+use Rattle.vt_spec.proofs.Common.{Filesystem, IsWorld, ListsNumbers, Propagation, World, all_locations, and_parts, any_pair, common_steps, cons_option, filesystem_numbered, has_its_root, is_among, is_directory_at, is_directory_node, layers_in, list_all, list_all-append, lookup, map-append, map_alike, map_twice, mount_at, mount_in, named_in, node_at, objects_of_overlay, or_else, root_of, used_in, with_mounts}
 use Rattle.vt_mounting.proofs.Common.{Among, AreThere, Exchanges, FilesystemEntry, Filesystems, HasOwnInodes, HasOwnNodes, Inode, IsUnderWay, MountEntry, MovesOnce, WorldValue, all_in_use, among-append_left, among-append_right, among-filter_map, among-from_map, among-map, among_from_all, among_from_list_all, among_numbers, are_ascending, counted, directory_is_there, exchanges_follow, filesystem_seen, filesystems_seen, found_filesystem, inode_at, inodes_seen, is_inode, is_inode_used, is_on, list_all_from_among, location_of, map_same, mount_of, mounts_entered, mounts_in, none_from_among, number_of, one_number_by_numbers, overlays_seen, places_of, times, times_append, world_of, woven}
 use Rattle.vt_laws_mounts.proofs.counts.using.MountRoots.{places_stand}
 use Rattle.vt_laws_mounts.specs.LettingGo.OneByOne.{let_go_inode_of, let_go_inodes, without_inode}
@@ -102,17 +102,7 @@ module _ (points : List Point) (kinds : List (ℕ × Propagation ℕ)) where
       → (mount_in nat_eq (map (changed_at points kinds) mounts ++ back) number).filesystem
       ≡ (mount_in nat_eq (mounts ++ back) number).filesystem
   shows_alike number [] back = refl
-  shows_alike number (mount ∷ rest) back = by (nat_eq number mount.number) (shows_alike number rest back)
-    where
-      by : (b : Bool) → (mount_in nat_eq (map (changed_at points kinds) rest ++ back) number).filesystem
-          ≡ (mount_in nat_eq (rest ++ back) number).filesystem
-          → (unwrap_or (cond b (Some (changed_at points kinds mount))
-          (find (λ (x : meant.Mount ℕ). nat_eq number x.number) (map (changed_at points kinds) rest ++ back)))
-          (no_mount number)).filesystem
-          ≡ (unwrap_or (cond b (Some mount) (find (λ (x : meant.Mount ℕ). nat_eq number x.number) (rest ++ back)))
-          (no_mount number)).filesystem
-      by true later = refl
-      by false later = later
+  shows_alike number (mount ∷ rest) back = grind (arith, common_steps, shows_alike number rest back)
 
   -- types are in the way of nothing
   roots_alike : (mounts back : List (meant.Mount ℕ)) → map root_of (map (moved_at points) mounts ++ back) ≡ map root_of
@@ -130,16 +120,7 @@ found_first : (number : ℕ) (mounts back : List (meant.Mount ℕ))
     → is_among nat_eq number (map number_of_mount mounts) ≡ true
     → mount_in nat_eq (mounts ++ back) number ≡ mount_in nat_eq mounts number
 found_first number [] back there = absurd (true≢false (sym there))
-found_first number (mount ∷ rest) back there = by (nat_eq number mount.number) there (found_first number rest back)
-  where
-    by : (b : Bool) → (b || is_among nat_eq number (map number_of_mount rest)) ≡ true
-        → (is_among nat_eq number (map number_of_mount rest) ≡ true
-        → mount_in nat_eq (rest ++ back) number ≡ mount_in nat_eq rest number)
-        → unwrap_or (cond b (Some mount) (find (λ (x : meant.Mount ℕ). nat_eq number x.number) (rest ++ back)))
-        (no_mount number) ≡ unwrap_or (cond b (Some mount) (find (λ (x : meant.Mount ℕ). nat_eq number x.number) rest))
-        (no_mount number)
-    by true there later = refl
-    by false there later = later there
+found_first number (mount ∷ rest) back there = grind (arith, common_steps, found_first number rest back)
 
 -- The world before the attachment, with these filesystems, and the one after it
 module _ (value : WorldValue) (base : Filesystems) (master : ℕ → Option ℕ) (copies : List Mount)
@@ -260,11 +241,14 @@ module _ (value : WorldValue) (base : Filesystems) (master : ℕ → Option ℕ)
     -- what they use more and less
 
     gained_are : map (inode_at come) (map location_of (points_taken points entries)) ≡ inodes_of_points taken
-    gained_are = ap (λ list. map (inode_at come) (map location_of list))
-        (taken_with_more value.mounts points once (map unused_entry copies))
-        ∙ map_twice (inode_at come) location_of taken
-        ∙ map_alike (λ (point : Location). inode_at come (location_of point))
-        (λ (point : Location). inode_of point.node) taken taken_inode
+    gained_are =
+        cc (
+          taken_with_more value.mounts points once (map unused_entry copies),
+          map_twice (inode_at come) location_of
+              taken,
+          map_alike (λ (point : Location). inode_at come (location_of point)) (λ (point : Location). inode_of
+              point.node) taken taken_inode,
+        )
 
     lost_are : map (inode_at come) (points_left points entries) ≡ inodes_of_points left
     lost_are =

@@ -1,6 +1,6 @@
 -- The event that moves a tree to a shared mount, with copies at its receivers: mount(2) with MS_MOVE.
-use Rattle.std.proofs.Common.{◌≡◌, ◌<◌, refl, sym, ap, subst, ◌∙◌, ⊎_elim, inl, inr, true≢false, ℕ, zero, suc, ◌+◌, ◌*◌, ◌%◌, ◌==◌, nat_eq, eq-eqb, Bool, true, false, cond, ◌&&◌, ◌||◌, List, [], ◌∷◌, ◌++◌, map, filter, length, Option, Some, None, is_some, arith, Contains, drop, if◌then◌else◌, option_map, take, unwrap_or, ne_eqb, length-append}
-use Rattle.vt_spec.proofs.Common.{Filesystem, IsWorld, Permit, Private, Propagation, Shared, Slave, TaskName, ToMove, Unbindable, World, among_from_contains, any_pair, attach, attached_by, contains_from_among, copies_from, drop-append_seam, first_of_list, folded, group_of, has_members, holds_of, is_among, is_mounted, is_shared, length-map, list_all, list_all-append, list_any, list_any-append, lookup, map-append, map_twice, masters_with, mount_at, mount_lives, mount_numbered, mount_tree, or_left, or_parts, parts_of, rest_of, settled, some_from_is_some, take-append_seam, tree_from, type_at, type_on_shared, with_mount}
+use Rattle.std.proofs.Common.{◌≡◌, ◌<◌, refl, sym, ap, subst, ◌∙◌, ⊎_elim, inl, inr, true≢false, ℕ, zero, suc, ◌+◌, ◌*◌, ◌%◌, ◌==◌, nat_eq, eq-eqb, true, false, ◌&&◌, ◌||◌, List, [], ◌∷◌, ◌++◌, map, filter, length, Option, Some, None, is_some, arith, Contains, drop, if◌then◌else◌, option_map, take, unwrap_or, ne_eqb, length-append}
+use Rattle.vt_spec.proofs.Common.{Filesystem, IsWorld, Permit, Private, Propagation, Shared, Slave, TaskName, ToMove, Unbindable, World, among_from_contains, any_pair, attach, attached_by, common_steps, contains_from_among, copies_from, drop-append_seam, first_of_list, folded, group_of, has_members, holds_of, is_among, is_mounted, is_shared, length-map, list_all, list_all-append, list_any, list_any-append, lookup, map-append, map_twice, masters_with, mount_at, mount_lives, mount_numbered, mount_tree, or_left, or_parts, parts_of, rest_of, settled, some_from_is_some, take-append_seam, tree_from, type_at, type_on_shared, with_mount}
 use Rattle.std.proofs.lemmas.List.{drop-map}
 use Rattle.vt_spec.specs.Machine.Mounts as meant
 use Rattle.vt_mounting.proofs.Common.{Among, AttachesBy, Exchanges, Filesystems, Grouping, Grows, Has, IsHeld, IsUnderWay, KeepsTo, MountEntry, MovesOnce, OneNumberAMount, Shown, WorldValue, all_from_among, all_in_use, among-from_map, among-map, among_from_all, among_from_list_all, any-map, are_ascending, counted, counts_from, in_use_of, is_among_numbers, is_counted_before, location_of, master_in, mount_of, mounts_entered, mounts_in, mounts_of_worlds_stand, moved_by, new_group, none_from_among, numbers_at, numbers_of, one_number_by_numbers, overlays_seen, parts_apart, planned_copies, typed, world_of}
@@ -78,32 +78,14 @@ kinds_are_once (mount ∷ rest) once =
 none_found : {B : Type 0} (number : ℕ) (pairs : List (ℕ × B)) → lookup (nat_eq number) pairs ≡ None
     → list_any (λ (pair : ℕ × B). nat_eq number pair.0) pairs ≡ false
 none_found number [] none = refl
-none_found {B} number (pair ∷ rest) none = by (nat_eq number pair.0) none (none_found number rest)
-  where
-    by : (b : Bool) → cond b (Some pair.1) (lookup (nat_eq number) rest) ≡ None
-        → (lookup (nat_eq number) rest ≡ None → list_any (λ (other : ℕ × B). nat_eq number other.0) rest ≡ false)
-        → (b || list_any (λ (other : ℕ × B). nat_eq number other.0) rest) ≡ false
-    by true e later = absurd (true≢false (ap is_some e))
-    by false e later = later e
+none_found {B} number (pair ∷ rest) none = grind (arith, common_steps, none_found number rest)
 
 once_more : {B : Type 0} (pairs : List (ℕ × B)) (last : ℕ × B)
     → any_pair (λ (a b : ℕ × B). nat_eq a.0 b.0) pairs ≡ false
     → list_any (λ (pair : ℕ × B). nat_eq last.0 pair.0) pairs ≡ false
     → any_pair (λ (a b : ℕ × B). nat_eq a.0 b.0) (pairs ++ last ∷ []) ≡ false
 once_more [] last once apart = refl
-once_more {B} (pair ∷ rest) last once apart =
-    let parts = or_parts (list_any (λ (b : ℕ × B). nat_eq pair.0 b.0) rest) _ once in
-    let others = or_parts (nat_eq last.0 pair.0) (list_any (λ (other : ℕ × B). nat_eq last.0 other.0) rest) apart in
-    let differ : nat_eq pair.0 last.0 ≡ false =
-    ne_eqb pair.0 last.0 (λ same. true≢false (sym (eq-eqb last.0 pair.0 (sym same)) ∙ others.0)) in
-    λ i. behind rest parts.0 differ i || once_more rest last parts.1 others.1 i
-  where
-    behind : (some : List (ℕ × B)) → list_any (λ (b : ℕ × B). nat_eq pair.0 b.0) some ≡ false
-        → nat_eq pair.0 last.0 ≡ false → list_any (λ (b : ℕ × B). nat_eq pair.0 b.0) (some ++ last ∷ []) ≡ false
-    behind [] none differ = λ i. differ i || false
-    behind (one ∷ some) none differ =
-        let both = or_parts (nat_eq pair.0 one.0) (list_any (λ (b : ℕ × B). nat_eq pair.0 b.0) some) none in
-        λ i. both.0 i || behind some both.1 differ i
+once_more {B} (pair ∷ rest) last once apart = grind (arith, common_steps, once_more rest last, apart, eq-eqb)
 
 moved_numbers : (points : List Point) (mounts back : List (meant.Mount ℕ))
     → numbers_of (map (moved_at points) mounts ++ back) ≡ numbers_of (mounts ++ back)
@@ -408,10 +390,13 @@ module _ (value : WorldValue) (whole : IsHeld value) (name : TaskName) (number :
             let mine = looked_up_kind mount.number own kind e in
             let becomes = Trees.becomes world graft counts first others tree_now moves one_number own_once kinds_once
             tree_among beside placed mount m mine.0 mine.1 mine.3 in
-            ap (λ o. group_of (unwrap_or o mount.propagation)) e ∙ ap group_of (sym mine.2)
-            ∙ ap (λ (x : meant.Mount ℕ). group_of x.propagation) becomes.1 ∙ ap group_of (kind_of_copy mount)
-            ∙ group_stays ((numbers_at world graft counts).image
-            (some_from_is_some (group_of dest.propagation) shared).0 mount.number) group mount.propagation has
+            cc (
+              mine.2,
+              becomes.1,
+              kind_of_copy mount,
+              group_stays ((numbers_at world graft counts).image
+                  (some_from_is_some (group_of dest.propagation) shared).0 mount.number) group mount.propagation has,
+            )
 
     groups_there : HasGroupsOf world tree
     groups_there mount contained group e =

@@ -1,7 +1,7 @@
 -- A tree of mounts moves: its own mounts stay in their places with new types, the first at its new mount point, and the
 -- copies at receivers come after all.
-use Rattle.std.proofs.Common.{◌≡◌, refl, sym, ap, subst, ◌∙◌, inl, inr, true≢false, ℕ, nat_eq, eqb-true, eq-eqb, Bool, true, false, cond, ◌&&◌, List, [], ◌∷◌, ◌++◌, map, find, Option, Some, None, is_some, option_map, unwrap_or, if◌then◌else◌}
-use Rattle.vt_spec.proofs.Common.{Copies, Location, Mount, Twig, World, any_pair, copy_at, copy_type, first_of_list, folded, group_of, holds_of, is_top, lookup, map_alike, map_twice, mount_at, or_else, parts_of, same_Some, twig_of, type_at, with_mount}
+use Rattle.std.proofs.Common.{◌≡◌, refl, sym, ap, subst, ◌∙◌, true≢false, ℕ, nat_eq, eqb-true, eq-eqb, Bool, true, false, cond, ◌&&◌, List, [], ◌∷◌, ◌++◌, map, find, Option, Some, None, is_some, option_map, unwrap_or, if◌then◌else◌, arith}
+use Rattle.vt_spec.proofs.Common.{Copies, Location, Mount, Twig, World, any_pair, common_steps, copy_at, copy_type, first_of_list, folded, group_of, holds_of, is_top, lookup, map_alike, map_twice, mount_at, or_else, parts_of, twig_of, type_at, with_mount}
 use Rattle.vt_mounting.proofs.Common.{Among, among-from_map, counted, graft_in, location_of, mount_of, moved_by, numbers_at}
 use Rattle.vt_location.specs.declared.mounts.Mount.{Mount as Code}
 use Rattle.vt_laws_mounts.proofs.mounts.MountsFound.{number-mount_in}
@@ -17,14 +17,7 @@ use Rattle.vt_mounting.proofs.attach.TypedMounts.{KindsOnce, all_replaced, looku
 lookup_append : {B : Type 0} (number : ℕ) (xs ys : List (ℕ × B))
     → lookup (nat_eq number) (xs ++ ys) ≡ or_else (lookup (nat_eq number) xs) (lookup (nat_eq number) ys)
 lookup_append number [] ys = refl
-lookup_append {B} number (x ∷ xs) ys = by (nat_eq number x.0) (lookup_append number xs ys)
-  where
-    by : (b : Bool) → lookup (nat_eq number) (xs ++ ys)
-        ≡ or_else (lookup (nat_eq number) xs) (lookup (nat_eq number) ys)
-        → cond b (Some x.1) (lookup (nat_eq number) (xs ++ ys))
-        ≡ or_else (cond b (Some x.1) (lookup (nat_eq number) xs)) (lookup (nat_eq number) ys)
-    by true later = refl
-    by false later = later
+lookup_append {B} number (x ∷ xs) ys = grind (arith, common_steps, lookup_append number xs ys)
 
 else_else : {B : Type 0} (a b c : Option B) → or_else (or_else a b) c ≡ or_else a (or_else b c)
 else_else None b c = refl
@@ -38,29 +31,12 @@ points_seen (x ∷ xs) ys = ap (λ list. point_seen x ∷ list) (points_seen xs 
 lookup_found : (number : ℕ) (own : List (Mount ℕ)) → lookup (nat_eq number) (map type_of own)
     ≡ option_map (λ (one : Mount ℕ). one.propagation) (find (λ (one : Mount ℕ). nat_eq number one.number) own)
 lookup_found number [] = refl
-lookup_found number (first ∷ rest) = by (nat_eq number first.number) (lookup_found number rest)
-  where
-    by : (b : Bool) → lookup (nat_eq number) (map type_of rest)
-        ≡ option_map (λ (one : Mount ℕ). one.propagation) (find (λ (one : Mount ℕ). nat_eq number one.number) rest)
-        → cond b (Some first.propagation) (lookup (nat_eq number) (map type_of rest))
-        ≡ option_map (λ (one : Mount ℕ). one.propagation)
-        (cond b (Some first) (find (λ (one : Mount ℕ). nat_eq number one.number) rest))
-    by true later = refl
-    by false later = later
+lookup_found number (first ∷ rest) = grind (arith, common_steps, lookup_found number rest)
 
 found_among : (number : ℕ) (own : List (Mount ℕ)) (one : Mount ℕ)
     → find (λ (x : Mount ℕ). nat_eq number x.number) own ≡ Some one → Among one own × (number ≡ one.number)
 found_among number [] one e = absurd (true≢false (sym (ap is_some e)))
-found_among number (first ∷ rest) one e = by (nat_eq number first.number) refl e (found_among number rest one)
-  where
-    by : (b : Bool) → nat_eq number first.number ≡ b
-        → cond b (Some first) (find (λ (x : Mount ℕ). nat_eq number x.number) rest) ≡ Some one
-        → (find (λ (x : Mount ℕ). nat_eq number x.number) rest ≡ Some one → Among one rest × (number ≡ one.number))
-        → Among one (first ∷ rest) × (number ≡ one.number)
-    by true is f later =
-        let same = same_Some first one f in
-        (inl (sym same), eqb-true number first.number is ∙ ap (λ (x : Mount ℕ). x.number) same)
-    by false is f later = let found = later f in (inr found.0, found.1)
+found_among number (first ∷ rest) one e = grind (arith, common_steps, found_among number rest one, eqb-true)
 
 not_found : {A : Type 0} (b : Bool) (a : A) (o : Option A) → cond b (Some a) o ≡ None → b ≡ false
 not_found true a o e = absurd (true≢false (ap is_some e))

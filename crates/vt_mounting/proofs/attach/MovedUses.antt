@@ -202,11 +202,12 @@ module _ (value : WorldValue) (whole : IsHeld value) (copies : List Attached) (t
 
   entries_each : moved_entries ≡ map both attached_entries
   entries_each =
-      moved_each directory.mount new_directory.mount (with_use_moved root.mount new_root.mount attached_entries)
-      ∙ ap (map (moved_entry directory.mount new_directory.mount))
-      (moved_each root.mount new_root.mount attached_entries)
-      ∙ map_twice (moved_entry directory.mount new_directory.mount)
-      (moved_entry root.mount new_root.mount) attached_entries
+      cc (
+        moved_each directory.mount new_directory.mount (with_use_moved root.mount new_root.mount attached_entries),
+        moved_each root.mount new_root.mount attached_entries,
+        map_twice (moved_entry directory.mount
+            new_directory.mount) (moved_entry root.mount new_root.mount) attached_entries,
+      )
 
   pub moved_was : (entry : MountEntry) → Among entry moved_entries → (was : MountEntry) × EndsAs was entry
   moved_was entry m =

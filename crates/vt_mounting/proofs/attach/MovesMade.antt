@@ -1,12 +1,12 @@
 -- Mounts that moved: which mount points they got and left.
-use Rattle.std.proofs.Common.{Result, Ok, Err, IfOk, ◌≡◌, refl, ap, ◌∙◌, ℕ, true, cond, ◌&&◌, List, [], ◌∷◌, ◌++◌, Option, Some, None, flat_map, is_some, map, option_map, option_to_list, option_and_then, append-nil}
-use Rattle.vt_spec.proofs.Common.{and_parts, flat_map-append, list_all, list_all-append, map-append}
+use Rattle.std.proofs.Common.{Result, Ok, Err, IfOk, ◌≡◌, refl, ap, ◌∙◌, ℕ, true, ◌&&◌, List, [], ◌∷◌, ◌++◌, Option, Some, flat_map, map, option_to_list, append-nil, arith}
+use Rattle.vt_spec.proofs.Common.{and_parts, common_steps, flat_map-append, list_all, list_all-append, map-append}
 use Rattle.vt_location.specs.declared.locations.Location.{Location}
-use Rattle.vt_mounting.proofs.Common.{MountEntry, counted, entry_numbered, location_of}
+use Rattle.vt_mounting.proofs.Common.{MountEntry, location_of}
 use Rattle.vt_mount.specs.declared.moving.Moved.{Moved}
-use Rattle.vt_mount.specs.Moving.{all_moves, is_small_point, is_small as has_small_points, move_of, moves_by}
+use Rattle.vt_mount.specs.Moving.{all_moves, is_small_point, is_small as has_small_points, move_of}
 use Rattle.vt_spec.specs.Machine.Mounts as meant
-use Rattle.vt_mounting.specs.Attach.Planned.{AreMoves, Point, is_small, left_of, points_left, points_taken, taken_of, with_points}
+use Rattle.vt_mounting.specs.Attach.Planned.{AreMoves, Point, is_small, left_of, points_left, points_taken, taken_of}
 use Rattle.vt_mounting.proofs.attach.PlannedMoves.{mapped_points}
 
 -- The mount points that were taken and left
@@ -20,28 +20,12 @@ places_left moves = flat_map (λ (move : ℕ × Option (meant.Location ℕ) × L
 taken-moves : (points : List Point) (entries : List MountEntry)
     → map place_taken (all_moves points entries) ≡ points_taken points entries
 taken-moves [] entries = refl
-taken-moves (point ∷ rest) entries =
-    map-append place_taken (all_moves rest entries) (moves_by point (with_points rest entries))
-    ∙ (λ i. taken-moves rest entries i ++ one (entry_numbered (with_points rest entries) (counted point.mount.count)) i)
-  where
-    one : (found : Option MountEntry) → map place_taken (option_to_list (option_map (λ (entry : MountEntry).
-        (entry.mount.number, entry.mount.mount_point, point.place)) found)) ≡ cond (is_some found) (point.place ∷ []) []
-    one None = refl
-    one (Some entry) = refl
+taken-moves (point ∷ rest) entries = grind (arith, common_steps, taken-moves rest entries, map-append)
 
 left-moves : (points : List Point) (entries : List MountEntry)
     → places_left (all_moves points entries) ≡ points_left points entries
 left-moves [] entries = refl
-left-moves (point ∷ rest) entries =
-    flat_map-append (λ (move : ℕ × Option (meant.Location ℕ) × Location). option_to_list move.1)
-    (all_moves rest entries) (moves_by point (with_points rest entries))
-    ∙ (λ i. left-moves rest entries i ++ one (entry_numbered (with_points rest entries) (counted point.mount.count)) i)
-  where
-    one : (found : Option MountEntry) → places_left (option_to_list (option_map (λ (entry : MountEntry).
-        (entry.mount.number, entry.mount.mount_point, point.place)) found))
-        ≡ option_to_list (option_and_then (λ (entry : MountEntry). entry.mount.mount_point) found)
-    one None = refl
-    one (Some entry) = append-nil (option_to_list entry.mount.mount_point)
+left-moves (point ∷ rest) entries = grind (arith, common_steps, left-moves rest entries, flat_map-append, append-nil)
 
 taken-moved : (moved : List Moved) → taken_of moved ≡ map place_taken (map move_of moved)
 taken-moved [] = refl
@@ -60,15 +44,7 @@ small-taken (one ∷ rest) all =
 
 small-left : (moved : List Moved) → list_all has_small_points moved ≡ true → list_all is_small (left_of moved) ≡ true
 small-left [] all = refl
-small-left (one ∷ rest) all =
-    let parts = and_parts (has_small_points one) (list_all has_small_points rest) all in
-    list_all-append is_small (option_to_list one.from) (left_of rest)
-    ∙ (λ i. at one.from (and_parts (is_small_point one.from) (is_small_point (Some one.to)) parts.0).0 i
-    && small-left rest parts.1 i)
-  where
-    at : (point : Option Location) → is_small_point point ≡ true → list_all is_small (option_to_list point) ≡ true
-    at None small = refl
-    at (Some point) small = ap (λ b. b && true) small
+small-left (one ∷ rest) all = grind (arith, common_steps, small-left rest, list_all-append)
 
 pub are_moves : (points : List Point) (entries : List MountEntry) (moved : List Moved)
     → map move_of moved ≡ all_moves points entries → list_all has_small_points moved ≡ true

@@ -1,6 +1,6 @@
 -- A new filesystem stands beside the others before its mount comes: mount(2) of a tmpfs.
-use Rattle.std.proofs.Common.{◌≡◌, ◌⊎◌, refl, sym, ap, subst, ◌∙◌, inl, inr, ⊎_elim, ℕ, ◌<◌, ◌+◌, ◌*◌, nat_eq, eq-eqb, lt-ltb, nat_lt, Bool, true, false, cond, not, ◌&&◌, ◌||◌, List, [], ◌∷◌, ◌++◌, map, filter, find, flat_map, Option, Some, None, is_some, option_map, arith, All, filter_map, option_to_list, unwrap_or, le-ltb, ne_eqb}
-use Rattle.vt_spec.proofs.Common.{All-head, All-tail, Filesystem, Fresh, IsWorld, Layer, Location, MountFlags, Overlay, TaskName, ToMountPlain, World, all_locations, and_parts, attach, filesystem_numbered, group_of, has_its_root, has_layer_on, is_among, is_directory_at, is_directory_node, is_directory_under, is_located_well, is_overlay, is_plain_layer, layers_in, layers_of, list_all, list_all-append, list_any, located_in, map-append, mount_at, mount_in, mounted, named_in, new_mount, new_plain, no_filesystem, objects_of_overlay, odds, of_overlay, overlay_or, parts_of, plain_filesystem, receivers, receivers_of, receives, root_attr, takes_part, used_in}
+use Rattle.std.proofs.Common.{◌≡◌, ◌⊎◌, refl, sym, ap, subst, ◌∙◌, inl, inr, ⊎_elim, ℕ, ◌<◌, ◌+◌, ◌*◌, nat_eq, eq-eqb, lt-ltb, nat_lt, true, false, cond, not, ◌&&◌, ◌||◌, List, [], ◌∷◌, ◌++◌, map, filter, find, flat_map, Option, Some, None, is_some, option_map, arith, All, filter_map, option_to_list, unwrap_or, le-ltb, ne_eqb}
+use Rattle.vt_spec.proofs.Common.{All-head, All-tail, Filesystem, Fresh, IsWorld, Layer, Location, MountFlags, Overlay, TaskName, ToMountPlain, World, all_locations, and_parts, attach, common_steps, filesystem_numbered, group_of, has_its_root, has_layer_on, is_among, is_directory_at, is_directory_node, is_directory_under, is_located_well, is_overlay, is_plain_layer, layers_in, layers_of, list_all, list_all-append, list_any, located_in, map-append, mount_at, mounted, named_in, new_mount, new_plain, no_filesystem, objects_of_overlay, odds, of_overlay, overlay_or, parts_of, plain_filesystem, receivers, receivers_of, receives, root_attr, takes_part, used_in}
 use Rattle.vt_spec.specs.Machine.Mounts as meant
 use Rattle.vt_mounting.proofs.Common.{Among, CountsItsMounts, FilesystemEntry, Filesystems, InodesInUse, IsCounted, IsHeld, IsNew, OverlaysHaveNoUpper, WorldValue, all_from_among, all_in_use, among-append, among-append_left, among-append_right, among-filter_map, among-from_filter, among-from_map, among_from_all, among_from_list_all, among_numbers, are_rising, counted, directory_is_there, filesystem_seen, filesystems_seen, filter_alike, found_filesystem, found_itself, handed_from, inode_number, inodes_seen, is_inode_used, is_on, layer_count, layers_among, list_all_from_among, mounts_in, mounts_of_worlds_stand, mounts_showing, no_upper_is_in_any, none_among, none_from_among, overlays_seen, places_of, put_in, times, times_append, uses_are_exchanged_beside_overlays, world_of, worlds_have_trees, woven}
 use Rattle.vt_laws_mounts.specs.Counts.Using.{is_outside, one_counted}
@@ -66,14 +66,7 @@ pub put_before : (overlay added : Filesystem ℕ) → nat_lt added.number overla
     → (filesystems : List (Filesystem ℕ))
     → put_in overlay (filesystems ++ added ∷ []) ≡ put_in overlay filesystems ++ added ∷ []
 put_before overlay added above [] = ap (λ b. cond b (added ∷ overlay ∷ []) (overlay ∷ added ∷ [])) above
-put_before overlay added above (first ∷ rest) =
-    by (nat_lt first.number overlay.number) (put_before overlay added above rest)
-  where
-    by : (b : Bool) → put_in overlay (rest ++ added ∷ []) ≡ put_in overlay rest ++ added ∷ []
-        → cond b (first ∷ put_in overlay (rest ++ added ∷ [])) (overlay ∷ first ∷ (rest ++ added ∷ []))
-        ≡ cond b (first ∷ put_in overlay rest) (overlay ∷ first ∷ rest) ++ added ∷ []
-    by true later = ap (λ list. first ∷ list) later
-    by false later = refl
+put_before overlay added above (first ∷ rest) = grind (arith, common_steps, put_before overlay added above rest)
 
 woven_last : (plain overlays : List (Filesystem ℕ)) (added : Filesystem ℕ)
     → ((overlay : Filesystem ℕ) → Among overlay overlays → nat_lt added.number overlay.number ≡ false)
@@ -148,10 +141,11 @@ module _ (value : WorldValue) (whole : IsHeld value) (name : TaskName) (place : 
   on_elsewhere location on =
       let from = among-from_map (λ (x : meant.Mount ℕ). x.number) (mounts_in value.mounts) location.mount
       (among_numbers location.mount (map (λ (x : meant.Mount ℕ). x.number) (mounts_in value.mounts)) on) in
-      ap (λ number. nat_eq (counted value.next) (mount_in nat_eq (mounts_in value.mounts) number).filesystem) from.2
-      ∙ ap (λ (found : meant.Mount ℕ). nat_eq (counted value.next) found.filesystem)
-      (found_itself (mounts_in value.mounts) whole.in_world.mounts.one_number from.0 from.1)
-      ∙ others_elsewhere from.0 from.1
+      cc (
+        from.2,
+        found_itself (mounts_in value.mounts) whole.in_world.mounts.one_number from.0 from.1,
+        others_elsewhere from.0 from.1,
+      )
 
   point_on : (mount : meant.Mount ℕ) → Among mount (mounts_in value.mounts) → (location : Location ℕ)
       → mount.mount_point ≡ Some location → is_on (mounts_in value.mounts) location ≡ true

@@ -1,6 +1,6 @@
 -- A filesystem that is new: one empty directory, with a number that no other has.
-use Rattle.std.proofs.Common.{◌≡◌, refl, sym, ap, subst, ◌∙◌, inl, ⊎_elim, ℕ, ◌<◌, ◌%◌, ◌/◌, ◌==◌, nat_eq, eq-eqb, eqb-true, lt-ltb, nat_lt, Bool, true, false, true≢false, cond, not, ◌&&◌, ◌||◌, List, [], ◌∷◌, ◌++◌, map, flat_map, Some, None, is_some, arith, All, ltb-true, ne_eqb}
-use Rattle.vt_spec.proofs.Common.{Filesystem, Inodes, IsTree, Namespace, and_true_left, and_true_right, filesystem_numbered, list_all, list_all_from_among, root_attr, used_by_filesystem, used_by_mount}
+use Rattle.std.proofs.Common.{◌≡◌, refl, sym, ap, subst, ◌∙◌, inl, ⊎_elim, ℕ, ◌<◌, nat_eq, eq-eqb, eqb-true, lt-ltb, nat_lt, Bool, true, false, true≢false, cond, not, List, [], ◌∷◌, ◌++◌, map, flat_map, Some, None, is_some, arith, All, ltb-true, ne_eqb}
+use Rattle.vt_spec.proofs.Common.{Filesystem, Inodes, IsTree, Namespace, and_true_left, and_true_right, common_steps, filesystem_numbered, list_all, list_all_from_among, root_attr, used_by_filesystem, used_by_mount}
 use Rattle.vt_laws_mounts.specs.Counts.Using.{root_counted}
 use Rattle.vt_mounting.proofs.Common.{Among, FilesystemEntry, Filesystems, HasOwnInodes, HasOwnNodes, IsHeld, IsNew, WorldValue, all_from_among, among-append, among-append_left, among-append_right, among-flat_map, among_from_all, counted, directory_is_there, filesystem_seen, inode_number, inodes_seen, is_among_numbers, is_counted_before, is_own_number, leaves_two, number_numbered, numbered_all, used_numbers_are_named, world_of}
 use Rattle.vt_fs.specs.FilesystemsValue.{without}
@@ -12,15 +12,7 @@ use Rattle.vt_mounting.proofs.detach.OwnInodesKept.{IsOwn}
 
 -- what is counted before
 pub counted_before : (next count : ℕ) → is_counted_before next (counted count) ≡ true → count < next
-counted_before next count is = by (counted count % 2 == 0) refl (counted count % 4 == 1)
-    (nat_lt (counted count / 4) next) refl is
-  where
-    by : (even : Bool) → (counted count % 2 == 0) ≡ even → (odd less : Bool) → nat_lt (counted count / 4) next ≡ less
-        → (even || (odd && less)) ≡ true → count < next
-    by true e odd less f g = let zero = eqb-true (counted count % 2) 0 e in absurd (omega (arith, zero))
-    by false e true true f g = let low = ltb-true (counted count / 4) next f in omega (arith, low)
-    by false e true false f g = absurd (true≢false (sym g))
-    by false e false less f g = absurd (true≢false (sym g))
+counted_before next count is = grind (arith, common_steps, eqb-true, ltb-true)
 
 -- the number of each filesystem was counted
 pub number_named : (value : WorldValue) → IsHeld value → (filesystem : Filesystem ℕ)

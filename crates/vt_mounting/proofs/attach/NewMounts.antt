@@ -109,9 +109,7 @@ module _ (value : WorldValue) (whole : IsHeld value) (name : TaskName) (graft : 
           ≡ length graft.parts.now = length-map graft.parts.now mount_of in
           let all : 2 * (2 * length (map mount_of graft.parts.now))
           ≡ 2 * (length graft.parts.now * 2) = omega (arith, many) in
-          ap (λ filesystem. 2 * (2 * length (parts_of nat_eq (with_new_filesystem world filesystem) place)))
-          (plain_is value whole name place flags permits) ∙ ap (λ (list : List (meant.Mount ℕ)). 2 * (2 * length list))
-          (same_parts value whole name place flags permits ∙ sym parts_are) ∙ all
+          cc (plain_is value whole name place flags permits, same_parts value whole name place flags permits)
 
       pub new_mount_is_done : (mounts : List MountEntry) (groups : Grouping) (filesystems : Filesystems)
           (overlays : List Merged) (next : ℕ) → IsGrafted graft counts

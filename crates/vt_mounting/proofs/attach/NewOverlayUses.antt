@@ -1,12 +1,11 @@
 -- The uses that the layers of a new overlay are, in the code's world with that overlay, whatever mounts show.
-use Rattle.std.proofs.Common.{◌≡◌, refl, sym, ap, subst, ◌∙◌, ⊎_elim, ℕ, suc, ◌+◌, nat_eq, eqb-true, Bool, true, false, cond, not, ◌&&◌, ◌||◌, List, [], ◌∷◌, ◌++◌, map, filter, flat_map, Option, Some, is_some, unwrap_or, arith, slice_get, ne_eqb, append-nil, append_assoc}
-use Rattle.vt_spec.proofs.Common.{Filesystem, Layer, World, filesystem_numbered, folded, is_directory_node, layers_in, layers_of, located_in, map-append, map_alike, map_twice, named_in, no_filesystem, node_in, objects_of_overlay, of_overlay}
+use Rattle.std.proofs.Common.{◌≡◌, refl, sym, ap, subst, ◌∙◌, ⊎_elim, ℕ, suc, ◌+◌, nat_eq, eqb-true, Bool, true, false, cond, not, ◌||◌, List, [], ◌∷◌, ◌++◌, map, filter, flat_map, Option, Some, is_some, unwrap_or, arith, slice_get, ne_eqb, append-nil, append_assoc, map-id}
+use Rattle.vt_spec.proofs.Common.{Filesystem, Layer, World, common_steps, filesystem_numbered, folded, is_directory_node, layers_in, layers_of, located_in, map-append, map_alike, map_twice, named_in, no_filesystem, node_in, objects_of_overlay, of_overlay}
 use Rattle.vt_mounting.proofs.Common.{Among, AreLayers, AreThere, CountsItsMounts, Exchanges, FilesystemEntry, Filesystems, Inode, IsCounted, IsHeld, OverlaysHaveNoUpper, Shown, WorldValue, all_in_use, among-from_map, among_from_all, counted, counted_same, directory_is_there, entry_of, exchanged, inode_of, inode_uses, inodes_seen, is_inode, layer_count, layer_seen, list_all_from_among, no_entry, no_upper_is_in_any, number_numbered, overlay_of_store, overlay_seen, pinned_if, times, times_append, uses_are_exchanged_beside_overlays, world_of, worlds_have_trees}
 use Rattle.vt_overlay.specs.declared.merge.layers.LayerRef.{LayerRef}
 use Rattle.vt_store.specs.OverlaysValue as stored
 use Rattle.vt_mounting.specs.Detach.Stored.{layer_of}
 use Rattle.vt_mounting.specs.Detach.Uses.{mounted_if}
-use Rattle.vt_mounting.proofs.detach.Moving.{map_itself}
 use Rattle.vt_mounting.proofs.detach.FilesSeen.{one_entry}
 use Rattle.vt_mounting.proofs.detach.Overlaid.{found_plain_one, plain_ones_apart}
 use Rattle.vt_mounting.proofs.attach.AttachedWorlds.{inode_is_there}
@@ -26,21 +25,7 @@ layers_use : (filesystem number : ℕ) (layers : List (Layer ℕ))
     (filter (λ (layer : Layer ℕ). nat_eq filesystem layer.filesystem) layers))
     ≡ times (is_inode filesystem number) (map directory_in layers)
 layers_use filesystem number [] = refl
-layers_use filesystem number (first ∷ rest) = by (nat_eq filesystem first.filesystem) (layers_use filesystem number rest)
-  where
-    others : List (Layer ℕ)
-    others = filter (λ (layer : Layer ℕ). nat_eq filesystem layer.filesystem) rest
-
-    by : (b : Bool) → times (nat_eq number) (map (λ (layer : Layer ℕ). layer.directory)
-        (filter (λ (layer : Layer ℕ). nat_eq filesystem layer.filesystem) rest))
-        ≡ times (is_inode filesystem number) (map directory_in rest)
-        → times (nat_eq number) (map (λ (layer : Layer ℕ). layer.directory) (cond b (first ∷ others) others))
-        ≡ cond (b && nat_eq number first.directory) 1 0 + times (is_inode filesystem number) (map directory_in rest)
-    by true later = ap (λ n. cond (nat_eq number first.directory) 1 0 + n) later
-    by false later = later ∙ none (times (is_inode filesystem number) (map directory_in rest))
-      where
-        none : (n : ℕ) → n ≡ 0 + n
-        none n = omega arith
+layers_use filesystem number (first ∷ rest) = grind (arith, common_steps, layers_use filesystem number rest)
 
 flat_last : {B : Type 0} (g : Filesystem ℕ → List B) (filesystems : List (Filesystem ℕ)) (added : Filesystem ℕ)
     → flat_map g (filesystems ++ added ∷ []) ≡ flat_map g filesystems ++ g added
@@ -50,13 +35,7 @@ flat_last g (first ∷ rest) added =
 
 filter_both : {A : Type 0} (test : A → Bool) (xs ys : List A) → filter test (xs ++ ys) ≡ filter test xs ++ filter test ys
 filter_both {A = A} test [] ys = refl
-filter_both {A = A} test (x ∷ xs) ys = by (test x) (filter_both test xs ys)
-  where
-    by : (b : Bool) → filter test (xs ++ ys) ≡ filter test xs ++ filter test ys
-        → cond b (x ∷ filter test (xs ++ ys)) (filter test (xs ++ ys))
-        ≡ cond b (x ∷ filter test xs) (filter test xs) ++ filter test ys
-    by true later = ap (λ list. x ∷ list) later
-    by false later = later
+filter_both {A = A} test (x ∷ xs) ys = grind (arith, common_steps, filter_both test xs ys)
 
 -- A world with a filesystem more, which has these layers, and no upper one
 module _ (world : World ℕ) (added : Filesystem ℕ) (layers : List (Layer ℕ))
@@ -126,11 +105,12 @@ module _ (world : World ℕ) (added : Filesystem ℕ) (layers : List (Layer ℕ)
   -- and a filesystem as many layers more
   pub layers_more_there : (number : ℕ) → layer_count with_added_last number
       ≡ layer_count world number + times (λ (layer : Layer ℕ). nat_eq number layer.filesystem) layers
-  layers_more_there number = ap (times (λ (layer : Layer ℕ). nat_eq number layer.filesystem))
-      (flat_last (of_overlay [] layers_of) world.filesystems added
-      ∙ ap (λ list. flat_map (of_overlay [] layers_of) world.filesystems ++ list) layers_are)
-      ∙ times_append (λ (layer : Layer ℕ). nat_eq number layer.filesystem)
-      (flat_map (of_overlay [] layers_of) world.filesystems) layers
+  layers_more_there number =
+      cc (
+        flat_last (of_overlay [] layers_of) world.filesystems added,
+        times_append (λ (layer : Layer ℕ). nat_eq number
+            layer.filesystem) (flat_map (of_overlay [] layers_of) world.filesystems) layers,
+      )
 
 among_place : (list : List LayerRef) (layer : LayerRef) → Among layer list
     → (place : ℕ) × (slice_get list place ≡ Some layer)
@@ -215,7 +195,7 @@ held_by layers one = record one {
 }
 
 pub held_each : (layers : List Inode) (all : List Shown) → folded with_layer all layers ≡ map (held_by layers) all
-held_each [] all = map_itself all
+held_each [] all = sym (map-id all)
     ∙ map_alike (λ (one : Shown). one) (held_by []) all (λ one m. λ i. record one { mounts = same one.mounts i })
   where
     same : (n : ℕ) → n ≡ n + 0

@@ -1,6 +1,6 @@
 -- The opening world is held.
-use Rattle.std.proofs.Common.{◌≡◌, refl, sym, ap, subst, ◌∙◌, true≢false, ℕ, ◌+◌, ◌*◌, nat_eq, eq-eqb, eqb-true, Bool, true, false, cond, List, [], ◌∷◌, ◌++◌, map, Some, None, is_some, arith, All, if◌then◌else◌}
-use Rattle.vt_spec.proofs.Common.{All-cons, All-nil, Filesystem, Inodes, IsWorld, Private as IsPrivate, first_mount, first_task, is_among, is_overlay, new_directory, new_plain, node_in, of_overlay, one_directory, opening, pinned, plain_flags, root_attr, tree_of, used_once_more}
+use Rattle.std.proofs.Common.{◌≡◌, refl, sym, ap, subst, ◌∙◌, true≢false, ℕ, ◌+◌, nat_eq, eq-eqb, eqb-true, Bool, true, false, cond, List, [], ◌∷◌, ◌++◌, map, Some, None, is_some, arith, All, if◌then◌else◌}
+use Rattle.vt_spec.proofs.Common.{All-cons, All-nil, Filesystem, Inodes, IsWorld, Private as IsPrivate, common_steps, first_mount, first_task, is_among, is_overlay, new_directory, new_plain, node_in, of_overlay, one_directory, opening, pinned, plain_flags, root_attr, tree_of}
 use Rattle.vt_spec.specs.declared.attributes.Attr.{Attr}
 use Rattle.vt_spec.specs.Machine.World as meant
 use Rattle.vt_spec.specs.Tree.{tree_of_root}
@@ -26,17 +26,7 @@ use Rattle.vt_mounting.specs.Attach.Opening.{first_shown, opening_numbers}
 
 -- One filesystem, with a use more of its root again and again
 pub pinned_once : (root uses : ℕ) → pinned nat_eq (one_counted root uses) root ≡ one_counted root (uses + 1)
-pinned_once root uses = λ i. record { root = root; inode = λ other. each (nat_eq other root) i; count = 1 }
-  where
-    here : used_once_more (if nat_eq root root then Some (root_counted root uses) else None)
-        ≡ Some (root_counted root (uses + 1))
-    here = ap (λ b. used_once_more (if b then Some (root_counted root uses) else None)) (eq-eqb root root refl)
-
-    each : (b : Bool) → (if b then used_once_more (if nat_eq root root then Some (root_counted root uses) else None)
-        else (if b then Some (root_counted root uses) else None))
-        ≡ (if b then Some (root_counted root (uses + 1)) else None)
-    each true = here
-    each false = refl
+pinned_once root uses = grind (arith, common_steps, eq-eqb)
 
 module _ (count : ℕ) where
   abbrev root_number : ℕ
@@ -137,14 +127,7 @@ module _ (entry : FilesystemEntry) (counts : entry.count ≡ 2)
       by false e = refl
 
 numbers_apart : (j k : ℕ) → opening_numbers j ≡ opening_numbers k → j ≡ k
-numbers_apart j k e = by (nat_eq j 3) (nat_eq k 3) refl refl e
-  where
-    by : (a b : Bool) → nat_eq j 3 ≡ a → nat_eq k 3 ≡ b
-        → (if a then inode_number 2 0 else 4 * (0 + j) + 1) ≡ (if b then inode_number 2 0 else 4 * (0 + k) + 1) → j ≡ k
-    by true true at bt e = eqb-true j 3 at ∙ sym (eqb-true k 3 bt)
-    by false false at bt e = omega (arith, e)
-    by true false at bt e = omega (arith, e)
-    by false true at bt e = omega (arith, e)
+numbers_apart j k e = grind (arith, common_steps, eqb-true)
 
 abbrev first_mount_entries : List MountEntry
 first_mount_entries = record { mount = first_mount nat_eq opening_numbers; uses = 2; writers = 0 } ∷ []

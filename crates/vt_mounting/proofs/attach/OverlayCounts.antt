@@ -1,14 +1,15 @@
 -- How many mounts show overlays, as code counts them: those that come are room for, and are counted.
-use Rattle.std.proofs.Common.{◌≡◌, refl, sym, ap, subst, ◌∙◌, ℕ, ◌+◌, ◌-◌, ◌<◌, ◌≤◌, nat_eq, Bool, true, false, true≢false, cond, ◌&&◌, List, [], ◌∷◌, map, length, Option, Some, None, is_some, option_map, unwrap_or, take, get_or, arith, le-leb, leb-true, length-take-le}
-use Rattle.vt_spec.proofs.Common.{and_parts, folded, list_all}
+use Rattle.std.proofs.Common.{◌≡◌, refl, sym, ap, subst, ◌∙◌, ℕ, ◌+◌, ◌-◌, ◌<◌, ◌≤◌, true, false, ◌&&◌, List, [], ◌∷◌, map, length, Option, Some, None, is_some, option_map, unwrap_or, take, get_or, arith, le-leb, leb-true, length-take-le}
+use Rattle.vt_spec.proofs.Common.{and_parts, common_steps, folded, list_all}
 use Rattle.vt_mounting.proofs.Common.{OverlayValue, Overlays, StoreValue, among_from_list_all, counted, counted_test, entry_in, entry_kept, overlay_in, with_mounts, with_mounts_by, with_overlay_changed}
 use Rattle.vt_location.specs.declared.mounts.Mount.{Mount}
-use Rattle.vt_store.specs.Counts.{mounts_by, mounts_in}
+use Rattle.vt_store.specs.Counts.{mounts_in}
 use Rattle.vt_store.specs.OverlaysValue.{OverlayEntry}
 use Rattle.vt_mounting.specs.Attach.Room.{merged_has_room, most_counted}
 use Rattle.vt_mounting.specs.Detach.Stored.{merged_of}
 use Rattle.vt_mounting.specs.Detach.Uses.{Merged, merged_at, merged_by, mounted_merged}
 use Rattle.vt_mounting.proofs.attach.EnteringLemmas.{among_at}
+use Rattle.vt_mounting.proofs.detach.StoresLeft.{found_merged}
 
 -- how many mounts show an overlay
 abbrev pub mounts_merged : ℕ → List Merged → ℕ
@@ -16,48 +17,18 @@ mounts_merged number all = unwrap_or (option_map (λ (one : Merged). one.mounts)
 
 -- Overlays of a store
 
--- an overlay is found by its count, or by its number
-merged_found : (count : ℕ) (all : Overlays)
-    → merged_at (counted count) (map merged_of all) ≡ option_map merged_of (entry_kept all count)
-merged_found count [] = refl
-merged_found count (entry ∷ rest) =
-    ap (λ b. cond b (Some (merged_of entry)) (merged_at (counted count) (map merged_of rest)))
-    (counted_test count entry.count) ∙ by (nat_eq count entry.count) (merged_found count rest)
-  where
-    by : (b : Bool) → merged_at (counted count) (map merged_of rest) ≡ option_map merged_of (entry_kept rest count)
-        → cond b (Some (merged_of entry)) (merged_at (counted count) (map merged_of rest))
-        ≡ option_map merged_of (cond b (Some entry) (entry_kept rest count))
-    by true later = refl
-    by false later = later
-
 -- one mount more of it
 merged_held : (count : ℕ) (all : Overlays)
     → map merged_of (with_overlay_changed count (λ one. record one { mounts = one.mounts + 1 }) all)
     ≡ mounted_merged (counted count) (map merged_of all)
 merged_held count [] = refl
-merged_held count (entry ∷ rest) = λ i. (by (nat_eq count entry.count)
-    ∙ ap (λ b. cond b (record (merged_of entry) { mounts = entry.mounts + 1 }) (merged_of entry))
-    (sym (counted_test count entry.count))) i ∷ merged_held count rest i
-  where
-    by : (b : Bool) → merged_of (cond b (record entry { mounts = entry.mounts + 1 }) entry)
-        ≡ cond b (record (merged_of entry) { mounts = entry.mounts + 1 }) (merged_of entry)
-    by true = refl
-    by false = refl
+merged_held count (entry ∷ rest) = grind (arith, common_steps, merged_held count rest, counted_test)
 
 -- what is no overlay is none of them
 none_held : (count : ℕ) (all : Overlays) → is_some (entry_kept all count) ≡ false
     → mounted_merged (counted count) (map merged_of all) ≡ map merged_of all
 none_held count [] none = refl
-none_held count (entry ∷ rest) none = by (nat_eq count entry.count) refl none (none_held count rest)
-  where
-    by : (b : Bool) → nat_eq count entry.count ≡ b → is_some (cond b (Some entry) (entry_kept rest count)) ≡ false
-        → (is_some (entry_kept rest count) ≡ false
-        → mounted_merged (counted count) (map merged_of rest) ≡ map merged_of rest)
-        → mounted_merged (counted count) (map merged_of (entry ∷ rest)) ≡ map merged_of (entry ∷ rest)
-    by true e found later = absurd (true≢false found)
-    by false e found later =
-        λ i. ap (λ b. cond b (record (merged_of entry) { mounts = entry.mounts + 1 }) (merged_of entry))
-        (counted_test count entry.count ∙ e) i ∷ later found i
+none_held count (entry ∷ rest) none = grind (arith, common_steps, none_held count rest, counted_test)
 
 module _ (store : StoreValue) (count : ℕ) where
   -- whether a filesystem is an overlay
@@ -71,24 +42,11 @@ module _ (store : StoreValue) (count : ℕ) where
 
   pub mounts_are_merged : is_some (entry_in store count) ≡ true
       → mounts_in store count ≡ mounts_merged (counted count) (map merged_of store.overlays)
-  mounts_are_merged there = by (entry_in store count) there
-      ∙ ap (λ o. unwrap_or (option_map (λ (one : Merged). one.mounts) o) 0) (sym (merged_found count store.overlays))
-    where
-      by : (o : Option OverlayEntry) → is_some o ≡ true → mounts_by store.plain count o
-          ≡ unwrap_or (option_map (λ (one : Merged). one.mounts) (option_map merged_of o)) 0
-      by None there = absurd cc
-      by (Some entry) there = refl
+  mounts_are_merged there = grind (arith, common_steps, found_merged)
 
   pub none_merged : is_some (entry_in store count) ≡ false
       → mounts_merged (counted count) (map merged_of store.overlays) ≡ 0
-  none_merged none =
-      ap (λ o. unwrap_or (option_map (λ (one : Merged). one.mounts) o) 0) (merged_found count store.overlays)
-      ∙ by (entry_in store count) none
-    where
-      by : (o : Option OverlayEntry) → is_some o ≡ false
-          → unwrap_or (option_map (λ (one : Merged). one.mounts) (option_map merged_of o)) 0 ≡ 0
-      by None none = refl
-      by (Some entry) none = absurd cc
+  none_merged none = grind (arith, common_steps, found_merged)
 
   -- one mount more of an overlay
   pub held_over : is_some (entry_in store count) ≡ true → (new : StoreValue)
@@ -114,30 +72,7 @@ module _ (store : StoreValue) (count : ℕ) where
 more_merged : (number other : ℕ) (all : List Merged)
     → mounts_merged other (mounted_merged number all) ≤ mounts_merged other all + 1
 more_merged number other [] = omega arith
-more_merged number other (one ∷ rest) =
-    subst (λ n. mounts_of (cond (nat_eq other n) (Some (more one)) (merged_at other (mounted_merged number rest)))
-    ≤ mounts_of (cond (nat_eq other one.number) (Some one) (merged_at other rest)) + 1)
-    (sym (same_number (nat_eq number one.number))) (by (nat_eq other one.number) (more_merged number other rest))
-  where
-    mounts_of : Option Merged → ℕ
-    mounts_of o = unwrap_or (option_map (λ (found : Merged). found.mounts) o) 0
-
-    more : Merged → Merged
-    more found = cond (nat_eq number found.number) (record found { mounts = found.mounts + 1 }) found
-
-    same_number : (b : Bool) → (cond b (record one { mounts = one.mounts + 1 }) one).number ≡ one.number
-    same_number true = refl
-    same_number false = refl
-
-    at_most : (b : Bool) → (cond b (record one { mounts = one.mounts + 1 }) one).mounts ≤ one.mounts + 1
-    at_most true = omega arith
-    at_most false = omega arith
-
-    by : (b : Bool) → mounts_merged other (mounted_merged number rest) ≤ mounts_merged other rest + 1
-        → mounts_of (cond b (Some (more one)) (merged_at other (mounted_merged number rest)))
-        ≤ mounts_of (cond b (Some one) (merged_at other rest)) + 1
-    by true later = at_most (nat_eq number one.number)
-    by false later = later
+more_merged number other (one ∷ rest) = grind (arith, common_steps, more_merged number other rest)
 
 merged_by_all : (new : List Mount) (other : ℕ) (all : List Merged)
     → mounts_merged other (folded merged_by all new) ≤ mounts_merged other all + length new

@@ -1,7 +1,7 @@
 -- What the permit that mounts an overlay leaves: the plain filesystems that are kept once the layers are held, the
 -- overlay that these show, and a mount of it, but for the order of the numbers beside trees.
-use Rattle.std.proofs.Common.{◌≡◌, refl, sym, ap, subst, ◌∙◌, ℕ, nat_eq, Bool, true, false, cond, not, ◌||◌, List, [], ◌∷◌, ◌++◌, map, filter, flat_map, length, Some, None, is_some, All}
-use Rattle.vt_spec.proofs.Common.{Filesystem, Fresh, Location, MergedInode, MountFlags, Overlay, SameFiles, SameFilesystem, SameWorlds, Task, ToMountOverlay, Tree, World, any_pair, attach, each_once, evens, evens-distinct, inode_count, is_among, length_permutation, list_all, list_any, list_any-IsPermutation, merged_inodes, merged_objects, named_in, new_mount, odds, open_layer, overlay_filesystem, pair-filter, same_Some, served-distinct, shown_layers, targets_in, with_new_filesystem}
+use Rattle.std.proofs.Common.{◌≡◌, refl, sym, ap, subst, ◌∙◌, ℕ, nat_eq, true, false, not, ◌||◌, List, [], ◌∷◌, ◌++◌, map, filter, flat_map, length, Some, None, is_some, All, arith}
+use Rattle.vt_spec.proofs.Common.{Filesystem, Fresh, Location, MergedInode, MountFlags, Overlay, SameFiles, SameFilesystem, SameWorlds, Task, ToMountOverlay, Tree, World, any_pair, attach, common_steps, each_once, evens, evens-distinct, inode_count, is_among, length_permutation, list_all, list_any, list_any-IsPermutation, merged_inodes, merged_objects, named_in, new_mount, odds, open_layer, overlay_filesystem, pair-filter, same_Some, served-distinct, shown_layers, targets_in, with_new_filesystem}
 use Rattle.vt_spec.specs.Machine.Merging.{tree_of}
 use Rattle.vt_spec.specs.Machine.Mounts as meant
 use Rattle.vt_mounting.proofs.Common.{AreLayers, Filesystems, Inode, IsGivenToTask, IsHeld, IsShownAlike, OverlayValue, ShowsLayer, ShowsLayers, WorldValue, alike_from_same, all_from_among, counted, filesystems_seen, found_by_number, found_same, has_only_named, inodes_are_the_tree, inodes_have_their_objects, inodes_stay, layer_seen, overlay_of_store, overlay_seen, overlays_seen, same_numbers_are_permuted, sameness_is_an_equivalence, shown, with_objects, world_of, woven}
@@ -31,15 +31,7 @@ use Rattle.vt_mounting.proofs.attach.NewOverlayUses.{held_by, overlay_last}
 
 none_left : (a : ℕ) (list : List ℕ) → list_any (nat_eq a) (filter (λ b. not (nat_eq a b)) list) ≡ false
 none_left a [] = refl
-none_left a (first ∷ list) = by (nat_eq a first) refl (none_left a list)
-  where
-    others : List ℕ
-    others = filter (λ b. not (nat_eq a b)) list
-
-    by : (b : Bool) → nat_eq a first ≡ b → list_any (nat_eq a) (filter (λ b. not (nat_eq a b)) list) ≡ false
-        → list_any (nat_eq a) (cond (not b) (first ∷ others) others) ≡ false
-    by true e later = later
-    by false e later = ap (λ b. b || list_any (nat_eq a) others) e ∙ later
+none_left a (first ∷ list) = grind (arith, common_steps, none_left a list)
 
 once_apart : (list : List ℕ) → any_pair nat_eq (each_once nat_eq list) ≡ false
 once_apart [] = refl

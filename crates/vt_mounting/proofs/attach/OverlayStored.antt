@@ -1,6 +1,6 @@
 -- After the mount of an overlay a store shows its overlays as they were, and the new one as its layers showed it before.
-use Rattle.std.proofs.Common.{◌≡◌, refl, sym, ap, subst, ◌∙◌, ⊎_elim, ℕ, nat_eq, nat_lt, ltb-true, lt-ltb, Bool, true, false, true≢false, cond, not, ◌||◌, List, [], ◌∷◌, ◌++◌, filter, length, map, Option, None, is_some, arith, All, ne_eqb}
-use Rattle.vt_spec.proofs.Common.{Filesystem, Real, SameFilesystems, and_parts, any_pair, is_overlay, length_permutation, list_all, list_any, map-append, map_alike, of_overlay}
+use Rattle.std.proofs.Common.{◌≡◌, refl, sym, ap, subst, ◌∙◌, ⊎_elim, ℕ, nat_eq, nat_lt, ltb-true, lt-ltb, true, false, ◌||◌, List, [], ◌∷◌, ◌++◌, filter, length, map, Option, None, arith, All, ne_eqb}
+use Rattle.vt_spec.proofs.Common.{Filesystem, Real, SameFilesystems, and_parts, any_pair, common_steps, is_overlay, length_permutation, list_all, list_any, map-append, map_alike, of_overlay}
 use Rattle.vt_mounting.proofs.Common.{Among, AreLayers, Filesystems, IsHeld, IsShownAlike, OverlayEntry, OverlayValue, StoreValue, WorldValue, all_from_among, among-append, among-map, are_rising, counted, filesystems_seen, found_by_number, found_same, inodes_stay, list_all_from_among, overlay_of_store, overlay_seen, overlays_of_store, overlays_seen, shown, with_store, world_of, woven, woven_lists_are_failing}
 use Rattle.vt_overlay.specs.declared.merge.layers.LayerRef.{LayerRef}
 use Rattle.vt_store.specs.Laws.{IsSameLayer}
@@ -66,17 +66,7 @@ plain_same : (ones others : List (Filesystem ℕ)) → SameFilesystems ones othe
 plain_same [] [] same = tt
 plain_same [] (other ∷ others) same = absurd same
 plain_same (one ∷ ones) [] same = absurd same
-plain_same (one ∷ ones) (other ∷ others) same =
-    by (is_plain_one one) (is_plain_one other) (ap (λ o. not (is_some o)) same.0.overlay)
-    (plain_same ones others same.1)
-  where
-    by : (b c : Bool) → b ≡ c → SameFilesystems (filter is_plain_one ones) (filter is_plain_one others)
-        → SameFilesystems (cond b (one ∷ filter is_plain_one ones) (filter is_plain_one ones))
-        (cond c (other ∷ filter is_plain_one others) (filter is_plain_one others))
-    by true true e later = (same.0, later)
-    by true false e later = absurd (true≢false e)
-    by false true e later = absurd (true≢false (sym e))
-    by false false e later = later
+plain_same (one ∷ ones) (other ∷ others) same = grind (arith, common_steps, plain_same ones others same.1, is_plain_one)
 
 -- Filesystems in the order of their numbers have numbers of their own.
 

@@ -1,5 +1,5 @@
 -- Overlays where mounts come: each mount is one more of its overlay, and all overlays stay.
-use Rattle.std.proofs.Common.{◌≡◌, refl, sym, ap, subst, ◌∙◌, inl, inr, ⊎_elim, ℕ, ◌+◌, nat_eq, eq-eqb, nat_lt, Bool, true, false, cond, ◌||◌, List, [], ◌∷◌, ◌++◌, map, filter, Option, Some, option_map, arith, All, ltb-true, ne_eqb}
+use Rattle.std.proofs.Common.{◌≡◌, refl, sym, ap, subst, ◌∙◌, inl, inr, ⊎_elim, ℕ, ◌+◌, nat_eq, eq-eqb, nat_lt, Bool, true, false, cond, ◌||◌, List, [], ◌∷◌, ◌++◌, map, filter, Option, Some, option_map, arith, All, ltb-true, ne_eqb, map-id}
 use Rattle.vt_spec.proofs.Common.{Filesystem, Mount, World, and_parts, cons_option, folded, is_mounted, is_overlay, list_all, map_alike, map_twice}
 use Rattle.std.proofs.Math.Seq.{append_snoc}
 use Rattle.vt_mounting.proofs.Common.{Among, IsHeld, IsMountedSoOften, OverlayEntry, WorldValue, all_from_among, among-append, among-from_map, among-map, among_from_all, among_from_list_all, are_rising, counted, mount_of, mounted_while_counted, mounts_showing, overlay_seen, overlays_seen, times, times_append, world_of}
@@ -7,7 +7,7 @@ use Rattle.vt_location.specs.declared.mounts.Mount.{Mount as Attached}
 use Rattle.vt_mounting.specs.Detach.Uses.{Merged, merged_at, merged_by, merged_seen, overlays_kept}
 use Rattle.vt_mounting.proofs.detach.BesideOverlays.{mounted_at_first, some_of_both}
 use Rattle.vt_mounting.proofs.detach.MountsLeave.{LeavesOverlays, merged_at_first}
-use Rattle.vt_mounting.proofs.detach.Moving.{map_itself, nat_eq_turned}
+use Rattle.vt_mounting.proofs.detach.Moving.{nat_eq_turned}
 use Rattle.vt_mounting.proofs.detach.Overlaid.{AreStillMounted, all_shown, overlays_are}
 use Rattle.vt_mounting.proofs.detach.OverlaysGone.{layers_used, merged_in}
 
@@ -19,7 +19,7 @@ mounted_more added one =
 -- each mount that comes is one more of its overlay
 pub merged_by_all : (copies : List Attached) (all : List Merged)
     → folded merged_by all copies ≡ map (mounted_more (map mount_of copies)) all
-merged_by_all [] all = map_itself all
+merged_by_all [] all = sym (map-id all)
     ∙ map_alike (λ (one : Merged). one) (mounted_more []) all (λ one m. λ i. record one { mounts = same one.mounts i })
   where
     same : (n : ℕ) → n ≡ n + 0

@@ -1,7 +1,7 @@
 -- A new overlay in a store: its layers are in use, and it comes after all others.
-use Rattle.std.proofs.Common.{◌≡◌, ◌≤◌, refl, sym, ap, ◌∙◌, ℕ, ◌+◌, nat_eq, eq-eqb, nat_lt, Bool, true, false, cond, not, ◌&&◌, List, [], ◌∷◌, ◌++◌, length, map, Option, Some, None, option_map, unwrap_or, arith, nat_le, le-leb, leb-true, ltb-true, ne_eqb}
-use Rattle.vt_spec.proofs.Common.{and_parts, folded, list_all, map_alike, pinned}
-use Rattle.vt_mounting.proofs.Common.{Inode, Overlays, Shown, StoreValue, among_from_list_all, counted, counted_test, entry_kept, inode_of as inode_number_of, list_all_from_among, lowers_in, pinned_if, shown_with, with_layers, without_overlay}
+use Rattle.std.proofs.Common.{◌≡◌, ◌≤◌, refl, ap, ◌∙◌, ℕ, ◌+◌, nat_eq, eq-eqb, nat_lt, Bool, true, false, cond, not, ◌&&◌, List, [], ◌∷◌, ◌++◌, length, map, Option, Some, None, option_map, unwrap_or, arith, nat_le, le-leb, leb-true, ltb-true, ne_eqb}
+use Rattle.vt_spec.proofs.Common.{and_parts, common_steps, folded, list_all, map_alike, pinned}
+use Rattle.vt_mounting.proofs.Common.{Inode, Overlays, Shown, StoreValue, among_from_list_all, counted, counted_test, entry_kept, list_all_from_among, lowers_in, pinned_if, shown_with, with_layers, without_overlay}
 use Rattle.vt_laws_mounts.proofs.letting_go.Lists.{filter_here, filter_skip}
 use Rattle.vt_location.specs.declared.locations.Location.{Location}
 use Rattle.vt_location.specs.declared.mounts.Mount.{Mount}
@@ -27,17 +27,7 @@ pinned_shown count number all = changed_inodes count (λ inodes. pinned nat_eq i
     (λ other inodes. ap (λ b. cond b (pinned nat_eq inodes number) inodes) (counted_eq_back other count)) all
 
 layer_more : (all : List Shown) (layer : LayerRef) → Stored.with_layer all layer ≡ with_layer all (layer_of layer)
-layer_more all layer =
-    map_alike (λ (one : Shown). cond (nat_eq count one.count) (record one { mounts = one.mounts + 1 }) one)
-    (λ (one : Shown). cond (nat_eq (counted count) (counted one.count)) (record one { mounts = one.mounts + 1 }) one)
-    used (λ one m. ap (λ b. cond b (record one { mounts = one.mounts + 1 }) one) (sym (counted_test count one.count)))
-    ∙ ap (mounted_in (counted count)) (pinned_shown count (inode_number_of layer.directory) all)
-  where
-    count : ℕ
-    count = layer.directory.filesystem.count
-
-    used : List Shown
-    used = shown_with count (λ inodes. pinned nat_eq inodes (inode_number_of layer.directory)) all
+layer_more all layer = grind (arith, common_steps, map_alike, counted_test, pinned_shown)
 
 -- those of an overlay, as they are counted
 pub layers_more : (layers : List LayerRef) (all : List Shown)
@@ -122,16 +112,7 @@ same_mounts number [] one none = by (nat_eq number one.number)
     by : (b : Bool) → unwrap_or (option_map (λ (m : Merged). m.mounts) (cond b (Some one) None)) 0 ≡ 0
     by true = none
     by false = refl
-same_mounts number (first ∷ rest) one none = by (nat_eq number first.number) (same_mounts number rest one none)
-  where
-    mounts_of : Option Merged → ℕ
-    mounts_of o = unwrap_or (option_map (λ (m : Merged). m.mounts) o) 0
-
-    by : (b : Bool) → mounts_of (merged_at number (rest ++ one ∷ [])) ≡ mounts_of (merged_at number rest)
-        → mounts_of (cond b (Some first) (merged_at number (rest ++ one ∷ [])))
-        ≡ mounts_of (cond b (Some first) (merged_at number rest))
-    by true later = refl
-    by false later = later
+same_mounts number (first ∷ rest) one none = grind (arith, common_steps, same_mounts number rest one none)
 
 pub overlays_fit : (most : ℕ) (all : List Merged) (one : Merged) → one.mounts ≡ 0 → (copies : List Mount)
     → list_all (merged_has_room most all) copies ≡ true

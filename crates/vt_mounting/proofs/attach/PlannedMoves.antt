@@ -1,13 +1,13 @@
 -- Mounts that get other mount points, one after the other: their room, and the uses of their mount points.
-use Rattle.std.proofs.Common.{◌≡◌, refl, ap, subst, sym, ◌∙◌, ℕ, ◌+◌, ◌-◌, ◌<◌, ◌≤◌, nat_eq, Bool, true, false, cond, ◌&&◌, List, [], ◌∷◌, length, Some, None, Option, option_map, take, drop, get_or, is_some, map, inl, arith, IsErr, OnOk, Result, nat_le, option_to_list, le-leb, leb-true, length-append, length-take-le, take-append-drop}
-use Rattle.vt_spec.proofs.Common.{and_parts, folded, length-map, list_all, list_all-append, pinned, take_more, uses_in, ⊤}
+use Rattle.std.proofs.Common.{◌≡◌, refl, ap, subst, sym, ◌∙◌, ℕ, ◌+◌, ◌-◌, ◌<◌, ◌≤◌, nat_eq, Bool, true, false, cond, ◌&&◌, List, [], ◌∷◌, length, Some, None, Option, option_map, take, drop, get_or, map, inl, arith, IsErr, OnOk, Result, nat_le, option_to_list, le-leb, leb-true, length-append, length-take-le, take-append-drop}
+use Rattle.vt_spec.proofs.Common.{and_parts, common_steps, folded, length-map, list_all, list_all-append, pinned, take_more, uses_in, ⊤}
 use Rattle.std.proofs.lemmas.List.{flat_map_more, map_more}
 use Rattle.std.proofs.lemmas.List.Folds.{list_all_more}
-use Rattle.vt_mounting.proofs.Common.{Among, ChangesInodes, Filesystems, Inode, MountEntry, Shown, among-append_left, among-append_right, among-map, among_from_list_all, counted, entry_numbered, inodes_at, location_of, number_of, shown}
+use Rattle.vt_mounting.proofs.Common.{Among, ChangesInodes, Filesystems, Inode, MountEntry, Shown, among-append_left, among-append_right, among-map, among_from_list_all, counted, inodes_at, location_of, number_of, shown}
 use Rattle.vt_location.specs.declared.locations.Location.{Location}
 use Rattle.vt_location.specs.declared.mounts.Mount.{Mount}
 use Rattle.vt_mount.specs.declared.moving.Moved.{Moved}
-use Rattle.vt_mounting.specs.Attach.Planned.{Point, left_of, pinned_by, placed_entry, points_taken, taken_at, taken_of, unpinned_by, with_points}
+use Rattle.vt_mounting.specs.Attach.Planned.{Point, left_of, pinned_by, placed_entry, points_taken, taken_of, unpinned_by}
 use Rattle.vt_mounting.specs.Attach.Room.{has_room, most_counted, point_has_room, uses_shown}
 use Rattle.vt_mounting.specs.Detach.Uses.{inode_of, mounts_shown}
 use Rattle.vt_mounting.proofs.detach.Shown.{pins}
@@ -31,29 +31,11 @@ mapped_points (Some point) = refl
 pub taken_pass : (test : Location → Bool) (points : List Point) (entries : List MountEntry)
     → list_all (λ (point : Point). test point.place) points ≡ true → list_all test (points_taken points entries) ≡ true
 taken_pass test [] entries all = refl
-taken_pass test (point ∷ rest) entries all =
-    list_all-append test (points_taken rest entries) (taken_at point (with_points rest entries))
-    ∙ (λ i. taken_pass test rest entries parts.1 i
-    && by (is_some (entry_numbered (with_points rest entries) (counted point.mount.count))) i)
-  where
-    parts : (test point.place ≡ true) × (list_all (λ (other : Point). test other.place) rest ≡ true)
-    parts = and_parts (test point.place) (list_all (λ (other : Point). test other.place) rest) all
-
-    by : (b : Bool) → list_all test (cond b (point.place ∷ []) []) ≡ true
-    by true = λ i. parts.0 i && true
-    by false = refl
+taken_pass test (point ∷ rest) entries all = grind (arith, common_steps, taken_pass test rest entries, list_all-append)
 
 pub taken_few : (points : List Point) (entries : List MountEntry) → length (points_taken points entries) ≤ length points
 taken_few [] entries = omega arith
-taken_few (point ∷ rest) entries =
-    let both = length-append (points_taken rest entries) (taken_at point (with_points rest entries)) in
-    let few = taken_few rest entries in
-    let one = by (is_some (entry_numbered (with_points rest entries) (counted point.mount.count))) in
-    omega (arith, both, few, one)
-  where
-    by : (b : Bool) → length (cond b (point.place ∷ []) []) ≤ 1
-    by true = omega arith
-    by false = omega arith
+taken_few (point ∷ rest) entries = grind (arith, common_steps, taken_few rest entries, length-append)
 
 -- Room for them, and for the mounts that come then
 
@@ -167,11 +149,12 @@ pub unpinned_next : (moved : List Moved) (old before after : List Shown) (i : �
     → after ≡ folded unpinned_by before (option_to_list (get_or moved i d).from)
     → after ≡ folded unpinned_by old (left_of (take (i + 1) moved))
 unpinned_next moved old before after i d less so_far step =
-    step ∙ ap (λ all. folded unpinned_by all (option_to_list (get_or moved i d).from)) so_far
-    ∙ sym (folded_append unpinned_by old (left_of (take i moved)) (option_to_list (get_or moved i d).from))
-    ∙ ap (folded unpinned_by old)
-    (flat_map_more (λ (one : Moved). option_to_list one.from) [] (take i moved) (get_or moved i d)
-    ∙ sym (ap left_of (take_more moved i d less)))
+    cc (
+      folded_append unpinned_by old (left_of (take i moved)) (option_to_list (get_or moved i d).from),
+      flat_map_more
+          (λ (one : Moved). option_to_list one.from) [] (take i moved) (get_or moved i d),
+      take_more moved i d less,
+    )
 
 pub place_next : (most : ℕ) (filesystems : Filesystems) (points : List Point) (i : ℕ) (d : Point) → i < length points
     → list_all (λ (point : Point). point_has_room most (shown filesystems) (Some point.place)) (take i points) ≡ true

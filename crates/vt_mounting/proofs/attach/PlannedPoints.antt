@@ -1,7 +1,7 @@
 -- New mount points of mounts that are there, each once: which ones are taken, which are left, and where the mounts are
 -- then.
-use Rattle.std.proofs.Common.{◌≡◌, refl, sym, ap, subst, ◌∙◌, ⊎_elim, inl, inr, true≢false, ℕ, nat_eq, eq-eqb, eqb-true, Bool, true, false, cond, ◌||◌, List, [], ◌∷◌, ◌++◌, map, Option, Some, None, is_some, option_and_then, option_to_list, ne_eqb}
-use Rattle.vt_spec.proofs.Common.{Mount, any_pair, is_among, list_any, lookup, or_else, or_parts, same_Some}
+use Rattle.std.proofs.Common.{◌≡◌, refl, sym, ap, subst, ◌∙◌, ⊎_elim, inl, inr, true≢false, ℕ, nat_eq, eq-eqb, eqb-true, Bool, true, false, cond, List, [], ◌∷◌, ◌++◌, map, Option, Some, None, is_some, option_and_then, option_to_list, ne_eqb, arith}
+use Rattle.vt_spec.proofs.Common.{Mount, any_pair, common_steps, is_among, list_any, lookup, or_else, or_parts}
 use Rattle.vt_mounting.proofs.Common.{Among, MountEntry, MovesOnce, among-append, among-map, among_from_list_all, any-map, changed, counted, entry_numbered, location_of, map_same, mounts_in, moved_by, none_among}
 use Rattle.vt_location.specs.declared.locations.Location.{Location}
 use Rattle.vt_spec.specs.Machine.Mounts as meant
@@ -24,38 +24,15 @@ Here points entries = (point : Point) → Among point points → is_some (entry_
 found-among_first : (number : ℕ) (first later : List MountEntry) → is_some (entry_numbered first number) ≡ true
     → entry_numbered (first ++ later) number ≡ entry_numbered first number
 found-among_first number [] later some = absurd cc
-found-among_first number (entry ∷ first) later some =
-    by (nat_eq number entry.mount.number) some (found-among_first number first later)
-  where
-    by : (b : Bool) → is_some (cond b (Some entry) (entry_numbered first number)) ≡ true
-        → (is_some (entry_numbered first number) ≡ true
-        → entry_numbered (first ++ later) number ≡ entry_numbered first number)
-        → cond b (Some entry) (entry_numbered (first ++ later) number)
-        ≡ cond b (Some entry) (entry_numbered first number)
-    by true some rest = refl
-    by false some rest = rest some
+found-among_first number (entry ∷ first) later some = grind (arith, common_steps, found-among_first number first later)
 
 -- The entry of another mount stays
 
 entry_stays : (number other : ℕ) (place : Location) (entries : List MountEntry) → nat_eq number other ≡ false
     → entry_numbered (changed other (placed_entry place) entries) number ≡ entry_numbered entries number
 entry_stays number other place [] apart = refl
-entry_stays number other place (entry ∷ rest) apart = by (nat_eq other entry.mount.number) refl
-    (entry_stays number other place rest apart)
-  where
-    by : (b : Bool) → nat_eq other entry.mount.number ≡ b
-        → entry_numbered (changed other (placed_entry place) rest) number ≡ entry_numbered rest number
-        → cond (nat_eq number (cond b (placed_entry place entry) entry).mount.number)
-        (Some (cond b (placed_entry place entry) entry))
-        (entry_numbered (changed other (placed_entry place) rest) number)
-        ≡ cond (nat_eq number entry.mount.number) (Some entry) (entry_numbered rest number)
-    by true e later =
-        let differ : nat_eq number entry.mount.number
-        ≡ false = ap (nat_eq number) (sym (eqb-true other entry.mount.number e)) ∙ apart in
-        ap (λ b. cond b (Some (placed_entry place entry))
-        (entry_numbered (changed other (placed_entry place) rest) number)) differ
-        ∙ later ∙ sym (ap (λ b. cond b (Some entry) (entry_numbered rest number)) differ)
-    by false e later = ap (λ o. cond (nat_eq number entry.mount.number) (Some entry) o) later
+entry_stays number other place (entry ∷ rest) apart =
+    grind (arith, common_steps, entry_stays number other place rest apart, eqb-true)
 
 entry_then : (number : ℕ) (points : List Point) (entries : List MountEntry)
     → list_any (λ (point : Point). nat_eq number (number_at point)) points ≡ false
@@ -140,18 +117,7 @@ StoodAt entries place = (mount : Mount ℕ) × Among mount (mounts_in entries) �
 found_entry : (number : ℕ) (entries : List MountEntry) (entry : MountEntry) → entry_numbered entries number ≡ Some entry
     → Among entry entries × (entry.mount.number ≡ number)
 found_entry number [] entry e = absurd (true≢false (sym (ap is_some e)))
-found_entry number (first ∷ rest) entry e = by (nat_eq number first.mount.number) refl e (found_entry number rest entry)
-  where
-    by : (b : Bool) → nat_eq number first.mount.number ≡ b
-        → cond b (Some first) (entry_numbered rest number) ≡ Some entry
-        → (entry_numbered rest number ≡ Some entry → Among entry rest × (entry.mount.number ≡ number))
-        → Among entry (first ∷ rest) × (entry.mount.number ≡ number)
-    by true is e later =
-        let same = same_Some first entry e in (
-          inl (sym same),
-          ap (λ (x : MountEntry). x.mount.number) (sym same) ∙ sym (eqb-true number first.mount.number is),
-        )
-    by false is e later = let found = later e in (inr found.0, found.1)
+found_entry number (first ∷ rest) entry e = grind (arith, common_steps, found_entry number rest entry, eqb-true)
 
 left_from : (points : List Point) (entries : List MountEntry) (place : meant.Location ℕ)
     → Among place (left_now points entries) → StoodAt entries place
@@ -178,14 +144,7 @@ entry_some : (number : ℕ) (entries : List MountEntry)
     → is_among nat_eq number (map (λ (mount : Mount ℕ). mount.number) (mounts_in entries)) ≡ true
     → is_some (entry_numbered entries number) ≡ true
 entry_some number [] there = absurd (true≢false (sym there))
-entry_some number (entry ∷ rest) there = by (nat_eq number entry.mount.number) there (entry_some number rest)
-  where
-    by : (b : Bool) → (b || is_among nat_eq number (map (λ (mount : Mount ℕ). mount.number) (mounts_in rest))) ≡ true
-        → (is_among nat_eq number (map (λ (mount : Mount ℕ). mount.number) (mounts_in rest)) ≡ true
-        → is_some (entry_numbered rest number) ≡ true)
-        → is_some (cond b (Some entry) (entry_numbered rest number)) ≡ true
-    by true there later = refl
-    by false there later = later there
+entry_some number (entry ∷ rest) there = grind (arith, common_steps, entry_some number rest)
 
 -- Where mounts are then
 
@@ -211,8 +170,7 @@ lookup_none number [] apart = refl
 lookup_none number (point ∷ rest) apart =
     let parts = or_parts (nat_eq number (number_at point))
     (list_any (λ (other : Point). nat_eq number (number_at other)) rest) apart in
-    ap (λ b. cond b (Some (location_of point.place)) (lookup (nat_eq number) (map point_seen rest))) parts.0
-    ∙ lookup_none number rest parts.1
+    cc (parts.0, lookup_none number rest parts.1)
 
 -- mounts with other numbers stay where they are
 pub others_stay : (points : List Point) (mounts : List (Mount ℕ)) → ((mount : Mount ℕ) → Among mount mounts

@@ -1,6 +1,6 @@
 -- Uses of inodes and filesystems that new mounts make, and room for them.
 use Rattle.std.proofs.Common.{◌≡◌, refl, sym, ap, subst, ◌∙◌, ℕ, ◌+◌, ◌*◌, ◌-◌, ◌<◌, ◌≤◌, nat_eq, eqb-true, Bool, true, false, cond, ◌&&◌, List, [], ◌∷◌, ◌++◌, length, find, Option, Some, None, option_map, unwrap_or, take, get_or, arith, Err, IsErr, Ok, OnOk, Result, nat_le, le-leb, leb-true, length-take-le}
-use Rattle.vt_spec.proofs.Common.{Inode as Counted, Inodes, and_parts, folded, list_all, pinned, used_once_more, uses_in, ⊤}
+use Rattle.vt_spec.proofs.Common.{Inode as Counted, Inodes, and_parts, common_steps, folded, list_all, pinned, used_once_more, uses_in, ⊤}
 use Rattle.vt_mounting.proofs.Common.{Filesystems, Inode, Shown, among_from_list_all, counted, counted_test, entry_of, inodes_at, inodes_seen, no_entry, number_of, pinned_if, shown, shown_entry, with_changed}
 use Rattle.vt_location.specs.declared.locations.Location.{Location}
 use Rattle.vt_location.specs.declared.mounts.Mount.{Mount}
@@ -33,14 +33,7 @@ used_more (Some inode) = omega arith
 
 pinned_more : (inodes : Inodes ℕ) (number other : ℕ)
     → uses_in ((pinned nat_eq inodes number).inode other) ≤ uses_in (inodes.inode other) + 1
-pinned_more inodes number other = by (nat_eq other number) refl
-  where
-    by : (b : Bool) → nat_eq other number ≡ b
-        → uses_in (cond b (used_once_more (inodes.inode number)) (inodes.inode other)) ≤ uses_in
-        (inodes.inode other) + 1
-    by true e = subst (λ n. uses_in (used_once_more (inodes.inode n)) ≤ uses_in (inodes.inode other) + 1)
-        (eqb-true other number e) (used_more (inodes.inode other))
-    by false e = omega arith
+pinned_more inodes number other = grind (arith, common_steps, eqb-true, used_more)
 
 pub pinned_if_more : (filesystem : ℕ) (inodes : Inodes ℕ) (inode : Inode) (other : ℕ)
     → uses_in ((pinned_if filesystem inodes inode).inode other) ≤ uses_in (inodes.inode other) + 1
@@ -54,33 +47,12 @@ pinned_if_more filesystem inodes inode other = by (nat_eq filesystem inode.0)
 pub pinned_uses : (inode other : Inode) (all : List Shown)
     → uses_shown other (pinned_in inode all) ≤ uses_shown other all + 1
 pinned_uses inode other [] = omega arith
-pinned_uses inode other (one ∷ rest) = by (nat_eq other.0 (counted one.count)) (pinned_uses inode other rest)
-  where
-    use_of : Option Shown → ℕ
-    use_of o = unwrap_or (option_map (λ (found : Shown). uses_in (found.inodes.inode other.1)) o) 0
-
-    by : (b : Bool) → uses_shown other (pinned_in inode rest) ≤ uses_shown other rest + 1
-        → use_of (cond b (Some (record one { inodes = pinned_if (counted one.count) one.inodes inode }))
-        (find (λ found. nat_eq other.0 (counted found.count)) (pinned_in inode rest)))
-        ≤ use_of (cond b (Some one) (find (λ found. nat_eq other.0 (counted found.count)) rest)) + 1
-    by true later = pinned_if_more (counted one.count) one.inodes inode other.1
-    by false later = later
+pinned_uses inode other (one ∷ rest) = grind (arith, common_steps, pinned_uses inode other rest, pinned_if_more)
 
 pub pinned_mounts : (inode : Inode) (filesystem : ℕ) (all : List Shown)
     → mounts_shown filesystem (pinned_in inode all) ≡ mounts_shown filesystem all
 pinned_mounts inode filesystem [] = refl
-pinned_mounts inode filesystem (one ∷ rest) = by (nat_eq filesystem (counted one.count))
-    (pinned_mounts inode filesystem rest)
-  where
-    mounts_of : Option Shown → ℕ
-    mounts_of o = unwrap_or (option_map (λ (found : Shown). found.mounts) o) 0
-
-    by : (b : Bool) → mounts_shown filesystem (pinned_in inode rest) ≡ mounts_shown filesystem rest
-        → mounts_of (cond b (Some (record one { inodes = pinned_if (counted one.count) one.inodes inode }))
-        (find (λ found. nat_eq filesystem (counted found.count)) (pinned_in inode rest)))
-        ≡ mounts_of (cond b (Some one) (find (λ found. nat_eq filesystem (counted found.count)) rest))
-    by true later = refl
-    by false later = later
+pinned_mounts inode filesystem (one ∷ rest) = grind (arith, common_steps, pinned_mounts inode filesystem rest)
 
 mounted_count : (filesystem : ℕ) (one : Shown) → (mounted_if filesystem one).count ≡ one.count
 mounted_count filesystem one = by (nat_eq filesystem (counted one.count))
@@ -107,39 +79,13 @@ pub mounted_uses : (filesystem : ℕ) (other : Inode) (all : List Shown)
     → uses_shown other (mounted_in filesystem all) ≡ uses_shown other all
 mounted_uses filesystem other [] = refl
 mounted_uses filesystem other (one ∷ rest) =
-    ap (λ count. use_of (cond (nat_eq other.0 (counted count)) (Some (mounted_if filesystem one))
-    (find (λ found. nat_eq other.0 (counted found.count)) (mounted_in filesystem rest)))) (mounted_count filesystem one)
-    ∙ by (nat_eq other.0 (counted one.count)) (mounted_uses filesystem other rest)
-  where
-    use_of : Option Shown → ℕ
-    use_of o = unwrap_or (option_map (λ (found : Shown). uses_in (found.inodes.inode other.1)) o) 0
-
-    by : (b : Bool) → uses_shown other (mounted_in filesystem rest) ≡ uses_shown other rest
-        → use_of (cond b (Some (mounted_if filesystem one))
-        (find (λ found. nat_eq other.0 (counted found.count)) (mounted_in filesystem rest)))
-        ≡ use_of (cond b (Some one) (find (λ found. nat_eq other.0 (counted found.count)) rest))
-    by true later = ap (λ (inodes : Inodes ℕ). uses_in (inodes.inode other.1)) (mounted_inodes filesystem one)
-    by false later = later
+    grind (arith, common_steps, mounted_uses filesystem other rest, mounted_count, mounted_inodes)
 
 pub mounted_mounts : (filesystem other : ℕ) (all : List Shown)
     → mounts_shown other (mounted_in filesystem all) ≤ mounts_shown other all + 1
 mounted_mounts filesystem other [] = omega arith
 mounted_mounts filesystem other (one ∷ rest) =
-    subst (λ count. mounts_of (cond (nat_eq other (counted count)) (Some (mounted_if filesystem one))
-    (find (λ found. nat_eq other (counted found.count)) (mounted_in filesystem rest)))
-    ≤ mounts_of (cond (nat_eq other (counted one.count)) (Some one)
-    (find (λ found. nat_eq other (counted found.count)) rest)) + 1) (sym (mounted_count filesystem one))
-    (by (nat_eq other (counted one.count)) (mounted_mounts filesystem other rest))
-  where
-    mounts_of : Option Shown → ℕ
-    mounts_of o = unwrap_or (option_map (λ (found : Shown). found.mounts) o) 0
-
-    by : (b : Bool) → mounts_shown other (mounted_in filesystem rest) ≤ mounts_shown other rest + 1
-        → mounts_of (cond b (Some (mounted_if filesystem one))
-        (find (λ found. nat_eq other (counted found.count)) (mounted_in filesystem rest)))
-        ≤ mounts_of (cond b (Some one) (find (λ found. nat_eq other (counted found.count)) rest)) + 1
-    by true later = mounted_more filesystem one
-    by false later = later
+    grind (arith, common_steps, mounted_mounts filesystem other rest, mounted_count, mounted_more)
 
 -- two uses of an inode at the most, and one mount of a filesystem
 uses_at : (point : Option Location) (other : Inode) (all : List Shown)
@@ -237,14 +183,7 @@ pub holds : (count : ℕ) (old : Filesystems)
     → shown (with_changed count (λ entry. record entry { mounts = entry.mounts + 1 }) old)
     ≡ mounted_in (counted count) (shown old)
 holds count [] = refl
-holds count (entry ∷ rest) = λ i. (by (nat_eq count entry.count)
-    ∙ ap (λ b. cond b (record (shown_entry entry) { mounts = entry.mounts + 1 }) (shown_entry entry))
-    (sym (counted_test count entry.count))) i ∷ holds count rest i
-  where
-    by : (b : Bool) → shown_entry (cond b (record entry { mounts = entry.mounts + 1 }) entry)
-        ≡ cond b (record (shown_entry entry) { mounts = entry.mounts + 1 }) (shown_entry entry)
-    by true = refl
-    by false = refl
+holds count (entry ∷ rest) = grind (arith, common_steps, holds count rest, counted_test)
 
 -- what is refused at the most alone is not refused below
 pub not_refused : {E : Type 0} (result : Result ⊤ E) (P Q : Type 0) → (IsErr result → Q) → OnOk result P → (Q → ⊥) → P
@@ -270,16 +209,4 @@ filesystem_has_room most all mount room = leb-true _ most (and_parts (nat_le (us
 -- one use more leaves room for one less
 pub point_room_left : (all : List Shown) (mount : Mount) → has_room (most_counted - 2) all mount ≡ true
     → point_has_room (most_counted - 1) (pinned_in (inode_of mount.root) all) mount.mount_point ≡ true
-point_room_left all mount room = by mount.mount_point
-    (and_parts (nat_le (uses_shown (inode_of mount.root) all) (most_counted - 2)) _
-    (and_parts (nat_le (uses_shown (inode_of mount.root) all) (most_counted - 2)
-    && point_has_room (most_counted - 2) all mount.mount_point) _ room).0).1
-  where
-    by : (o : Option Location) → point_has_room (most_counted - 2) all o ≡ true
-        → point_has_room (most_counted - 1) (pinned_in (inode_of mount.root) all) o ≡ true
-    by None e = refl
-    by (Some point) e =
-        let was = leb-true (uses_shown (inode_of point.node) all) (most_counted - 2) e in
-        let more = pinned_uses (inode_of mount.root) (inode_of point.node) all in
-        le-leb (uses_shown (inode_of point.node) (pinned_in (inode_of mount.root) all)) (most_counted - 1)
-        (omega (arith, was, more))
+point_room_left all mount room = grind (arith, common_steps, leb-true, pinned_uses, le-leb)

@@ -1,6 +1,6 @@
 -- Mounts that get types one after the other, and mounts that are put in the places of those with their numbers.
-use Rattle.std.proofs.Common.{◌≡◌, refl, sym, ap, ◌∙◌, ⊎_elim, inl, inr, true≢false, ℕ, nat_eq, eqb-true, eq-eqb, Bool, true, false, cond, List, [], ◌∷◌, ◌++◌, map, find, Some, None, is_some, unwrap_or, ne_eqb}
-use Rattle.vt_spec.proofs.Common.{Mount, Propagation, any_pair, folded, list_any, lookup, map-append, map_alike, map_twice, nat_eq-swapped, no_mount, or_parts, replaced_if_same, same_Some, with_mount}
+use Rattle.std.proofs.Common.{◌≡◌, refl, sym, ap, ◌∙◌, ⊎_elim, inl, inr, true≢false, ℕ, nat_eq, eqb-true, eq-eqb, Bool, true, false, cond, List, [], ◌∷◌, ◌++◌, map, find, Some, None, is_some, unwrap_or, ne_eqb, arith}
+use Rattle.vt_spec.proofs.Common.{Mount, Propagation, any_pair, common_steps, folded, list_any, lookup, map-append, map_alike, map_twice, nat_eq-swapped, no_mount, or_parts, replaced_if_same, with_mount}
 use Rattle.vt_group.specs.Grouping.{retyped_if}
 use Rattle.vt_mounting.proofs.Common.{Among, MountEntry, among-append_right, among-map, changed, map_same, mounts_in, none_among, one_number_by_numbers, with_kind}
 use Rattle.vt_laws_mounts.proofs.mounts.MountsReplaced.{found_itself}
@@ -106,11 +106,13 @@ module _ (front come own : List (Mount ℕ))
     (once : KindsOnce (map type_of own)) (apart : (mount : Mount ℕ) → Among mount come
     → list_any (λ (kind : Kind). nat_eq mount.number kind.0) (map type_of own) ≡ false) where
   typed_front : map (typed_at (map type_of own)) (front ++ come) ≡ map (typed_at (map type_of own)) front ++ come
-  typed_front = map-append (typed_at (map type_of own)) front come
-      ∙ ap (λ back. map (typed_at (map type_of own)) front ++ back)
-      (map_same (typed_at (map type_of own)) come (λ mount m.
-      ap (λ o. record mount { propagation = unwrap_or o mount.propagation })
-      (lookup_fails mount.number (map type_of own) (apart mount m))))
+  typed_front =
+      cc (
+        map-append (typed_at (map type_of own)) front come,
+        map_same (typed_at (map type_of own)) come (λ mount m. ap
+            (λ o. record mount { propagation = unwrap_or o mount.propagation }) (lookup_fails mount.number (map type_of own)
+            (apart mount m))),
+      )
 
   numbers_stay : (list : List (Mount ℕ))
       → map (λ (mount : Mount ℕ). mount.number) (map (typed_at (map type_of own)) list ++ come)
@@ -149,8 +151,7 @@ found_none number [] none = refl
 found_none number (first ∷ rest) none =
     let parts = or_parts (nat_eq number first.number)
     (list_any (λ (one : Mount ℕ). nat_eq number one.number) rest) none in
-    ap (λ b. cond b (Some first) (find (λ (one : Mount ℕ). nat_eq number one.number) rest)) parts.0
-    ∙ found_none number rest parts.1
+    cc (parts.0, found_none number rest parts.1)
 
 pub all_replaced : (own : List (Mount ℕ)) → any_pair (λ (a b : Mount ℕ). nat_eq a.number b.number) own ≡ false
     → (mounts : List (Mount ℕ)) → folded (with_mount nat_eq) mounts own ≡ map (replaced_by own) mounts
@@ -192,11 +193,4 @@ pub looked_up_kind : (number : ℕ) (own : List (Mount ℕ)) (kind : Propagation
     → lookup (nat_eq number) (map type_of own) ≡ Some kind
     → (mount : Mount ℕ) × Among mount own × (mount.propagation ≡ kind) × (number ≡ mount.number)
 looked_up_kind number [] kind e = absurd (true≢false (sym (ap is_some e)))
-looked_up_kind number (first ∷ rest) kind e = by (nat_eq number first.number) refl e (looked_up_kind number rest kind)
-  where
-    by : (b : Bool) → nat_eq number first.number ≡ b → cond b (Some first.propagation)
-        (lookup (nat_eq number) (map type_of rest)) ≡ Some kind → (lookup (nat_eq number) (map type_of rest) ≡ Some kind
-        → (mount : Mount ℕ) × Among mount rest × (mount.propagation ≡ kind) × (number ≡ mount.number))
-        → (mount : Mount ℕ) × Among mount (first ∷ rest) × (mount.propagation ≡ kind) × (number ≡ mount.number)
-    by true is f later = (first, inl refl, same_Some first.propagation kind f, eqb-true number first.number is)
-    by false is f later = let found = later f in (found.0, inr found.1, found.2, found.3)
+looked_up_kind number (first ∷ rest) kind e = grind (arith, common_steps, looked_up_kind number rest kind, eqb-true)

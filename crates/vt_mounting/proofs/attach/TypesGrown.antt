@@ -1,6 +1,6 @@
 -- Mounts that get types where they are, while others come after all: how the groups of the world grow.
-use Rattle.std.proofs.Common.{◌≡◌, refl, sym, ap, subst, ◌∙◌, ⊎_elim, inl, inr, true≢false, ℕ, nat_eq, eqb-true, eq-eqb, Bool, true, false, ◌||◌, ◌⊎◌, List, [], ◌∷◌, ◌++◌, map, Option, Some, None, is_some, option_map, unwrap_or, All}
-use Rattle.vt_spec.proofs.Common.{Mount, Private, Propagation, Shared, Slave, Unbindable, World, cons_option, folded, group_of, has_members, holds_of, is_among, is_member_of, is_shared, lookup, map-append, masters_with, source_of}
+use Rattle.std.proofs.Common.{◌≡◌, refl, sym, ap, subst, ◌∙◌, ⊎_elim, inl, inr, true≢false, ℕ, nat_eq, eqb-true, eq-eqb, true, ◌⊎◌, List, [], ◌∷◌, ◌++◌, map, Option, Some, None, is_some, option_map, unwrap_or, All, arith}
+use Rattle.vt_spec.proofs.Common.{Mount, Private, Propagation, Shared, Slave, Unbindable, World, common_steps, cons_option, folded, group_of, has_members, holds_of, is_among, is_member_of, is_shared, lookup, map-append, masters_with, source_of}
 use Rattle.vt_mounting.proofs.Common.{Among, Grows, HasGroup, all_from_among, among-append, among-append_left, among-append_right, among-from_map, among-map, among_from_all, any_from_among, numbers_of, peers_of}
 use Rattle.vt_group.specs.Grouping.{LacksGroup, are_rising, retyped_if}
 use Rattle.vt_group.specs.Together.{with_type_of}
@@ -46,10 +46,11 @@ all_set : (own mounts : List (Mount ℕ)) → are_rising (numbers_of mounts) ≡
 all_set [] mounts rising there shared = refl
 all_set (mount ∷ own) mounts rising there shared =
     let same = numbers-retyped mount.number mount.propagation mounts in
-    ap (λ peers. folded with_type_of peers (map type_of own))
-    (set_shared mount.number mount.propagation (shared mount (inl refl)) mounts rising (there mount (inl refl)))
-    ∙ all_set own (map (retyped_if mount.number mount.propagation) mounts) (ap are_rising same ∙ rising)
-    (λ other m. ap (is_among nat_eq other.number) same ∙ there other (inr m)) (λ other m. shared other (inr m))
+    cc (
+      set_shared mount.number mount.propagation (shared mount (inl refl)) mounts rising (there mount (inl refl)),
+      all_set own (map (retyped_if mount.number mount.propagation) mounts) (ap are_rising same ∙ rising) (λ other m. ap
+          (is_among nat_eq other.number) same ∙ there other (inr m)) (λ other m. shared other (inr m)),
+    )
 
 member_is : (group : ℕ) (mounts : List (Mount ℕ)) (mount : Mount ℕ) → Among mount mounts
     → group_of mount.propagation ≡ Some group → has_members nat_eq mounts group ≡ true
@@ -66,14 +67,7 @@ is_member group Unbindable e = absurd (true≢false (sym e))
 the_member : (group : ℕ) (mounts : List (Mount ℕ)) → has_members nat_eq mounts group ≡ true
     → (mount : Mount ℕ) × Among mount mounts × (group_of mount.propagation ≡ Some group)
 the_member group [] e = absurd (true≢false (sym e))
-the_member group (mount ∷ rest) e = by (is_member_of nat_eq group mount) refl e (the_member group rest)
-  where
-    by : (b : Bool) → is_member_of nat_eq group mount ≡ b → (b || has_members nat_eq rest group) ≡ true
-        → (has_members nat_eq rest group ≡ true
-        → (other : Mount ℕ) × Among other rest × (group_of other.propagation ≡ Some group))
-        → (other : Mount ℕ) × Among other (mount ∷ rest) × (group_of other.propagation ≡ Some group)
-    by true is f later = (mount, inl refl, is_member group mount.propagation is)
-    by false is f later = let found = later f in (found.0, inr found.1, found.2)
+the_member group (mount ∷ rest) e = grind (arith, common_steps, the_member group rest, is_member)
 
 module _ (world after : World ℕ) (change : Mount ℕ → Mount ℕ) (own come : List (Mount ℕ)) (new : List (ℕ × Option ℕ))
     (is : GrowBeside world after change own come new) (rising : are_rising (numbers_of world.mounts) ≡ true) where
@@ -98,13 +92,19 @@ module _ (world after : World ℕ) (change : Mount ℕ → Mount ℕ) (own come 
   typed_numbers (mount ∷ rest) = ap (λ numbers. mount.number ∷ numbers) (typed_numbers rest)
 
   peers_then : peers_of after.mounts ≡ folded with_type_of (peers_of world.mounts) (map type_of (own ++ come))
-  peers_then = ap peers_of is.mounts ∙ peers_alike world.mounts
-      ∙ sym (ap (folded with_type_of (peers_of world.mounts)) (map-append type_of own come)
-      ∙ folded_append with_type_of (peers_of world.mounts) (map type_of own) (map type_of come)
-      ∙ ap (λ peers. folded with_type_of peers (map type_of come)) (all_set own world.mounts rising is.there is.shared
-      ∙ ap peers_of (all_typed (map type_of own) is.once world.mounts))
-      ∙ all_entered (map (typed_at (map type_of own)) world.mounts) come
-      (ap are_rising (typed_numbers world.mounts) ∙ is.order))
+  peers_then =
+      cc (
+        is.mounts,
+        peers_alike world.mounts,
+        map-append type_of own come,
+        folded_append with_type_of (peers_of
+            world.mounts) (map type_of own) (map type_of come),
+        all_set own world.mounts rising is.there is.shared,
+        all_typed
+            (map type_of own) is.once world.mounts,
+        all_entered (map (typed_at (map type_of own)) world.mounts) come (ap
+            are_rising (typed_numbers world.mounts) ∙ is.order),
+      )
 
   -- a mount that was there, and one that came
   old_member : (mount : Mount ℕ) → Among mount world.mounts → (group : ℕ)

@@ -1,8 +1,7 @@
 -- The inodes that the copies of an unshare use are there, and are found through the copies as through the originals.
-use Rattle.std.proofs.Common.{◌≡◌, refl, sym, ap, subst, ◌∙◌, inl, inr, ℕ, nat_eq, eqb-true, Bool, true, false, not, ◌&&◌, ◌||◌, List, [], ◌∷◌, ◌++◌, map, Option, Some, None, option_map, is_some}
-use Rattle.vt_spec.proofs.Common.{Filesystem, Fresh, Serves, Task, TaskName, World, and_parts, copied_mount, filesystem_numbered, has_its_root, holds_of, is_located_well, is_there, list_all, location_on_copy, mount_at, mount_numbered, node_in, same_Some, task_called}
+use Rattle.std.proofs.Common.{◌≡◌, refl, sym, ap, subst, ◌∙◌, inl, inr, ℕ, nat_eq, eqb-true, Bool, true, false, not, ◌&&◌, ◌||◌, List, [], ◌∷◌, ◌++◌, map, Option, Some, None, option_map, is_some, arith}
+use Rattle.vt_spec.proofs.Common.{Fresh, Serves, Task, TaskName, World, and_parts, common_steps, copied_mount, filesystem_numbered, has_its_root, holds_of, is_located_well, is_there, list_all, location_on_copy, mount_at, mount_numbered, same_Some, task_called}
 use Rattle.vt_spec.specs.Machine.Mounts as meant
-use Rattle.vt_spec.specs.Inodes as Trees
 use Rattle.vt_mounting.proofs.Common.{Among, AreThere, FilesystemEntry, Inode, IsHeld, WorldValue, among-append_right, among-filter, among-from_filter, among-from_map, among-map, among_from_list_all, counted, directory_is_there, found_itself, inode_at, inodes_seen, is_small_node, location_of, mount_of, number_of, places_of, times, world_of}
 use Rattle.vt_location.specs.declared.locations.Location.{Location}
 use Rattle.vt_location.specs.declared.locations.NodeRef.{NodeRef}
@@ -135,18 +134,7 @@ module _ (value : WorldValue) (whole : IsHeld value) (name : TaskName) (task : T
       → is_there nat_eq world (counted node.filesystem.count) (number_of node) ≡ true
       → (not (nat_eq (counted was.count) (counted node.filesystem.count))
       || is_some ((inodes_seen was).inode (number_of node))) ≡ true
-  there_in was m node there = by (nat_eq (counted was.count) (counted node.filesystem.count)) refl
-    where
-      some_inode : (o : Option (Trees.Inode ℕ)) → is_some (node_in o) ≡ true → is_some o ≡ true
-      some_inode None e = e
-      some_inode (Some inode) e = refl
-
-      by : (b : Bool) → nat_eq (counted was.count) (counted node.filesystem.count) ≡ b
-          → (not b || is_some ((inodes_seen was).inode (number_of node))) ≡ true
-      by false e = refl
-      by true e = some_inode ((inodes_seen was).inode (number_of node))
-          (ap (λ (f : Filesystem ℕ). is_some (f.files.tree.node (number_of node)))
-          (sym (found_plain_one value whole was m) ∙ ap (filesystem_numbered nat_eq world) (eqb-true _ _ e)) ∙ there)
+  there_in was m node there = grind (arith, common_steps, found_plain_one, eqb-true)
 
   pub copies_there : (was : FilesystemEntry) → Among was value.filesystems
       → AreThere (counted was.count) (inodes_seen was) (gained_by copies)

@@ -1,6 +1,6 @@
 -- The world of an unshare: the namespaces count their tasks, and the old one ends with its last.
-use Rattle.std.proofs.Common.{◌≡◌, refl, sym, ap, subst, ◌∙◌, ⊎_elim, inl, inr, ℕ, nat_eq, eqb-true, eq-eqb, Bool, true, false, true≢false, ◌&&◌, ◌||◌, List, [], ◌∷◌, ◌++◌, map, filter, flat_map, Option, Some, None, arith, option_to_list}
-use Rattle.vt_spec.proofs.Common.{Location, Mount, MountInvariants, Namespace, Serves, Task, TaskName, World, and_parts, has_tasks, holds_of, is_among, is_in_ended, is_listed, list_all, map-append, mount_at, namespaces_ended, numbers_in_use, regrouped, taken_away, task_called, unshared, used_by_filesystem, used_by_mount}
+use Rattle.std.proofs.Common.{◌≡◌, refl, sym, ap, subst, ◌∙◌, ⊎_elim, inl, inr, ℕ, nat_eq, eqb-true, eq-eqb, Bool, true, false, true≢false, ◌&&◌, ◌||◌, List, [], ◌∷◌, ◌++◌, map, flat_map, Option, Some, None, arith, option_to_list}
+use Rattle.vt_spec.proofs.Common.{Location, Mount, MountInvariants, Namespace, Serves, Task, TaskName, World, and_parts, has_tasks, holds_of, is_among, is_in_ended, is_listed, list_all, map-append, mount_at, namespaces_ended, numbers_in_use, regrouped, task_called, unshared, used_by_filesystem, used_by_mount}
 use Rattle.vt_mounting.proofs.Common.{Among, CountsWhatIsInIt, IsHeld, NamespaceEntry, Tasks, WorldValue, among-append, among-append_right, among-from_filter, among-from_map, among-map, among_from_all, among_from_list_all, among_numbers, counted, counted_test, counts_from, filter_alike, is_among_left, is_among_numbers, namespace_of, one_if, times, world_of}
 use Rattle.vt_laws_mounts.proofs.namespaces.Unsharing.{unshare_keeps_mounts}
 use Rattle.vt_laws_mounts.proofs.letting_go.Lists.{is_among_right}
@@ -9,7 +9,7 @@ use Rattle.vt_mounting.proofs.attach.AddedBegins.{IsAdded, with_added}
 use Rattle.vt_mounting.proofs.detach.LeavingNamespaces.{and-false}
 use Rattle.vt_mounting.proofs.detach.Moving.{nat_eq_turned}
 use Rattle.vt_mounting.proofs.detach.NamespacesEnded.{CountsOneMore, ends, in_ended_is, namespaces_are, tasks_counted}
-use Rattle.vt_mounting.proofs.detach.NamespacesTyped.{gone_numbers, left_world, taken_is_left}
+use Rattle.vt_mounting.proofs.detach.NamespacesTyped.{left_world, taken_is_left}
 use Rattle.vt_mounting.proofs.detach.Splits.{times_replaced}
 use Rattle.vt_mounting.proofs.attach.UnsharedTasks.{added, another, come_to, copied, gone_from, moved_task, new_namespace, task_is_moved, tasks_moved}
 
@@ -187,12 +187,12 @@ module _ (value : WorldValue) (whole : IsHeld value) (name : TaskName) (task : T
         → mount.mount_point ≡ Some place → goes (mount_at nat_eq base place) ≡ false)
         → namespaces_ended nat_eq (unshared nat_eq world (counts_from value.next) task)
         ≡ regrouped nat_eq (left_world base base_holds moved goes remaining stays)
-    ended_is stays = ap (namespaces_ended nat_eq) is_unshared
-        ∙ ap (λ (mounts : List (Mount ℕ)). record (taken_away nat_eq base (map (λ (x : Mount ℕ). x.number) mounts)) {
-          namespaces = filter (has_tasks nat_eq base) base.namespaces;
-        }) (filter_alike (is_in_ended nat_eq base) goes base.mounts (λ mount m.
-        in_ended_is count moved entries entries_count base refl same_namespaces mount (listed mount m)))
-        ∙ ap (λ (all : List (Namespace ℕ)). record (taken_away nat_eq base
-        (gone_numbers base base_holds moved goes remaining stays)) { namespaces = all })
-        (namespaces_are count moved entries entries_count base refl same_namespaces)
-        ∙ taken_is_left base base_holds moved goes remaining stays
+    ended_is stays =
+        cc (
+          is_unshared,
+          filter_alike (is_in_ended nat_eq base) goes base.mounts (λ mount m. in_ended_is count moved
+              entries entries_count base refl same_namespaces mount (listed mount m)),
+          namespaces_are count moved entries
+              entries_count base refl same_namespaces,
+          taken_is_left base base_holds moved goes remaining stays,
+        )

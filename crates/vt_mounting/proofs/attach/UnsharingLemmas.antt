@@ -1,16 +1,15 @@
 -- Copies that are attached after all other mounts, what is counted on them, and the namespace that is entered with
 -- them.
 use Rattle.std.proofs.Common.{◌≡◌, ◌<◌, ◌≤◌, refl, sym, ap, subst, ◌∙◌, ⊎_elim, inl, inr, ℕ, ◌+◌, nat_eq, eqb-true, eq-eqb, ne_eqb, Bool, true, false, true≢false, cond, ◌&&◌, List, [], ◌∷◌, ◌++◌, map, flat_map, Some, option_map, unwrap_or, arith, nat_lt, ◌%◌, ◌==◌, lt-ltb, ltb-true}
-use Rattle.vt_spec.proofs.Common.{Mount, Namespace as meant_namespace, Serves, and_parts, index_from, index_of, list_all, list_any, location_on_copy, numbers_in_use, used_by_filesystem, used_by_mount}
+use Rattle.vt_spec.proofs.Common.{Mount, Namespace as meant_namespace, Serves, and_parts, common_steps, index_from, index_of, list_all, numbers_in_use, used_by_filesystem, used_by_mount}
 use Rattle.indexmap.specs.IndexMap.{insert_entry}
 use Rattle.vt_mounting.proofs.Common.{Among, Filesystems, IsHeld, MountEntry, NamespaceEntry, WorldValue, among-append_right, among-from_map, among-map, among_from_list_all, are_ascending, changed, counted, counts_from, entries_of, entry_numbered, held, is_among_numbers, list_all_from_among, location_of, mounts_in, namespace_of, released, world_of}
 use Rattle.vt_location.specs.declared.locations.Location.{Location}
 use Rattle.vt_location.specs.declared.mounts.Mount.{Mount as Attached}
 use Rattle.vt_location.specs.declared.numbers.NamespaceId.{NamespaceId}
 use Rattle.vt_mount.specs.MountsValue.{uses_of, writers_of}
-use Rattle.vt_spec.specs.Machine.Mounts as meant
 use Rattle.vt_world.specs.declared.namespaces.Namespace.{Namespace}
-use Rattle.vt_mounting.specs.Attach.Copying.{copied_by, copies_of, copy_numbers, moved_in, with_use_moved}
+use Rattle.vt_mounting.specs.Attach.Copying.{copied_by, copies_of, moved_in, with_use_moved}
 use Rattle.vt_mounting.specs.Detach.Uses.{unused_entry, with_attached, Merged, kept_of, kept_with}
 use Rattle.vt_world.specs.WorldValue.{entry_of}
 use Rattle.vt_mounting.proofs.attach.AttachedCounts.{lower_numbers}
@@ -24,15 +23,7 @@ place number k all = unwrap_or (index_from (λ mount. nat_eq number mount.number
 
 placed_after : (k : ℕ) (all : List (Mount ℕ)) (mount : Mount ℕ) → Among mount all → k ≤ place mount.number k all
 placed_after k [] mount m = absurd m
-placed_after k (first ∷ rest) mount m = by (nat_eq mount.number first.number) refl (placed_after (k + 1) rest mount)
-  where
-    by : (b : Bool) → nat_eq mount.number first.number ≡ b
-        → (Among mount rest → k + 1 ≤ place mount.number (k + 1) rest)
-        → k ≤ unwrap_or (cond b (Some k) (index_from (λ (x : Mount ℕ). nat_eq mount.number x.number) (k + 1) rest)) 0
-    by true e after = omega arith
-    by false e after = ⊎_elim
-        (λ same. absurd (true≢false (sym (eq-eqb mount.number first.number (ap (λ (x : Mount ℕ). x.number) same)) ∙ e)))
-        (λ later. let more = after later in omega (arith, more)) m
+placed_after k (first ∷ rest) mount m = grind (arith, common_steps, placed_after (k + 1) rest mount, eq-eqb)
 
 places_rise : (k : ℕ) (all : List (Mount ℕ)) → are_ascending all ≡ true → (a b : Mount ℕ) → Among a all → Among b all
     → a.number < b.number → place a.number k all < place b.number k all
@@ -112,14 +103,7 @@ counted_on count entries number = unwrap_or (option_map count (entry_numbered en
 none_on_new : (count : MountEntry → ℕ) → ((mount : Attached) → count (unused_entry mount) ≡ 0)
     → (number : ℕ) (new : List Attached) → counted_on count (map unused_entry new) number ≡ 0
 none_on_new count none number [] = refl
-none_on_new count none number (mount ∷ new) = by (nat_eq number (counted mount.number.count))
-    (none_on_new count none number new)
-  where
-    by : (b : Bool) → counted_on count (map unused_entry new) number ≡ 0
-        → unwrap_or (option_map count (cond b (Some (unused_entry mount))
-        (entry_numbered (map unused_entry new) number))) 0 ≡ 0
-    by true rest = none mount
-    by false rest = rest
+none_on_new count none number (mount ∷ new) = grind (arith, common_steps, none_on_new count none number new)
 
 none_on : (count : MountEntry → ℕ) → ((mount : Attached) → count (unused_entry mount) ≡ 0) → (next number : ℕ)
     → next ≤ number → (old : List MountEntry) (new : List Attached)
@@ -138,19 +122,7 @@ none_on count none next number more (entry ∷ old) new before =
 later_copy : (next : ℕ) (originals : List (Mount ℕ)) (from to : Location)
     → location_of to ≡ moved_in next originals (location_of from)
     → nat_eq from.mount.count to.mount.count ≡ false → counted next ≤ counted to.mount.count
-later_copy next originals from to is other = by
-    (list_any (λ (mount : Mount ℕ). nat_eq (counted from.mount.count) mount.number) originals) is
-  where
-    by : (b : Bool) → location_of to
-        ≡ cond b (location_on_copy (copy_numbers next originals) (location_of from)) (location_of from)
-        → counted next ≤ counted to.mount.count
-    by true e =
-        let same : counted to.mount.count
-        ≡ copy_numbers next originals (counted from.mount.count) = ap (λ (l : meant.Location ℕ). l.mount) e in
-        omega (arith, same)
-    by false e =
-        let same : counted to.mount.count ≡ counted from.mount.count = ap (λ (l : meant.Location ℕ). l.mount) e in
-        absurd (true≢false (sym (eq-eqb from.mount.count to.mount.count (omega (arith, same))) ∙ other))
+later_copy next originals from to is other = grind (arith, common_steps, eq-eqb)
 
 module _ (next : ℕ) (originals : List (Mount ℕ)) (old : List MountEntry) (new : List Attached)
     (before : list_all (λ mount. nat_lt mount.number (counted next)) (mounts_in old) ≡ true)
@@ -172,23 +144,7 @@ changed_grow : (k : ℕ) (count : MountEntry → ℕ) (at : ℕ) (change : Mount
     → counted_on count (changed at change entries) number ≤ counted_on count entries number + k
 changed_grow k count at change keeps grows [] number = omega arith
 changed_grow k count at change keeps grows (entry ∷ entries) number =
-    by (nat_eq at entry.mount.number) (changed_grow k count at change keeps grows entries number)
-  where
-    step : (x : MountEntry) → count x ≤ count entry + k → (a b : Bool) → a ≡ b
-        → counted_on count (changed at change entries) number ≤ counted_on count entries number + k
-        → unwrap_or (option_map count (cond a (Some x) (entry_numbered (changed at change entries) number))) 0
-        ≤ unwrap_or (option_map count (cond b (Some entry) (entry_numbered entries number))) 0 + k
-    step x few true true e rest = few
-    step x few false false e rest = rest
-    step x few true false e rest = absurd (true≢false e)
-    step x few false true e rest = absurd (true≢false (sym e))
-
-    by : (b : Bool) → counted_on count (changed at change entries) number ≤ counted_on count entries number + k
-        → counted_on count (cond b (change entry) entry ∷ changed at change entries) number ≤ counted_on count
-        (entry ∷ entries) number + k
-    by true rest = step (change entry) (grows entry) _ _
-        (ap (λ (mount : Mount ℕ). nat_eq number mount.number) (keeps entry)) rest
-    by false rest = step entry (omega arith) _ _ refl rest
+    grind (arith, common_steps, changed_grow k count at change keeps grows entries number)
 
 moved_grow : (count : MountEntry → ℕ) → ((entry : MountEntry) → count (held false entry) ≤ count entry + 1)
     → ((entry : MountEntry) → count (released false entry) ≤ count entry + 0)
@@ -224,9 +180,7 @@ inserted_last : (id : NamespaceId) (new : Namespace) (entries : List (NamespaceI
     ++ record { count = id.count; tasks = new.tasks } ∷ []
 inserted_last id new [] none = refl
 inserted_last id new (first ∷ rest) none =
-    ap (λ b. entries_of (cond b ((first.0, new) ∷ rest) (first ∷ insert_entry same_namespace rest id new)))
-    (none (entry_of first) (inl refl))
-    ∙ ap (λ others. entry_of first ∷ others) (inserted_last id new rest (λ entry m. none entry (inr m)))
+    cc (none (entry_of first) (inl refl), inserted_last id new rest (λ entry m. none entry (inr m)))
 
 pub namespace_added : (value : WorldValue) → Serves nat_eq (world_of value) (counts_from value.next)
     → (entries : List (NamespaceId × Namespace))

@@ -16,8 +16,7 @@ some_of_both zero b = ap (nat_lt 0) (omega arith)
 some_of_both (suc a) b =
     let one : suc a ≡ 1 + a = omega arith in
     let more : 1 + (a + b) ≡ suc a + b = omega arith in
-    ap (λ first. first || nat_lt 0 b) (ap (nat_lt 0) one ∙ sym (one_more_is_some a))
-    ∙ one_more_is_some (a + b) ∙ ap (nat_lt 0) more
+    cc (one_more_is_some a, one_more_is_some (a + b))
 
 -- a plain filesystem has no layers
 pub no_layer_of_plain : (number : ℕ) (f : Filesystem ℕ) → is_overlay f ≡ false → has_layer_on nat_eq number f ≡ false

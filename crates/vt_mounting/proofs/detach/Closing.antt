@@ -1,6 +1,6 @@
 -- A task closes a file: close(2).
 use Rattle.std.proofs.Common.{◌≡◌, ◌<◌, refl, sym, ap, subst, ◌∙◌, inl, ℕ, ◌+◌, ◌==◌, nat_eq, ne_eqb, Bool, true, false, cond, not, List, [], ◌∷◌, ◌++◌, map, filter, find, Some, None, append_assoc, arith, option_and_then, eqb-true, leb-true}
-use Rattle.vt_spec.proofs.Common.{Descriptor, Task, TaskName, ToClose, all_locations, and_parts, are_ascending_from, descriptor_numbered, is_located_well, map-append, opens_for_writing, task_called, without_descriptor}
+use Rattle.vt_spec.proofs.Common.{Descriptor, Task, TaskName, ToClose, all_locations, and_parts, are_ascending_from, common_steps, descriptor_numbered, is_located_well, map-append, opens_for_writing, task_called, without_descriptor}
 use Rattle.vt_mounting.proofs.Common.{Among, Filesystems, IsHeld, MountEntry, Tasks, WorldValue, among-append_right, among_from_list_all, called, changed_by, changed_called, counted, is_small_node, location_of, locations_in, number_of, replaced, times, world_of, writes_of_task, writes_on}
 use Rattle.vt_laws_mounts.proofs.letting_go.Lists.{times_around}
 use Rattle.vt_request.specs.Requests.{access_of}
@@ -178,10 +178,4 @@ nothing_is_closed value name number tasks whole permits was is =
   where
     all_stay : (all : Descriptors) → find (λ one. number == one.number) all ≡ None → others number all ≡ all
     all_stay [] e = refl
-    all_stay (first ∷ rest) e = by (number == first.number) e (all_stay rest)
-      where
-        by : (b : Bool) → cond b (Some first) (find (λ one. number == one.number) rest) ≡ None
-            → (find (λ one. number == one.number) rest ≡ None → others number rest ≡ rest)
-            → cond (not b) (first ∷ others number rest) (others number rest) ≡ first ∷ rest
-        by true here later = absurd cc
-        by false here later = ap (λ all. first ∷ all) (later here)
+    all_stay (first ∷ rest) e = grind (arith, common_steps, all_stay rest)

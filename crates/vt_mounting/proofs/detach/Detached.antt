@@ -1,12 +1,12 @@
 -- Mounts of a list leave their namespaces one after the other.
-use Rattle.std.proofs.Common.{◌≡◌, refl, sym, ap, subst, ◌∙◌, ℕ, nat_eq, Bool, true, false, true≢false, cond, ◌+◌, ◌||◌, List, [], ◌∷◌, ◌++◌, map, Option, Some, None, option_map, is_some, unwrap_or, option_and_then, IfSome, option_to_list}
-use Rattle.vt_spec.proofs.Common.{Mount, World, detached, folded, is_among, map_alike, map_twice, mount_at, mount_in, no_mount}
+use Rattle.std.proofs.Common.{◌≡◌, refl, sym, ap, subst, ◌∙◌, ℕ, nat_eq, Bool, true, false, true≢false, cond, ◌+◌, List, [], ◌∷◌, ◌++◌, map, Option, Some, None, option_map, is_some, unwrap_or, option_and_then, IfSome, option_to_list, map-id, arith}
+use Rattle.vt_spec.proofs.Common.{Mount, World, common_steps, detached, folded, map_alike, map_twice, mount_at, mount_in, no_mount}
 use Rattle.vt_mounting.proofs.Common.{Among, CountsItsUses, Exchanges, Inode, MountEntry, Shown, WorldValue, all_from_among, among-from_map, among-map, among_from_all, changed, counted, detached_if, entry_numbered, found_in, inode_at, inodes_seen, is_small_node, layer_count, location_of, mounts_in, mounts_showing, number_of, pinned_if, unpinned_if, world_of}
 use Rattle.vt_location.specs.declared.locations.Location.{Location}
 use Rattle.vt_mounting.specs.Detach.Uses.{Kept, detached_entry, detached_use, inode_of, point_of, unpinned_at, without_attachment}
 use Rattle.vt_mounting.proofs.detach.Keeping.{IsKeptBut, IsShownIn, append_three, detached_in, looked_at, points_lost}
 use Rattle.vt_mounting.proofs.detach.MountsGone.{mount_looked_at}
-use Rattle.vt_mounting.proofs.detach.Moving.{map_itself, nat_eq_turned}
+use Rattle.vt_mounting.proofs.detach.Moving.{nat_eq_turned}
 use Rattle.vt_mounting.proofs.detach.Shown.{found_entry}
 use Rattle.vt_mounting.proofs.detach.LostUses.{folded_append}
 
@@ -34,16 +34,7 @@ mounts_detached number entries = map_twice (λ (entry : MountEntry). entry.mount
 -- to detach one first
 pub detach_first : (number : ℕ) (pending : List ℕ) (mount : Mount ℕ)
     → detached_in (number ∷ pending) mount ≡ detached_in pending (detached_if number mount)
-detach_first number pending mount = by (nat_eq mount.number number)
-  where
-    by : (b : Bool) → cond (b || is_among nat_eq mount.number pending) (detached mount) mount
-        ≡ detached_in pending (cond b (detached mount) mount)
-    by true = again (is_among nat_eq mount.number pending)
-      where
-        again : (c : Bool) → detached mount ≡ cond c (detached (detached mount)) (detached mount)
-        again true = refl
-        again false = refl
-    by false = refl
+detach_first number pending mount = grind (arith, common_steps, detached_in)
 
 -- Inodes at mount points
 
@@ -56,7 +47,7 @@ unpinned_all lost one = record one { inodes = folded (unpinned_if (counted one.c
 
 unpinned_is : (point : Option Location) (all : List Shown)
     → unpinned_at point all ≡ map (unpinned_all (inodes_of_point point)) all
-unpinned_is None all = map_itself all
+unpinned_is None all = sym (map-id all)
 unpinned_is (Some point) all = refl
 
 module _ (old : WorldValue) (number : ℕ) (pending : List ℕ) (gained lost : List Inode) (world : World ℕ) (k : Kept)

@@ -1,16 +1,16 @@
 -- Where mounts begin to be detached: in the world all of them are detached at once, and code has none of them detached
 -- yet.
-use Rattle.std.proofs.Common.{◌≡◌, refl, sym, ap, subst, ◌∙◌, inl, ⊎_elim, ℕ, ◌+◌, nat_eq, eqb-true, eq-eqb, Bool, true, false, true≢false, cond, not, ◌&&◌, ◌||◌, List, [], ◌∷◌, ◌++◌, map, filter, find, Option, Some, None, option_map, is_some, unwrap_or, option_to_list}
-use Rattle.vt_spec.proofs.Common.{Filesystem, Location, Mount, World, all_locations, any_pair, detached, filesystem_lives, folded, has_layer_on, is_among, is_mounted, is_nowhere_or_attached, list_all, list_any, map_alike, map_twice, mount_at, mount_in, mount_lives, no_mount, or_parts, shown-mapped, with_mounts, without_dead_filesystems}
+use Rattle.std.proofs.Common.{◌≡◌, refl, sym, ap, subst, ◌∙◌, ⊎_elim, ℕ, ◌+◌, nat_eq, eqb-true, eq-eqb, Bool, true, false, true≢false, cond, not, ◌&&◌, ◌||◌, List, [], ◌∷◌, ◌++◌, map, filter, find, Option, Some, None, option_map, is_some, unwrap_or, option_to_list, map-id, arith}
+use Rattle.vt_spec.proofs.Common.{Filesystem, Location, Mount, World, all_locations, any_pair, common_steps, detached, filesystem_lives, folded, has_layer_on, is_among, is_mounted, is_nowhere_or_attached, list_all, list_any, map_alike, map_twice, mount_at, mount_in, mount_lives, no_mount, or_parts, shown-mapped, with_mounts, without_dead_filesystems}
 use Rattle.vt_mounting.proofs.Common.{Among, CountsItsUses, Exchanges, FilesystemsInUse, Inode, LocationsStand, MountsInUseBut, MountsStand, Shown, WorldValue, all_from_among, among-from_filter, among-from_map, among_from_all, among_from_list_all, any-filter, any-map, any_among, any_from_among, counted, detached_if, exchanges_follow, filter_alike, filter_all, filter_twice, found_in, in_use_of, inode_at, layer_count, list_all_from_among, map_same, mount_is_placed, mounts_go_one_by_one, mounts_in, mounts_showing, none_among, or_right, stands_on_attached, times, world_of}
 use Rattle.vt_laws_mounts.specs.LettingGo.Detaching.{without_place}
 use Rattle.vt_laws_mounts.specs.LettingGo.OneByOne as Looks
 use Rattle.vt_mounting.specs.Detach.Uses.{Kept}
 use Rattle.vt_mounting.proofs.detach.BesideOverlays.{lives_alike, lives_more}
 use Rattle.vt_mounting.proofs.detach.Detached.{IsDetaching, detach_first}
-use Rattle.vt_mounting.proofs.detach.Keeping.{IsKeptBut, IsShownIn, detached_in, looked_at, no_more, points_lost, same_number}
+use Rattle.vt_mounting.proofs.detach.Keeping.{IsKeptBut, IsShownIn, detached_in, looked_at, no_more, nowhere_still, points_lost, same_number}
 use Rattle.vt_mounting.proofs.detach.MountsGone.{found_mapped, none_numbered, pending_filesystem, pending_number}
-use Rattle.vt_mounting.proofs.detach.Moving.{map_itself, nat_eq_turned}
+use Rattle.vt_mounting.proofs.detach.Moving.{nat_eq_turned}
 use Rattle.vt_mounting.proofs.detach.MountsLeave.{leaves_alike, merged_alike}
 
 -- the world with these mounts detached
@@ -130,7 +130,7 @@ module _ (before : World ℕ) where
       → (filesystem : ℕ)
       → Exchanges [] (points_lost before world.mounts gone) filesystem world (detached_world gone world)
   points_go [] world one sees filesystem =
-      subst (λ all. Exchanges [] [] filesystem world (with_mounts world all)) (map_itself world.mounts)
+      subst (λ all. Exchanges [] [] filesystem world (with_mounts world all)) (sym (map-id world.mounts))
       (record { same = refl; uses = λ n. refl })
   points_go (number ∷ gone) world one sees filesystem =
       subst (Exchanges [] (points_lost before world.mounts (number ∷ gone)) filesystem world) (ap (with_mounts world)
@@ -232,7 +232,7 @@ module _ (old : WorldValue) (gained lost : List Inode) (world : World ℕ) (k : 
   after = detached_world gone world
 
   same_mounts : world.mounts ≡ mounts_in k.mounts
-  same_mounts = is.mounts ∙ sym (map_itself (mounts_in k.mounts))
+  same_mounts = is.mounts ∙ map-id (mounts_in k.mounts)
 
   showing : (n : ℕ) → mounts_showing after n ≡ mounts_showing world n
   showing n = times_alike (λ (mount : Mount ℕ). nat_eq n mount.filesystem) (detached_in gone)
@@ -272,34 +272,20 @@ module _ (old : WorldValue) (gained lost : List Inode) (world : World ℕ) (k : 
 
   still_attached : (mount : Mount ℕ) → Among mount world.mounts → (place : Location ℕ) → mount.mount_point ≡ Some place
       → is_among nat_eq mount.number gone ≡ false → is_some (mount_at nat_eq after place).namespace ≡ true
-  still_attached mount m place p stays = ap (λ (x : Mount ℕ). is_some x.namespace)
-      (not_gone_stays gone world.mounts place.mount (by (is_among nat_eq place.mount gone) refl))
-      ∙ among_from_list_all (λ (one : Location ℕ). is_some (mount_at nat_eq world one).namespace)
-      (option_to_list mount.mount_point)
-      (among_from_list_all (stands_on_attached world) world.mounts is.stand.on_attached mount m) place
-      (subst (λ o. Among place (option_to_list o)) (sym p) (inl refl))
-    where
-      by : (b : Bool) → is_among nat_eq place.mount gone ≡ b → b ≡ false
-      by true e = absurd (true≢false (sym (whole mount m place p e) ∙ stays))
-      by false e = refl
+  still_attached mount m place p stays = grind (arith, common_steps, not_gone_stays, among_from_list_all)
 
   begun_stands : MountsStand after
   begun_stands = record {
     one_number = pair_mapped (detached_in gone) (pending_number gone) world.mounts ∙ is.stand.one_number;
     nowhere = list_all_from_among is_nowhere_or_attached after.mounts (λ mount m.
         let from = among-from_map (detached_in gone) world.mounts mount m in
-        ap is_nowhere_or_attached from.2 ∙ nowhere from.0 (is_among nat_eq from.0.number gone)
+        ap is_nowhere_or_attached from.2 ∙ nowhere_still from.0 (is_among nat_eq from.0.number gone)
         (among_from_list_all is_nowhere_or_attached world.mounts is.stand.nowhere from.0 from.1));
     on_attached = list_all_from_among (stands_on_attached after) after.mounts (λ mount m.
         let from = among-from_map (detached_in gone) world.mounts mount m in
         ap (stands_on_attached after) from.2 ∙ attached from.0 from.1 (is_among nat_eq from.0.number gone) refl);
   }
     where
-      nowhere : (mount : Mount ℕ) (b : Bool) → is_nowhere_or_attached mount ≡ true
-          → is_nowhere_or_attached (cond b (detached mount) mount) ≡ true
-      nowhere mount true h = refl
-      nowhere mount false h = h
-
       attached : (mount : Mount ℕ) → Among mount world.mounts → (b : Bool) → is_among nat_eq mount.number gone ≡ b
           → stands_on_attached after (cond b (detached mount) mount) ≡ true
       attached mount m true e = refl

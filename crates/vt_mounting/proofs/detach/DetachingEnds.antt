@@ -1,6 +1,6 @@
 -- The begin in a world with its invariants, and the end: where all mounts of a list are detached, the sweep's world is
 -- left.
-use Rattle.std.proofs.Common.{◌≡◌, refl, sym, ap, subst, ◌∙◌, inl, ℕ, ◌+◌, nat_eq, Bool, true, false, true≢false, cond, ◌&&◌, List, [], map, filter, Option, Some, None, option_map, is_some, All, option_to_list}
+use Rattle.std.proofs.Common.{◌≡◌, refl, sym, ap, subst, ◌∙◌, inl, ℕ, ◌+◌, nat_eq, Bool, true, false, true≢false, cond, ◌&&◌, List, [], map, filter, Option, Some, None, option_map, is_some, All, option_to_list, map-id}
 use Rattle.vt_spec.proofs.Common.{Filesystem, Location, Mount, Permit, Private, Task, TaskName, World, after_going, and_parts, detached, filesystem_numbered, has_its_root, is_among, is_directory_at, is_directory_node, is_located, is_located_well, is_mounted, is_nowhere_or_attached, is_there, list_all, map_alike, map_twice, mount_at, mount_in, mount_point_left, node_at, or_false_left, regrouped, taken_away, with_mounts, without_changes}
 use Rattle.vt_mounting.proofs.Common.{Among, CountsItsMounts, CountsItsUses, CountsWhatIsInIt, Exchanges, Filesystems, Inode, IsHeld, IsMountedSoOften, MountEntry, Shown, WorldValue, all_from_among, all_in_use, among-from_map, among-map, among_from_all, among_from_list_all, counted, directory_is_there, filesystem_seen, found_is_there, in_use_of, is_among_numbers, is_ungrouped, layer_count, location_of, mount_uses, mounts_in, mounts_of_worlds_stand, mounts_showing, number-mount_in, overlays_seen, shown_entry, stands_on_attached, times, world_of, writes_of}
 use Rattle.vt_laws_mounts.proofs.counts.using.MountRoots as Roots
@@ -15,7 +15,6 @@ use Rattle.vt_mounting.proofs.detach.Grouped.{settled_has, stays_private}
 use Rattle.vt_mounting.proofs.detach.Keeping.{IsKeptBut, detached_in, no_more}
 use Rattle.vt_mounting.proofs.detach.LocationsSeen.{seen_where_located}
 use Rattle.vt_mounting.proofs.detach.MountsLeave.{leaves_at_first, merged_at_first}
-use Rattle.vt_mounting.proofs.detach.Moving.{map_itself}
 use Rattle.vt_mounting.proofs.detach.Overlaid.{KeepsOverlays, keeps_itself, layers_of_fewer, plain_ones_are, same_files_keep}
 use Rattle.vt_mounting.proofs.detach.Remaining.{remade_with}
 use Rattle.vt_mounting.proofs.detach.OverlaysRemade.{counted_kept, seen_kept}
@@ -61,7 +60,7 @@ module _ (value : WorldValue) (whole : IsHeld value) where
   held_is_kept = record {
     held = whole;
     merged = merged_at_first value whole;
-    mounts = map_itself (mounts_in value.mounts);
+    mounts = sym (map-id (mounts_in value.mounts));
     uses = whole.mounts;
     numbers = ap (map (λ (f : Filesystem ℕ). f.number)) (plain_ones_are value whole.overlays)
         ∙ map_twice (λ (f : Filesystem ℕ). f.number) filesystem_seen value.filesystems
@@ -94,7 +93,7 @@ module _ (old : WorldValue) (after : World ℕ) (gained lost : List Inode) (new 
     (is : IsKeptBut old [] [] gained lost (in_use_of after) (kept_with new.mounts new.filesystems overlays))
     (same_tasks : after.tasks ≡ new.tasks) (same_overlays : new.overlays ≡ overlays_kept overlays old.overlays) where
   mounts_are : (in_use_of after).mounts ≡ mounts_in new.mounts
-  mounts_are = is.mounts ∙ sym (map_itself (mounts_in new.mounts))
+  mounts_are = is.mounts ∙ map-id (mounts_in new.mounts)
 
   -- the overlays are those of before that mounts show still
   overlays_left : overlays_seen new.overlays
@@ -178,9 +177,11 @@ pub detached_is_private : (world : World ℕ) (gone : List ℕ) → list_all is_
     → mount.propagation ≡ Private
 detached_is_private world gone nowhere mount m none =
     let from = among-from_map (detached_in gone) world.mounts mount m in
-    ap (λ (x : Mount ℕ). x.propagation) from.2
-    ∙ stays_private from.0 (among_from_list_all is_nowhere_or_attached world.mounts nowhere from.0 from.1)
-    (is_among nat_eq from.0.number gone) (ap (λ (x : Mount ℕ). is_some x.namespace) (sym from.2) ∙ none)
+    cc (
+      from.2,
+      stays_private from.0 (among_from_list_all is_nowhere_or_attached world.mounts nowhere from.0 from.1)
+          (is_among nat_eq from.0.number gone) (ap (λ (x : Mount ℕ). is_some x.namespace) (sym from.2) ∙ none),
+    )
 
 -- An event in which mounts of a list are detached, and nothing else happens
 

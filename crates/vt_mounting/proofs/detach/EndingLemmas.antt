@@ -1,12 +1,13 @@
 -- Mounts of a namespace that are detached one after the other, and what is left where a task leaves one.
 use Rattle.std.proofs.Common.{◌≡◌, ◌≢◌, ◌<◌, ◌≤◌, refl, sym, ap, subst, ◌∙◌, ⊎_elim, inl, inr, ℕ, ◌+◌, ◌-◌, nat_eq, nat_lt, eqb-true, eq-eqb, Bool, true, false, true≢false, cond, not, ◌&&◌, ◌||◌, List, [], ◌∷◌, ◌++◌, length, map, filter, Option, Some, None, option_map, arith, IfSome, nat_le, slice_get, option_and_then}
-use Rattle.vt_spec.proofs.Common.{Mount, and_parts, holds_of, keys_of, list_all, list_any, lookup, remove_entry, same_Some, set_value}
+use Rattle.vt_spec.proofs.Common.{Mount, common_steps, holds_of, keys_of, list_any, lookup, remove_entry, same_Some, set_value}
 use Rattle.std.specs.List.{IsDistinct}
 use Rattle.vt_mounting.proofs.Common.{Among, Filesystems, Grouping, MountEntry, NamespaceEntry, among-from_filter, among-from_map, among-map, among_from_list_all, are_ascending, changed, counted, entries_of, entry_numbered, is_small_node, location_of, mounts_in, none_from_among, without}
+use Rattle.vt_laws_trees.proofs.trees.Lists.{nth_among}
 use Rattle.vt_location.specs.declared.locations.Location.{Location}
 use Rattle.vt_location.specs.declared.numbers.MountId.{MountId}
 use Rattle.vt_world.specs.declared.namespaces.Namespace.{Namespace}
-use Rattle.vt_mounting.specs.Detach.NamespacesLeft.{AreDetached, Detached, EndsIf, IsAttached, MountsAreLeft, NamespaceIsLeft, entries_left, has_one_task, is_attached_in, left_if, namespace_entry, one_task_less, with_one_task_less}
+use Rattle.vt_mounting.specs.Detach.NamespacesLeft.{AreDetached, Detached, EndsIf, IsAttached, MountsAreLeft, NamespaceIsLeft, entries_left, has_one_task, is_attached_in, namespace_entry, one_task_less, with_one_task_less}
 use Rattle.vt_mounting.specs.Detach.Uses.{Kept, Merged, detached_entry, is_unused, kept_with, let_go_entry, let_go_mount, point_of, without_attachment}
 use Rattle.vt_mounting.proofs.detach.NamespaceEntries.{Entries, entries_removed, entries_written, entry_found, is_id, same_namespace}
 
@@ -17,12 +18,6 @@ one_more_detached namespace [] one old now are is =
     (subst (λ k. IsAttached namespace k one) are is, ap (without_attachment one.number one.point) are)
 one_more_detached namespace (first ∷ rest) one old now are is =
     (are.0, one_more_detached namespace rest one (without_attachment first.number first.point old) now are.1 is)
-
--- the last of a list
-pub last_is_among : {A : Type 0} (xs : List A) (n : ℕ) (a : A) → slice_get xs n ≡ Some a → Among a xs
-last_is_among [] n a e = absurd cc
-last_is_among (x ∷ xs) Rattle.std.proofs.Common.zero a e = inl (sym (same_Some x a e))
-last_is_among (x ∷ xs) (Rattle.std.proofs.Common.suc n) a e = inr (last_is_among xs n a e)
 
 nothing_last : {A : Type 0} (xs : List A) → slice_get xs (length xs - 1) ≡ None → xs ≡ []
 nothing_last [] e = refl
@@ -42,22 +37,7 @@ pub entry_ascending : (entries : List MountEntry) → are_ascending (mounts_in e
     → Among entry entries → entry_numbered entries entry.mount.number ≡ Some entry
 entry_ascending [] rising entry m = absurd m
 entry_ascending (x ∷ xs) rising entry m =
-    let parts = and_parts (list_all (λ later. nat_lt x.mount.number later.number) (mounts_in xs))
-    (are_ascending (mounts_in xs)) rising in
-    by parts.0 (nat_eq entry.mount.number x.mount.number) refl m (entry_ascending xs parts.1 entry)
-  where
-    by : list_all (λ later. nat_lt x.mount.number later.number) (mounts_in xs) ≡ true → (b : Bool)
-        → nat_eq entry.mount.number x.mount.number ≡ b
-        → Among entry (x ∷ xs) → (Among entry xs → entry_numbered xs entry.mount.number ≡ Some entry)
-        → cond b (Some x) (entry_numbered xs entry.mount.number) ≡ Some entry
-    by above true e n next = ⊎_elim (λ same. ap Some (sym same)) (λ later.
-        let less = Rattle.std.proofs.lemmas.Bool.ltb-true x.mount.number entry.mount.number
-        (among_from_list_all (λ l. nat_lt x.mount.number l.number) (mounts_in xs) above entry.mount
-        (among-map (λ (one : MountEntry). one.mount) xs entry later)) in
-        let same : entry.mount.number ≡ x.mount.number = eqb-true entry.mount.number x.mount.number e in
-        absurd (omega (arith, less, same))) n
-    by above false e n next = ⊎_elim (λ same. absurd (true≢false
-        (sym (eq-eqb entry.mount.number x.mount.number (ap (λ (one : MountEntry). one.mount.number) same)) ∙ e))) next n
+    grind (arith, common_steps, entry_ascending xs, among_from_list_all, among-map, eqb-true, eq-eqb)
 
 -- the mount that is listed last for a namespace is attached in it
 pub listed_entry : (entries : List MountEntry) (namespace : ℕ) (ids : List MountId) (last : MountId)
@@ -68,7 +48,7 @@ pub listed_entry : (entries : List MountEntry) (namespace : ℕ) (ids : List Mou
     × (entry.mount.namespace ≡ Some namespace)
 listed_entry entries namespace ids last rising listed found =
     let m = subst (λ all. Among (counted last.count) all) listed
-    (among-map (λ (id : MountId). counted id.count) ids last (last_is_among ids (length ids - 1) last found)) in
+    (among-map (λ (id : MountId). counted id.count) ids last (nth_among ids (length ids - 1) last found)) in
     let mount = among-from_map (λ (x : Mount ℕ). x.number)
     (filter (λ mount. holds_of (nat_eq namespace) mount.namespace) (mounts_in entries)) (counted last.count) m in
     let inside = among-from_filter (λ (x : Mount ℕ). holds_of (nat_eq namespace) x.namespace)
@@ -172,16 +152,7 @@ module _ (namespace : ℕ) where
           omega (arith, same, less)
 
   fewer_let_go : (number : ℕ) (k : Kept) → still (let_go_mount number k).mounts ≤ still k.mounts
-  fewer_let_go number k = by (entry_numbered k.mounts number)
-    where
-      by : (o : Option MountEntry) → still (let_go_entry number k o).mounts ≤ still k.mounts
-      by None = omega arith
-      by (Some entry) = chosen (is_unused entry)
-        where
-          chosen : (b : Bool) → still (cond b
-              (Rattle.vt_mounting.specs.Detach.Uses.without_mount number entry.mount k) k).mounts ≤ still k.mounts
-          chosen true = fewer_without number k.mounts
-          chosen false = omega arith
+  fewer_let_go number k = grind (arith, common_steps, fewer_without)
 
   pub one_detached_less : (k : Kept) (one : Detached) → IsAttached namespace k one
       → length (filter (is_attached_in namespace) (without_attachment one.number one.point k).mounts) < length
@@ -235,10 +206,15 @@ module _ (count : ℕ) (es : Entries) where
       → entries_of entries ≡ with_one_task_less count (entries_of es)
   fewer_left old new entries distinct found many less is =
       let entry = last_or_not old false found many in
-      ap entries_of is ∙ entries_written count one_task_less es old new distinct found
-      (λ id i. record { count = id.count; tasks = less i }) ∙ sym (ap (entries_left count (entries_of es)) entry.1
-      ∙ ap (λ b. cond b (filter (λ (other : NamespaceEntry). not (nat_eq count other.count)) (entries_of es))
-      (map (left_if count) (entries_of es))) entry.2)
+      cc (
+        entries_written count one_task_less es old new distinct found (λ id i. record {
+          count = id.count;
+          tasks =
+              less i;
+        }),
+        entry.1,
+        entry.2,
+      )
 
   pub fewer_mounts : (namespace : ℕ) (k : Kept) (groups : Grouping) (old : Namespace)
       → lookup (is_id count) es ≡ Some old
@@ -253,10 +229,7 @@ module _ (count : ℕ) (es : Entries) where
       → entries_of entries ≡ with_one_task_less count (entries_of es)
   last_left old entries found last is absent =
       let entry = last_or_not old true found last in
-      ap entries_of is ∙ entries_removed count es (ap (lookup (is_id count)) (sym is) ∙ absent)
-      ∙ sym (ap (entries_left count (entries_of es)) entry.1
-      ∙ ap (λ b. cond b (filter (λ (other : NamespaceEntry). not (nat_eq count other.count)) (entries_of es))
-      (map (left_if count) (entries_of es))) entry.2)
+      cc (entries_removed count es (ap (lookup (is_id count)) (sym is) ∙ absent), entry.1, entry.2)
 
   pub last_mounts : (namespace : ℕ) (k : Kept) (before : Grouping) (new : Kept) (now : Grouping) (old : Namespace)
       → lookup (is_id count) es ≡ Some old → nat_le old.tasks 1 ≡ true → NamespaceIsLeft namespace k before new now

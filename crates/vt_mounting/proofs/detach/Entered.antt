@@ -97,9 +97,11 @@ namespace_has_a_root value whole name count None permits is = absurd
         let from = among-from_map (λ (n : Namespace ℕ). n.number) world.namespaces (counted count)
         (among_numbers (counted count) (map (λ (n : Namespace ℕ). n.number) world.namespaces)
         (permit_fits value whole name (ToEnterNamespace (counted count)) permits).names) in
-        ap (λ n. length (filter (is_root_mount nat_eq) (mounts_of nat_eq world n)) == 1) from.2
-        ∙ among_from_list_all (has_one_root nat_eq world) world.namespaces whole.in_world.namespaces.root_mounts
-        from.0 from.1
+        cc (
+          from.2,
+          among_from_list_all (has_one_root nat_eq world) world.namespaces
+              whole.in_world.namespaces.root_mounts from.0 from.1,
+        )
 
     by : (o : Option (Mount ℕ)) → root_mount nat_eq world (counted count) ≡ o
         → None ≡ option_map (λ mount. topmost nat_eq world.mounts (root_of mount)) o → ⊥

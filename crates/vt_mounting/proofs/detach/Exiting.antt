@@ -161,9 +161,8 @@ files_left_so value whole (file ∷ files) (d ∷ ds) k places writes slots well
     left_so value whole file.location (opens_for_writing (access_of file.access)) k few.0
     (ap (is_located_well nat_eq (world_of value)) at ∙ well d.location (inl refl))
     ∙ (λ i. leave_use (world_of value) k (record { location = at i; writes = write i })) in
-    ap (λ one. fold without_file one files) here
-    ∙ files_left_so value whole files ds (leave_use (world_of value) k (used_by d)) rest later few.1
-    (λ location m. well location (inr m))
+    cc (files_left_so value whole files ds (leave_use (world_of value) k (used_by d)) rest later few.1 (λ location m.
+    well location (inr m)))
 
 -- what code leaves of a task
 pub record LeavesAll (old : Kept) (task : Held) (files : List OpenFile) (left : Kept) : Type 0 where

@@ -1,6 +1,6 @@
 -- The filesystem that a location of the code's world is in, by what is kept of it.
-use Rattle.std.proofs.Common.{◌≡◌, refl, sym, ap, ◌∙◌, ⊎_elim, inl, inr, true≢false, ℕ, ◌<◌, ◌%◌, nat_eq, eq-eqb, eqb-true, Bool, true, false, cond, ◌||◌, ◌&&◌, List, [], ◌∷◌, ◌++◌, map, flat_map, Some, is_some, unwrap_or, arith, All, nat_lt, option_to_list, ◌/◌}
-use Rattle.vt_spec.proofs.Common.{All-head, All-tail, Filesystem, Inodes, IsTree, Mount, Namespace, and_parts, any_pair, filesystem_at, filesystem_numbered, is_among, is_among_left, is_located_well, is_overlay, list_any, mount_at, node_in, or_parts, source_of, used_by_filesystem, used_by_mount}
+use Rattle.std.proofs.Common.{◌≡◌, refl, sym, ap, ◌∙◌, inl, inr, true≢false, ℕ, ◌<◌, ◌%◌, nat_eq, eq-eqb, eqb-true, Bool, true, false, cond, ◌||◌, ◌&&◌, List, [], ◌∷◌, ◌++◌, map, flat_map, Some, is_some, unwrap_or, arith, All, nat_lt, ◌/◌}
+use Rattle.vt_spec.proofs.Common.{All-head, All-tail, Filesystem, Inodes, IsTree, Mount, Namespace, and_parts, any_pair, common_steps, filesystem_at, filesystem_numbered, is_among, is_among_left, is_located_well, is_overlay, mount_at, node_in, or_right, used_by_filesystem, used_by_mount}
 use Rattle.vt_mounting.proofs.Common.{Among, FilesystemEntry, Filesystems, HasOwnInodes, IsHeld, WorldValue, among-map, among_from_all, born_in, counted, counted_same, counted_test, entry_of, filesystem_seen, filesystems_seen, inode_number, inodes_at, inodes_seen, is_counted_before, is_own_number, leaves_two, location_named, location_of, no_entry, none_among, number_of, used_numbers_are_named, world_of}
 use Rattle.vt_fs.specs.FilesystemsValue.{files_at}
 use Rattle.vt_location.specs.declared.locations.Location.{Location}
@@ -19,22 +19,7 @@ pub one_entry : (fs : Filesystems)
     → (entry : FilesystemEntry) → Among entry fs → entry_of fs entry.count ≡ Some entry
 one_entry [] one entry m = absurd m
 one_entry (first ∷ rest) one entry m =
-    let parts = or_parts (list_any (λ (b : Filesystem ℕ). nat_eq (counted first.count) b.number)
-    (filesystems_seen rest))
-    (any_pair (λ (a b : Filesystem ℕ). nat_eq a.number b.number) (filesystems_seen rest)) one in
-    by parts.0 (nat_eq entry.count first.count) refl m (λ n. one_entry rest parts.1 entry n)
-  where
-    by : list_any (λ (b : Filesystem ℕ). nat_eq (counted first.count) b.number) (filesystems_seen rest) ≡ false
-        → (b : Bool) → nat_eq entry.count first.count ≡ b → Among entry (first ∷ rest)
-        → (Among entry rest → entry_of rest entry.count ≡ Some entry)
-        → cond b (Some first) (entry_of rest entry.count) ≡ Some entry
-    by others true e n next = ⊎_elim (λ same. ap Some (sym same)) (λ later. absurd (true≢false
-        (sym (eq-eqb (counted first.count) (counted entry.count)
-        (ap counted (sym (eqb-true entry.count first.count e))))
-        ∙ none_among (λ (b : Filesystem ℕ). nat_eq (counted first.count) b.number) (filesystems_seen rest) others
-        (filesystem_seen entry) (among-map filesystem_seen rest entry later)))) n
-    by others false e n next =
-        ⊎_elim (λ same. absurd (true≢false (sym (eq-eqb entry.count first.count (ap (λ x. x.count) same)) ∙ e))) next n
+    grind (arith, common_steps, one_entry rest, eq-eqb, eqb-true, none_among, among-map)
 
 -- The filesystem with a number, and an inode that is in it
 pub record IsSeenIn (fs : Filesystems) (number inode : ℕ) : Type 0 where
@@ -90,29 +75,16 @@ inodes_named next f slot = ap (λ b. b || is_counted_before_odd) (eq-eqb (inode_
 pub nodes_named : (next : ℕ) (node : NodeRef) → is_counted_before next (number_of node) ≡ true
 nodes_named next node = inodes_named next (born_in node.filesystem.count node.birth) node.slot
 
-true_or : (a b : Bool) → b ≡ true → (a || b) ≡ true
-true_or true b e = refl
-true_or false b e = e
-
 among_goes_on : (n : ℕ) (a b c : List ℕ) → is_among nat_eq n (b ++ c) ≡ true → is_among nat_eq n ((a ++ b) ++ c) ≡ true
 among_goes_on n [] b c m = m
-among_goes_on n (x ∷ a) b c m = true_or (nat_eq n x) (is_among nat_eq n ((a ++ b) ++ c)) (among_goes_on n a b c m)
+among_goes_on n (x ∷ a) b c m = or_right (nat_eq n x) (is_among nat_eq n ((a ++ b) ++ c)) (among_goes_on n a b c m)
 
 -- mounts that are there are in use
 used_mount : (n : ℕ) (mounts : List (Mount ℕ)) (rest : List ℕ)
     → is_among nat_eq n (map (λ (mount : Mount ℕ). mount.number) mounts) ≡ true
     → is_among nat_eq n (flat_map used_by_mount mounts ++ rest) ≡ true
 used_mount n [] rest m = absurd (true≢false (sym m))
-used_mount n (first ∷ mounts) rest m = by (nat_eq n first.number) m (used_mount n mounts rest)
-  where
-    by : (b : Bool) → (b || is_among nat_eq n (map (λ (mount : Mount ℕ). mount.number) mounts)) ≡ true
-        → (is_among nat_eq n (map (λ (mount : Mount ℕ). mount.number) mounts) ≡ true
-        → is_among nat_eq n (flat_map used_by_mount mounts ++ rest) ≡ true)
-        → (b || is_among nat_eq n ((option_to_list (source_of first.propagation) ++ flat_map used_by_mount mounts)
-        ++ rest)) ≡ true
-    by true e next = refl
-    by false e next = among_goes_on n (option_to_list (source_of first.propagation))
-        (flat_map used_by_mount mounts) rest (next e)
+used_mount n (first ∷ mounts) rest m = grind (arith, common_steps, used_mount n mounts rest, among_goes_on)
 
 -- and so was that of a mount
 pub mount_named : (value : WorldValue) → IsHeld value → (number : ℕ)

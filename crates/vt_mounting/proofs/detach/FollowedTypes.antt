@@ -1,27 +1,19 @@
 -- The types that the groups tell, where mounts are detached or uses change.
-use Rattle.std.proofs.Common.{◌≡◌, refl, sym, ap, subst, ◌∙◌, ℕ, nat_eq, Bool, true, false, true≢false, cond, ◌||◌, ◌⊎◌, ⊎_elim, inl, inr, List, [], ◌∷◌, Option, None, Some, eq-eqb, eqb-true, if◌then◌else◌}
-use Rattle.vt_spec.proofs.Common.{Mount, Private, Propagation, Shared, Slave, Unbindable, World, eqb-false, folded, is_among, is_unbindable, source_of}
-use Rattle.vt_mounting.proofs.Common.{Among, AreTyped, Grouping, Has, IsHeld, MountEntry, WorldValue, all_from_among, among-from_filter, among-from_map, among-map, among_from_all, changed, entry_numbered, held, inode_at, or_right, propagation_in, released, typed_by, typed_entry, world_of}
+use Rattle.std.proofs.Common.{◌≡◌, refl, sym, ap, subst, ◌∙◌, ℕ, nat_eq, Bool, true, false, true≢false, cond, ◌||◌, ◌⊎◌, ⊎_elim, inl, inr, List, [], ◌∷◌, Option, None, Some, eq-eqb, eqb-true, if◌then◌else◌, arith}
+use Rattle.vt_spec.proofs.Common.{Mount, Private, Propagation, Shared, Slave, Unbindable, World, common_steps, eqb-false, folded, is_among, is_unbindable, source_of}
+use Rattle.vt_mounting.proofs.Common.{Among, AreTyped, Grouping, Has, IsHeld, MountEntry, WorldValue, all_from_among, among-from_filter, among-from_map, among-map, among_from_all, changed, held, inode_at, or_right, propagation_in, released, typed_by, typed_entry, world_of}
 use Rattle.vt_group.specs.Laws.{shown}
 use Rattle.vt_group.proofs.Showing.{shows_types}
 use Rattle.vt_mounting.specs.Detach.Detached.{LeaveInTurn}
 use Rattle.vt_retype.specs.Retyping.{AreTypedBut, HaveNoSource}
-use Rattle.vt_mounting.specs.Detach.Uses.{Kept, detached_entry, detached_use, is_unused, let_go_entry, let_go_mount, released_use, without_attachment, without_mount}
+use Rattle.vt_mounting.specs.Detach.Uses.{Kept, detached_entry, detached_use, let_go_mount, released_use, without_attachment}
 use Rattle.vt_mounting.proofs.detach.MidwayDone.{leave_use}
 use Rattle.vt_mounting.proofs.detach.Moving.{Use, gain}
 
 -- what is left where a mount may go was there before
 left_was : (number : ℕ) (k : Kept) (entry : MountEntry) → Among entry (let_go_mount number k).mounts
     → Among entry k.mounts
-left_was number k entry = by (entry_numbered k.mounts number)
-  where
-    by : (o : Option MountEntry) → Among entry (let_go_entry number k o).mounts → Among entry k.mounts
-    by None m = m
-    by (Some one) m = chosen (is_unused one) m
-      where
-        chosen : (b : Bool) → Among entry (cond b (without_mount number one.mount k) k).mounts → Among entry k.mounts
-        chosen true n = (among-from_filter _ k.mounts entry n).0
-        chosen false n = n
+left_was number k entry = grind (arith, common_steps, among-from_filter)
 
 -- each mount that is left is the one that is detached, or stays as it is
 pub one_left : (P : MountEntry → Type 0) (number : ℕ)

@@ -1,6 +1,6 @@
 -- Events of tasks after which the mount of a location that was left goes, and its filesystem with its last mount.
-use Rattle.std.proofs.Common.{◌≡◌, refl, sym, ap, subst, ◌∙◌, ⊎_elim, ℕ, ◌+◌, nat_eq, Bool, true, false, cond, not, ◌||◌, List, [], ◌∷◌, ◌++◌, map, filter, is_some, nat_lt, append-nil}
-use Rattle.vt_spec.proofs.Common.{Filesystem, Location, Mount, Permit, Task, TaskName, World, all_locations, and_parts, folded, is_among, is_located, is_located_well, is_mounted, is_overlay, map_alike, map_twice, mount_numbered, without_dead_filesystems, without_dead_mounts}
+use Rattle.std.proofs.Common.{◌≡◌, refl, sym, ap, subst, ◌∙◌, ⊎_elim, ℕ, ◌+◌, nat_eq, Bool, true, false, cond, not, ◌||◌, List, [], ◌∷◌, ◌++◌, map, filter, is_some, nat_lt, append-nil, arith}
+use Rattle.vt_spec.proofs.Common.{Filesystem, Location, Mount, Permit, Task, TaskName, World, all_locations, and_parts, common_steps, folded, is_among, is_located, is_located_well, is_mounted, is_overlay, map_alike, map_twice, mount_numbered, without_dead_filesystems, without_dead_mounts}
 use Rattle.vt_mounting.proofs.Common.{Among, CountsItsMounts, CountsItsUses, CountsWhatIsInIt, Exchanges, FilesystemEntry, Filesystems, Inode, IsHeld, IsMountedSoOften, LocationsStand, MountEntry, MountsStand, Shown, Tasks, WorldValue, all_from_among, among-append, among-append_left, among-append_right, among-from_filter, among-from_map, among-map, among_from_all, among_from_list_all, counted, exchanged, exchanges_follow, filesystem_seen, in_use_of, inode_at, inodes_seen, is_mount_used, layer_count, list_all_from_among, located_while_counted, mount_takes_its_count, mount_uses, mounted_layer_count, mounts_in, mounts_of_worlds_stand, mounts_showing, overlays_seen, shown, shown_entry, times, without, without_mount, world_of}
 use Rattle.vt_laws_mounts.proofs.counts.using.MountRoots as Roots
 use Rattle.vt_mounting.specs.Detach.Uses as meant
@@ -24,13 +24,7 @@ use Rattle.vt_mounting.proofs.detach.Overlaid.{KeepsOverlays, is_plain_one, keep
 pub map_filtered : {A B : Type 0} (f : A → B) (p : A → Bool) (q : B → Bool) → ((a : A) → q (f a) ≡ p a) → (xs : List A)
     → map f (filter p xs) ≡ filter q (map f xs)
 map_filtered f p q same [] = refl
-map_filtered f p q same (x ∷ xs) = by (p x) (map_filtered f p q same xs)
-    ∙ ap (λ b. cond b (f x ∷ filter q (map f xs)) (filter q (map f xs))) (sym (same x))
-  where
-    by : (b : Bool) → map f (filter p xs) ≡ filter q (map f xs)
-        → map f (cond b (x ∷ filter p xs) (filter p xs)) ≡ cond b (f x ∷ filter q (map f xs)) (filter q (map f xs))
-    by true later = ap (λ rest. f x ∷ rest) later
-    by false later = later
+map_filtered f p q same (x ∷ xs) = grind (arith, common_steps, map_filtered f p q same xs)
 
 module _ (value : WorldValue) (whole : IsHeld value) (tasks : Tasks) (more : List Use) (left_use : Use)
     (moves : Moves value tasks more (left_use ∷ []))
@@ -86,14 +80,17 @@ module _ (value : WorldValue) (whole : IsHeld value) (tasks : Tasks) (more : Lis
   entries_are = ap (λ (k : Kept). k.mounts) is_kept ∙ ap (without number) (mounts_moved world more less (kept_of value))
 
   pub mounts_are : mounts_in mounts ≡ mounted.mounts
-  mounts_are = ap mounts_in entries_are
-      ∙ map_filtered (λ (entry : MountEntry). entry.mount) (λ entry. not (nat_eq number entry.mount.number))
-      (λ x. not (nat_eq x.number number))
-      (λ entry. ap not (nat_eq_turned entry.mount.number number)) (map moved_entry value.mounts)
-      ∙ ap (filter (λ x. not (nat_eq x.number number)))
-      (map_twice (λ (entry : MountEntry). entry.mount) moved_entry value.mounts
-      ∙ map_alike (λ entry. (moved_entry entry).mount) (λ entry. entry.mount) value.mounts
-      (λ entry m. same_mount entry))
+  mounts_are =
+      cc (
+        entries_are,
+        map_filtered (λ (entry : MountEntry). entry.mount) (λ entry. not (nat_eq number
+            entry.mount.number)) (λ x. not (nat_eq x.number number)) (λ entry. ap not (nat_eq_turned entry.mount.number
+            number)) (map moved_entry value.mounts),
+        map_twice (λ (entry : MountEntry). entry.mount) moved_entry
+            value.mounts,
+        map_alike (λ entry. (moved_entry entry).mount) (λ entry. entry.mount) value.mounts (λ entry m.
+            same_mount entry),
+      )
 
   entry_was : (entry : MountEntry) → Among entry mounts
       → (was : MountEntry) × Among was value.mounts × (entry ≡ moved_entry was)
@@ -139,17 +136,20 @@ module _ (value : WorldValue) (whole : IsHeld value) (tasks : Tasks) (more : Lis
       → Among overlay (overlays_seen value.overlays) → nat_eq (counted one.count) overlay.number ≡ false
   apart one m overlay n =
       let from = moved_was one m in
-      ap (λ (x : Shown). nat_eq (counted x.count) overlay.number) from.2
-      ∙ overlay_apart value whole from.0 from.1 overlay n
+      cc (from.2, overlay_apart value whole from.0 from.1 overlay n)
 
   numbers_next : map (λ (f : Filesystem ℕ). f.number) (filter is_plain_one next.filesystems)
       ≡ map (λ (one : Shown). counted one.count) moved_all.filesystems
-  numbers_next = ap (map (λ (f : Filesystem ℕ). f.number)) (plain_ones_are value whole.overlays)
-      ∙ map_twice (λ (f : Filesystem ℕ). f.number) filesystem_seen value.filesystems
-      ∙ sym (map_twice (λ (one : Shown). counted one.count) shown_entry value.filesystems)
-      ∙ sym (map_twice (λ (one : Shown). counted one.count) (exchanged_shown gained lost_first)
-      (shown value.filesystems))
-      ∙ sym (ap (map (λ (one : Shown). counted one.count)) (filesystems_moved world more less (kept_of value)))
+  numbers_next =
+      cc (
+        plain_ones_are value whole.overlays,
+        map_twice (λ (f : Filesystem ℕ). f.number) filesystem_seen
+            value.filesystems,
+        map_twice (λ (one : Shown). counted one.count) shown_entry value.filesystems,
+        map_twice (λ
+            (one : Shown). counted one.count) (exchanged_shown gained lost_first) (shown value.filesystems),
+        filesystems_moved world more less (kept_of value),
+      )
 
   abbrev remaining : World ℕ
   remaining = without_dead_filesystems nat_eq mounted

@@ -1,6 +1,6 @@
 -- The peer groups of worlds: what leaves them as they are, and that there are none where no mount is in one.
-use Rattle.std.proofs.Common.{◌≡◌, refl, sym, ap, subst, ◌∙◌, inl, inr, ℕ, nat_eq, nat_lt, Bool, true, false, true≢false, cond, not, ◌&&◌, ◌||◌, List, [], ◌∷◌, map, filter, Option, None, option_map, is_some}
-use Rattle.vt_spec.proofs.Common.{IsWorld, Mount, Private, Propagation, Shared, Slave, Unbindable, World, and_from, and_parts, cons_option, detached, has_members, is_located, is_nowhere_or_attached, is_private, list_all, list_any, mount_lives, or_false_left, settled, source_of}
+use Rattle.std.proofs.Common.{◌≡◌, refl, sym, ap, subst, ◌∙◌, ℕ, nat_eq, nat_lt, Bool, true, false, true≢false, cond, not, ◌&&◌, ◌||◌, List, [], ◌∷◌, map, filter, Option, None, option_map, is_some, arith}
+use Rattle.vt_spec.proofs.Common.{IsWorld, Mount, Private, Propagation, Shared, Slave, Unbindable, World, and_parts, common_steps, cons_option, detached, has_members, is_located, is_nowhere_or_attached, is_private, list_all, list_any, mount_lives, or_false_left, settled, source_of}
 use Rattle.vt_mounting.proofs.Common.{Among, Grouping, Has, IsHeld, WorldValue, among-from_map, among_from_list_all, is_ungrouped, master_in, mounts_in, numbers_of, peers_of, world_of}
 use Rattle.vt_group.specs.Grouping.{are_rising}
 use Rattle.vt_group.specs.Steps.{is_member}
@@ -53,26 +53,12 @@ above_kept : (number : ℕ) (p : Mount ℕ → Bool) (mounts : List (Mount ℕ))
     → list_all (nat_lt number) (numbers_of mounts) ≡ true
     → list_all (nat_lt number) (numbers_of (filter p mounts)) ≡ true
 above_kept number p [] all = refl
-above_kept number p (mount ∷ rest) all =
-    let parts = and_parts (nat_lt number mount.number) _ all in by (p mount) parts.0 (above_kept number p rest parts.1)
-  where
-    by : (b : Bool) → nat_lt number mount.number ≡ true → list_all (nat_lt number) (numbers_of (filter p rest)) ≡ true
-        → list_all (nat_lt number) (numbers_of (cond b (mount ∷ filter p rest) (filter p rest))) ≡ true
-    by true first later = and_from _ _ first later
-    by false first later = later
+above_kept number p (mount ∷ rest) all = grind (arith, common_steps, above_kept number p rest)
 
 rising_kept : (p : Mount ℕ → Bool) (mounts : List (Mount ℕ)) → are_rising (numbers_of mounts) ≡ true
     → are_rising (numbers_of (filter p mounts)) ≡ true
 rising_kept p [] rising = refl
-rising_kept p (mount ∷ rest) rising =
-    let parts = and_parts (list_all (nat_lt mount.number) (numbers_of rest)) _ rising in
-    by (p mount) (above_kept mount.number p rest parts.0) (rising_kept p rest parts.1)
-  where
-    by : (b : Bool) → list_all (nat_lt mount.number) (numbers_of (filter p rest)) ≡ true
-        → are_rising (numbers_of (filter p rest)) ≡ true
-        → are_rising (numbers_of (cond b (mount ∷ filter p rest) (filter p rest))) ≡ true
-    by true first later = and_from _ _ first later
-    by false first later = later
+rising_kept p (mount ∷ rest) rising = grind (arith, common_steps, rising_kept p rest, above_kept)
 
 -- an ungrouped mount has no source
 pub no_source : (kind : Propagation ℕ) → is_ungrouped kind ≡ true → source_of kind ≡ None
@@ -91,13 +77,7 @@ peers_kept : (p : Mount ℕ → Bool) (mounts : List (Mount ℕ))
     → ((mount : Mount ℕ) → Among mount mounts → p mount ≡ false → is_ungrouped mount.propagation ≡ true)
     → peers_of (filter p mounts) ≡ peers_of mounts
 peers_kept p [] free = refl
-peers_kept p (mount ∷ rest) free = by (p mount) refl (peers_kept p rest (λ other m. free other (inr m)))
-  where
-    by : (b : Bool) → p mount ≡ b → peers_of (filter p rest) ≡ peers_of rest
-        → peers_of (cond b (mount ∷ filter p rest) (filter p rest)) ≡ peers_of (mount ∷ rest)
-    by true e later = ap (cons_option
-        (option_map (λ source. (mount.number, mount.propagation)) (source_of mount.propagation))) later
-    by false e later = later ∙ sym (no_peer mount (peers_of rest) (free mount (inl refl) e))
+peers_kept p (mount ∷ rest) free = grind (arith, common_steps, peers_kept p rest, no_peer)
 
 -- the groups stay as they are where the mounts that go are in none
 pub settled_has : (world : World ℕ) (groups : Grouping) → Has world groups

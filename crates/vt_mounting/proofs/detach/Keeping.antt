@@ -1,7 +1,7 @@
 -- What code keeps of a world while mounts leave their namespaces, and what it keeps once one that nothing uses has
 -- gone.
-use Rattle.std.proofs.Common.{◌≡◌, refl, sym, ap, ◌∙◌, ℕ, ◌+◌, nat_eq, eqb-true, Bool, true, false, cond, not, List, [], ◌∷◌, ◌++◌, map, filter, find, Some, None, unwrap_or, All, if◌then◌else◌, option_to_list}
-use Rattle.vt_spec.proofs.Common.{Filesystem, Location as Place, Mount, World, detached, is_among, is_overlay, mount_at, mount_in, no_mount, without_dead_filesystems}
+use Rattle.std.proofs.Common.{◌≡◌, refl, sym, ap, ◌∙◌, ℕ, ◌+◌, nat_eq, eqb-true, Bool, true, false, cond, not, List, [], ◌∷◌, ◌++◌, map, filter, Some, None, All, if◌then◌else◌, option_to_list, arith}
+use Rattle.vt_spec.proofs.Common.{Filesystem, Location as Place, Mount, World, common_steps, detached, is_among, is_nowhere_or_attached, is_overlay, mount_at, mount_in, no_mount, without_dead_filesystems}
 use Rattle.vt_mounting.proofs.Common.{Among, AreThere, CountsItsUses, Exchanges, FilesystemEntry, FilesystemsInUse, Inode, IsHeld, LocationsStand, MountsInUseBut, MountsStand, Shown, WorldValue, counted, detached_if, exchanged, filter-map, inode_at, inodes_seen, is_small_node, layer_count, location_of, mounts_in, mounts_showing, world_of}
 use Rattle.vt_laws_mounts.specs.LettingGo.OneByOne as Looks
 use Rattle.vt_laws_mounts.proofs.letting_go.leaving.PlacesLeft.{found_in_filter}
@@ -17,6 +17,11 @@ use Rattle.vt_mounting.proofs.detach.OverlaysGone.{merged_in}
 -- a mount, detached if its number is pending
 abbrev pub detached_in : List ℕ → Mount ℕ → Mount ℕ
 detached_in pending mount = if is_among nat_eq mount.number pending then detached mount else mount
+
+pub nowhere_still : (mount : Mount ℕ) (b : Bool) → is_nowhere_or_attached mount ≡ true
+    → is_nowhere_or_attached (cond b (detached mount) mount) ≡ true
+nowhere_still mount true nowhere = refl
+nowhere_still mount false nowhere = nowhere
 
 -- the inodes at their mount points, by the filesystems of a world
 abbrev pub points_lost : World ℕ → List (Mount ℕ) → List ℕ → List Inode
@@ -84,16 +89,7 @@ append_three (x ∷ xs) ys zs = ap (λ rest. x ∷ rest) (append_three xs ys zs)
 found_none : (mounts : List (Mount ℕ)) (number : ℕ)
     → mount_in nat_eq (filter (λ mount. not (nat_eq mount.number number)) mounts) number ≡ no_mount number
 found_none [] number = refl
-found_none (first ∷ rest) number = by (nat_eq first.number number) refl (found_none rest number)
-  where
-    by : (b : Bool) → nat_eq first.number number ≡ b
-        → mount_in nat_eq (filter (λ mount. not (nat_eq mount.number number)) rest) number ≡ no_mount number
-        → mount_in nat_eq (cond (not b) (first ∷ filter (λ mount. not (nat_eq mount.number number)) rest)
-        (filter (λ mount. not (nat_eq mount.number number)) rest)) number ≡ no_mount number
-    by true e later = later
-    by false e later = ap (λ b. unwrap_or (cond b (Some first)
-        (find (λ mount. nat_eq number mount.number) (filter (λ mount. not (nat_eq mount.number number)) rest)))
-        (no_mount number)) (nat_eq_turned number first.number ∙ e) ∙ later
+found_none (first ∷ rest) number = grind (arith, common_steps, found_none rest number, nat_eq_turned)
 
 -- a mount that is detached keeps its number
 pub same_number : (number : ℕ) (mount : Mount ℕ) → (detached_if number mount).number ≡ mount.number
@@ -107,22 +103,7 @@ no_point_still : (mounts : List (Mount ℕ)) (other number : ℕ) → (mount_in 
     → (mount_in nat_eq (map (detached_if other) mounts) number).mount_point ≡ None
 no_point_still [] other number none = refl
 no_point_still (first ∷ rest) other number none =
-    ap (λ n. (unwrap_or (cond (nat_eq number n) (Some (detached_if other first))
-    (find (λ mount. nat_eq number mount.number) (map (detached_if other) rest))) (no_mount number)).mount_point)
-    (same_number other first) ∙ by (nat_eq number first.number) none (no_point_still rest other number)
-  where
-    by : (b : Bool) → (unwrap_or (cond b (Some first) (find (λ mount. nat_eq number mount.number) rest))
-        (no_mount number)).mount_point ≡ None → ((mount_in nat_eq rest number).mount_point ≡ None
-        → (mount_in nat_eq (map (detached_if other) rest) number).mount_point ≡ None)
-        → (unwrap_or (cond b (Some (detached_if other first))
-        (find (λ mount. nat_eq number mount.number) (map (detached_if other) rest))) (no_mount number)).mount_point
-        ≡ None
-    by true h later = here (nat_eq first.number other)
-      where
-        here : (c : Bool) → (cond c (detached first) first).mount_point ≡ None
-        here true = refl
-        here false = h
-    by false h later = later h
+    grind (arith, common_steps, no_point_still rest other number, same_number)
 
 -- a mount that stands nowhere loses no mount point
 pub points_without : (world : World ℕ) (pending : List ℕ) (mounts : List (Mount ℕ)) (number : ℕ)

@@ -1,11 +1,11 @@
 -- Uses that go one by one from plain filesystems, each with a mount or a layer: what nothing is left of goes.
-use Rattle.std.proofs.Common.{◌≡◌, refl, sym, ap, ◌∙◌, ℕ, ◌+◌, ◌-◌, nat_eq, eqb-true, eq-eqb, Bool, true, false, true≢false, cond, not, ◌||◌, List, [], ◌∷◌, map, filter, arith}
-use Rattle.vt_spec.proofs.Common.{folded, map_alike, map_twice, or-false, or-true}
+use Rattle.std.proofs.Common.{◌≡◌, refl, sym, ap, ◌∙◌, ℕ, ◌+◌, ◌-◌, nat_eq, eqb-true, eq-eqb, Bool, true, false, cond, not, ◌||◌, List, [], ◌∷◌, map, filter, arith, map-id}
+use Rattle.vt_spec.proofs.Common.{common_steps, folded, map_alike, map_twice, not-false, not-true, or-false, or-true}
 use Rattle.vt_mounting.proofs.Common.{Among, Inode, Shown, among-from_filter, among-from_map, counted, filter-map, filter_alike, filter_all, filter_less, times, unpinned_if}
 use Rattle.vt_mounting.specs.Detach.Uses.{mounts_shown, released_if, without_layer}
 use Rattle.vt_mounting.proofs.detach.FilesystemsLeft.{let_go_is, stays_at}
 use Rattle.vt_mounting.proofs.detach.LostUses.{shown_by_rule}
-use Rattle.vt_mounting.proofs.detach.Moving.{map_itself, nat_eq_turned}
+use Rattle.vt_mounting.proofs.detach.Moving.{nat_eq_turned}
 
 -- with these uses less, and as many mounts and layers
 abbrev pub later_shown : List Inode → Shown → Shown
@@ -20,7 +20,7 @@ is_some_left one = not (nat_eq one.mounts 0)
 nothing_less : (all : List Shown) → map (later_shown []) all ≡ all
 nothing_less all =
     map_alike (later_shown []) (λ one. one) all (λ one m. λ i. record one { mounts = none one.mounts i }) ∙ sym
-    (map_itself all)
+    (sym (map-id all))
   where
     none : (n : ℕ) → n - 0 ≡ n
     none n = omega arith
@@ -39,24 +39,13 @@ module _ (inode : Inode) (all : List Shown) (counts : ℕ → ℕ)
 
   step_is : (one : Shown) → Among one all → ((step one).count ≡ one.count)
       × ((step one).mounts ≡ one.mounts - cond (nat_eq inode.0 (counted one.count)) 1 0)
-  step_is one m = by (nat_eq inode.0 (counted one.count))
-    where
-      by : (b : Bool)
-          → ((cond b (record one { inodes = unpinned_if (counted one.count) one.inodes inode; mounts = one.mounts - 1 })
-          (record one { inodes = unpinned_if (counted one.count) one.inodes inode })).count ≡ one.count)
-          × ((cond b (record one { inodes = unpinned_if (counted one.count) one.inodes inode; mounts = one.mounts - 1 })
-          (record one { inodes = unpinned_if (counted one.count) one.inodes inode })).mounts ≡ one.mounts - cond b 1 0)
-      by true = (refl, refl)
-      by false = (refl, omega arith)
+  step_is one m = grind (arith, common_steps)
 
   each_then : (one : Shown) → Among one stepped → one.mounts ≡ counts_then (counted one.count)
   each_then one m =
       let from = among-from_map step all one m in
       let is = step_is from.0 from.1 in
-      ap (λ (x : Shown). x.mounts) from.2 ∙ is.1
-      ∙ ap (λ n. n - cond (nat_eq inode.0 (counted from.0.count)) 1 0) (each from.0 from.1)
-      ∙ ap (λ count. counts_then (counted count)) (sym is.0)
-      ∙ ap (λ (x : Shown). counts_then (counted x.count)) (sym from.2)
+      cc (from.2, is.1, each from.0 from.1, is.0)
 
   -- what stays has something left
   stays_is : (one : Shown) → Among one stepped → stays_at inode.0 stepped (counted one.count) ≡ is_some_left one
@@ -75,10 +64,7 @@ module _ (inode : Inode) (all : List Shown) (counts : ℕ → ℕ)
           ap (λ count. nat_eq inode.0 (counted count)) (sym (ap (λ (x : Shown). x.count) from.2 ∙ is.0)) ∙ e in
           let same : (step from.0).mounts ≡ from.0.mounts - 0 = is.1 ∙ ap (λ b. from.0.mounts - cond b 1 0) apart in
           let kept : (step from.0).mounts ≡ from.0.mounts = omega (arith, same) in
-          ap (λ b. not (nat_eq (mounts_shown inode.0 stepped) 0) || not b) e
-          ∙ or-true (not (nat_eq (mounts_shown inode.0 stepped) 0))
-          ∙ sym (ap (λ (x : Shown). is_some_left x) from.2 ∙ ap (λ n. not (nat_eq n 0)) kept
-          ∙ ap not (some from.0 from.1))
+          cc (or-true (not (nat_eq (mounts_shown inode.0 stepped) 0)), from.2, some from.0 from.1)
 
   one_goes : without_layer all inode ≡ filter is_some_left stepped
   one_goes = ap (Rattle.vt_mounting.specs.Detach.Uses.let_go_filesystem inode.0) (map_twice (released_if inode.0)
@@ -132,21 +118,13 @@ go_one_by_one (inode ∷ rest) all counts each some =
     ap (λ left. folded without_layer left rest) (one_goes inode all counts each some)
     ∙ go_one_by_one rest (filter is_some_left then) (counts_then inode all counts each some)
     (λ one m. each_then inode all counts each some one (among-from_filter is_some_left then one m).0)
-    (λ one m. turned (nat_eq one.mounts 0) (among-from_filter is_some_left then one m).1)
+    (λ one m. not-true (nat_eq one.mounts 0) (among-from_filter is_some_left then one m).1)
     ∙ filter-map is_some_left (later_shown rest) (filter is_some_left then) (λ one. refl)
     ∙ ap (map (later_shown rest)) (filter_less (λ one. is_some_left (later_shown rest one)) is_some_left then
     (λ one m none. gone one.mounts (times (λ (other : Inode). nat_eq (counted one.count) other.0) rest)
-    (turned_back (nat_eq one.mounts 0) none))) ∙ sym (filter-map is_some_left (later_shown rest) then (λ one. refl))
+    (not-false (nat_eq one.mounts 0) none))) ∙ sym (filter-map is_some_left (later_shown rest) then (λ one. refl))
     ∙ ap (filter is_some_left) (less_again inode all counts each some rest)
   where
-    turned : (b : Bool) → not b ≡ true → b ≡ false
-    turned true e = absurd (true≢false (sym e))
-    turned false e = refl
-
-    turned_back : (b : Bool) → not b ≡ false → b ≡ true
-    turned_back true e = refl
-    turned_back false e = absurd (true≢false e)
-
     gone : (n k : ℕ) → nat_eq n 0 ≡ true → not (nat_eq (n - k) 0) ≡ false
     gone n k zero =
         let none : n ≡ 0 = eqb-true n 0 zero in

@@ -1,7 +1,8 @@
 -- The layers of an overlay of the code's world are directories of the plain trees that are kept, which the world shows.
-use Rattle.std.proofs.Common.{◌≡◌, ◌≤◌, ◌<◌, refl, sym, ap, subst, ◌∙◌, ⊎_elim, inl, inr, zero, ℕ, nat_eq, eqb-true, Bool, true, false, true≢false, not, ◌&&◌, List, [], ◌∷◌, length, map, Option, Some, None, unwrap_or, arith, suc, All, nat_le, nat_lt, slice_get, leb-true}
-use Rattle.vt_spec.proofs.Common.{Filesystem, IsTree, World, and-false, and_parts, filesystem_numbered, found_among, found_passes, has_fit_layers, is_directory_node, is_empty_list, is_overlay, is_plain_layer, layers_of, list_all, most_lowers, none_is_some, of_overlay, same_Some}
+use Rattle.std.proofs.Common.{◌≡◌, ◌≤◌, ◌<◌, refl, sym, ap, subst, ◌∙◌, ⊎_elim, ℕ, nat_eq, eqb-true, true, false, true≢false, not, ◌&&◌, List, [], ◌∷◌, length, map, Option, Some, None, unwrap_or, arith, All, nat_le, nat_lt, leb-true}
+use Rattle.vt_spec.proofs.Common.{Filesystem, IsTree, World, and-false, and_parts, filesystem_numbered, found_among, found_passes, has_fit_layers, is_directory_node, is_empty_list, is_overlay, is_plain_layer, layers_of, length-map, list_all, most_lowers, not-true, of_overlay}
 use Rattle.vt_mounting.proofs.Common.{Among, AreLayers, FilesystemEntry, HasOwnInodes, IsHeld, OverlayEntry, ShowsLayer, WorldValue, all_from_among, among-map, among_from_all, among_from_list_all, counted, entry_at, entry_of, filesystem_seen, inode_of, inodes_at, inodes_seen, layer_seen, no_entry, numbered_all, overlay_seen, world_of}
+use Rattle.vt_laws_trees.proofs.trees.Lists.{nth_among}
 use Rattle.vt_location.specs.Numbers.{is_inode_of}
 use Rattle.vt_overlay.specs.declared.merge.layers.LayerRef.{LayerRef}
 use Rattle.vt_overlay.specs.MergedTree.{IsLayer}
@@ -23,23 +24,9 @@ own_at value held count number other = by (entry_of value.filesystems count) ref
         (ap (λ b. nat_lt entry.count 18446744073709551616 && b) (ap (λ n. is_inode_of n number) (sym same) ∙ other)
         ∙ and-false (nat_lt entry.count 18446744073709551616))
 
-not_so : (b : Bool) → not b ≡ true → b ≡ false
-not_so true e = absurd (true≢false (sym e))
-not_so false e = refl
-
 some_there : (list : List LayerRef) → not (is_empty_list (map layer_seen list)) ≡ true → 0 < length list
 some_there [] e = absurd (true≢false (sym e))
 some_there (layer ∷ list) e = omega arith
-
-length-seen : (lowers : List LayerRef) → length (map layer_seen lowers) ≡ length lowers
-length-seen [] = refl
-length-seen (layer ∷ lowers) = ap suc (length-seen lowers)
-
-among_slice : (list : List LayerRef) (place : ℕ) (layer : LayerRef) → slice_get list place ≡ Some layer
-    → Among layer list
-among_slice [] place layer e = absurd (none_is_some layer e)
-among_slice (first ∷ list) zero layer e = inl (sym (same_Some first layer e))
-among_slice (first ∷ list) (suc place) layer e = inr (among_slice list place layer e)
 
 -- layers that are directories of plain trees of the world
 module _ (value : WorldValue) (held : IsHeld value) (lowers : List LayerRef)
@@ -59,7 +46,7 @@ module _ (value : WorldValue) (held : IsHeld value) (lowers : List LayerRef)
     is_kept : filesystem_numbered nat_eq (world_of value) (counted count)
         ≡ filesystem_seen (entry_at value.filesystems count)
     is_kept = counted_where_plain value held count
-        (not_so (is_overlay (filesystem_numbered nat_eq (world_of value) (counted count))) parts.0)
+        (not-true (is_overlay (filesystem_numbered nat_eq (world_of value) (counted count))) parts.0)
 
     shows_it : ShowsLayer (world_of value) value.filesystems layer
     shows_it = record {
@@ -84,7 +71,7 @@ module _ (value : WorldValue) (held : IsHeld value) (lowers : List LayerRef)
   pub plain_layers_shown : AreLayers value.filesystems lowers
       × All (ShowsLayer (world_of value) value.filesystems) lowers
   plain_layers_shown = (
-    λ place layer at. is_layer layer (among_slice lowers place layer at),
+    λ place layer at. is_layer layer (nth_among lowers place layer at),
     all_from_among (ShowsLayer (world_of value) value.filesystems) lowers shows_it,
   )
 
@@ -118,5 +105,5 @@ module _ (value : WorldValue) (held : IsHeld value) (entry : OverlayEntry) (m : 
   pub layers_number : (0 < length lowers) × (length lowers ≤ most_lowers)
   layers_number =
       let most = leb-true (length entry.lowers) most_lowers fits.1 in
-      let as_many = ap length same ∙ length-seen lowers in
+      let as_many = ap length same ∙ length-map lowers layer_seen in
       (some_there lowers (ap (λ layers. not (is_empty_list layers)) (sym same) ∙ fits.0), omega (arith, most, as_many))

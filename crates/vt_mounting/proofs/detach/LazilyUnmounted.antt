@@ -1,7 +1,7 @@
 -- A lazy unmount of a tree of which no mount is in a group, and whose top stands on no shared mount: each of its events
 -- detaches one mount of the tree, and in the end all of them are detached.
-use Rattle.std.proofs.Common.{◌≡◌, refl, sym, ap, subst, ◌∙◌, inl, inr, ⊎_elim, ◌⊎◌, ℕ, zero, suc, nat_eq, eqb-true, eq-eqb, Bool, true, false, true≢false, cond, not, ◌&&◌, ◌||◌, List, [], ◌∷◌, ◌++◌, map, find, length, Option, Some, None, option_map, is_some, unwrap_or, nat_lt}
-use Rattle.vt_spec.proofs.Common.{HasLivingGroups, Lives, Location, Mount, MountInvariants, Private, Propagation, Shared, Slave, Unbindable, World, after_going, any_pair, chain, children, cons_option, deepest_first, depth_of, detached, folded, going, holds_of, insert_deepest, is_among, is_going, is_nowhere_or_attached, is_private, is_shared, last_or, lazily_unmounted, list_all, map_alike, map_twice, mount_at, mount_in, mount_numbered, mount_point_left, mount_point_of_parent, mount_tree, no_mount, regrouped, same_Some, stands_on, taken_away, tree_from, unmounted, unmounted_if_there, with_mounts}
+use Rattle.std.proofs.Common.{◌≡◌, refl, sym, ap, subst, ◌∙◌, inl, inr, ⊎_elim, ◌⊎◌, ℕ, zero, suc, nat_eq, eqb-true, eq-eqb, Bool, true, false, true≢false, cond, not, ◌&&◌, ◌||◌, List, [], ◌∷◌, ◌++◌, map, find, length, Option, Some, None, option_map, is_some, unwrap_or, map-id, arith}
+use Rattle.vt_spec.proofs.Common.{HasLivingGroups, Lives, Location, Mount, MountInvariants, Private, Propagation, Shared, Slave, Unbindable, World, after_going, any_pair, chain, children, common_steps, cons_option, deepest_first, detached, folded, going, holds_of, insert_deepest, is_among, is_going, is_nowhere_or_attached, is_private, is_shared, last_or, lazily_unmounted, list_all, map_alike, map_twice, mount_at, mount_in, mount_numbered, mount_point_left, mount_point_of_parent, mount_tree, no_mount, none_is_some, regrouped, same_Some, stands_on, taken_away, tree_from, unmounted_if_there, with_mounts}
 use Rattle.vt_spec.proofs.Lists as Spec
 use Rattle.vt_mounting.proofs.Common.{AllGroupsLive, Among, all_from_among, among-flat_map, among-from_filter, among-from_flat_map, among-from_map, among-map, among_from_all, among_from_list_all, among_numbers, found_in, found_is_there, found_itself, is_among_numbers, is_ungrouped, peer_of, peers_of, regrouped_living}
 use Rattle.vt_laws_mounts.proofs.letting_go.mounting.MountingTaken as Taken
@@ -11,7 +11,6 @@ use Rattle.vt_mounting.proofs.detach.DetachingBegins.{HasChildrenOf, detached_wo
 use Rattle.vt_mounting.proofs.detach.Keeping.{detached_in}
 use Rattle.vt_mounting.proofs.detach.Grouped.{members_alike, no_peer, no_source}
 use Rattle.vt_mounting.proofs.detach.MountsGone.{found_mapped}
-use Rattle.vt_mounting.proofs.detach.Moving.{map_itself}
 use Rattle.vt_mounting.proofs.detach.UnmountedAlone.{goes_apart}
 use Rattle.vt_laws_mounts.proofs.ends.EndingCounts.{tree_placed}
 pub use Rattle.vt_laws_mounts.specs.LettingGo.Unmounting.{numbers_of_trees}
@@ -22,28 +21,12 @@ module _ (world : World ℕ) where
   insert_among : (x mount : Mount ℕ) (sorted : List (Mount ℕ)) → (x ≡ mount) ⊎ Among x sorted
       → Among x (insert_deepest nat_eq world mount sorted)
   insert_among x mount [] m = m
-  insert_among x mount (other ∷ rest) m =
-      by (nat_lt (depth_of nat_eq world mount) (depth_of nat_eq world other)) (insert_among x mount rest) m
-    where
-      by : (b : Bool) → ((x ≡ mount) ⊎ Among x rest → Among x (insert_deepest nat_eq world mount rest))
-          → (x ≡ mount) ⊎ Among x (other ∷ rest)
-          → Among x (cond b (other ∷ insert_deepest nat_eq world mount rest) (mount ∷ other ∷ rest))
-      by true next n = ⊎_elim (λ same. inr (next (inl same)))
-          (λ later. ⊎_elim (λ same. inl same) (λ l. inr (next (inr l))) later) n
-      by false next n = n
+  insert_among x mount (other ∷ rest) m = grind (arith, common_steps, insert_among x mount rest)
 
   among_insert : (x mount : Mount ℕ) (sorted : List (Mount ℕ)) → Among x (insert_deepest nat_eq world mount sorted)
       → (x ≡ mount) ⊎ Among x sorted
   among_insert x mount [] m = m
-  among_insert x mount (other ∷ rest) m =
-      by (nat_lt (depth_of nat_eq world mount) (depth_of nat_eq world other)) (among_insert x mount rest) m
-    where
-      by : (b : Bool) → (Among x (insert_deepest nat_eq world mount rest) → (x ≡ mount) ⊎ Among x rest)
-          → Among x (cond b (other ∷ insert_deepest nat_eq world mount rest) (mount ∷ other ∷ rest))
-          → (x ≡ mount) ⊎ Among x (other ∷ rest)
-      by true next n = ⊎_elim (λ same. inr (inl same))
-          (λ later. ⊎_elim (λ same. inl same) (λ l. inr (inr l)) (next later)) n
-      by false next n = n
+  among_insert x mount (other ∷ rest) m = grind (arith, common_steps, among_insert x mount rest)
 
   abbrev sorted_with : List (Mount ℕ) → List (Mount ℕ) → List (Mount ℕ)
   sorted_with start mounts = folded (λ sorted mount. insert_deepest nat_eq world mount sorted) start mounts
@@ -63,9 +46,6 @@ module _ (world : World ℕ) where
       (among_sorted x mounts (insert_deepest nat_eq world mount start) m)
 
 -- One event after the other
-
-none_some : {A : Type 0} (a : A) → None ≡ Some a → ⊥
-none_some a e = cc
 
 unshared : (kind : Propagation ℕ) → is_ungrouped kind ≡ true → is_shared kind ≡ false
 unshared (Shared group) e = absurd (true≢false (sym e))
@@ -107,7 +87,7 @@ module _ (world : World ℕ) (live : AllGroupsLive world)
   begun : IsUnderway [] world
   begun = record {
     change = λ mount. mount;
-    is = ap (with_mounts world) (map_itself world.mounts);
+    is = ap (with_mounts world) (sym (map-id world.mounts));
     number = λ mount. refl;
     same = λ mount. refl;
     gone = λ mount m e. absurd (true≢false (sym e));
@@ -147,7 +127,7 @@ module _ (world : World ℕ) (live : AllGroupsLive world)
       lives : (mount : Mount ℕ) → Among mount world.mounts → (b : Bool) → is_among nat_eq mount.number tree ≡ b
           → HasLivingGroups nat_eq after (change mount)
       lives mount m true e = λ group is.
-          absurd (none_some group (sym (no_source (change mount).propagation (still mount (free mount m e))) ∙ is))
+          none_is_some group (sym (no_source (change mount).propagation (still mount (free mount m e))) ∙ is)
       lives mount m false e = subst (HasLivingGroups nat_eq after) (sym (others mount m e)) (λ group is.
           subst (λ members. Lives members world.master group)
           (λ i one. members_alike world.mounts after.mounts (sym (peers world.mounts (λ x n. n))) one i)
@@ -189,7 +169,7 @@ module _ (world : World ℕ) (live : AllGroupsLive world)
         by : (o : Option (Mount ℕ)) → find (λ (x : Mount ℕ). nat_eq number x.number) world.mounts ≡ o
             → (unwrap_or (option_map so.change o) (no_mount number)).mount_point ≡ Some place
             → is_shared (mount_at nat_eq world place).propagation ≡ false
-        by None e q = absurd (none_some place q)
+        by None e q = none_is_some place q
         by (Some mount) e q =
             let its = found_in (λ (x : Mount ℕ). nat_eq number x.number) world.mounts mount e in
             so.apart_still mount its.0
@@ -318,37 +298,15 @@ module _ (world : World ℕ) (live : AllGroupsLive world)
             under false e = refl
 
     detached_alike : (x : Mount ℕ) → detached (after_going nat_eq now (number ∷ []) x) ≡ detached x
-    detached_alike x = by (is_going nat_eq (number ∷ []) x.number)
-      where
-        by : (b : Bool) → detached (cond b (detached x)
-            (record x { mount_point = option_map (mount_point_left nat_eq now (number ∷ [])) x.mount_point }))
-            ≡ detached x
-        by true = refl
-        by false = refl
+    detached_alike x = grind (arith, common_steps)
 
     ungrouped_alike : (x : Mount ℕ) → is_ungrouped x.propagation ≡ true
         → is_ungrouped (after_going nat_eq now (number ∷ []) x).propagation ≡ true
-    ungrouped_alike x h = by (is_going nat_eq (number ∷ []) x.number)
-      where
-        by : (b : Bool) → is_ungrouped (cond b (detached x) (record x {
-          mount_point = option_map (mount_point_left nat_eq now (number ∷ [])) x.mount_point;
-        })).propagation ≡ true
-        by true = refl
-        by false = h
+    ungrouped_alike x h = grind (arith, common_steps)
 
     next_gone : (mount : Mount ℕ) → Among mount world.mounts → is_among nat_eq mount.number (number ∷ done) ≡ true
         → next_change mount ≡ detached mount
-    next_gone mount m e = by (nat_eq mount.number number) refl
-      where
-        later : (b : Bool) → nat_eq mount.number number ≡ false
-            → (mount.number ≡ number) ⊎ (is_among nat_eq mount.number done ≡ true) → next_change mount ≡ detached mount
-        later b f h = ⊎_elim (λ numbered. absurd (true≢false (sym (eq-eqb mount.number number numbered) ∙ f)))
-            (λ before. ap (after_going nat_eq now (number ∷ [])) (so.gone mount m before)
-            ∙ unplaced_stays (detached mount) f refl) h
-
-        by : (b : Bool) → nat_eq mount.number number ≡ b → next_change mount ≡ detached mount
-        by true f = going_so (so.change mount) (so.number mount ∙ eqb-true mount.number number f) ∙ so.same mount
-        by false f = later true f (split mount e)
+    next_gone mount m e = grind (arith, common_steps, eq-eqb, unplaced_stays, going_so, eqb-true, split)
 
     next_number : (mount : Mount ℕ) → (next_change mount).number ≡ mount.number
     next_number mount = Taken.same_number now (number ∷ []) now.namespaces false (so.change mount) ∙ so.number mount
@@ -369,7 +327,7 @@ module _ (world : World ℕ) (live : AllGroupsLive world)
         stands : (at : Location ℕ) → (b : Bool) → nat_eq at.mount number ≡ b → (under : Location ℕ)
             → cond (b || false) (mount_at nat_eq now at).mount_point None ≡ Some under
             → is_shared (mount_at nat_eq world under).propagation ≡ false
-        stands at false e under p = absurd (none_some under p)
+        stands at false e under p = none_is_some under p
         stands at true e under p = stands_apart under
             (ap (λ n. (mount_numbered nat_eq now n).mount_point) (sym (eqb-true at.mount number e)) ∙ p)
 
@@ -391,13 +349,13 @@ module _ (world : World ℕ) (live : AllGroupsLive world)
         → IsApart world (cond b (detached (so.change mount)) (record (so.change mount) {
           mount_point = option_map (mount_point_left nat_eq now (number ∷ [])) (so.change mount).mount_point;
         }))
-    apart_next mount m its true place p = absurd (none_some place p)
+    apart_next mount m its true place p = none_is_some place p
     apart_next mount m its false place p = by (so.change mount).mount_point refl p
       where
         by : (o : Option (Location ℕ)) → (so.change mount).mount_point ≡ o
             → option_map (mount_point_left nat_eq now (number ∷ [])) o ≡ Some place
             → is_shared (mount_at nat_eq world place).propagation ≡ false
-        by None e q = absurd (none_some place q)
+        by None e q = none_is_some place q
         by (Some at) e q = ap (λ one. is_shared (mount_at nat_eq world one).propagation)
             (sym (same_Some (mount_point_left nat_eq now (number ∷ []) at) place q))
             ∙ falls_apart at (so.apart_still mount m its at e)
@@ -426,15 +384,7 @@ module _ (world : World ℕ) (live : AllGroupsLive world)
 
     next_event : (mount : Mount ℕ) → mount.number ≡ number
         → IsUnderway (number ∷ done) (unmounted_if_there nat_eq now mount)
-    next_event mount numbered = subst (λ n. IsUnderway (number ∷ done)
-        (cond (is_some (mount_numbered nat_eq now n).namespace) (unmounted nat_eq now n) now)) (sym numbered)
-        (by (is_some (mount_numbered nat_eq now number).namespace) refl)
-      where
-        by : (b : Bool) → is_some (mount_numbered nat_eq now number).namespace ≡ b
-            → IsUnderway (number ∷ done) (cond b (unmounted nat_eq now number) now)
-        by true e = subst (λ gone. IsUnderway (number ∷ done) (taken_away nat_eq now gone))
-            (sym goes_now) (unmounted_now e)
-        by false e = skipped e
+    next_event mount numbered = grind (arith, common_steps, goes_now, unmounted_now, skipped)
 
   -- all events
   abbrev taken_by : List (Mount ℕ) → List ℕ → List ℕ
@@ -553,9 +503,13 @@ module _ (world : World ℕ) (kept : MountInvariants nat_eq world) (number : ℕ
       let from = among-from_map (λ (x : Mount ℕ). x.number) tree mount.number
       (among_numbers mount.number numbers within) in
       let member = member_attached from.0 (tree_placed (length world.mounts) world.mounts top from.0 from.1) in
-      ap (λ (x : Mount ℕ). is_some x.namespace)
-      (sym (found_itself world.mounts kept.one_number mount m) ∙ ap (mount_in nat_eq world.mounts) from.2
-      ∙ found_itself world.mounts kept.one_number from.0 member.0) ∙ member.1
+      cc (
+        found_itself world.mounts kept.one_number mount m,
+        from.2,
+        found_itself world.mounts kept.one_number from.0
+            member.0,
+        member.1,
+      )
 
   -- a mount of the tree is found by its number
   tree_mount : (mount : Mount ℕ) → Among mount world.mounts → is_among nat_eq mount.number numbers ≡ true

@@ -1,6 +1,6 @@
 -- Events of tasks after which one location is left.
 use Rattle.std.proofs.Common.{◌≡◌, ◌≢◌, refl, sym, ap, subst, ◌∙◌, inl, ℕ, nat_eq, eqb-true, Bool, true, false, true≢false, cond, not, ◌&&◌, ◌||◌, List, [], ◌∷◌, ◌++◌, map, find, Option, Some, None, option_map, is_some, unwrap_or, arith, nat_lt, lt-ltb}
-use Rattle.vt_spec.proofs.Common.{Mount, Permit, Task, TaskName, World, all_locations, eqb-false, is_among, mount_numbered, no_mount, without_dead_mounts}
+use Rattle.vt_spec.proofs.Common.{Mount, Permit, Task, TaskName, World, all_locations, common_steps, eqb-false, is_among, mount_numbered, no_mount, without_dead_mounts}
 use Rattle.vt_laws_mounts.proofs.counts.going.Gone.{mount_goes_at_zero}
 use Rattle.vt_laws_mounts.proofs.counts.using.MountRoots as Roots
 use Rattle.vt_mounting.proofs.Common.{Among, CountsItsUses, Filesystems, IsHeld, MountEntry, Tasks, WorldValue, all_in_use, among-append_right, among-from_map, among_from_list_all, entry_numbered, mount_uses, mounts_go_one_by_one, mounts_of_worlds_stand, times, without_mount, world_of}
@@ -19,13 +19,7 @@ use Rattle.vt_mounting.proofs.detach.Staying.{IsDone, after}
 pub none_among : (number : ℕ) (mounts : List (Mount ℕ)) → find (λ x. nat_eq number x.number) mounts ≡ None
     → is_among nat_eq number (map (λ x. x.number) mounts) ≡ false
 none_among number [] e = refl
-none_among number (x ∷ xs) e = by (nat_eq number x.number) e (none_among number xs)
-  where
-    by : (b : Bool) → cond b (Some x) (find (λ x. nat_eq number x.number) xs) ≡ None
-        → (find (λ x. nat_eq number x.number) xs ≡ None → is_among nat_eq number (map (λ x. x.number) xs) ≡ false)
-        → (b || is_among nat_eq number (map (λ x. x.number) xs)) ≡ false
-    by true here later = absurd cc
-    by false here later = later here
+none_among number (x ∷ xs) e = grind (arith, common_steps, none_among number xs)
 
 module _ (value : WorldValue) (whole : IsHeld value) (tasks : Tasks) (more : List Use) (left_use : Use)
     (moves : Moves value tasks more (left_use ∷ []))

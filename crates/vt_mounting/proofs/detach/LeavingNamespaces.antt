@@ -1,9 +1,9 @@
 -- A task has left a namespace: what code has then is what the sweep leaves, once mounts get the types that groups tell.
-use Rattle.std.proofs.Common.{◌≡◌, refl, sym, ap, subst, ◌∙◌, ℕ, nat_eq, eq-eqb, Bool, true, false, true≢false, ◌&&◌, List, [], map, Option, Some, None, is_some}
-use Rattle.vt_spec.proofs.Common.{Location, Mount, MountInvariants, Namespace, World, holds_of, mount_at, regrouped}
+use Rattle.std.proofs.Common.{◌≡◌, refl, sym, ap, subst, ◌∙◌, ℕ, nat_eq, eq-eqb, Bool, true, false, true≢false, ◌&&◌, List, [], map, Option, Some, None, is_some, arith}
+use Rattle.vt_spec.proofs.Common.{Location, Mount, MountInvariants, Namespace, World, common_steps, holds_of, mount_at, regrouped}
 use Rattle.vt_mounting.proofs.Common.{Among, AreTyped, Grouping, Has, Inode, IsHeld, MountEntry, NamespaceEntry, TakesAway, Tasks, WorldValue, among_from_all, counted, map_same, none_among, typed_by, typed_entry}
 use Rattle.vt_group.proofs.Others.{has_ordered}
-use Rattle.vt_mounting.specs.Detach.NamespacesLeft.{EndsIf, MountsAreLeft, NamespaceIsLeft, has_one_task, is_attached_in, namespace_entry, numbers_inside}
+use Rattle.vt_mounting.specs.Detach.NamespacesLeft.{MountsAreLeft, NamespaceIsLeft, is_attached_in, namespace_entry, numbers_inside}
 use Rattle.vt_mounting.specs.Detach.Uses.{Kept}
 use Rattle.vt_mounting.proofs.detach.Midway.{Reached}
 use Rattle.vt_mounting.proofs.detach.MidwayDone.{detaches_all}
@@ -96,14 +96,4 @@ module _ (value : WorldValue) (whole : IsHeld value) (world : World ℕ) (invari
 
     pub leaves : MountsAreLeft (counted count) (namespace_entry count entries) old before new groups
         → IsLeft value start gained going new groups
-    leaves left = by (namespace_entry count entries) refl left
-      where
-        by : (o : Option NamespaceEntry) → namespace_entry count entries ≡ o
-            → MountsAreLeft (counted count) o old before new groups → IsLeft value start gained going new groups
-        by None e same = stay (ap (ends_by count tasks entries counts) e) same
-        by (Some entry) e same = chosen (has_one_task entry) refl same
-          where
-            chosen : (b : Bool) → has_one_task entry ≡ b → EndsIf b (counted count) old before new groups
-                → IsLeft value start gained going new groups
-            chosen false f h = stay (ap (ends_by count tasks entries counts) e ∙ f) h
-            chosen true f h = leave (ap (ends_by count tasks entries counts) e ∙ f) h
+    leaves left = grind (arith, common_steps, stay, ends_by, leave)

@@ -1,6 +1,6 @@
 -- What a world shows, by what is kept of it.
-use Rattle.std.proofs.Common.{◌≡◌, ◌≢◌, refl, sym, ap, ◌∙◌, ⊎_elim, inl, inr, true≢false, ℕ, nat_eq, eq-eqb, eqb-true, ne_eqb, Bool, true, false, cond, ◌||◌, ◌&&◌, List, [], ◌∷◌, filter, Option, Some, None, is_some, option_map, option_to_list}
-use Rattle.vt_spec.proofs.Common.{Among, Filesystem, IsTree, Layer, Overlay, among_from_list_all, and-false, and-true, and_parts, filesystem_at, filesystem_numbered, has_its_root, holds_of, is_directory_at, is_directory_node, is_directory_under, is_point, is_removed, is_removed_at, list_all, list_any, mount_at, mount_numbered, mounts_on, no_mount, node_at, of_overlay, or-false, overlay_or, points_of, then_some, upper_object, upper_points}
+use Rattle.std.proofs.Common.{◌≡◌, ◌≢◌, refl, sym, ap, ◌∙◌, ⊎_elim, true≢false, ℕ, nat_eq, eq-eqb, eqb-true, ne_eqb, Bool, true, false, ◌&&◌, List, [], ◌∷◌, filter, Option, Some, None, is_some, option_map, option_to_list, arith}
+use Rattle.vt_spec.proofs.Common.{Among, Filesystem, IsTree, Layer, Overlay, among_from_list_all, and-false, and-true, and_parts, common_steps, filesystem_at, filesystem_numbered, has_its_root, holds_of, is_directory_at, is_directory_node, is_directory_under, is_point, is_removed, is_removed_at, list_all, list_any, mount_at, mount_numbered, mounts_on, no_mount, node_at, of_overlay, or-false, overlay_or, points_of, then_some, upper_object, upper_points}
 use Rattle.vt_spec.specs.Machine.Mounts as meant
 use Rattle.vt_mounting.proofs.Common.{IsHeld, WorldValue, born_in, counted, counted_test, directory_is_there, inode_number, is_small_node, location_of, mounts_in, number_numbered, number_of, numbered_all, world_of}
 use Rattle.vt_laws_mounts.proofs.mounts.MountsFound.{found_or_none}
@@ -22,16 +22,7 @@ any_filtered : {A : Type 0} (seen : Bool) (on over test : A → Bool) (xs : List
     → ((x : A) → Among x xs → on x ≡ (seen && over x))
     → list_any test (filter on xs) ≡ (seen && list_any (λ x. over x && test x) xs)
 any_filtered {A = A} seen on over test [] same = sym (and-false seen)
-any_filtered {A = A} seen on over test (x ∷ xs) same =
-    ap (λ b. list_any test (cond b (x ∷ filter on xs) (filter on xs))) (same x (inl refl))
-    ∙ by seen (over x) (any_filtered seen on over test xs (λ y m. same y (inr m)))
-  where
-    by : (seen over_x : Bool) → list_any test (filter on xs) ≡ (seen && list_any (λ x. over x && test x) xs)
-        → list_any test (cond (seen && over_x) (x ∷ filter on xs) (filter on xs))
-        ≡ (seen && ((over_x && test x) || list_any (λ x. over x && test x) xs))
-    by true true rest = ap (λ b. test x || b) rest
-    by true false rest = rest
-    by false over_x rest = rest
+any_filtered {A = A} seen on over test (x ∷ xs) same = grind (arith, common_steps, any_filtered seen on over test xs)
 
 module _ (value : WorldValue) (held : IsHeld value) where
   -- what is not in a tree is not its root
@@ -154,10 +145,11 @@ module _ (value : WorldValue) (held : IsHeld value) where
             (ap (λ n. is_some ((filesystem_numbered nat_eq (world_of value)
             (mount_at nat_eq (world_of value) place).filesystem).files.tree.node n))
             (sym (eqb-true place.node (number_of at.node) e)) ∙ is) in
-            ap (λ n. nat_eq n (mount_at nat_eq (world_of value) (location_of at)).filesystem) home
-            ∙ nat_eq_turned (counted at.node.filesystem.count)
-            (mount_at nat_eq (world_of value) (location_of at)).filesystem
-            ∙ sym (and-true (is_seen value at))
+            cc (
+              nat_eq_turned (counted at.node.filesystem.count) (mount_at nat_eq (world_of value) (location_of
+                  at)).filesystem,
+              and-true (is_seen value at),
+            )
 
         by : (o : Option (meant.Location ℕ))
             → list_all (is_directory_at nat_eq (world_of value)) (option_to_list o) ≡ true
@@ -205,10 +197,10 @@ module _ (value : WorldValue) (held : IsHeld value) where
     pub missing_root : mount_at nat_eq (world_of value) (location_of at) ≡ no_mount (counted at.mount.count)
         → is_directory_under nat_eq (filesystem_at nat_eq (world_of value) (location_of at)).files
         (mount_at nat_eq (world_of value) (location_of at)).root (number_of at.node) ≡ false
-    missing_root none = ap (λ (mount : meant.Mount ℕ). is_directory_under nat_eq
-        (filesystem_numbered nat_eq (world_of value) mount.filesystem).files mount.root (number_of at.node)) none
-        ∙ under_nowhere (filesystem_numbered nat_eq (world_of value) (counted at.mount.count)).files
-        (counted at.mount.count) (number_of at.node)
-        (no_counted_inode value held (counted at.mount.count) at.mount.count)
-        ∙ ne_eqb (counted at.mount.count) (number_of at.node)
-        (counted_inode at.mount.count (born_in at.node.filesystem.count at.node.birth) at.node.slot)
+    missing_root none =
+        cc (
+          under_nowhere (filesystem_numbered nat_eq (world_of value) (counted at.mount.count)).files (counted
+              at.mount.count) (number_of at.node) (no_counted_inode value held (counted at.mount.count) at.mount.count),
+          ne_eqb (counted at.mount.count) (number_of at.node) (counted_inode at.mount.count (born_in
+              at.node.filesystem.count at.node.birth) at.node.slot),
+        )

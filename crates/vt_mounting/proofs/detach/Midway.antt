@@ -1,9 +1,9 @@
 -- Between the first and the last use that a task leaves: what code counts then. Uses are left and mounts are detached
 -- in
 -- whatever order; what is no longer used goes at once, and at the end that is gone which the sweep takes.
-use Rattle.std.proofs.Common.{◌≡◌, refl, sym, ap, subst, ◌∙◌, ℕ, ◌+◌, nat_eq, eqb-true, Bool, true, false, true≢false, cond, not, ◌||◌, List, [], ◌∷◌, ◌++◌, map, filter, flat_map, Option, Some, None, option_map, is_some, append_assoc, arith, IfSome, option_to_list}
-use Rattle.vt_spec.proofs.Common.{Filesystem, Mount, World, and_parts, any_pair, detached, folded, is_located_well, is_overlay, list_all, list_any, map_alike, map_twice, or_parts, same_Some}
-use Rattle.vt_mounting.proofs.Common.{Among, AreThere, Exchanges, FilesystemEntry, Inode, IsHeld, LocationsStand, MountEntry, MountsStand, OneNumberAMount, Shown, WorldValue, among-from_map, among-map, changed, counted, entry_numbered, exchanged, in_use_of, inode_at, inodes_of_mount_point, inodes_seen, is_inode, is_small_node, layer_count, location_of, map_same, mount_uses, mounts_in, mounts_showing, none_among, number_of, pinned_if, released, times, times_append, unpinned_if, world_of, writes_of}
+use Rattle.std.proofs.Common.{◌≡◌, refl, sym, ap, subst, ◌∙◌, ℕ, ◌+◌, nat_eq, eqb-true, Bool, true, false, true≢false, cond, not, List, [], ◌∷◌, ◌++◌, map, filter, flat_map, Option, Some, None, option_map, is_some, append_assoc, arith, IfSome, option_to_list}
+use Rattle.vt_spec.proofs.Common.{Filesystem, Mount, World, and_parts, any_pair, common_steps, detached, folded, is_located_well, is_overlay, list_all, list_any, map_alike, map_twice, not-true, or_parts, same_Some}
+use Rattle.vt_mounting.proofs.Common.{Among, AreThere, Exchanges, FilesystemEntry, Inode, IsHeld, LocationsStand, MountEntry, MountsStand, OneNumberAMount, Shown, WorldValue, among-from_map, among-map, changed, counted, entry_numbered, exchanged, in_use_of, inode_at, inodes_of_mount_point, inodes_seen, is_inode, is_small_node, layer_count, location_of, map_same, mount_uses, mounts_in, mounts_showing, none_among, number_of, numbers_of, one_number_by_numbers, pinned_if, released, times, times_append, unpinned_if, world_of, writes_of}
 use Rattle.vt_location.specs.declared.locations.Location.{Location}
 use Rattle.vt_mounting.specs.Detach.Uses as meant
 use Rattle.vt_mounting.specs.Detach.Uses.{Kept, detached_entry, is_unused, unpinned_at, unpinned_in}
@@ -81,31 +81,26 @@ gone_number goes mount = by (goes mount)
     by true = refl
     by false = refl
 
+pub gone_numbers : (goes : Mount ℕ → Bool) (mounts : List (Mount ℕ))
+    → numbers_of (map (gone_if goes) mounts) ≡ numbers_of mounts
+gone_numbers goes mounts = map_twice (λ (x : Mount ℕ). x.number) (gone_if goes) mounts
+    ∙ map_alike (λ (x : Mount ℕ). (gone_if goes x).number) (λ x. x.number) mounts (λ x m. gone_number goes x)
+
 pub one_number_kept : (goes : Mount ℕ → Bool) (mounts : List (Mount ℕ)) → OneNumberAMount (map (gone_if goes) mounts)
     → OneNumberAMount mounts
-one_number_kept goes mounts one = sym (same mounts) ∙ one
-  where
-    same_one : (x : Mount ℕ) (xs : List (Mount ℕ))
-        → list_any (λ b. nat_eq (gone_if goes x).number b.number) (map (gone_if goes) xs)
-        ≡ list_any (λ b. nat_eq x.number b.number) xs
-    same_one x [] = refl
-    same_one x (y ∷ ys) = λ i. nat_eq (gone_number goes x i) (gone_number goes y i) || same_one x ys i
+one_number_kept goes mounts =
+    one_number_by_numbers (map (gone_if goes) mounts) mounts (sym (gone_numbers goes mounts))
 
-    same : (xs : List (Mount ℕ)) → any_pair (λ (a b : Mount ℕ). nat_eq a.number b.number) (map (gone_if goes) xs)
-        ≡ any_pair (λ (a b : Mount ℕ). nat_eq a.number b.number) xs
-    same [] = refl
-    same (x ∷ xs) = λ i. same_one x xs i || same xs i
+pub one_number_gone : (goes : Mount ℕ → Bool) (mounts : List (Mount ℕ)) → OneNumberAMount mounts
+    → OneNumberAMount (map (gone_if goes) mounts)
+one_number_gone goes mounts = one_number_by_numbers mounts (map (gone_if goes) mounts) (gone_numbers goes mounts)
 
 -- an entry that has no use and is in no namespace
 pub unused_parts : (entry : MountEntry) → is_unused entry ≡ true
     → (is_some entry.mount.namespace ≡ false) × (entry.uses ≡ 0)
 unused_parts entry e =
     let parts = and_parts (not (is_some entry.mount.namespace)) (nat_eq entry.uses 0) e in
-    (turned (is_some entry.mount.namespace) parts.0, eqb-true entry.uses 0 parts.1)
-  where
-    turned : (b : Bool) → not b ≡ true → b ≡ false
-    turned true f = absurd (true≢false (sym f))
-    turned false f = refl
+    (not-true (is_some entry.mount.namespace) parts.0, eqb-true entry.uses 0 parts.1)
 
 module _ (value : WorldValue) (whole : IsHeld value) (start : World ℕ) (gained : List Inode) (goes : Mount ℕ → Bool)
     (attached : (mount : Mount ℕ) → goes mount ≡ true → is_some mount.namespace ≡ true) where
@@ -157,8 +152,7 @@ module _ (value : WorldValue) (whole : IsHeld value) (start : World ℕ) (gained
         let one : (release_if was u).writers
         ≡ writes_of was.mount.number now.tasks + times (writes_on_mount was.mount.number) left = omega
         (arith, less, had) in
-        one ∙ ap (λ (x : Mount ℕ). writes_of x.number now.tasks + times (writes_on_mount x.number) left)
-        (sym (same_mount was))
+        cc (same_mount was)
 
     shown_was : (one : Shown) → Among one new.filesystems
         → (was : Shown) × Among was k.filesystems × (one ≡ unpinned_one was)
@@ -302,14 +296,7 @@ module _ (value : WorldValue) (whole : IsHeld value) (start : World ℕ) (gained
 
     -- a detached mount is what it is to become
     same_gone : (was : MountEntry) → Among was k.mounts → gone_if goes (take was).mount ≡ gone_if goes was.mount
-    same_gone was m = by (nat_eq number was.mount.number) refl
-      where
-        by : (b : Bool) → nat_eq number was.mount.number ≡ b
-            → gone_if goes (cond b (detached_entry was) was).mount ≡ gone_if goes was.mount
-        by true e = ap (λ b. cond b (detached (detached was.mount)) (detached was.mount)) (not_going_detached was.mount)
-            ∙ sym (ap (λ b. cond b (detached was.mount) was.mount)
-            (ap (λ (x : MountEntry). goes x.mount) (is_entry was m e) ∙ going.1))
-        by false e = refl
+    same_gone was m = grind (arith, common_steps, not_going_detached, is_entry)
 
     same_now : now.mounts ≡ map (gone_if goes) (mounts_in taken.mounts)
     same_now = mid.mounts ∙ map_twice (gone_if goes) (λ (x : MountEntry). x.mount) k.mounts
@@ -386,13 +373,7 @@ module _ (value : WorldValue) (whole : IsHeld value) (start : World ℕ) (gained
     -- what a detached entry keeps
     take_keeps : (was : MountEntry) → ((take was).mount.number ≡ was.mount.number) × ((take was).uses ≡ was.uses)
         × ((take was).writers ≡ was.writers)
-    take_keeps was = by (nat_eq number was.mount.number)
-      where
-        by : (b : Bool) → ((cond b (detached_entry was) was).mount.number ≡ was.mount.number)
-            × ((cond b (detached_entry was) was).uses ≡ was.uses)
-            × ((cond b (detached_entry was) was).writers ≡ was.writers)
-        by true = (refl, refl, refl)
-        by false = (refl, refl, refl)
+    take_keeps was = grind (arith, common_steps)
 
     well_still : (was : MountEntry) → Among was k.mounts → goes (take was).mount ≡ true
         → list_all (is_located_well nat_eq world) (option_to_list (take was).mount.mount_point) ≡ true

@@ -1,11 +1,12 @@
 -- Where tasks have left uses and a namespace, before code has taken anything away.
-use Rattle.std.proofs.Common.{◌≡◌, refl, sym, ap, subst, ◌∙◌, ⊎_elim, ℕ, ◌+◌, nat_eq, eqb-true, Bool, true, false, true≢false, cond, not, ◌&&◌, ◌||◌, List, [], ◌∷◌, ◌++◌, map, find, flat_map, Option, Some, None, is_some, unwrap_or, append_assoc, arith, option_to_list, append-nil}
-use Rattle.vt_spec.proofs.Common.{Filesystem, Location, Mount, Namespace, Stands, World, all_locations, and_parts, any_pair, at_root, detached, folded, has_its_root, is_among, is_directory_at, is_located, is_located_well, is_nowhere_or_attached, list_all, list_any, map_alike, map_twice, mount_at, mount_in, mount_lives, mount_numbered, no_mount, node_at, on_parent, root_of, same_Some}
+use Rattle.std.proofs.Common.{◌≡◌, refl, sym, ap, subst, ◌∙◌, ⊎_elim, ℕ, ◌+◌, nat_eq, eqb-true, Bool, true, false, true≢false, cond, not, ◌&&◌, ◌||◌, List, [], ◌∷◌, ◌++◌, map, flat_map, Option, Some, None, is_some, append_assoc, arith, option_to_list, append-nil}
+use Rattle.vt_spec.proofs.Common.{Filesystem, Location, Mount, Namespace, Stands, World, all_locations, and_parts, at_root, common_steps, detached, folded, has_its_root, is_among, is_directory_at, is_located, is_located_well, is_nowhere_or_attached, list_all, map_twice, mount_at, mount_in, mount_lives, mount_numbered, no_mount, node_at, not-true, on_parent, root_of, same_Some}
 use Rattle.vt_mounting.proofs.Common.{Among, CountsItsMounts, CountsItsUses, Exchanges, FilesystemEntry, Inode, IsHeld, LocationsStand, MountEntry, MountsStand, OneNumberAMount, Shown, Tasks, WorldValue, all_in_use, among-append, among-append_left, among-append_right, among-filter_map, among-from_map, among-map, among_from_all, among_from_list_all, counted, directory_is_there, exchanges_follow, filesystem_seen, found_itself, inode_at, inodes_of_mount_point, layer_count, list_all_from_among, located_while_counted, locations_use_mounts, mount_is_placed, mount_uses, mounts_in, mounts_of_worlds_stand, pinned_if, places_of, shown, shown_entry, stands_on_attached, times, world_of, writes_of}
 use Rattle.vt_laws_mounts.proofs.counts.using.MountRoots as Roots
 use Rattle.vt_mounting.specs.Detach.Uses.{Kept, is_unused, kept_of}
+use Rattle.vt_mounting.proofs.detach.Keeping.{nowhere_still}
 use Rattle.vt_mounting.proofs.detach.LostUses.{positive}
-use Rattle.vt_mounting.proofs.detach.Midway.{IsShown, Midway, NoneUnused, Reached, gone_if, gone_number, point_left, points_left}
+use Rattle.vt_mounting.proofs.detach.Midway.{IsShown, Midway, NoneUnused, Reached, gone_if, gone_number, gone_numbers, one_number_gone, point_left, points_left}
 use Rattle.vt_mounting.proofs.detach.Moving.{Moves, Use, filesystems_gained, gain, gained_overlays, gained_there, held_counts, hold_if, inodes_of_uses, is_use_on, locations, mounts_gained, same_moved_mounts, times_mapped, uses_moved, writes_on_mount}
 use Rattle.vt_mounting.proofs.detach.Staying.{after}
 use Rattle.vt_mounting.proofs.detach.MountsLeave.{leaves_alike, leaves_at_first, merged_alike, merged_at_first, some_at_first}
@@ -24,6 +25,12 @@ module _ (goes : Mount ℕ → Bool)
       by true = (refl, refl)
       by false = (refl, refl)
 
+  pub gone_showing : (c : ℕ) (mounts : List (Mount ℕ))
+      → times (λ (x : Mount ℕ). nat_eq c x.filesystem) (map (gone_if goes) mounts)
+      ≡ times (λ (x : Mount ℕ). nat_eq c x.filesystem) mounts
+  gone_showing c [] = refl
+  gone_showing c (x ∷ xs) = λ i. cond (nat_eq c ((gone_shows x).0 i)) 1 0 + gone_showing c xs i
+
   pub mount_in_gone : (mounts : List (Mount ℕ)) (n : ℕ)
       → mount_in nat_eq (map (gone_if goes) mounts) n ≡ gone_if goes (mount_in nat_eq mounts n)
   mount_in_gone [] n = by (goes (no_mount n)) refl
@@ -31,32 +38,14 @@ module _ (goes : Mount ℕ → Bool)
       by : (b : Bool) → goes (no_mount n) ≡ b → no_mount n ≡ cond b (detached (no_mount n)) (no_mount n)
       by true e = absurd (true≢false (sym (attached (no_mount n) e)))
       by false e = refl
-  mount_in_gone (x ∷ xs) n = ap (λ b. unwrap_or (cond b (Some (gone_if goes x))
-      (find (λ mount. nat_eq n mount.number) (map (gone_if goes) xs))) (no_mount n))
-      (ap (nat_eq n) (gone_number goes x)) ∙ by (nat_eq n x.number) (mount_in_gone xs n)
-    where
-      by : (b : Bool) → mount_in nat_eq (map (gone_if goes) xs) n ≡ gone_if goes (mount_in nat_eq xs n)
-          → unwrap_or (cond b (Some (gone_if goes x)) (find (λ mount. nat_eq n mount.number) (map (gone_if goes) xs)))
-          (no_mount n)
-          ≡ gone_if goes (unwrap_or (cond b (Some x) (find (λ mount. nat_eq n mount.number) xs)) (no_mount n))
-      by true later = refl
-      by false later = later
+  mount_in_gone (x ∷ xs) n = grind (arith, common_steps, mount_in_gone xs n, gone_if, gone_number)
 
   -- some are detached, the others not yet
   shows_alike : (front back : List (Mount ℕ)) (n : ℕ)
       → (mount_in nat_eq (map (gone_if goes) front ++ back) n).filesystem
       ≡ (mount_in nat_eq (front ++ back) n).filesystem
   shows_alike [] back n = refl
-  shows_alike (x ∷ xs) back n = ap (λ b. (unwrap_or (cond b (Some (gone_if goes x))
-      (find (λ mount. nat_eq n mount.number) (map (gone_if goes) xs ++ back))) (no_mount n)).filesystem)
-      (ap (nat_eq n) (gone_number goes x)) ∙ by (nat_eq n x.number) (shows_alike xs back n)
-    where
-      by : (b : Bool) → (mount_in nat_eq (map (gone_if goes) xs ++ back) n).filesystem
-          ≡ (mount_in nat_eq (xs ++ back) n).filesystem → (unwrap_or (cond b (Some (gone_if goes x))
-          (find (λ mount. nat_eq n mount.number) (map (gone_if goes) xs ++ back))) (no_mount n)).filesystem
-          ≡ (unwrap_or (cond b (Some x) (find (λ mount. nat_eq n mount.number) (xs ++ back))) (no_mount n)).filesystem
-      by true later = (gone_shows x).0
-      by false later = later
+  shows_alike (x ∷ xs) back n = grind (arith, common_steps, shows_alike xs back n, gone_if, gone_number, gone_shows)
 
   module _ (world : World ℕ) (k : ℕ) where
     abbrev over : List (Mount ℕ) → World ℕ
@@ -130,8 +119,7 @@ parent_inside world one stands mount m place p = by (stands mount m) (found_itse
         (true≢false (sym (ap is_some p) ∙ sym (ap (λ (x : Mount ℕ). is_some x.mount_point) itself) ∙ ap is_some e))
     by (on_parent number at e same above) itself =
         let it : at ≡ place = same_Some at place (sym e ∙ ap (λ (x : Mount ℕ). x.mount_point) itself ∙ p) in
-        ap (λ (x : Mount ℕ). x.namespace) (sym itself) ∙ same
-        ∙ ap (λ (l : Location ℕ). (mount_numbered nat_eq world l.mount).namespace) it
+        cc
 
 module _ (value : WorldValue) (whole : IsHeld value) (tasks : Tasks) (more less : List Use)
     (moves : Moves value tasks more less)
@@ -204,8 +192,7 @@ module _ (value : WorldValue) (whole : IsHeld value) (tasks : Tasks) (more less 
       let moved = moves.writes n in
       let one : (folded hold_if was more).writers
       ≡ writes_of n tasks + times (writes_on_mount n) less = omega (arith, had, held, moved) in
-      one ∙ ap (λ (x : Mount ℕ). writes_of x.number tasks + times (writes_on_mount x.number) less)
-      (sym (same_mount was))
+      cc (same_mount was)
 
   in_world : (was : MountEntry) → Among was value.mounts → Among was.mount world.mounts
   in_world was m = among-map (λ (e : MountEntry). e.mount) value.mounts was m
@@ -233,43 +220,19 @@ module _ (value : WorldValue) (whole : IsHeld value) (tasks : Tasks) (more less 
       (λ x n. among_from_all (λ (x : Mount ℕ). Stands nat_eq world x.number) world.mounts whole.in_world.mounts.standing x n) mount m place e))
       ∙ stays
 
-  same_numbers : map (λ (x : Mount ℕ). x.number) ended.mounts ≡ map (λ (x : Mount ℕ). x.number) world.mounts
-  same_numbers = map_twice (λ (x : Mount ℕ). x.number) (gone_if goes) world.mounts
-      ∙ map_alike (λ (x : Mount ℕ). (gone_if goes x).number) (λ (x : Mount ℕ). x.number) world.mounts
-      (λ x m. gone_number goes x)
-
-  one_number_ended : (mounts : List (Mount ℕ)) → OneNumberAMount mounts → OneNumberAMount (map (gone_if goes) mounts)
-  one_number_ended mounts one = same mounts ∙ one
-    where
-      same_one : (x : Mount ℕ) (xs : List (Mount ℕ))
-          → list_any (λ b. nat_eq (gone_if goes x).number b.number) (map (gone_if goes) xs)
-          ≡ list_any (λ b. nat_eq x.number b.number) xs
-      same_one x [] = refl
-      same_one x (y ∷ ys) = λ i. nat_eq (gone_number goes x i) (gone_number goes y i) || same_one x ys i
-
-      same : (xs : List (Mount ℕ)) → any_pair (λ (a b : Mount ℕ). nat_eq a.number b.number) (map (gone_if goes) xs)
-          ≡ any_pair (λ (a b : Mount ℕ). nat_eq a.number b.number) xs
-      same [] = refl
-      same (x ∷ xs) = λ i. same_one x xs i || same xs i
-
   stand_ended : MountsStand ended
   stand_ended = record {
-    one_number = one_number_ended world.mounts stand.one_number;
+    one_number = one_number_gone goes world.mounts stand.one_number;
     nowhere = list_all_from_among is_nowhere_or_attached ended.mounts
         (λ x m. let from = among-from_map (gone_if goes) world.mounts x m in
         ap is_nowhere_or_attached from.2
-        ∙ outside from.0 (goes from.0)
+        ∙ nowhere_still from.0 (goes from.0)
         (among_from_list_all is_nowhere_or_attached world.mounts stand.nowhere from.0 from.1));
     on_attached = list_all_from_among (stands_on_attached ended) ended.mounts
         (λ x m. let from = among-from_map (gone_if goes) world.mounts x m in
         ap (stands_on_attached ended) from.2 ∙ on from.0 from.1 (goes from.0) refl);
   }
     where
-      outside : (x : Mount ℕ) (b : Bool) → is_nowhere_or_attached x ≡ true
-          → is_nowhere_or_attached (cond b (detached x) x) ≡ true
-      outside x true e = refl
-      outside x false e = e
-
       still : (x : Mount ℕ) → Among x world.mounts → goes x ≡ false → (o : Option (Location ℕ)) → x.mount_point ≡ o
           → list_all (λ place. is_some (mount_at nat_eq world place).namespace) (option_to_list o) ≡ true
           → list_all (λ place. is_some (mount_at nat_eq ended place).namespace) (option_to_list o) ≡ true
@@ -290,7 +253,7 @@ module _ (value : WorldValue) (whole : IsHeld value) (tasks : Tasks) (more less 
       list_all_from_among (λ location. is_among nat_eq location.mount (map (λ x. x.number) ended.mounts))
       (all_locations next)
       (λ location m.
-      ap (is_among nat_eq location.mount) same_numbers ∙ ⊎_elim
+      ap (is_among nat_eq location.mount) (gone_numbers goes world.mounts) ∙ ⊎_elim
       (λ f. old location (subst (λ all. Among location all) (sym moves.was)
       (among-append_left moves.front (locations less ++ moves.back) location f))) (λ rest. ⊎_elim
       (λ come. (and_parts (is_among nat_eq location.mount (map (λ x. x.number) world.mounts)) _
@@ -308,12 +271,6 @@ module _ (value : WorldValue) (whole : IsHeld value) (tasks : Tasks) (more less 
           (all_locations world) (Roots.locations_of_worlds_stand world whole.in_world) location m
 
   -- Filesystems
-
-  shows_still : (c : ℕ) (mounts : List (Mount ℕ))
-      → times (λ (x : Mount ℕ). nat_eq c x.filesystem) (map (gone_if goes) mounts)
-      ≡ times (λ (x : Mount ℕ). nat_eq c x.filesystem) mounts
-  shows_still c [] = refl
-  shows_still c (x ∷ xs) = λ i. cond (nat_eq c ((gone_shows goes goes_attached x).0 i)) 1 0 + shows_still c xs i
 
   abbrev pinned_one : Shown → Shown
   pinned_one one = record one { inodes = folded (pinned_if (counted one.count)) one.inodes gained }
@@ -335,7 +292,8 @@ module _ (value : WorldValue) (whole : IsHeld value) (tasks : Tasks) (more less 
     there = gained_there value whole tasks more less moves was m;
     inodes = refl;
     mounts = (among_from_all (CountsItsMounts world) value.filesystems whole.filesystems was m).mounts
-        ∙ ap (λ n. n + layer_count world (counted was.count)) (sym (shows_still (counted was.count) world.mounts));
+        ∙ ap (λ n. n + layer_count world (counted was.count))
+        (sym (gone_showing goes goes_attached (counted was.count) world.mounts));
     mounted = some_at_first value whole was m;
   }
 
@@ -357,7 +315,7 @@ module _ (value : WorldValue) (whole : IsHeld value) (tasks : Tasks) (more less 
   begins_midway = record {
     held = whole;
     merged = gained_overlays world more (kept_of value) ∙ merged_at_first value whole
-        ∙ merged_alike world ended refl (λ n. shows_still n world.mounts);
+        ∙ merged_alike world ended refl (λ n. gone_showing goes goes_attached n world.mounts);
     mounts = ap (map (gone_if goes)) (sym same_entries);
     uses = λ entry m. let from = entry_was entry m in
         subst (λ (e : MountEntry). e.uses ≡ mount_uses next e.mount.number + times (is_use_on e.mount.number) less)
@@ -380,7 +338,8 @@ module _ (value : WorldValue) (whole : IsHeld value) (tasks : Tasks) (more less 
         ∙ sym (ap (map (λ (one : Shown). counted one.count)) (filesystems_gained world more (kept_of value)));
     stand = stand_ended;
     located = located_ended;
-    leaves = leaves_alike world ended refl (λ n. shows_still n world.mounts) value (leaves_at_first value whole);
+    leaves = leaves_alike world ended refl (λ n. gone_showing goes goes_attached n world.mounts) value
+        (leaves_at_first value whole);
     same = refl;
   }
 
@@ -405,13 +364,9 @@ module _ (value : WorldValue) (whole : IsHeld value) (tasks : Tasks) (more less 
           by false lives more_uses uses = zero (nat_eq (folded hold_if was more).uses 0) refl
             where
               some : nat_eq (mount_uses world was.mount.number) 0 ≡ false
-              some = turned (nat_eq (mount_uses world was.mount.number) 0)
+              some = not-true (nat_eq (mount_uses world was.mount.number) 0)
                   (sym (positive (mount_uses world was.mount.number))
                   ∙ sym (located_while_counted world was.mount.number) ∙ lives)
-                where
-                  turned : (b : Bool) → not b ≡ true → b ≡ false
-                  turned true e = absurd (true≢false (sym e))
-                  turned false e = refl
 
               zero : (b : Bool) → nat_eq (folded hold_if was more).uses 0 ≡ b → b ≡ false
               zero false e = refl

@@ -69,10 +69,12 @@ module _ (value : WorldValue) (start : World ℕ) (gained : List Inode) (goes : 
   mid = at.midway
 
   mounts_are : now.mounts ≡ mounts_in new.mounts
-  mounts_are = mid.mounts ∙ map_same (gone_if goes) (mounts_in k.mounts)
-      (λ x m. let from = among-from_map (λ (e : MountEntry). e.mount) k.mounts x m in
-      ap (λ b. cond b (detached x) x) (ap goes from.2 ∙ all_gone from.0 from.1))
-      ∙ ap (λ (one : Kept). mounts_in one.mounts) (sym is_kept)
+  mounts_are =
+      cc (
+        mid.mounts,
+        map_same (gone_if goes) (mounts_in k.mounts) (λ x m. let from = among-from_map (λ (e :
+            MountEntry). e.mount) k.mounts x m in ap (λ b. cond b (detached x) x) (ap goes from.2 ∙ all_gone from.0 from.1)),
+      )
 
   tasks_are : now.tasks ≡ new.tasks
   tasks_are = ap (λ (w : World ℕ). w.tasks) mid.same ∙ same_tasks
@@ -107,8 +109,7 @@ module _ (value : WorldValue) (start : World ℕ) (gained : List Inode) (goes : 
           by false false e f =
               let counts = mid.uses entry m in
               let same : entry.uses ≡ mount_uses now entry.mount.number = omega (arith, counts) in
-              located_while_counted now entry.mount.number ∙ positive (mount_uses now entry.mount.number)
-              ∙ ap (λ n. not (nat_eq n 0)) (sym same) ∙ ap not e
+              cc (located_while_counted now entry.mount.number, positive (mount_uses now entry.mount.number))
 
   filesystem_is_used : (f : Filesystem ℕ) → Among f now.filesystems → filesystem_lives nat_eq now f ≡ true
   filesystem_is_used f m = by (is_overlay f) refl

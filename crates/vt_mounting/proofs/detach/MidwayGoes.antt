@@ -2,7 +2,7 @@
 -- that a
 -- task leaves.
 use Rattle.std.proofs.Common.{◌≡◌, refl, sym, ap, subst, ◌∙◌, ℕ, ◌+◌, nat_eq, eqb-true, eq-eqb, Bool, true, false, true≢false, cond, not, ◌&&◌, ◌||◌, List, [], ◌∷◌, ◌++◌, map, filter, find, flat_map, Option, Some, None, is_some, arith, nat_lt, option_to_list}
-use Rattle.vt_spec.proofs.Common.{Filesystem, Location, Mount, World, all_locations, and_parts, detached, filesystem_lives, folded, has_layer_on, is_among, is_located, is_mounted, is_nowhere_or_attached, is_overlay, list_all, list_any, mount_at, mount_in, mount_lives, mount_numbered, or_parts, same_Some, without_dead_filesystems, without_dead_mounts}
+use Rattle.vt_spec.proofs.Common.{Filesystem, Location, Mount, World, all_locations, and_parts, common_steps, detached, filesystem_lives, folded, has_layer_on, is_among, is_located, is_mounted, is_nowhere_or_attached, is_overlay, list_all, list_any, mount_at, mount_in, mount_lives, mount_numbered, not-false, or_parts, same_Some, without_dead_filesystems, without_dead_mounts}
 use Rattle.vt_mounting.proofs.Common.{Among, Exchanges, Inode, IsHeld, LocationsStand, MountEntry, MountsStand, OneNumberAMount, Shown, WorldValue, among-filter, among-from_filter, among-from_map, among-map, among_from_list_all, among_numbers, any-filter, any_among, any_from_among, counted, entry_numbered, exchanges_follow, filter-map, filter_alike, filter_less, found_itself, in_use_of, inodes_of_mount_point, inodes_seen, is_among_numbers, is_mount_used, layer_count, list_all_from_among, located_while_counted, mount_takes_its_count, mount_uses, mounted_layer_count, mounts_in, mounts_showing, none_among, overlays_seen, pinned_if, stands_on_attached, unpinned_if, without, without_mount, world_of}
 use Rattle.vt_laws_mounts.proofs.counts.using.MountRoots as Roots
 use Rattle.vt_mounting.specs.Detach.Uses as meant
@@ -151,15 +151,10 @@ module _ (value : WorldValue) (whole : IsHeld value) (start : World ℕ) (gained
     dead : (other : Mount ℕ) → Among other now.mounts → not (nat_eq other.number number) ≡ false
         → mount_lives nat_eq now other ≡ false
     dead other m e =
-        let same : other.number ≡ number = eqb-true other.number number (turned (nat_eq other.number number) e) in
+        let same : other.number ≡ number = eqb-true other.number number (not-false (nat_eq other.number number) e) in
         let is : other ≡ mount = sym (found_itself now.mounts mid.stand.one_number other m)
         ∙ ap (mount_numbered nat_eq now) same ∙ mount_is in
-        ap (mount_lives nat_eq now) is ∙ ap (λ n. is_some mount.namespace || is_located nat_eq now n) (sym among.1)
-        ∙ ap (λ b. b || is_located nat_eq now number) nowhere ∙ not_located
-      where
-        turned : (b : Bool) → not b ≡ false → b ≡ true
-        turned true f = refl
-        turned false f = absurd (true≢false f)
+        cc (among.1, nowhere, not_located)
 
     abbrev first : World ℕ
     first = without_mount now number
@@ -188,8 +183,7 @@ module _ (value : WorldValue) (whole : IsHeld value) (start : World ℕ) (gained
         → Among overlay (overlays_seen value.overlays) → nat_eq (counted one.count) overlay.number ≡ false
     apart one m overlay n =
         let was = mid.shown one m in
-        ap (λ count. nat_eq (counted count) overlay.number) was.count
-        ∙ overlay_apart value whole was.was was.among overlay n
+        cc (was.count, overlay_apart value whole was.was was.among overlay n)
 
     abbrev after : World ℕ
     after = without_dead_filesystems nat_eq first
@@ -258,10 +252,7 @@ module _ (value : WorldValue) (whole : IsHeld value) (start : World ℕ) (gained
                 Rattle.std.specs.Prelude.unwrap_or (cond d (Some x) (find (λ mount. nat_eq n mount.number)
                 (filter (λ (other : Mount ℕ). not (nat_eq other.number number)) xs)))
                 (Rattle.vt_spec.specs.Machine.Mounts.no_mount n)) g
-            by false e false g later = ap (λ d.
-                Rattle.std.specs.Prelude.unwrap_or (cond d (Some x) (find (λ mount. nat_eq n mount.number)
-                (filter (λ (other : Mount ℕ). not (nat_eq other.number number)) xs)))
-                (Rattle.vt_spec.specs.Machine.Mounts.no_mount n)) g ∙ later
+            by false e false g later = cc
 
         -- what a mount stands on is in a namespace, so it stays
         still : (o : Option (Location ℕ))
@@ -305,20 +296,19 @@ module _ (value : WorldValue) (whole : IsHeld value) (start : World ℕ) (gained
         (λ x m gone.
         let from = among-from_map (λ (e : MountEntry). e.mount) k.mounts x m in
         let same : from.0.mount.number ≡ number = ap (λ (y : Mount ℕ). y.number) (sym from.2)
-        ∙ sym (eqb-true number x.number (turned (nat_eq number x.number) gone)) in
+        ∙ sym (eqb-true number x.number (not-false (nat_eq number x.number) gone)) in
         ap (λ b. cond b (inodes_of_mount_point world x) [])
         (ap goes (from.2 ∙ ap (λ (e : MountEntry). e.mount) (is_entry from.0 from.1 same)) ∙ not_going))
-      where
-        turned : (b : Bool) → not b ≡ false → b ≡ true
-        turned true e = refl
-        turned false e = absurd (true≢false e)
 
     same_mounts : after.mounts ≡ map (gone_if goes) (mounts_in (without number k.mounts))
-    same_mounts = ap (filter (λ x. not (nat_eq x.number number))) mid.mounts
-        ∙ filter-map (λ (x : Mount ℕ). not (nat_eq x.number number)) (gone_if goes) (mounts_in k.mounts)
-        (λ x. ap (λ n. not (nat_eq n number)) (gone_number goes x)) ∙ ap (map (gone_if goes))
-        (filter-map (λ (x : Mount ℕ). not (nat_eq x.number number)) (λ (e : MountEntry). e.mount) k.mounts
-        (λ e. ap not (nat_eq_turned e.mount.number number)))
+    same_mounts =
+        cc (
+          mid.mounts,
+          filter-map (λ (x : Mount ℕ). not (nat_eq x.number number)) (gone_if goes) (mounts_in k.mounts)
+              (λ x. ap (λ n. not (nat_eq n number)) (gone_number goes x)),
+          filter-map (λ (x : Mount ℕ). not (nat_eq x.number
+              number)) (λ (e : MountEntry). e.mount) k.mounts (λ e. ap not (nat_eq_turned e.mount.number number)),
+        )
 
     shown_is : (new : Shown) → Among new kept_left.filesystems → IsShown value after gained lost_now new
     shown_is new m = let from = shown_was new m in let had = mid.shown from.0 from.1 in record {
@@ -404,13 +394,7 @@ module _ (value : WorldValue) (whole : IsHeld value) (start : World ℕ) (gained
     }
 
     gone_none : UnusedOnly number k → NoneUnused kept_left
-    gone_none only e m = by (is_unused e) refl
-      where
-        by : (b : Bool) → is_unused e ≡ b → b ≡ false
-        by false h = refl
-        by true h =
-            let from = still_there e m in
-            absurd (true≢false (sym from.1 ∙ ap not (eq-eqb number e.mount.number (only e from.0 h))))
+    gone_none only e m = grind (arith, common_steps, still_there, eq-eqb)
 
     pub unused_goes : UnusedOnly number k → Reached value start gained goes left (meant.without_mount number mount k)
     unused_goes only = record { now = after; lost = lost_now; midway = gone_midway; none = gone_none only }

@@ -1,8 +1,8 @@
 -- Events that change one mount, which stays where it is attached or gets another mount point: mount(2) with MS_REMOUNT,
 -- with
 -- MS_PRIVATE or MS_UNBINDABLE, and with MS_MOVE.
-use Rattle.std.proofs.Common.{◌≡◌, refl, sym, ap, subst, ◌∙◌, ◌+◌, ℕ, nat_eq, eqb-true, Bool, true, false, true≢false, cond, ◌||◌, ◌&&◌, List, [], ◌∷◌, ◌++◌, map, filter, find, Option, Some, None, option_map, is_some, unwrap_or, option_to_list}
-use Rattle.vt_spec.proofs.Common.{Filesystem, Mount, Permit, Task, TaskName, World, any_pair, filesystem_lives, has_layer_on, is_located, is_mounted, list_any, map-append, map_twice, mount_lives, mount_numbered, no_mount, or_parts, settled, with_mounts, without_dead_filesystems, without_dead_mounts}
+use Rattle.std.proofs.Common.{◌≡◌, refl, sym, ap, subst, ◌∙◌, ◌+◌, ℕ, nat_eq, eqb-true, Bool, true, false, true≢false, cond, ◌||◌, ◌&&◌, List, [], ◌∷◌, ◌++◌, map, filter, find, Option, Some, None, option_map, is_some, unwrap_or, option_to_list, arith}
+use Rattle.vt_spec.proofs.Common.{Filesystem, Mount, Permit, Task, TaskName, World, any_pair, common_steps, filesystem_lives, has_layer_on, is_located, is_mounted, list_any, map-append, map_twice, mount_lives, mount_numbered, no_mount, or_parts, settled, with_mounts, without_dead_filesystems, without_dead_mounts}
 use Rattle.vt_mounting.proofs.Common.{Among, AreThere, CountsItsMounts, CountsItsUses, CountsWhatIsInIt, Exchanges, FilesystemEntry, Filesystems, Has, Inode, IsHeld, MountEntry, Shown, WorldValue, all_from_among, all_in_use, among-from_map, among-map, among_from_all, among_from_list_all, any-map, changed, counted, entry_numbered, filesystem_seen, filter_all, in_use_of, inode_at, inodes_seen, layer_count, mount_is_placed, mounts_in, mounts_showing, shown, shown_entry, times, world_of}
 use Rattle.vt_laws_mounts.specs.LettingGo.InUse.{AllInUse}
 use Rattle.vt_mounting.proofs.detach.Bridging.{IsSwept}
@@ -159,12 +159,17 @@ module _ (value : WorldValue) (whole : IsHeld value) (number : ℕ) (change : Mo
 
     same_numbers : map (λ f. f.number) (filter is_plain_one (world_of value).filesystems)
         ≡ map (λ (entry : FilesystemEntry). counted entry.count) filesystems
-    same_numbers = ap (map (λ (f : Filesystem ℕ). f.number)) (plain_ones_are value whole.overlays)
-        ∙ map_twice (λ (f : Filesystem ℕ). f.number) filesystem_seen value.filesystems
-        ∙ sym (map_twice (λ (one : Shown). counted one.count) shown_entry value.filesystems)
-        ∙ sym (map_twice (λ (one : Shown). counted one.count) (exchanged_shown gained lost) (shown value.filesystems))
-        ∙ sym (ap (map (λ (one : Shown). counted one.count)) shown_are)
-        ∙ map_twice (λ (one : Shown). counted one.count) shown_entry filesystems
+    same_numbers =
+        cc (
+          plain_ones_are value whole.overlays,
+          map_twice (λ (f : Filesystem ℕ). f.number) filesystem_seen
+              value.filesystems,
+          map_twice (λ (one : Shown). counted one.count) shown_entry value.filesystems,
+          map_twice (λ
+              (one : Shown). counted one.count) (exchanged_shown gained lost) (shown value.filesystems),
+          map_twice (λ (one :
+              Shown). counted one.count) shown_entry filesystems,
+        )
 
     swept : IsSwept value next_of gained lost new
     swept = record {
@@ -208,13 +213,7 @@ module _ (value : WorldValue) (whole : IsHeld value) (number : ℕ) (change : Mo
       where
         same_uses : (entry : MountEntry) → CountsItsUses (world_of new) entry
             → CountsItsUses (world_of new) (entry_changed number change entry)
-        same_uses entry was = by (nat_eq number entry.mount.number)
-          where
-            by : (b : Bool) → CountsItsUses (world_of new) (cond b (with_mount_changed change entry) entry)
-            by true = subst (λ n. CountsItsUses (world_of new)
-                (record entry { mount = record (change entry.mount) { number = n } })) (sym (keeps.number entry.mount))
-                (record { uses = was.uses; writers = was.writers })
-            by false = was
+        same_uses entry was = grind (arith, common_steps)
 
     pub mount_is_changed : (name : TaskName) (permit : Permit ℕ) (task : Task ℕ)
         → IsApplied value name permit task next_of → Has (settled nat_eq next_of) value.groups

@@ -1,7 +1,7 @@
 -- A mount that has left its namespace is looked at: it goes if nothing is on it, and its filesystem with its last
 -- mount.
-use Rattle.std.proofs.Common.{◌≡◌, ◌≢◌, refl, sym, ap, subst, ◌∙◌, inl, ⊎_elim, ℕ, ◌+◌, nat_eq, eqb-true, Bool, true, false, true≢false, cond, not, ◌&&◌, ◌||◌, List, [], ◌∷◌, ◌++◌, map, filter, find, Option, Some, None, option_map, is_some, unwrap_or, arith, nat_lt, option_to_list, lt-ltb}
-use Rattle.vt_spec.proofs.Common.{Filesystem, Location, Mount, World, all_locations, detached, eqb-false, filesystem_lives, folded, is_among, is_located, is_nowhere_or_attached, is_overlay, mount_at, mount_lives, mount_numbered, no_mount, pair-filter, without_dead_filesystems}
+use Rattle.std.proofs.Common.{◌≡◌, ◌≢◌, refl, sym, ap, subst, ◌∙◌, inl, ℕ, ◌+◌, nat_eq, eqb-true, Bool, true, false, true≢false, cond, not, ◌&&◌, ◌||◌, List, [], ◌∷◌, ◌++◌, map, filter, find, Option, Some, None, option_map, is_some, unwrap_or, arith, nat_lt, option_to_list, lt-ltb}
+use Rattle.vt_spec.proofs.Common.{Filesystem, Location, Mount, World, all_locations, common_steps, detached, eqb-false, filesystem_lives, folded, is_among, is_located, is_nowhere_or_attached, is_overlay, mount_at, mount_lives, mount_numbered, no_mount, not-true, pair-filter, without_dead_filesystems}
 use Rattle.vt_mounting.proofs.Common.{Among, CountsItsUses, Exchanges, Inode, LocationsStand, MountEntry, MountsStand, Shown, WorldValue, all_from_among, among-filter, among-from_filter, among-from_map, among-map, among_from_all, among_from_list_all, among_numbers, counted, entry_numbered, exchanges_follow, filter-map, filter_all, found_in, inodes_seen, is_among_numbers, is_inode, is_mount_used, layer_count, list_all_from_among, located_while_counted, mount_takes_its_count, mount_uses, mounted_layer_count, mounts_in, mounts_showing, none_among, or_right, overlays_seen, pinned_if, stands_on_attached, times_append, unpinned_if, without, without_mount, world_of}
 use Rattle.vt_laws_mounts.proofs.counts.going.Gone.{mount_goes_at_zero}
 use Rattle.vt_laws_mounts.proofs.counts.using.MountRoots as Roots
@@ -27,33 +27,14 @@ pub found_mapped : (change : Mount ℕ → Mount ℕ) → ((mount : Mount ℕ) �
     → find (λ (mount : Mount ℕ). nat_eq number mount.number) (map change mounts)
     ≡ option_map change (find (λ (mount : Mount ℕ). nat_eq number mount.number) mounts)
 found_mapped change same [] number = refl
-found_mapped change same (first ∷ rest) number = ap (λ n. cond (nat_eq number n) (Some (change first))
-    (find (λ (mount : Mount ℕ). nat_eq number mount.number) (map change rest))) (same first)
-    ∙ by (nat_eq number first.number) (found_mapped change same rest number)
-  where
-    by : (b : Bool) → find (λ (mount : Mount ℕ). nat_eq number mount.number) (map change rest)
-        ≡ option_map change (find (λ (mount : Mount ℕ). nat_eq number mount.number) rest)
-        → cond b (Some (change first)) (find (λ (mount : Mount ℕ). nat_eq number mount.number) (map change rest))
-        ≡ option_map change (cond b (Some first) (find (λ (mount : Mount ℕ). nat_eq number mount.number) rest))
-    by true later = refl
-    by false later = later
+found_mapped change same (first ∷ rest) number = grind (arith, common_steps, found_mapped change same rest number)
 
 -- where none is found by a number, none has it
 pub none_numbered : (number : ℕ) (mounts : List (Mount ℕ))
     → find (λ (x : Mount ℕ). nat_eq number x.number) mounts ≡ None
     → (x : Mount ℕ) → Among x mounts → nat_eq x.number number ≡ false
 none_numbered number [] none x m = absurd m
-none_numbered number (first ∷ rest) none x m = by (nat_eq number first.number) refl none m
-    (λ h later. none_numbered number rest h x later)
-  where
-    by : (b : Bool) → nat_eq number first.number ≡ b
-        → cond b (Some first) (find (λ (y : Mount ℕ). nat_eq number y.number) rest) ≡ None
-        → Among x (first ∷ rest) → (find (λ (y : Mount ℕ). nat_eq number y.number) rest ≡ None → Among x rest
-        → nat_eq x.number number ≡ false) → nat_eq x.number number ≡ false
-    by true f h n next = absurd cc
-    by false f h n next =
-        ⊎_elim (λ same. ap (λ (y : Mount ℕ). nat_eq y.number number) same ∙ nat_eq_turned first.number number ∙ f)
-        (next h) n
+none_numbered number (first ∷ rest) none x m = grind (arith, common_steps, none_numbered number rest, nat_eq_turned)
 
 -- one that is pending keeps what it shows
 module _ (pending : List ℕ) (mount : Mount ℕ) where
@@ -226,22 +207,17 @@ module _ (old : WorldValue) (number : ℕ) (pending : List ℕ) (gained lost : L
           let there = among-from_map (λ (f : Filesystem ℕ). f.number) (filter is_plain_one world.filesystems)
           (counted one.count) (subst (λ all. Among (counted one.count) all) (sym is.numbers)
           (among-map (λ (x : Shown). counted x.count) k.filesystems one m)) in
-          turned (nat_eq one.mounts 0) (ap (λ n. not (nat_eq n 0))
+          not-true (nat_eq one.mounts 0) (ap (λ n. not (nat_eq n 0))
           (each one m ∙ ap (λ n. mounts_showing world n + layer_count world n) there.2)
           ∙ sym (positive (mounts_showing world there.0.number + layer_count world there.0.number))
           ∙ plain_ones_counted old is.held world is.leaves is.mounted there.0
           (among-from_filter is_plain_one world.filesystems there.0 there.1).0)
-        where
-          turned : (b : Bool) → not b ≡ true → b ≡ false
-          turned true h = absurd (true≢false (sym h))
-          turned false h = refl
 
       apart : (one : Shown) → Among one k.filesystems → (overlay : Filesystem ℕ)
           → Among overlay (overlays_seen old.overlays) → nat_eq (counted one.count) overlay.number ≡ false
       apart one m overlay n =
           let was = is.filesystems one m in
-          ap (λ count. nat_eq (counted count) overlay.number) was.count
-          ∙ overlay_apart old is.held was.was was.among overlay n
+          cc (was.count, overlay_apart old is.held was.was was.among overlay n)
 
       shown_left : kept_now.filesystems
           ≡ left_shown old is.held world is.leaves number mount.filesystem takes mount.root k.overlays is.merged
@@ -445,10 +421,12 @@ module _ (old : WorldValue) (number : ℕ) (pending : List ℕ) (gained lost : L
   )
     where
       absent : find (λ (x : Mount ℕ). nat_eq number x.number) world.mounts ≡ None
-      absent = ap (find (λ (x : Mount ℕ). nat_eq number x.number)) is.mounts
-          ∙ found_mapped (detached_in pending) (pending_number pending) (mounts_in k.mounts) number
-          ∙ ap (option_map (detached_in pending))
-          (found_entry number k.mounts ∙ ap (option_map (λ (one : MountEntry). one.mount)) e)
+      absent =
+          cc (
+            is.mounts,
+            found_mapped (detached_in pending) (pending_number pending) (mounts_in k.mounts) number,
+            found_entry number k.mounts,
+          )
 
       nothing : Looks.let_go_mount world number ≡ world
       nothing = ap (λ all. record world { mounts = all })

@@ -1,7 +1,7 @@
 -- A mount goes, and the world is without what it alone showed: a plain filesystem, or an overlay and filesystems of its
 -- layers.
-use Rattle.std.proofs.Common.{◌≡◌, refl, sym, ap, subst, ◌∙◌, ℕ, ◌+◌, ◌-◌, nat_eq, nat_lt, eqb-true, eq-eqb, Bool, true, false, true≢false, cond, not, ◌&&◌, ◌||◌, List, [], ◌∷◌, map, filter, find, flat_map, Option, Some, None, is_some, unwrap_or, arith}
-use Rattle.vt_spec.proofs.Common.{Filesystem, World, any_pair, filesystem_lives, folded, is_mounted, is_overlay, map_alike, map_twice, no_filesystem, of_overlay, pair-filter, without_dead_filesystems}
+use Rattle.std.proofs.Common.{◌≡◌, refl, sym, ap, subst, ◌∙◌, ℕ, ◌+◌, ◌-◌, nat_eq, nat_lt, eqb-true, eq-eqb, Bool, true, false, true≢false, cond, not, ◌&&◌, List, [], ◌∷◌, map, filter, find, flat_map, Option, Some, None, is_some, unwrap_or, arith, map-id}
+use Rattle.vt_spec.proofs.Common.{Filesystem, World, any_pair, filesystem_lives, folded, is_mounted, is_overlay, map_alike, map_twice, no_filesystem, not-true, of_overlay, pair-filter, without_dead_filesystems}
 use Rattle.vt_mounting.proofs.Common.{Among, CountsItsMounts, Exchanges, FilesystemEntry, FilesystemsInUse, Inode, IsHeld, IsMountedSoOften, Shown, WorldValue, all_in_use, among-filter, among-from_filter, among-from_map, among_from_all, among_from_list_all, are_rising, counted, filesystem_seen, filter-map, filter_alike, filter_all, filter_twice, flat_map_alike, found_in, layer_count, layers_among, list_all_from_among, mounted_layer_count, mounted_while_counted, mounts_showing, or_left, overlay_seen, overlays_seen, times, without_mount, world_of}
 use Rattle.vt_laws_mounts.specs.Counts.OverlaysStay.{HasNoLayerIn}
 use Rattle.vt_laws_mounts.proofs.counts.overlays.FilesystemUses.{overlays_take_their_uses}
@@ -13,7 +13,7 @@ use Rattle.vt_mounting.specs.Detach.Uses.{Merged, let_go_filesystem, merged_at, 
 use Rattle.vt_mounting.proofs.detach.BesideOverlays.{mounted_at_first, no_layer_midway, some_of_both}
 use Rattle.vt_mounting.proofs.detach.LayersLeft.{go_one_by_one, is_some_left, later_shown}
 use Rattle.vt_mounting.proofs.detach.LostUses.{found_unless, positive}
-use Rattle.vt_mounting.proofs.detach.Moving.{map_itself, nat_eq_turned}
+use Rattle.vt_mounting.proofs.detach.Moving.{nat_eq_turned}
 use Rattle.vt_mounting.proofs.detach.Overlaid.{is_plain_one, overlays_are, plain_one_among}
 use Rattle.vt_mounting.proofs.detach.OverlaysGone.{layers_go, layers_gone, layers_gone_by, layers_of_overlays, layers_parted, layers_used, merged_in, uses_layers}
 
@@ -145,9 +145,11 @@ module _ (old : WorldValue) (held : IsHeld old) (world : World ℕ) (leaves : Le
     is_shown_before : (n : ℕ) → is_mounted nat_eq mounted n ≡ true → is_mounted nat_eq world n ≡ true
     is_shown_before n h =
         let took = takes n in
-        mounted_while_counted world n ∙ ap (nat_lt 0) took
-        ∙ sym (some_of_both (mounts_showing mounted n) (cond (nat_eq filesystem n) 1 0))
-        ∙ ap (λ b. b || nat_lt 0 (cond (nat_eq filesystem n) 1 0)) (sym (mounted_while_counted mounted n) ∙ h)
+        cc (
+          mounted_while_counted world n,
+          some_of_both (mounts_showing mounted n) (cond (nat_eq filesystem n) 1 0),
+          mounted_while_counted mounted n,
+        )
 
     -- So those of before are left that mounts show.
     pub leaves_then : LeavesOverlays old left
@@ -183,11 +185,14 @@ module _ (old : WorldValue) (held : IsHeld old) (world : World ℕ) (leaves : Le
         by : (f : Filesystem ℕ) → stays f ≡ true → (b : Bool) → is_overlay f ≡ b → filesystem_lives nat_eq left f ≡ true
         by f stay true e = or_left (is_mounted nat_eq left f.number) _
             (ap (λ b. cond b (is_shown f) (nat_lt 0 (counts f.number))) (sym e) ∙ stay)
-        by f stay false e = lives_while_counted left f
-            ∙ some_of_both (mounts_showing left f.number) (mounted_layer_count left f.number)
-            ∙ ap (λ n. nat_lt 0 (mounts_showing left f.number + n))
-            (sym (layers_left_are_mounted left left f.number (sym all_shown)) ∙ layers_stay f.number)
-            ∙ ap (λ b. cond b (is_shown f) (nat_lt 0 (counts f.number))) (sym e) ∙ stay
+        by f stay false e =
+            cc (
+              lives_while_counted left f,
+              some_of_both (mounts_showing left f.number) (mounted_layer_count left
+                  f.number),
+              layers_left_are_mounted left left f.number (sym all_shown),
+              layers_stay f.number,
+            )
 
     -- Code keeps this of the world, and a mount of the filesystem goes with a use of its root.
     module _ (root : ℕ) (overlays : List Merged)
@@ -249,7 +254,7 @@ module _ (old : WorldValue) (held : IsHeld old) (world : World ℕ) (leaves : Le
         nothing : without_layer shown (filesystem, root) ≡ unpinned
         nothing = ap (let_go_filesystem filesystem) (map_alike (meant.released_if filesystem) (λ x. x) unpinned
             (λ x m. ap (λ b. cond b (record x { mounts = x.mounts - 1 }) x) (none_has_it x m))
-            ∙ sym (map_itself unpinned)) ∙ by (nat_eq (meant.mounts_shown filesystem unpinned) 0)
+            ∙ map-id unpinned) ∙ by (nat_eq (meant.mounts_shown filesystem unpinned) 0)
           where
             by : (b : Bool) → cond b (meant.without_filesystem filesystem unpinned) unpinned ≡ unpinned
             by true = filter_all (λ (x : Shown). not (nat_eq filesystem (counted x.count))) unpinned
@@ -307,12 +312,8 @@ module _ (old : WorldValue) (held : IsHeld old) (world : World ℕ) (leaves : Le
             ap (λ (x : Shown). x.mounts) was.2 ∙ counted_less was.0 was.1
                 ∙ ap (λ k. mounts_showing left (counted was.0.count) + k) (sym (layers_stay (counted was.0.count)))
                 ∙ ap (λ (x : Shown). mounts_showing left (counted x.count) + layer_count left (counted x.count)) (sym was.2),
-            turned (nat_eq new.mounts 0) from.1,
+            not-true (nat_eq new.mounts 0) from.1,
           )
-        where
-          turned : (b : Bool) → not b ≡ true → b ≡ false
-          turned true e = absurd (true≢false (sym e))
-          turned false e = refl
 
       -- and its inodes lose a use for each layer that goes.
       pub layers_exchanged : (n : ℕ) → nat_lt 0 (counts n) ≡ true
@@ -363,17 +364,13 @@ merged_at_first value whole =
 -- In each of its plain filesystems something is counted.
 pub some_at_first : (value : WorldValue) → IsHeld value → (was : FilesystemEntry) → Among was value.filesystems
     → nat_eq was.mounts 0 ≡ false
-some_at_first value whole was m = turned (nat_eq was.mounts 0) (ap (λ n. not (nat_eq n 0))
+some_at_first value whole was m = not-true (nat_eq was.mounts 0) (ap (λ n. not (nat_eq n 0))
     (among_from_all (CountsItsMounts (world_of value)) value.filesystems whole.filesystems was m).mounts
     ∙ sym (positive (mounts_showing (world_of value) (counted was.count)
     + layer_count (world_of value) (counted was.count)))
     ∙ plain_ones_counted value whole (world_of value) (leaves_at_first value whole)
     (all_in_use (world_of value) whole.in_world).filesystems (filesystem_seen was)
     (plain_one_among value whole.overlays.merged was m))
-  where
-    turned : (b : Bool) → not b ≡ true → b ≡ false
-    turned true e = absurd (true≢false (sym e))
-    turned false e = refl
 
 -- Overlays are left and kept where as many mounts show each filesystem.
 module _ (world other : World ℕ) (same : other.filesystems ≡ world.filesystems)
@@ -390,9 +387,6 @@ module _ (world other : World ℕ) (same : other.filesystems ≡ world.filesyste
 
   pub merged_alike : map (merged_in world) (filter is_overlay world.filesystems)
       ≡ map (merged_in other) (filter is_overlay other.filesystems)
-  merged_alike = map_alike (merged_in world) (merged_in other) (filter is_overlay world.filesystems)
-      (λ overlay m. λ i. record {
-        number = overlay.number;
-        mounts = sym (showing overlay.number) i;
-        layers = layers_used overlay;
-      }) ∙ ap (λ all. map (merged_in other) (filter is_overlay all)) (sym same)
+  merged_alike =
+      cc (map_alike (merged_in world) (merged_in other) (filter is_overlay world.filesystems) (λ overlay m. λ i. record
+      { number = overlay.number; mounts = sym (showing overlay.number) i; layers = layers_used overlay }))

@@ -1,7 +1,6 @@
 -- A mount moves, with all that is below it: mount(2) with MS_MOVE. Only the mount point of the first mount changes.
-use Rattle.std.proofs.Common.{◌≡◌, refl, sym, ap, subst, ◌∙◌, inl, inr, ℕ, nat_eq, eqb-true, eq-eqb, Bool, true, false, true≢false, cond, not, ◌||◌, ◌&&◌, List, [], ◌∷◌, ◌++◌, map, length, Option, Some, None, option_map, is_some, unwrap_or, filter_map, find, option_to_list, append-nil, map-id}
-use Rattle.vt_spec.proofs.Common.{Copies, Filesystem, Fresh, Location, Mount, Private, Propagation, Shared, Slave, TaskName, ToMove, Twig, Unbindable, World, and_parts, any_pair, attach, cons_option, copies_from, filesystem_numbered, folded, group_of, has_its_root, is_directory_at, is_directory_node, is_located_well, is_shared, list_all, list_any, map_twice, masters_with, mount_at, mount_numbered, mount_tree, no_mount, node_at, node_in, none_from_not_some, or_parts, replaced_if_same, twig_master, with_mount}
-use Rattle.vt_spec.specs.Inodes as Trees
+use Rattle.std.proofs.Common.{◌≡◌, refl, sym, ap, subst, ◌∙◌, inl, inr, ℕ, nat_eq, eqb-true, eq-eqb, Bool, true, false, true≢false, cond, ◌&&◌, List, [], ◌∷◌, ◌++◌, map, length, Option, Some, None, option_map, is_some, unwrap_or, filter_map, find, option_to_list, append-nil, map-id, map-id, arith}
+use Rattle.vt_spec.proofs.Common.{Copies, Fresh, Location, Mount, Private, Propagation, Shared, Slave, TaskName, ToMove, Twig, Unbindable, World, and_parts, any_pair, attach, common_steps, cons_option, copies_from, filesystem_numbered, folded, group_of, has_its_root, is_directory_at, is_directory_node, is_located_well, is_shared, list_all, list_any, map_twice, masters_with, mount_at, mount_numbered, mount_tree, no_mount, node_at, none_from_not_some, or_parts, replaced_if_same, twig_master, with_mount}
 use Rattle.vt_spec.proofs.Lists as spec
 use Rattle.vt_mounting.proofs.Common.{Among, AreThere, Exchanges, FilesystemEntry, Filesystems, Inode, IsHeld, WorldValue, among-map, among_from_list_all, changed, counted, directory_is_there, found_is_there, inode_at, inodes_seen, is_among_numbers, is_small_node, location_of, mounts_in, mounts_of_worlds_stand, number_of, one_number_by_numbers, shown, stands_on_attached, world_of}
 use Rattle.vt_location.specs.declared.locations.Location.{Location as At}
@@ -259,20 +258,7 @@ module _ (value : WorldValue) (whole : IsHeld value) (name : TaskName) (number :
   -- the inode at the new mount point is there
   gained_is_there : (was : FilesystemEntry) → Among was value.filesystems
       → AreThere (counted was.count) (inodes_seen was) gained
-  gained_is_there was m = ap (λ b. b && true)
-      (by (nat_eq (counted was.count) (mount_at nat_eq (world_of value) (location_of place)).filesystem) refl)
-    where
-      some_inode : (o : Option (Trees.Inode ℕ)) → is_some (node_in o) ≡ is_some o
-      some_inode None = refl
-      some_inode (Some inode) = refl
-
-      by : (b : Bool) → nat_eq (counted was.count) (mount_at nat_eq (world_of value) (location_of place)).filesystem ≡ b
-          → (not b || is_some ((inodes_seen was).inode (number_of place.node))) ≡ true
-      by false e = refl
-      by true e = sym (some_inode ((inodes_seen was).inode (number_of place.node)))
-          ∙ ap (λ (f : Filesystem ℕ). is_some (f.files.tree.node (number_of place.node)))
-          (sym (found_plain_one value whole was m) ∙ ap (filesystem_numbered nat_eq there_world) (eqb-true _ _ e))
-          ∙ (and_parts _ _ place_located).1
+  gained_is_there was m = grind (arith, common_steps, found_plain_one, eqb-true, place_located)
 
   pub mount_is_moved : IsDone value name (ToMove number (location_of place)) (remade value (changed number (λ entry.
       record entry {

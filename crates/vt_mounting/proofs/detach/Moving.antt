@@ -1,5 +1,5 @@
 -- Locations that tasks come to and leave: what code counts then.
-use Rattle.std.proofs.Common.{◌≡◌, refl, sym, ap, subst, ◌∙◌, ⊎_elim, ℕ, ◌+◌, ◌-◌, nat_eq, eqb-true, eq-eqb, Bool, true, false, cond, not, ◌&&◌, ◌||◌, List, [], ◌∷◌, ◌++◌, map, Option, Some, None, is_some, arith}
+use Rattle.std.proofs.Common.{◌≡◌, refl, sym, ap, subst, ◌∙◌, ⊎_elim, ℕ, ◌+◌, ◌-◌, nat_eq, eqb-true, eq-eqb, Bool, true, false, cond, not, ◌&&◌, ◌||◌, List, [], ◌∷◌, ◌++◌, map, Option, Some, None, is_some, arith, map-id}
 use Rattle.vt_spec.proofs.Common.{Filesystem, Location, Mount, World, all_locations, and_parts, filesystem_numbered, folded, is_located_well, is_there, list_all, map_alike, map_twice, mount_at, node_in, same_location}
 use Rattle.vt_spec.specs.Inodes as Trees
 use Rattle.vt_mounting.proofs.Common.{Among, AreThere, CountsItsUses, Exchanges, FilesystemEntry, Inode, IsHeld, MountEntry, Shown, Tasks, WorldValue, among-append, among-append_left, among-append_right, among-from_map, among-map, among_from_all, among_from_list_all, any_from_among, counted, exchanged, held, inode_at, inodes_seen, list_all_from_among, locations_use_mounts, mount_uses, mounts_in, or_left, or_right, pinned_if, released, times, unpinned_if, world_of, writes_of}
@@ -39,19 +39,15 @@ abbrev pub release_if : MountEntry → Use → MountEntry
 release_if entry held_use = cond (nat_eq held_use.location.mount entry.mount.number)
     (released held_use.writes entry) entry
 
-pub map_itself : {A : Type 0} (xs : List A) → xs ≡ map (λ x. x) xs
-map_itself [] = refl
-map_itself (x ∷ xs) = ap (λ rest. x ∷ rest) (map_itself xs)
-
 pub mounts_gained : (world : World ℕ) (uses : List Use) (k : Kept)
     → (folded (gain world) k uses).mounts ≡ map (λ entry. folded hold_if entry uses) k.mounts
-mounts_gained world [] k = map_itself k.mounts
+mounts_gained world [] k = sym (map-id k.mounts)
 mounts_gained world (held_use ∷ uses) k = mounts_gained world uses (gain world k held_use)
     ∙ map_twice (λ entry. folded hold_if entry uses) (λ entry. hold_if entry held_use) k.mounts
 
 pub mounts_lost : (world : World ℕ) (uses : List Use) (k : Kept)
     → (folded (lose world) k uses).mounts ≡ map (λ entry. folded release_if entry uses) k.mounts
-mounts_lost world [] k = map_itself k.mounts
+mounts_lost world [] k = sym (map-id k.mounts)
 mounts_lost world (held_use ∷ uses) k = mounts_lost world uses (lose world k held_use)
     ∙ map_twice (λ entry. folded release_if entry uses) (λ entry. release_if entry held_use) k.mounts
 
@@ -134,7 +130,7 @@ pub filesystems_gained : (world : World ℕ) (uses : List Use) (k : Kept) → (f
     ≡ map (λ (one : Shown). record one {
       inodes = folded (pinned_if (counted one.count)) one.inodes (inodes_of_uses world uses);
     }) k.filesystems
-filesystems_gained world [] k = map_itself k.filesystems
+filesystems_gained world [] k = sym (map-id k.filesystems)
 filesystems_gained world (held_use ∷ uses) k = filesystems_gained world uses (gain world k held_use)
     ∙ map_twice (λ (one : Shown). record one {
       inodes = folded (pinned_if (counted one.count)) one.inodes (inodes_of_uses world uses);
@@ -146,7 +142,7 @@ pub filesystems_lost : (world : World ℕ) (uses : List Use) (k : Kept) → (fol
     ≡ map (λ (one : Shown). record one {
       inodes = folded (unpinned_if (counted one.count)) one.inodes (inodes_of_uses world uses);
     }) k.filesystems
-filesystems_lost world [] k = map_itself k.filesystems
+filesystems_lost world [] k = sym (map-id k.filesystems)
 filesystems_lost world (held_use ∷ uses) k = filesystems_lost world uses (lose world k held_use)
     ∙ map_twice (λ (one : Shown). record one {
       inodes = folded (unpinned_if (counted one.count)) one.inodes (inodes_of_uses world uses);

@@ -1,6 +1,6 @@
 -- Entries of namespaces, as a map keeps them and as contracts see them.
-use Rattle.std.proofs.Common.{◌≡◌, refl, sym, ap, ◌∙◌, ℕ, nat_eq, eqb-true, Bool, true, false, cond, not, List, [], ◌∷◌, map, filter, find, Option, Some, None, option_map}
-use Rattle.vt_spec.proofs.Common.{AllByRecursion, IsDistinct-head, IsDistinct-tail, keys_of, lookup, remove_entry, same_Some, set_value}
+use Rattle.std.proofs.Common.{◌≡◌, refl, sym, ap, ◌∙◌, ℕ, nat_eq, eqb-true, Bool, true, false, cond, not, List, [], ◌∷◌, map, filter, find, Option, Some, None, option_map, arith}
+use Rattle.vt_spec.proofs.Common.{AllByRecursion, IsDistinct-head, IsDistinct-tail, common_steps, keys_of, lookup, remove_entry, same_Some, set_value}
 use Rattle.std.specs.List.{IsDistinct}
 use Rattle.vt_location.specs.declared.numbers.NamespaceId.{NamespaceId}
 pub use Rattle.vt_mount.specs.Indexes.{same_namespace}
@@ -19,16 +19,7 @@ pub entry_found : (count : ℕ) (es : Entries) (o : Option Namespace) → lookup
     ≡ option_map (λ (one : Namespace). record { count = count; tasks = one.tasks }) o
 entry_found count [] None e = refl
 entry_found count [] (Some x) e = absurd cc
-entry_found count (e ∷ es) o is = by (nat_eq count e.0.count) refl is (entry_found count es o)
-  where
-    by : (b : Bool) → nat_eq count e.0.count ≡ b → cond b (Some e.1) (lookup (is_id count) es) ≡ o
-        → (lookup (is_id count) es ≡ o → find (λ entry. nat_eq count entry.count) (entries_of es)
-        ≡ option_map (λ (one : Namespace). record { count = count; tasks = one.tasks }) o)
-        → cond b (Some (entry_of e)) (find (λ entry. nat_eq count entry.count) (entries_of es))
-        ≡ option_map (λ (one : Namespace). record { count = count; tasks = one.tasks }) o
-    by true here found later = (λ i. Some (record { count = sym (eqb-true count e.0.count here) i; tasks = e.1.tasks }))
-        ∙ ap (option_map (λ (one : Namespace). record { count = count; tasks = one.tasks })) found
-    by false here found later = later found
+entry_found count (e ∷ es) o is = grind (arith, common_steps, entry_found count es o, eqb-true)
 
 -- the entries of the others stay
 others_stay : (count : ℕ) (change : NamespaceEntry → NamespaceEntry) (first : NamespaceId) (es : Entries)
@@ -65,56 +56,21 @@ pub none_written : (count : ℕ) (change : NamespaceEntry → NamespaceEntry) (e
     → map (λ (entry : NamespaceEntry). cond (nat_eq count entry.count) (change entry) entry) (entries_of es)
     ≡ entries_of es
 none_written count change [] none = refl
-none_written count change (e ∷ es) none = by (nat_eq count e.0.count) none (none_written count change es)
-  where
-    by : (b : Bool) → cond b (Some e.1) (lookup (is_id count) es) ≡ None → (lookup (is_id count) es ≡ None
-        → map (λ (entry : NamespaceEntry). cond (nat_eq count entry.count) (change entry) entry) (entries_of es)
-        ≡ entries_of es) → cond b (change (entry_of e)) (entry_of e)
-        ∷ map (λ (entry : NamespaceEntry). cond (nat_eq count entry.count) (change entry) entry) (entries_of es)
-        ≡ entry_of e ∷ entries_of es
-    by true f later = absurd cc
-    by false f later = ap (λ rest. entry_of e ∷ rest) (later f)
+none_written count change (e ∷ es) none = grind (arith, common_steps, none_written count change es)
 
 -- an entry that is written back as it was
 pub written_back : (count : ℕ) (es : Entries) (namespace : Namespace) → lookup (is_id count) es ≡ Some namespace
     → set_value (is_id count) es namespace ≡ es
 written_back count [] namespace found = refl
-written_back count (e ∷ es) namespace found = by (nat_eq count e.0.count) found (written_back count es namespace)
-  where
-    by : (b : Bool) → cond b (Some e.1) (lookup (is_id count) es) ≡ Some namespace
-        → (lookup (is_id count) es ≡ Some namespace → set_value (is_id count) es namespace ≡ es)
-        → cond b ((e.0, namespace) ∷ es) (e ∷ set_value (is_id count) es namespace) ≡ e ∷ es
-    by true f later = λ i. (e.0, sym (same_Some e.1 namespace f) i) ∷ es
-    by false f later = ap (λ rest. e ∷ rest) (later f)
+written_back count (e ∷ es) namespace found = grind (arith, common_steps, written_back count es namespace)
 
 none_filtered : (count : ℕ) (es : Entries) → lookup (is_id count) es ≡ None
     → filter (λ (other : NamespaceEntry). not (nat_eq count other.count)) (entries_of es) ≡ entries_of es
 none_filtered count [] none = refl
-none_filtered count (e ∷ es) none = by (nat_eq count e.0.count) none (none_filtered count es)
-  where
-    by : (b : Bool) → cond b (Some e.1) (lookup (is_id count) es) ≡ None → (lookup (is_id count) es ≡ None
-        → filter (λ (other : NamespaceEntry). not (nat_eq count other.count)) (entries_of es) ≡ entries_of es)
-        → cond (not b) (entry_of e ∷ filter (λ (other : NamespaceEntry). not (nat_eq count other.count))
-        (entries_of es))
-        (filter (λ (other : NamespaceEntry). not (nat_eq count other.count)) (entries_of es)) ≡ entries_of (e ∷ es)
-    by true f later = absurd cc
-    by false f later = ap (λ rest. entry_of e ∷ rest) (later f)
+none_filtered count (e ∷ es) none = grind (arith, common_steps, none_filtered count es)
 
 pub entries_removed : (count : ℕ) (es : Entries) → lookup (is_id count) (remove_entry (is_id count) es) ≡ None
     → entries_of (remove_entry (is_id count) es)
     ≡ filter (λ (other : NamespaceEntry). not (nat_eq count other.count)) (entries_of es)
 entries_removed count [] absent = refl
-entries_removed count (e ∷ es) absent = by (nat_eq count e.0.count) refl absent (none_filtered count es)
-    (entries_removed count es)
-  where
-    by : (b : Bool) → nat_eq count e.0.count ≡ b
-        → lookup (is_id count) (cond b es (e ∷ remove_entry (is_id count) es)) ≡ None → (lookup (is_id count) es ≡ None
-        → filter (λ (other : NamespaceEntry). not (nat_eq count other.count)) (entries_of es) ≡ entries_of es)
-        → (lookup (is_id count) (remove_entry (is_id count) es) ≡ None → entries_of (remove_entry (is_id count) es)
-        ≡ filter (λ (other : NamespaceEntry). not (nat_eq count other.count)) (entries_of es))
-        → entries_of (cond b es (e ∷ remove_entry (is_id count) es))
-        ≡ cond (not b) (entry_of e ∷ filter (λ (other : NamespaceEntry). not (nat_eq count other.count))
-        (entries_of es)) (filter (λ (other : NamespaceEntry). not (nat_eq count other.count)) (entries_of es))
-    by true t f none later = sym (none f)
-    by false t f none later = ap (λ rest. entry_of e ∷ rest)
-        (later (sym (ap (λ b. cond b (Some e.1) (lookup (is_id count) (remove_entry (is_id count) es))) t) ∙ f))
+entries_removed count (e ∷ es) absent = grind (arith, common_steps, entries_removed count es, none_filtered)

@@ -1,6 +1,6 @@
 -- The mounts of a namespace, while tasks leave uses: a mount that goes with its last use is in no namespace.
-use Rattle.std.proofs.Common.{◌≡◌, refl, sym, ap, subst, ◌∙◌, ℕ, nat_eq, eqb-true, Bool, true, false, true≢false, cond, not, List, [], ◌∷◌, filter, Option, Some, None, is_some}
-use Rattle.vt_spec.proofs.Common.{Mount, World, folded, same_Some}
+use Rattle.std.proofs.Common.{◌≡◌, refl, sym, ap, subst, ◌∙◌, ℕ, nat_eq, eqb-true, Bool, true, false, cond, not, List, [], ◌∷◌, filter, Option, Some, None, is_some}
+use Rattle.vt_spec.proofs.Common.{Mount, World, folded, not-false, same_Some}
 use Rattle.vt_mounting.proofs.Common.{Inode, IsHeld, MountEntry, OneNumberAMount, WorldValue, among-from_map, entry_numbered, filter_less, mounts_in, released, world_of}
 use Rattle.vt_mounting.specs.Detach.Uses.{Kept, is_unused, let_go_entry, let_go_mount, without_mount}
 use Rattle.vt_mounting.proofs.detach.Going.{map_filtered}
@@ -15,10 +15,6 @@ module _ (p : Mount ℕ → Bool) (nowhere : (mount : Mount ℕ) → is_some mou
       → filter p (mounts_in (let_go_mount number k).mounts) ≡ filter p (mounts_in k.mounts)
   inside_kept number k one = by (entry_numbered k.mounts number) refl
     where
-      turned : (b : Bool) → not b ≡ false → b ≡ true
-      turned true e = refl
-      turned false e = absurd (true≢false e)
-
       by : (o : Option MountEntry) → entry_numbered k.mounts number ≡ o
           → filter p (mounts_in (let_go_entry number k o).mounts) ≡ filter p (mounts_in k.mounts)
       by None e = refl
@@ -35,7 +31,7 @@ module _ (p : Mount ℕ → Bool) (nowhere : (mount : Mount ℕ) → is_some mou
               let from = among-from_map (λ (y : MountEntry). y.mount) k.mounts x m in
               let same : from.0 ≡ entry = same_Some from.0 entry (sym (entry_itself k.mounts one from.0 from.1)
               ∙ ap (λ (y : Mount ℕ). entry_numbered k.mounts y.number) (sym from.2)
-              ∙ ap (entry_numbered k.mounts) (sym (eqb-true number x.number (turned (nat_eq number x.number) its)))
+              ∙ ap (entry_numbered k.mounts) (sym (eqb-true number x.number (not-false (nat_eq number x.number) its)))
               ∙ e) in
               ap p (from.2 ∙ ap (λ (y : MountEntry). y.mount) same) ∙ nowhere entry.mount (unused_parts entry unused).0)
 
@@ -48,8 +44,10 @@ module _ (p : Mount ℕ → Bool) (nowhere : (mount : Mount ℕ) → is_some mou
     inside_stays (u ∷ left) k at =
         let same : mounts_in (lose (world_of value) k u).mounts ≡ mounts_in k.mounts =
         mounts_unchanged u.location.mount (released u.writes) k.mounts (λ entry. refl) in
-        inside_stays left (leave_use (world_of value) k u)
-        (leaves_one value whole start gained goes attached u left k at)
-        ∙ inside_kept u.location.mount (lose (world_of value) k u) (subst OneNumberAMount (sym same)
-        (one_number_kept goes (mounts_in k.mounts) (subst OneNumberAMount at.midway.mounts at.midway.stand.one_number)))
-        ∙ ap (filter p) same
+        cc (
+          inside_stays left (leave_use (world_of value) k u) (leaves_one value whole start gained goes attached u
+              left k at),
+          inside_kept u.location.mount (lose (world_of value) k u) (subst OneNumberAMount (sym same)
+              (one_number_kept goes (mounts_in k.mounts) (subst OneNumberAMount at.midway.mounts
+              at.midway.stand.one_number))),
+        )

@@ -1,6 +1,6 @@
 -- The world in which a namespace has ended, and what its entries count.
 use Rattle.std.proofs.Common.{◌≡◌, ◌≢◌, refl, sym, ap, subst, ◌∙◌, ⊎_elim, inl, inr, ℕ, ◌+◌, ◌-◌, nat_eq, nat_lt, eqb-true, eq-eqb, Bool, true, false, true≢false, cond, not, ◌&&◌, ◌||◌, List, [], ◌∷◌, map, filter, Option, Some, None, arith, All, nat_le, option_map, option_to_list, leb-false, leb-true, lt-ltb}
-use Rattle.vt_spec.proofs.Common.{Location, Mount, Namespace, Task, World, after_going, and_parts, chain, detached, has_tasks, holds_of, is_going, is_in_ended, is_listed, last_or, list_all, list_any, map_alike, mount_at, mount_in, mount_numbered, mount_point_left, mount_point_of_parent, regrouped, same_Some, taken_away, with_mounts}
+use Rattle.vt_spec.proofs.Common.{Location, Mount, Namespace, Task, World, after_going, and-false, and_parts, chain, common_steps, detached, has_tasks, holds_of, is_going, is_in_ended, is_listed, last_or, list_all, list_any, map_alike, mount_at, mount_in, mount_numbered, mount_point_left, mount_point_of_parent, not-true, regrouped, same_Some, taken_away, with_mounts}
 use Rattle.vt_mounting.proofs.Common.{Among, CountsWhatIsInIt, NamespaceEntry, OneNumberAMount, Tasks, all_from_among, among-from_filter, among-from_map, among-map, among_numbers, any_from_among, counted, counted_test, filter_all, found_itself, is_among_numbers, namespace_of, none_from_among, times}
 use Rattle.vt_mounting.specs.Detach.NamespacesLeft.{entries_left, has_one_task, left_if, namespace_entry, one_task_less, with_one_task_less}
 use Rattle.vt_mounting.proofs.detach.LostUses.{positive}
@@ -43,8 +43,7 @@ module _ (world : World ℕ) (one : OneNumberAMount world.mounts) (goes : Mount 
           let from = among-from_map (λ (x : Mount ℕ). x.number) (filter goes world.mounts) number
           (among_numbers number gone f) in
           let was = among-from_filter goes world.mounts from.0 from.1 in
-          sym was.1 ∙ ap goes (sym (found_itself world.mounts one from.0 was.0)
-          ∙ ap (mount_numbered nat_eq world) (sym from.2)) ∙ e
+          cc (was.1, found_itself world.mounts one from.0 was.0, from.2)
 
   place_stays : (place : Location ℕ) → is_going nat_eq gone place.mount ≡ false
       → mount_point_left nat_eq world gone place ≡ place
@@ -91,20 +90,7 @@ pub record CountsOneMore (count : ℕ) (tasks : Tasks) (entry : NamespaceEntry) 
 pub tasks_counted : (number : ℕ) (all : Tasks) → list_any (λ (task : Task ℕ). nat_eq number task.namespace) all ≡ true
     → nat_eq (times (λ (task : Task ℕ). nat_eq number task.namespace) all) 0 ≡ false
 tasks_counted number [] e = absurd (true≢false (sym e))
-tasks_counted number (task ∷ all) e = by (nat_eq number task.namespace) e (tasks_counted number all)
-  where
-    by : (b : Bool) → (b || list_any (λ (task : Task ℕ). nat_eq number task.namespace) all) ≡ true
-        → (list_any (λ (task : Task ℕ). nat_eq number task.namespace) all ≡ true
-        → nat_eq (times (λ (task : Task ℕ). nat_eq number task.namespace) all) 0 ≡ false)
-        → nat_eq (cond b 1 0 + times (λ (task : Task ℕ). nat_eq number task.namespace) all) 0 ≡ false
-    by true f later = Rattle.std.proofs.Common.ne_eqb
-        (1 + times (λ (task : Task ℕ). nat_eq number task.namespace) all) 0
-        (λ z. let zero : 1 + times (λ (task : Task ℕ). nat_eq number task.namespace) all
-        ≡ 0 = z in absurd (omega (arith, zero)))
-    by false f later =
-        let same : 0 + times (λ (task : Task ℕ). nat_eq number task.namespace) all
-        ≡ times (λ (task : Task ℕ). nat_eq number task.namespace) all = omega arith in
-        ap (λ n. nat_eq n 0) same ∙ later f
+tasks_counted number (task ∷ all) e = grind (arith, common_steps, tasks_counted number all)
 
 module _ (count : ℕ) (tasks : Tasks) (entries : List NamespaceEntry)
     (counts : (entry : NamespaceEntry) → Among entry entries → CountsOneMore count tasks entry) where
@@ -159,14 +145,10 @@ module _ (count : ℕ) (tasks : Tasks) (entries : List NamespaceEntry)
           let plain : entry.tasks ≡ in_it entry = omega (arith, same) in
           ap (λ n. nat_eq n 0) (sym plain) ∙ c.some
 
-      nothing : (b : Bool) → (b && false) ≡ false
-      nothing true = refl
-      nothing false = refl
-
       by : (o : Option NamespaceEntry) → namespace_entry count entries ≡ o → (b : Bool) → nat_eq count entry.count ≡ b
           → CountsOneMore count tasks entry → nat_eq (in_it entry) 0 ≡ (ends_by o && b)
       by None f b e c = other ((found_in entries None f).1 refl entry m) c
-      by (Some one) f false e c = other e c ∙ sym (nothing (has_one_task one))
+      by (Some one) f false e c = other e c ∙ sym (and-false (has_one_task one))
       by (Some one) f true e c =
           let from = (found_in entries (Some one) f).0 one refl in
           let same_count : entry.count ≡ one.count = sym (eqb-true count entry.count e)
@@ -204,12 +186,8 @@ module _ (count : ℕ) (tasks : Tasks) (entries : List NamespaceEntry)
       by true n =
           let from = among-from_filter (λ (other : NamespaceEntry). not (nat_eq count other.count)) entries entry n in
           let c = counts entry from.0 in
-          let same = c.inside ∙ ap (λ b. in_it entry + cond b 1 0) (turned (nat_eq count entry.count) from.1) in omega
+          let same = c.inside ∙ ap (λ b. in_it entry + cond b 1 0) (not-true (nat_eq count entry.count) from.1) in omega
           (arith, same)
-        where
-          turned : (b : Bool) → not b ≡ true → b ≡ false
-          turned true e = absurd (true≢false (sym e))
-          turned false e = refl
       by false n =
           let from = among-from_map (left_if count) entries entry n in
           subst (λ (e : NamespaceEntry). e.tasks ≡ in_it e) (sym from.2)
@@ -232,15 +210,7 @@ module _ (count : ℕ) (tasks : Tasks) (entries : List NamespaceEntry)
     counted_tasks : (number : ℕ) (all : Tasks) → list_any (λ (task : Task ℕ). nat_eq number task.namespace) all
         ≡ nat_lt 0 (times (λ (task : Task ℕ). nat_eq number task.namespace) all)
     counted_tasks number [] = refl
-    counted_tasks number (task ∷ all) = by (nat_eq number task.namespace) (counted_tasks number all)
-      where
-        by : (b : Bool) → list_any (λ (task : Task ℕ). nat_eq number task.namespace) all
-            ≡ nat_lt 0 (times (λ (task : Task ℕ). nat_eq number task.namespace) all)
-            → (b || list_any (λ (task : Task ℕ). nat_eq number task.namespace) all)
-            ≡ nat_lt 0 (cond b 1 0 + times (λ (task : Task ℕ). nat_eq number task.namespace) all)
-        by true e = sym (lt-ltb 0 (1 + times (λ (task : Task ℕ). nat_eq number task.namespace) all) (omega arith))
-        by false e = e ∙ ap (nat_lt 0) (let same : times (λ (task : Task ℕ). nat_eq number task.namespace) all
-            ≡ 0 + times (λ (task : Task ℕ). nat_eq number task.namespace) all = omega arith in same)
+    counted_tasks number (task ∷ all) = grind (arith, common_steps, counted_tasks number all, lt-ltb)
 
     pub has_tasks_is : (entry : NamespaceEntry) → Among entry entries
         → has_tasks nat_eq world (namespace_of entry) ≡ not (ends && nat_eq count entry.count)
@@ -297,15 +267,11 @@ module _ (count : ℕ) (tasks : Tasks) (entries : List NamespaceEntry)
         → is_in_ended nat_eq world mount ≡ (ends && holds_of (nat_eq (counted count)) mount.namespace)
     in_ended_is mount listed = by mount.namespace listed
       where
-        nothing : (b : Bool) → (b && false) ≡ false
-        nothing true = refl
-        nothing false = refl
-
         by : (o : Option ℕ) → list_all (is_listed nat_eq world) (option_to_list o) ≡ true
             → holds_of (λ number. not (list_any
             (λ namespace. nat_eq number namespace.number && has_tasks nat_eq world namespace) world.namespaces)) o
             ≡ (ends && holds_of (nat_eq (counted count)) o)
-        by None h = sym (nothing ends)
+        by None h = sym (and-false ends)
         by (Some number) h =
             let there = (and_parts (is_listed nat_eq world number) true h).0 in
             let from = among-from_map (λ (n : Namespace ℕ). n.number) world.namespaces number

@@ -60,18 +60,15 @@ module _ (world : World ℕ) (invariants : MountInvariants nat_eq world) (tasks 
           ap (λ b. cond b (detached mount) mount) (none mount))
 
       none_end : regrouped nat_eq left_world ≡ left_world
-      none_end = ap (λ (mounts : List (Mount ℕ)). regrouped nat_eq (record left_world { mounts = mounts })) same_mounts
-          ∙ regrouped_beside world namespaces tasks
-          ∙ ap (λ (one : World ℕ). record one { namespaces = namespaces; tasks = tasks })
-          (regrouped_living world invariants.groups)
-          ∙ ap (λ (mounts : List (Mount ℕ)). record left_world { mounts = mounts }) (sym same_mounts)
+      none_end = cc (same_mounts, regrouped_beside world namespaces tasks, regrouped_living world invariants.groups)
 
   -- a mount that is in no namespace is private
   pub nowhere_private : (mount : Mount ℕ) → Among mount left_world.mounts → is_some mount.namespace ≡ false
       → mount.propagation ≡ Private
   nowhere_private mount m none =
       let from = among-from_map (gone_if goes) world.mounts mount m in
-      ap (λ (x : Mount ℕ). x.propagation) from.2
-      ∙ stays_private from.0
-      (among_from_list_all is_nowhere_or_attached world.mounts invariants.nowhere from.0 from.1) (goes from.0)
-      (ap (λ (x : Mount ℕ). is_some x.namespace) (sym from.2) ∙ none)
+      cc (
+        from.2,
+        stays_private from.0 (among_from_list_all is_nowhere_or_attached world.mounts invariants.nowhere
+            from.0 from.1) (goes from.0) (ap (λ (x : Mount ℕ). is_some x.namespace) (sym from.2) ∙ none),
+      )

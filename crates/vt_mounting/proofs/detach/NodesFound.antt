@@ -1,6 +1,6 @@
 -- An inode that is found in a filesystem, plain or an overlay, has the number of a node of that filesystem.
-use Rattle.std.proofs.Common.{◌≡◌, refl, sym, ap, subst, ◌∙◌, ⊎_elim, ℕ, nat_eq, nat_lt, eq-eqb, Bool, true, false, true≢false, cond, ◌&&◌, List, [], ◌∷◌, Option, Some, None, is_some, All, lt-ltb}
-use Rattle.vt_spec.proofs.Common.{All-cons, All-head, All-nil, All-tail, Filesystem, Node, World, and_true_left, filesystem_numbered, node_in}
+use Rattle.std.proofs.Common.{◌≡◌, refl, sym, ap, subst, ◌∙◌, ⊎_elim, ℕ, nat_eq, nat_lt, eq-eqb, Bool, true, false, true≢false, ◌&&◌, List, [], ◌∷◌, Option, Some, None, is_some, All, lt-ltb, arith}
+use Rattle.vt_spec.proofs.Common.{All-cons, All-head, All-nil, All-tail, Filesystem, Node, World, and_true_left, common_steps, filesystem_numbered, node_in}
 use Rattle.vt_mounting.proofs.Common.{FilesystemEntry, Filesystems, HasOwnInodes, HasOwnNodes, IsHeld, WorldValue, all_from_among, among-from_map, among_from_all, born_in, counted, filesystem_seen, filesystems_seen, is_own_number, is_small_node, number_numbered, number_of, numbered_all, overlays_seen, put_in, world_of, woven}
 use Rattle.vt_location.specs.declared.births.Birth.TheVariants.{Here}
 use Rattle.vt_location.specs.declared.locations.NodeRef.{NodeRef}
@@ -31,12 +31,7 @@ put_all : (P : Filesystem ℕ → Type 0) (overlay : Filesystem ℕ) (list : Lis
     → All P (put_in overlay list)
 put_all P overlay [] here all = All-cons P overlay [] here (All-nil P)
 put_all P overlay (first ∷ rest) here all =
-    by (nat_lt first.number overlay.number) (put_all P overlay rest here (All-tail P first rest all))
-  where
-    by : (b : Bool) → All P (put_in overlay rest)
-        → All P (cond b (first ∷ put_in overlay rest) (overlay ∷ first ∷ rest))
-    by true later = All-cons P first (put_in overlay rest) (All-head P first rest all) later
-    by false later = All-cons P overlay (first ∷ rest) here all
+    grind (arith, common_steps, put_all P overlay rest here (All-tail P first rest all), All-tail, All-cons, All-head)
 
 -- what holds of all plain filesystems and of all overlays holds of both
 pub woven_all : (P : Filesystem ℕ → Type 0) (plain overlays : List (Filesystem ℕ)) → All P plain → All P overlays
@@ -71,8 +66,7 @@ pub node_at_home : (world : World ℕ) → All HasOwnNodes world.filesystems →
     → number ≡ counted node.filesystem.count
 node_at_home world own number node small there =
     let found = node_in_world world own number (number_of node) there in
-    found.2 ∙ ap (λ (one : NodeRef). counted one.filesystem.count)
-    (sym (one_to_one node found.0 (small_parts node small) (small_parts found.0 found.1) found.3))
+    cc (found.2, one_to_one node found.0 (small_parts node small) (small_parts found.0 found.1) found.3)
 
 -- The code's world
 

@@ -1,6 +1,6 @@
 -- The overlays of the code's world, and of worlds midway in an event, which leaves overlays as they are.
-use Rattle.std.proofs.Common.{◌≡◌, refl, sym, ap, subst, ◌∙◌, inl, inr, ℕ, nat_eq, nat_lt, Bool, true, false, true≢false, eqb-true, cond, not, ◌&&◌, List, [], ◌∷◌, map, filter, is_some, arith, All}
-use Rattle.vt_spec.proofs.Common.{Filesystem, SameFilesystems, World, any_pair, filesystem_lives, filesystem_numbered, is_mounted, is_overlay, list_all, of_overlay, only_used, pair-filter, settled, used_in, without_dead_in, without_dead_mounts}
+use Rattle.std.proofs.Common.{◌≡◌, refl, sym, ap, subst, ◌∙◌, inl, inr, ℕ, nat_eq, nat_lt, Bool, true, false, true≢false, eqb-true, not, ◌&&◌, List, [], ◌∷◌, map, filter, is_some, arith, All}
+use Rattle.vt_spec.proofs.Common.{Filesystem, SameFilesystems, World, any_pair, common_steps, filesystem_lives, filesystem_numbered, is_mounted, is_overlay, list_all, of_overlay, only_used, pair-filter, settled, used_in, without_dead_mounts}
 use Rattle.vt_mounting.proofs.Common.{Among, FilesystemEntry, Filesystems, HasOwnNodes, IsHeld, IsMountedSoOften, OverlaysAreNamed, OverlaysHaveNoUpper, WorldValue, WritersHaveLayers, all_from_among, among-filter, among-from_filter, among-from_map, among-map, among_from_all, are_rising, counted, filesystem_seen, filesystems_seen, filter_all, found_filesystem, has_only_named, in_use_of, layer_count, mounts_showing, overlays_seen, overlays_use_filesystems, put_in, world_of, woven, woven_lists_are_failing}
 use Rattle.vt_laws_mounts.proofs.counts.overlays.Living.{overlays_are_mounted}
 use Rattle.vt_laws_mounts.proofs.counts.using.Exchanged.{numbers_mapped}
@@ -105,15 +105,7 @@ put_mapped : (step : Filesystem ℕ → Filesystem ℕ) → ((f : Filesystem ℕ
     → map step (put_in overlay list) ≡ put_in overlay (map step list)
 put_mapped step numbers overlay same [] = ap (λ one. one ∷ []) same
 put_mapped step numbers overlay same (first ∷ rest) =
-    by (nat_lt first.number overlay.number) (put_mapped step numbers overlay same rest)
-    ∙ ap (λ n. cond (nat_lt n overlay.number) (step first ∷ put_in overlay (map step rest))
-    (overlay ∷ step first ∷ map step rest)) (sym (numbers first))
-  where
-    by : (b : Bool) → map step (put_in overlay rest) ≡ put_in overlay (map step rest)
-        → map step (cond b (first ∷ put_in overlay rest) (overlay ∷ first ∷ rest))
-        ≡ cond b (step first ∷ put_in overlay (map step rest)) (overlay ∷ step first ∷ map step rest)
-    by true later = ap (λ others. step first ∷ others) later
-    by false later = ap (λ one. one ∷ step first ∷ map step rest) same
+    grind (arith, common_steps, put_mapped step numbers overlay same rest)
 
 pub woven_mapped : (step : Filesystem ℕ → Filesystem ℕ) → ((f : Filesystem ℕ) → (step f).number ≡ f.number)
     → (plain overlays : List (Filesystem ℕ)) → ((f : Filesystem ℕ) → Among f overlays → step f ≡ f)
@@ -178,26 +170,18 @@ plain_numbers_left world = both (in_use_of world).filesystems
         (filter is_plain_one (map (after_second world) (map (after_first world) list)))
         ≡ map (λ (f : Filesystem ℕ). f.number) (filter is_plain_one list)
     both [] = refl
-    both (first ∷ rest) = ap (λ b. map (λ (f : Filesystem ℕ). f.number) (cond (not b)
-        (swept first ∷ filter is_plain_one (map (after_second world) (map (after_first world) rest)))
-        (filter is_plain_one (map (after_second world) (map (after_first world) rest)))))
-        (kind first) ∙ by (is_overlay first) (both rest)
-      where
-        kind : (f : Filesystem ℕ) → is_overlay (swept f) ≡ is_overlay f
-        kind f =
-            kind_left (without_dead_in nat_eq is_overlay (in_use_of world)) (not (is_overlay (after_first world f)))
-            (after_first world f) ∙ kind_left (in_use_of world) (is_overlay f) f
-
-        by : (b : Bool) → map (λ (f : Filesystem ℕ). f.number)
-            (filter is_plain_one (map (after_second world) (map (after_first world) rest)))
-            ≡ map (λ (f : Filesystem ℕ). f.number) (filter is_plain_one rest)
-            → map (λ (f : Filesystem ℕ). f.number) (cond (not b)
-            (swept first ∷ filter is_plain_one (map (after_second world) (map (after_first world) rest)))
-            (filter is_plain_one (map (after_second world) (map (after_first world) rest))))
-            ≡ map (λ (f : Filesystem ℕ). f.number) (cond (not b) (first ∷ filter is_plain_one rest)
-            (filter is_plain_one rest))
-        by true later = later
-        by false later = λ i. (number-second world (after_first world first) ∙ number-first world first) i ∷ later i
+    both (first ∷ rest) =
+        grind (
+          arith,
+          common_steps,
+          both rest,
+          swept,
+          after_second,
+          after_first,
+          kind_left,
+          number-second,
+          number-first,
+        )
 
 -- a world with the same filesystems keeps the same overlays
 pub same_files_keep : (old : WorldValue) (world other : World ℕ) → other.filesystems ≡ world.filesystems

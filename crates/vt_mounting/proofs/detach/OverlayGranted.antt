@@ -1,8 +1,7 @@
 -- What the permit of a call that mounts an overlay names is there: mount(2), and the kernel's overlayfs document,
 -- "multiple lower layers".
-use Rattle.std.proofs.Common.{◌≡◌, ◌<◌, ◌≤◌, refl, sym, ap, subst, ◌∙◌, ℕ, ◌/◌, nat_eq, Bool, true, false, true≢false, not, ◌&&◌, List, ◌++◌, map, length, Option, Some, None, Ok, arith, All, nat_le, option_to_list, leb-true}
-use Rattle.vt_spec.proofs.Common.{Call, Fresh, Layer, Location, MountFlags, MountOverlay, Overlay, OverlayWords, Permit, Task, ToMountOverlay, World, and_parts, filesystem_numbered, has_fit_layers, is_directory_node, is_empty_list, is_overlay, is_plain_layer, judge_in, length-map, list_all, looks_of, map_alike, map_twice, most_lowers, overfills, overlay_at, task_called}
-use Rattle.vt_mounting.proofs.detach.Moving.{map_itself}
+use Rattle.std.proofs.Common.{◌≡◌, ◌<◌, ◌≤◌, refl, sym, ap, subst, ◌∙◌, ℕ, ◌/◌, nat_eq, true, not, ◌&&◌, List, ◌++◌, map, length, Option, Some, None, Ok, arith, All, nat_le, option_to_list, leb-true, map-id}
+use Rattle.vt_spec.proofs.Common.{Call, Fresh, Layer, Location, MountFlags, MountOverlay, Overlay, OverlayWords, Permit, Task, ToMountOverlay, World, and_parts, filesystem_numbered, has_fit_layers, is_directory_node, is_empty_list, is_overlay, is_plain_layer, judge_in, length-map, list_all, looks_of, map_alike, map_twice, most_lowers, not-true, overfills, overlay_at, task_called}
 use Rattle.vt_spec.proofs.Tables.{destination_walk}
 use Rattle.vt_laws_trees.specs.Layers.Layers.Mounted.{AreLayers}
 use Rattle.vt_laws_trees.proofs.layers.mounting.Walked.{are_walked, fit_layers, has_layers, shown_plain}
@@ -84,13 +83,9 @@ module _ (value : WorldValue) (held : IsHeld value) (overlay : Overlay ℕ) (low
     pub layer_in : IsSeenIn value.filesystems layer.filesystem layer.directory
     layer_in = seen_in value.filesystems held.own_inodes layer.filesystem layer.directory
         (there_where_plain value held layer.filesystem layer.directory
-        (by (is_overlay (filesystem_numbered nat_eq (world_of value) layer.filesystem)) parts.0)
+        (not-true (is_overlay (filesystem_numbered nat_eq (world_of value) layer.filesystem)) parts.0)
         (directory_is_there ((filesystem_numbered nat_eq (world_of value) layer.filesystem).files.tree.node
         layer.directory) parts.1))
-      where
-        by : (b : Bool) → not b ≡ true → b ≡ false
-        by true e = absurd (true≢false (sym e))
-        by false e = refl
 
     -- so it is seen as it was, once it is kept
     pub kept_again : layer_seen (layer_kept layer) ≡ layer
@@ -119,7 +114,7 @@ module _ (value : WorldValue) (held : IsHeld value) (overlay : Overlay ℕ) (low
   pub lowers_seen : map layer_seen (map layer_kept overlay.lowers) ≡ overlay.lowers
   lowers_seen = map_twice layer_seen layer_kept overlay.lowers
       ∙ map_alike (λ layer. layer_seen (layer_kept layer)) (λ layer. layer) overlay.lowers kept_again
-      ∙ sym (map_itself overlay.lowers)
+      ∙ map-id overlay.lowers
 
   -- they are layers of what is kept, which the world shows
   pub kept_layers : Kept.AreLayers value.filesystems (map layer_kept overlay.lowers)

@@ -1,8 +1,8 @@
 -- A mount goes, and what it alone showed with it: of overlays at most one, whose layers go with it.
-use Rattle.std.proofs.Common.{◌≡◌, refl, sym, ap, ◌∙◌, inl, inr, ℕ, ◌+◌, ◌-◌, nat_eq, nat_lt, eqb-true, Bool, true, false, true≢false, cond, not, List, [], ◌∷◌, ◌++◌, map, filter, flat_map, Option, Some, None, is_some, arith, append-nil}
-use Rattle.vt_spec.proofs.Common.{Filesystem, Layer, Overlay, World, any_pair, is_mounted, is_overlay, layers_of, list_any, of_overlay, or_parts, overlay_or}
+use Rattle.std.proofs.Common.{◌≡◌, refl, sym, ap, ◌∙◌, inl, inr, ℕ, ◌+◌, ◌-◌, nat_eq, nat_lt, eqb-true, Bool, true, false, cond, not, List, [], ◌∷◌, map, filter, flat_map, Option, Some, None, is_some, arith, append-nil}
+use Rattle.vt_spec.proofs.Common.{Filesystem, Layer, World, any_pair, common_steps, is_mounted, is_overlay, layers_of, list_any, of_overlay, or_parts}
 use Rattle.vt_mounting.proofs.Common.{Among, Inode, layer_count, layers_among, mounted_while_counted, mounts_showing, none_among, overlays_use_filesystems, times, times_append, without_mount}
-use Rattle.vt_laws_mounts.specs.LettingGo.Overlays.{used_by_filesystem, uppers_in}
+use Rattle.vt_laws_mounts.specs.LettingGo.Overlays.{used_by_filesystem}
 use Rattle.vt_laws_mounts.proofs.letting_go.Lists.{flat_map_none}
 use Rattle.vt_mounting.specs.Detach.Uses.{Merged, merged_at}
 use Rattle.vt_mounting.proofs.detach.LostUses.{positive}
@@ -22,18 +22,7 @@ merged_in world overlay = record {
 -- An overlay without an upper layer uses these directories alone.
 pub uses_layers : (overlay : Filesystem ℕ) → of_overlay false (λ o. is_some o.upper) overlay ≡ false
     → used_by_filesystem overlay ≡ layers_used overlay
-uses_layers overlay none = ap (λ uppers. layers_used overlay ++ uppers)
-    (flat_map_none (λ number. of_overlay [] (uppers_in number) overlay) overlay.files.numbers
-    (λ number m. by number overlay.overlay none)) ∙ append-nil (layers_used overlay)
-  where
-    by : (number : ℕ) (o : Option (Overlay ℕ)) → overlay_or false (λ overlay. is_some overlay.upper) o ≡ false
-        → overlay_or [] (uppers_in number) o ≡ []
-    by number None e = refl
-    by number (Some one) e = at one.upper e
-      where
-        at : (upper : Option (Layer ℕ)) → is_some upper ≡ false → uppers_in number (record one { upper = upper }) ≡ []
-        at None f = refl
-        at (Some layer) f = absurd (true≢false f)
+uses_layers overlay none = grind (arith, common_steps, flat_map_none, append-nil)
 
 -- the layers that go with a mount of a filesystem of this number
 abbrev pub layers_gone_by : Option Merged → List Inode

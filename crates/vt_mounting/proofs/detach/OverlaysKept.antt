@@ -96,10 +96,7 @@ module _ (world : World ℕ) (number filesystem : ℕ) (takes : (n : ℕ) → mo
               → cond b (without_merged filesystem (was ∷ kept)) (released_merged filesystem (was ∷ kept))
               ≡ map (merged_in mounted) (cond (is_shown overlay) (overlay ∷ filter is_shown rest) (filter is_shown rest))
           chosen true g =
-              ap (λ b. cond (not b) (was ∷ without_merged filesystem kept) (without_merged filesystem kept)) e
-              ∙ stay.without ∙ sym stay.left
-              ∙ sym (ap (λ b. map (merged_in mounted) (cond b (overlay ∷ filter is_shown rest) (filter is_shown rest)))
-              (turned true (goes_at_one world number filesystem takes overlay e ∙ g)))
+              cc (stay.without, stay.left, turned true (goes_at_one world number filesystem takes overlay e ∙ g))
           chosen false g = (λ i. cond (e i) less was ∷ stay.released i)
               ∙ (λ i. record was { mounts = sym fewer i } ∷ sym stay.left i)
               ∙ sym (ap (λ b. map (merged_in mounted) (cond b (overlay ∷ filter is_shown rest) (filter is_shown rest)))

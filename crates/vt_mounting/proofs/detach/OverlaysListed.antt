@@ -1,6 +1,6 @@
 -- The overlays of a store under their counts: what is left of them, one event after the other.
-use Rattle.std.proofs.Common.{◌≡◌, refl, sym, ap, subst, ◌∙◌, inl, inr, ℕ, nat_eq, ◌-◌, eq-eqb, Bool, true, false, cond, not, ◌&&◌, List, [], ◌∷◌, map, filter, Option, Some, None, option_map}
-use Rattle.vt_spec.proofs.Common.{Filesystem, Permit, TaskName, any_pair, cons_option, is_overlay, list_any, nat_eq_turned, or_parts, pair-filter}
+use Rattle.std.proofs.Common.{◌≡◌, refl, sym, ap, subst, ◌∙◌, inl, inr, ℕ, nat_eq, ◌-◌, eq-eqb, Bool, true, false, cond, not, ◌&&◌, List, [], ◌∷◌, map, filter, Option, Some, None, option_map, arith}
+use Rattle.vt_spec.proofs.Common.{Filesystem, Permit, TaskName, any_pair, common_steps, cons_option, is_overlay, list_any, nat_eq_turned, or_parts, pair-filter}
 use Rattle.vt_mounting.proofs.Common.{Among, Filesystems, IsHeld, OverlayValue, Overlays, StoreValue, WorldValue, among-from_filter, among-from_map, among-map, counted, entry_in, filter-map, filter_all, filter_twice, none_among, overlay_of_store, overlay_seen, overlays_of_store, overlays_seen, with_mounts, with_mounts_by, with_overlay_changed, with_store, without_overlay, world_of}
 use Rattle.vt_store.specs.OverlaysValue.{OverlayEntry}
 use Rattle.vt_world.specs.WorldValue as worlds
@@ -30,17 +30,7 @@ left_twice old middle new first second = (
 pub counted_stay : (count : ℕ) (change : ℕ → ℕ) (overlays : Overlays)
     → OverlaysStay overlays (with_overlay_changed count (λ entry. record entry { mounts = change entry.mounts }) overlays)
 counted_stay count change [] = refl
-counted_stay count change (entry ∷ rest) = λ i. by (nat_eq count entry.count) i ∷ counted_stay count change rest i
-  where
-    more : OverlayEntry
-    more = record entry { mounts = change entry.mounts }
-
-    named : OverlayEntry → ℕ × OverlayValue
-    named one = (one.count, one.overlay)
-
-    by : (b : Bool) → named (cond b more entry) ≡ named entry
-    by true = refl
-    by false = refl
+counted_stay count change (entry ∷ rest) = grind (arith, common_steps, counted_stay count change rest)
 
 pub counted_stay_in : (store : StoreValue) (count : ℕ) (change : ℕ → ℕ)
     → OverlaysStay store.overlays (with_mounts count change store).overlays
@@ -100,10 +90,7 @@ kept_less : (one : Merged) (others : List Merged) (list : List worlds.OverlayEnt
     → overlays_kept (one ∷ others) list ≡ overlays_kept others list
 kept_less one others [] apart = refl
 kept_less one others (first ∷ rest) apart =
-    ap (λ b. cons_option (counted_again first (cond b (Some one) (merged_at first.number others)))
-    (overlays_kept (one ∷ others) rest)) (apart first (inl refl))
-    ∙ ap (cons_option (counted_again first (merged_at first.number others)))
-    (kept_less one others rest (λ entry m. apart entry (inr m)))
+    cc (apart first (inl refl), kept_less one others rest (λ entry m. apart entry (inr m)))
 
 none_at : (number : ℕ) (overlays : Overlays)
     → ((entry : OverlayEntry) → Among entry overlays → nat_eq number (counted entry.count) ≡ false)

@@ -1,6 +1,6 @@
 -- The overlays that code keeps when mounts have gone, as entries of those of before.
-use Rattle.std.proofs.Common.{◌≡◌, refl, sym, ap, subst, ◌∙◌, inl, inr, ⊎_elim, ℕ, nat_eq, eq-eqb, Bool, true, false, cond, List, [], ◌∷◌, map, filter, Option, Some, None, option_map, All}
-use Rattle.vt_spec.proofs.Common.{Filesystem, World, any_pair, cons_option, is_mounted, is_overlay, list_any, or_parts, pair-filter}
+use Rattle.std.proofs.Common.{◌≡◌, refl, sym, ap, subst, ◌∙◌, inl, inr, ⊎_elim, ℕ, nat_eq, eq-eqb, Bool, true, false, cond, List, [], ◌∷◌, map, filter, Option, Some, None, option_map, All, arith}
+use Rattle.vt_spec.proofs.Common.{Filesystem, World, any_pair, common_steps, cons_option, is_mounted, is_overlay, list_any, or_parts, pair-filter}
 use Rattle.vt_mounting.proofs.Common.{Among, IsHeld, IsMountedSoOften, OverlayEntry, WorldValue, all_from_among, among-map, among_from_all, mounts_showing, none_among, overlay_seen, overlays_seen, world_of}
 use Rattle.vt_mounting.specs.Detach.Uses.{Merged, merged_at, merged_seen, overlays_kept}
 use Rattle.vt_mounting.proofs.detach.BesideOverlays.{mounted_at_first}
@@ -20,14 +20,7 @@ module _ (world : World ℕ) where
       → ((overlay : Filesystem ℕ) → Among overlay list → nat_eq number overlay.number ≡ false)
       → merged_at number (kept_of_list list) ≡ None
   none_found [] number apart = refl
-  none_found (first ∷ rest) number apart =
-      by (is_shown first) ∙ none_found rest number (λ overlay m. apart overlay (inr m))
-    where
-      by : (b : Bool) → merged_at number (map (merged_in world) (cond b (first ∷ filter is_shown rest)
-          (filter is_shown rest))) ≡ merged_at number (kept_of_list rest)
-      by true = ap (λ c. cond c (Some (merged_in world first)) (merged_at number (kept_of_list rest)))
-          (apart first (inl refl))
-      by false = refl
+  none_found (first ∷ rest) number apart = grind (arith, common_steps, none_found rest number, merged_in)
 
   -- an overlay is found by its number, if a mount shows it
   pub merged_found : (list : List (Filesystem ℕ))
@@ -89,19 +82,7 @@ module _ (old : WorldValue) (held : IsHeld old) (world : World ℕ) (leaves : Le
   seen_of : (list : List OverlayEntry) → FoundSo list → overlays_seen (overlays_kept overlays list)
       ≡ filter (λ (overlay : Filesystem ℕ). is_mounted nat_eq world overlay.number) (overlays_seen list)
   seen_of [] found = refl
-  seen_of (first ∷ rest) found =
-      ap (λ o. overlays_seen (cons_option (counted_again first o) (overlays_kept overlays rest)))
-      (found first (inl refl)) ∙ by (shows first) (seen_of rest (λ entry m. found entry (inr m)))
-    where
-      by : (b : Bool) → overlays_seen (overlays_kept overlays rest)
-          ≡ filter (λ (overlay : Filesystem ℕ). is_mounted nat_eq world overlay.number) (overlays_seen rest)
-          → overlays_seen (cons_option (counted_again first (cond b (Some (merged_in world (overlay_seen first))) None))
-          (overlays_kept overlays rest))
-          ≡ cond b (overlay_seen first ∷ filter (λ (overlay : Filesystem ℕ). is_mounted nat_eq world overlay.number)
-          (overlays_seen rest))
-          (filter (λ (overlay : Filesystem ℕ). is_mounted nat_eq world overlay.number) (overlays_seen rest))
-      by true later = ap (λ others. overlay_seen first ∷ others) later
-      by false later = later
+  seen_of (first ∷ rest) found = grind (arith, common_steps, seen_of rest, merged_in)
 
   -- those that are kept are those that mounts show,
   pub seen_kept : overlays_seen (overlays_kept overlays old.overlays)
@@ -111,15 +92,7 @@ module _ (old : WorldValue) (held : IsHeld old) (world : World ℕ) (leaves : Le
   counted_of : (list : List OverlayEntry) → FoundSo list → (entry : OverlayEntry)
       → Among entry (overlays_kept overlays list) → IsMountedSoOften world entry
   counted_of [] found entry m = absurd m
-  counted_of (first ∷ rest) found entry m = by (shows first) (counted_of rest (λ other o. found other (inr o)) entry)
-      (subst (λ o. Among entry (cons_option (counted_again first o) (overlays_kept overlays rest)))
-      (found first (inl refl)) m)
-    where
-      by : (b : Bool) → (Among entry (overlays_kept overlays rest) → IsMountedSoOften world entry)
-          → Among entry (cons_option (counted_again first (cond b (Some (merged_in world (overlay_seen first))) None))
-          (overlays_kept overlays rest)) → IsMountedSoOften world entry
-      by true later n = ⊎_elim (λ here. subst (IsMountedSoOften world) (sym here) refl) later n
-      by false later n = later n
+  counted_of (first ∷ rest) found entry m = grind (arith, common_steps, counted_of rest, merged_in)
 
   -- as often as they are
   pub counted_kept : All (IsMountedSoOften world) (overlays_kept overlays old.overlays)

@@ -1,6 +1,6 @@
 -- A task gets another working directory, or another root: chdir(2), chroot(2).
-use Rattle.std.proofs.Common.{◌≡◌, refl, sym, ap, subst, ◌∙◌, inl, inr, ℕ, ◌+◌, nat_eq, Bool, true, false, true≢false, cond, ◌&&◌, List, [], ◌∷◌, ◌++◌, map, flat_map, find, Some, option_map, is_some, unwrap_or, append_assoc, arith}
-use Rattle.vt_spec.proofs.Common.{Filesystem, ListsNumbers, Task, TaskName, ToSetDirectory, ToSetRoot, World, all_locations, and_parts, filesystem_numbered, is_among, is_located_well, is_there, mount_at, no_filesystem, numbers_in_use, same_Some, task_called, used_by_filesystem, used_by_mount}
+use Rattle.std.proofs.Common.{◌≡◌, refl, sym, ap, subst, ◌∙◌, inl, inr, ℕ, ◌+◌, nat_eq, true, false, true≢false, ◌&&◌, List, [], ◌∷◌, ◌++◌, map, flat_map, find, Some, option_map, is_some, unwrap_or, append_assoc, arith}
+use Rattle.vt_spec.proofs.Common.{Filesystem, ListsNumbers, Task, TaskName, ToSetDirectory, ToSetRoot, World, all_locations, and_parts, common_steps, filesystem_numbered, is_among, is_located_well, is_there, mount_at, no_filesystem, numbers_in_use, same_Some, task_called, used_by_filesystem, used_by_mount}
 use Rattle.vt_spec.specs.Machine.Mounts as meant
 use Rattle.vt_mounting.proofs.Common.{Among, Filesystems, IsHeld, MountEntry, Tasks, WorldValue, among-append_left, among-append_right, among-flat_map, among-from_map, among_from_all, among_from_list_all, among_numbers, called, changed_by, changed_called, counted, is_among_numbers, is_counted_before, is_small_node, location_named, location_of, locations_in, number_of, one_if, replaced, times, used_numbers_are_named, world_of, writes_of, writes_of_task, writes_on}
 use Rattle.vt_location.specs.declared.locations.Location.{Location}
@@ -20,15 +20,7 @@ some_there : (filesystems : List (Filesystem ℕ)) (f node : ℕ)
     → is_some ((unwrap_or (find (λ x. nat_eq f x.number) filesystems) (no_filesystem f)).files.tree.node node) ≡ true
     → Among (unwrap_or (find (λ x. nat_eq f x.number) filesystems) (no_filesystem f)) filesystems
 some_there [] f node e = absurd (true≢false (sym e))
-some_there (x ∷ xs) f node e = by (nat_eq f x.number) e (some_there xs f node)
-  where
-    by : (b : Bool) → is_some ((unwrap_or (cond b (Some x) (find (λ x. nat_eq f x.number) xs))
-        (no_filesystem f)).files.tree.node node) ≡ true
-        → (is_some ((unwrap_or (find (λ x. nat_eq f x.number) xs) (no_filesystem f)).files.tree.node node) ≡ true
-        → Among (unwrap_or (find (λ x. nat_eq f x.number) xs) (no_filesystem f)) xs)
-        → Among (unwrap_or (cond b (Some x) (find (λ x. nat_eq f x.number) xs)) (no_filesystem f)) (x ∷ xs)
-    by true h later = inl refl
-    by false h later = inr (later h)
+some_there (x ∷ xs) f node e = grind (arith, common_steps, some_there xs f node)
 
 pub located_is_named : (value : WorldValue) → IsHeld value → (location : meant.Location ℕ)
     → is_located_well nat_eq (world_of value) location ≡ true

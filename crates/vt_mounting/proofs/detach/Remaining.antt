@@ -64,12 +64,18 @@ module _ (value : WorldValue) (whole : IsHeld value) (tasks : Tasks) (more less 
 
   pub same_numbers : map (λ f. f.number) (filter is_plain_one (world_of value).filesystems)
       ≡ map (λ (entry : FilesystemEntry). counted entry.count) filesystems
-  same_numbers = ap (map (λ (f : Filesystem ℕ). f.number)) (plain_ones_are value whole.overlays)
-      ∙ map_twice (λ (f : Filesystem ℕ). f.number) filesystem_seen value.filesystems
-      ∙ sym (map_twice (λ (one : Shown). counted one.count) shown_entry value.filesystems)
-      ∙ sym (map_twice (λ (one : Shown). counted one.count) (exchanged_shown gained lost) (shown value.filesystems))
-      ∙ sym (ap (map (λ (one : Shown). counted one.count)) shown_are)
-      ∙ map_twice (λ (one : Shown). counted one.count) shown_entry filesystems
+  same_numbers =
+      cc (
+        plain_ones_are value whole.overlays,
+        map_twice (λ (f : Filesystem ℕ). f.number) filesystem_seen
+            value.filesystems,
+        map_twice (λ (one : Shown). counted one.count) shown_entry value.filesystems,
+        map_twice (λ
+            (one : Shown). counted one.count) (exchanged_shown gained lost) (shown value.filesystems),
+        shown_are,
+        map_twice
+            (λ (one : Shown). counted one.count) shown_entry filesystems,
+      )
 
   -- all mounts are still in use
   module _ (stay : without_dead_mounts nat_eq next ≡ next) where

@@ -1,7 +1,8 @@
 -- What a store lends for its nodes is what the world that holds it tells.
-use Rattle.std.proofs.Common.{◌≡◌, refl, sym, ap, ◌∙◌, inl, inr, zero, suc, ℕ, nat_eq, eqb-true, List, [], ◌∷◌, Option, Some, None, option_map, arith, All, slice_get}
-use Rattle.vt_spec.proofs.Common.{Filesystem, Layer, Lower, Real, Upper, World, at_path, filesystem_numbered, found_among, found_passes, node_at_path, none_is_some, open_layer, same_Some, slice_get-map, then_some}
+use Rattle.std.proofs.Common.{◌≡◌, refl, sym, ap, ◌∙◌, ℕ, nat_eq, eqb-true, List, Option, Some, None, option_map, arith, All}
+use Rattle.vt_spec.proofs.Common.{Filesystem, Lower, Real, Upper, World, at_path, common_steps, filesystem_numbered, found_among, found_passes, node_at_path, open_layer, slice_get-map, then_some}
 use Rattle.vt_mounting.proofs.Common.{Among, AreLayers, IsHeld, ShowsLayer, StoreValue, WorldValue, among-map, among_from_all, counted, entry_at, entry_in, filesystem_seen, inodes_have_their_objects, layer_seen, number_numbered, overlay_of_store, with_objects, with_store, world_of}
+use Rattle.vt_laws_trees.proofs.trees.Lists.{nth_among}
 use Rattle.vt_world.proofs.overlays_kept.lending.ObjectsLent.{real_objects_are_lent}
 use Rattle.vt_world.specs.OverlaysKept.Lending.{lent_on, object_lent}
 use Rattle.vt_fs.specs.FilesystemsValue.{node_seen}
@@ -17,12 +18,6 @@ use Rattle.vt_mounting.proofs.detach.StoreShown.{overlay_found, plain_found}
 
 count_back : (count : ℕ) → count_of (counted count) ≡ count
 count_back count = omega arith
-
-among_slice : (list : List LayerRef) (place : ℕ) (layer : LayerRef) → slice_get list place ≡ Some layer
-    → Among layer list
-among_slice [] place layer e = absurd (none_is_some layer e)
-among_slice (first ∷ list) zero layer e = inl (sym (same_Some first layer e))
-among_slice (first ∷ list) (suc place) layer e = inr (among_slice list place layer e)
 
 module _ (base : WorldValue) (store : StoreValue) (held : IsHeld (with_store store base)) where
   abbrev world : World ℕ
@@ -56,17 +51,7 @@ module _ (base : WorldValue) (store : StoreValue) (held : IsHeld (with_store sto
     object_lends : (real : Real ℕ) → object_lent store.plain entry.overlay real
         ≡ lent_in_layers (world_of (with_store store base)) (with_objects store.plain entry.overlay) real
     object_lends (Upper object) = refl
-    object_lends (Lower place path) = by (slice_get entry.overlay.lowers place) refl
-        ∙ ap (λ o. then_some o (λ (layer : Layer ℕ). option_map (node_seen (count_of layer.filesystem))
-        (node_at_path (open_layer nat_eq (world_of (with_store store base)) layer) path)))
-        (sym (slice_get-map layer_seen entry.overlay.lowers place))
-      where
-        by : (o : Option LayerRef) → slice_get entry.overlay.lowers place ≡ o → then_some o (lent_on store.plain path)
-            ≡ then_some (option_map layer_seen o) (λ (layer : Layer ℕ).
-            option_map (node_seen (count_of layer.filesystem))
-            (node_at_path (open_layer nat_eq (world_of (with_store store base)) layer) path))
-        by None at = refl
-        by (Some layer) at = layer_lends path layer (among_slice entry.overlay.lowers place layer at)
+    object_lends (Lower place path) = grind (arith, common_steps, slice_get-map, layer_lends, nth_among)
 
     -- the overlay in the world has the real objects
     overlay_is : (filesystem_numbered nat_eq (world_of (with_store store base)) (counted entry.count)).overlay

@@ -19,7 +19,7 @@ none_found {A = A} test (first ∷ rest) none a m = by (test first) refl none (n
   where
     by : (b : Bool) → test first ≡ b → cond b (Some first) (find test rest) ≡ None
         → (find test rest ≡ None → (a : A) → Among a rest → test a ≡ false) → test a ≡ false
-    by true e none later = absurd (none_is_some first (sym none))
+    by true e none later = none_is_some first (sym none)
     by false e none later = ⊎_elim (λ same. ap test same ∙ e) (later none a) m
 
 module _ (base : WorldValue) (store : StoreValue) (held : IsHeld (with_store store base)) where
@@ -71,7 +71,7 @@ module _ (base : WorldValue) (store : StoreValue) (held : IsHeld (with_store sto
       no_entry : (o : Option stored.OverlayEntry)
           → option_map (λ (entry : stored.OverlayEntry). entry.overlay) o ≡ None → o ≡ None
       no_entry None e = refl
-      no_entry (Some entry) e = absurd (none_is_some entry.overlay (sym e))
+      no_entry (Some entry) e = none_is_some entry.overlay (sym e)
 
   -- each tree of the store is that of the world
   pub files_shown : (count : ℕ) → (files_in store count).tree

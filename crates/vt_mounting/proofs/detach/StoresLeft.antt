@@ -1,7 +1,8 @@
 -- A store in which a filesystem has one mount less, as contracts of vt_store change it.
-use Rattle.std.proofs.Common.{◌≡◌, ◌≢◌, refl, sym, ap, subst, ◌∙◌, ℕ, nat_eq, ◌-◌, eq-eqb, ne_eqb, Bool, true, false, true≢false, cond, not, List, [], ◌∷◌, map, find, Option, Some, None, is_some, option_map, unwrap_or, IfSome}
-use Rattle.vt_spec.proofs.Common.{folded, map_alike, same_Some, unpinned}
-use Rattle.vt_mounting.proofs.Common.{Overlays, Shown, StoreValue, counted, counted_test, entry_in, entry_kept, filter_alike, inode_of, lowers_in, shown, shown_with, with_mounts, with_mounts_by, with_overlay_changed, without_overlay}
+use Rattle.std.proofs.Common.{◌≡◌, ◌≢◌, refl, sym, ap, ◌∙◌, ℕ, nat_eq, ◌-◌, eq-eqb, ne_eqb, Bool, true, false, true≢false, cond, List, [], ◌∷◌, map, Option, Some, None, is_some, option_map, unwrap_or, IfSome, arith}
+use Rattle.vt_spec.proofs.Common.{common_steps, folded, map_alike, none_from_not_some}
+use Rattle.vt_mounting.proofs.Common.{Overlays, Shown, StoreValue, counted, counted_test, entry_in, entry_kept, filter_alike, lowers_in, shown, with_mounts, with_mounts_by, with_overlay_changed, without_overlay}
+use Rattle.vt_mount.proofs.EntryLemmas.{is_some_mapped}
 use Rattle.vt_overlay.specs.declared.merge.layers.LayerRef.{LayerRef}
 use Rattle.vt_store.specs.Counts.{mounts_by, mounts_in}
 use Rattle.vt_store.specs.LayersHeld as Stored
@@ -9,22 +10,14 @@ use Rattle.vt_store.specs.LayersHeld.{without_layers}
 use Rattle.vt_store.specs.OverlaysValue.{OverlayEntry, overlay_of}
 use Rattle.vt_mounting.specs.Detach.Stored.{kept, layer_of, merged_of}
 use Rattle.vt_mounting.specs.Detach.Uses.{leave_filesystem, let_go_filesystem, merged_at, merged_left_by, mounts_shown, released_in, released_merged, shown_left_by, without_layer, without_merged}
-use Rattle.vt_mounting.proofs.detach.Shown.{is_some_mapped, unpinned_shown}
+use Rattle.vt_mounting.proofs.detach.Shown.{unpinned_shown}
 
 -- Overlays by their numbers
 
 pub found_merged : (count : ℕ) (overlays : Overlays)
     → merged_at (counted count) (map merged_of overlays) ≡ option_map merged_of (entry_kept overlays count)
 found_merged count [] = refl
-found_merged count (entry ∷ rest) =
-    ap (λ b. cond b (Some (merged_of entry)) (merged_at (counted count) (map merged_of rest)))
-    (counted_test count entry.count) ∙ by (nat_eq count entry.count) (found_merged count rest)
-  where
-    by : (b : Bool) → merged_at (counted count) (map merged_of rest) ≡ option_map merged_of (entry_kept rest count)
-        → cond b (Some (merged_of entry)) (merged_at (counted count) (map merged_of rest))
-        ≡ option_map merged_of (cond b (Some entry) (entry_kept rest count))
-    by true later = refl
-    by false later = later
+found_merged count (entry ∷ rest) = grind (arith, common_steps, found_merged count rest, counted_test)
 
 -- an overlay is kept just if there is one
 pub merged_there : (count : ℕ) (overlays : Overlays)
@@ -39,85 +32,27 @@ less entry = record entry { mounts = entry.mounts - 1 }
 released : (count : ℕ) (overlays : Overlays) → map merged_of (with_overlay_changed count less overlays)
     ≡ released_merged (counted count) (map merged_of overlays)
 released count [] = refl
-released count (entry ∷ rest) = λ i. (by (nat_eq count entry.count)
-    ∙ ap (λ b. cond b (record (merged_of entry) { mounts = entry.mounts - 1 }) (merged_of entry))
-    (sym (counted_test count entry.count))) i ∷ released count rest i
-  where
-    by : (b : Bool) → merged_of (cond b (less entry) entry)
-        ≡ cond b (record (merged_of entry) { mounts = entry.mounts - 1 }) (merged_of entry)
-    by true = refl
-    by false = refl
+released count (entry ∷ rest) = grind (arith, common_steps, released count rest, counted_test)
 
 removed : (count : ℕ) (overlays : Overlays)
     → map merged_of (without_overlay count (with_overlay_changed count less overlays))
     ≡ without_merged (counted count) (map merged_of overlays)
 removed count [] = refl
-removed count (entry ∷ rest) = by (nat_eq count entry.count) refl (removed count rest)
-    ∙ ap (λ b. cond (not b) (merged_of entry ∷ without_merged (counted count) (map merged_of rest))
-    (without_merged (counted count) (map merged_of rest))) (sym (counted_test count entry.count))
-  where
-    others : Overlays
-    others = without_overlay count (with_overlay_changed count less rest)
-
-    by : (b : Bool) → nat_eq count entry.count ≡ b
-        → map merged_of others ≡ without_merged (counted count) (map merged_of rest)
-        → map merged_of (cond (not (nat_eq count (cond b (less entry) entry).count))
-        (cond b (less entry) entry ∷ others) others)
-        ≡ cond (not b) (merged_of entry ∷ without_merged (counted count) (map merged_of rest))
-        (without_merged (counted count) (map merged_of rest))
-    by true e later = ap (λ c. map merged_of (cond (not c) (less entry ∷ others) others)) e ∙ later
-    by false e later =
-        ap (λ c. map merged_of (cond (not c) (entry ∷ others) others)) e ∙ ap (λ all. merged_of entry ∷ all) later
+removed count (entry ∷ rest) = grind (arith, common_steps, removed count rest, counted_test)
 
 found_less : (count : ℕ) (overlays : Overlays) (entry : OverlayEntry) → entry_kept overlays count ≡ Some entry
     → entry_kept (with_overlay_changed count less overlays) count ≡ Some (less entry)
 found_less count [] entry e = absurd cc
-found_less count (first ∷ rest) entry e = by (nat_eq count first.count) refl e (found_less count rest entry)
-  where
-    others : Option OverlayEntry
-    others = entry_kept (with_overlay_changed count less rest) count
-
-    by : (b : Bool) → nat_eq count first.count ≡ b → cond b (Some first) (entry_kept rest count) ≡ Some entry
-        → (entry_kept rest count ≡ Some entry → others ≡ Some (less entry))
-        → cond (nat_eq count (cond b (less first) first).count) (Some (cond b (less first) first)) others
-        ≡ Some (less entry)
-    by true t h later =
-        ap (λ c. cond c (Some (less first)) others) t ∙ ap (λ one. Some (less one)) (same_Some first entry h)
-    by false t h later = ap (λ c. cond c (Some first) others) t ∙ later h
+found_less count (first ∷ rest) entry e = grind (arith, common_steps, found_less count rest entry)
 
 -- Layers
 
 mounts_seen : (count : ℕ) (all : List Shown) → Stored.mounts_shown count all ≡ mounts_shown (counted count) all
 mounts_seen count [] = refl
-mounts_seen count (one ∷ rest) = by (nat_eq count one.count) (mounts_seen count rest)
-    ∙ ap (λ b. unwrap_or (option_map (λ (x : Shown). x.mounts)
-    (cond b (Some one) (find (λ x. nat_eq (counted count) (counted x.count)) rest))) 0) (sym (counted_test count one.count))
-  where
-    by : (b : Bool) → Stored.mounts_shown count rest ≡ mounts_shown (counted count) rest
-        → unwrap_or (option_map (λ (x : Shown). x.mounts) (cond b (Some one) (find (λ x. nat_eq count x.count) rest))) 0
-        ≡ unwrap_or (option_map (λ (x : Shown). x.mounts)
-        (cond b (Some one) (find (λ x. nat_eq (counted count) (counted x.count)) rest))) 0
-    by true later = refl
-    by false later = later
+mounts_seen count (one ∷ rest) = grind (arith, common_steps, mounts_seen count rest, counted_test)
 
 layer_less : (all : List Shown) (layer : LayerRef) → Stored.without_layer all layer ≡ without_layer all (layer_of layer)
-layer_less all layer = (λ i. cond (nat_eq (mounts_seen count held i) 0)
-    (filter_alike (λ (one : Shown). not (nat_eq count one.count))
-    (λ (one : Shown). not (nat_eq (counted count) (counted one.count))) held
-    (λ one m. ap not (sym (counted_test count one.count))) i) held) ∙ ap (let_go_filesystem (counted count))
-    (map_alike (λ (one : Shown). cond (nat_eq count one.count) (record one { mounts = one.mounts - 1 }) one)
-    (λ (one : Shown). cond (nat_eq (counted count) (counted one.count)) (record one { mounts = one.mounts - 1 }) one)
-    unused (λ one m. ap (λ b. cond b (record one { mounts = one.mounts - 1 }) one) (sym (counted_test count one.count)))
-    ∙ ap (released_in (counted count)) (unpinned_shown count (inode_of layer.directory) all))
-  where
-    count : ℕ
-    count = layer.directory.filesystem.count
-
-    unused : List Shown
-    unused = shown_with count (λ inodes. unpinned nat_eq inodes (inode_of layer.directory)) all
-
-    held : List Shown
-    held = Stored.mounts_changed count (λ mounts. mounts - 1) unused
+layer_less all layer = grind (arith, common_steps, mounts_seen, filter_alike, counted_test, map_alike, unpinned_shown)
 
 layers_less : (layers : List LayerRef) (all : List Shown)
     → without_layers layers all ≡ folded without_layer all (map layer_of layers)
@@ -165,13 +100,7 @@ module _ (count : ℕ) (old held : StoreValue) (is_held : held ≡ with_mounts c
 
   by_entry : (new : StoreValue) → ((entry : OverlayEntry) → entry_kept old.overlays count ≡ Some entry
       → kept [] new ≡ leave_filesystem (counted count) (kept [] old)) → IsLeft new
-  by_entry new left = subst (λ o. IfSome o (λ one. kept [] new ≡ leave_filesystem (counted count) (kept [] old)))
-      (sym (found_merged count old.overlays)) (by (entry_kept old.overlays count) refl)
-    where
-      by : (o : Option OverlayEntry) → entry_kept old.overlays count ≡ o
-          → IfSome (option_map merged_of o) (λ one. kept [] new ≡ leave_filesystem (counted count) (kept [] old))
-      by None e = tt
-      by (Some entry) e = left entry e
+  by_entry new left = grind (arith, common_steps, found_merged)
 
   -- It goes with its last mount, and its layers with it,
   pub overlay_goes : n ≡ 0 → (new : StoreValue) → new.overlays ≡ without_overlay count held.overlays
@@ -214,9 +143,5 @@ plain_leaves number old new none plain overlays = λ i. record {
       ∙ sym (ap (λ o. merged_left_by number o (map merged_of old.overlays)) absent)) i;
 }
   where
-    none_of : {A : Type 0} (o : Option A) → is_some o ≡ false → o ≡ None
-    none_of None e = refl
-    none_of (Some one) e = absurd (true≢false e)
-
     absent : merged_at number (map merged_of old.overlays) ≡ None
-    absent = none_of (merged_at number (map merged_of old.overlays)) none
+    absent = none_from_not_some (merged_at number (map merged_of old.overlays)) none

@@ -1,6 +1,6 @@
 -- Mounts are detached alike whatever their types: a namespace that ends.
-use Rattle.std.proofs.Common.{◌≡◌, refl, sym, ap, subst, ◌∙◌, ℕ, nat_eq, eqb-true, eq-eqb, Bool, true, false, true≢false, cond, not, ◌||◌, List, [], ◌∷◌, ◌++◌, length, map, filter, Option, Some, None, option_map, is_some, if◌then◌else◌}
-use Rattle.vt_spec.proofs.Common.{Mount, Private, Propagation, Shared, Slave, Unbindable, World, holds_of, is_among, is_unbindable, length-map, list_any, map-append, map_alike, nat_eq-swapped, regrouped, same_Some, source_of}
+use Rattle.std.proofs.Common.{◌≡◌, refl, sym, ap, subst, ◌∙◌, ℕ, nat_eq, eqb-true, eq-eqb, Bool, true, false, true≢false, ◌||◌, List, [], ◌∷◌, ◌++◌, length, map, filter, Option, Some, None, option_map, is_some, if◌then◌else◌, arith}
+use Rattle.vt_spec.proofs.Common.{Mount, Private, Propagation, Shared, Slave, Unbindable, World, common_steps, holds_of, is_among, is_unbindable, length-map, list_any, map-append, map_alike, nat_eq-swapped, regrouped, same_Some, source_of}
 use Rattle.vt_mounting.proofs.Common.{AllGroupsLive, Among, Grouping, Has, MountEntry, Shown, StillTyped, TakesAway, all_from_among, among-filter, among-from_filter, among-from_map, among-map, among_from_all, among_numbers, any-map, any_from_among, as_private, changed, entry_numbered, filter-map, found_in, is_among_numbers, mounts_in, no_groups, propagation_in, typed_entry, with_kind}
 use Rattle.vt_group.specs.Together.{changed_if, with_changed}
 use Rattle.vt_group.proofs.Together.{is_among-snoc, taken_has}
@@ -8,7 +8,7 @@ use Rattle.vt_laws_mounts.proofs.letting_go.Lists.{is_among_right, held_number}
 use Rattle.vt_location.specs.declared.locations.Location.{Location}
 use Rattle.vt_retype.specs.Leaving.{OnlyTypesChange}
 use Rattle.vt_mounting.specs.Detach.NamespacesLeft.{AreDetached, Detached, IsAttached, is_attached_in, numbers_inside}
-use Rattle.vt_mounting.specs.Detach.Uses.{Kept, Merged, detached_entry, detached_use, is_unused, let_go_entry, let_go_mount, without_attachment, without_mount}
+use Rattle.vt_mounting.specs.Detach.Uses.{Kept, Merged, detached_entry, detached_use, let_go_mount, without_attachment}
 use Rattle.vt_mounting.proofs.detach.FollowedTypes.{one_left}
 
 module _ (groups : Grouping) where
@@ -40,29 +40,10 @@ module _ (groups : Grouping) where
   found-told : (number : ℕ) (entries : List MountEntry)
       → entry_numbered (map told entries) number ≡ option_map told (entry_numbered entries number)
   found-told number [] = refl
-  found-told number (entry ∷ rest) = by (nat_eq number entry.mount.number) (found-told number rest)
-    where
-      by : (b : Bool) → entry_numbered (map told rest) number ≡ option_map told (entry_numbered rest number)
-          → cond b (Some (told entry)) (entry_numbered (map told rest) number)
-          ≡ option_map told (cond b (Some entry) (entry_numbered rest number))
-      by true later = refl
-      by false later = later
+  found-told number (entry ∷ rest) = grind (arith, common_steps, found-told number rest)
 
   let_go_told : (number : ℕ) (k : Kept) → with_types (let_go_mount number k) ≡ let_go_mount number (with_types k)
-  let_go_told number k = by (entry_numbered k.mounts number)
-      ∙ ap (let_go_entry number (with_types k)) (sym (found-told number k.mounts))
-    where
-      chosen : (entry : MountEntry) (b : Bool) → with_types (cond b (without_mount number entry.mount k) k)
-          ≡ cond b (without_mount number (told entry).mount (with_types k)) (with_types k)
-      chosen entry true = ap (λ entries. record (without_mount number entry.mount k) { mounts = entries })
-          (sym (filter-map (λ (one : MountEntry). not (nat_eq number one.mount.number))
-          {q = λ (one : MountEntry). not (nat_eq number one.mount.number)} told k.mounts (λ one. refl)))
-      chosen entry false = refl
-
-      by : (o : Option MountEntry)
-          → with_types (let_go_entry number k o) ≡ let_go_entry number (with_types k) (option_map told o)
-      by None = refl
-      by (Some entry) = chosen entry (is_unused entry)
+  let_go_told number k = grind (arith, common_steps, found-told, filter-map)
 
   detached-told : (number : ℕ) (entries : List MountEntry)
       → map told (changed number detached_entry (map told entries)) ≡ map told (changed number detached_entry entries)
@@ -210,25 +191,7 @@ module _ (namespace : ℕ) where
   -- a mount stays where another is detached
   stays_there : (number : ℕ) (point : Option Location) (k : Kept) (entry : MountEntry) → Among entry k.mounts
       → nat_eq number entry.mount.number ≡ false → Among entry (without_attachment number point k).mounts
-  stays_there number point k entry m apart = by (entry_numbered (detached_use number point k).mounts number)
-    where
-      there : Among entry (detached_use number point k).mounts
-      there = subst (λ one. Among one (detached_use number point k).mounts)
-          (ap (λ b. if b then detached_entry entry else entry) apart)
-          (among-map (λ (one : MountEntry). if nat_eq number one.mount.number then detached_entry one else one)
-          k.mounts entry m)
-
-      chosen : (one : MountEntry) (b : Bool)
-          → Among entry (cond b (without_mount number one.mount (detached_use number point k))
-          (detached_use number point k)).mounts
-      chosen one true =
-          among-filter (λ (x : MountEntry). not (nat_eq number x.mount.number)) (detached_use number point k).mounts
-          entry there (ap not apart)
-      chosen one false = there
-
-      by : (o : Option MountEntry) → Among entry (let_go_entry number (detached_use number point k) o).mounts
-      by None = there
-      by (Some one) = chosen one (is_unused one)
+  stays_there number point k entry m apart = grind (arith, common_steps, among-map, among-filter)
 
   inside_gone : (gone : List Detached) (k last : Kept) → AreDetached namespace gone k last
       → list_any (is_attached_in namespace) last.mounts ≡ false
@@ -237,18 +200,8 @@ module _ (namespace : ℕ) where
   inside_gone [] k last are none entry m inside =
       absurd (true≢false (sym (any_from_among (is_attached_in namespace) last.mounts entry
       (subst (λ (one : Kept). Among entry one.mounts) (sym are) m) inside) ∙ none))
-  inside_gone (one ∷ gone) k last are none entry m inside = by (nat_eq entry.mount.number one.number) refl
-      (λ there. inside_gone gone (without_attachment one.number one.point k) last are.1 none entry there inside)
-    where
-      turned : nat_eq entry.mount.number one.number ≡ false → nat_eq one.number entry.mount.number ≡ false
-      turned apart = nat_eq-swapped entry.mount.number one.number false apart
-
-      by : (b : Bool) → nat_eq entry.mount.number one.number ≡ b
-          → (Among entry (without_attachment one.number one.point k).mounts
-          → is_among nat_eq entry.mount.number (gone_numbers gone) ≡ true)
-          → (b || is_among nat_eq entry.mount.number (gone_numbers gone)) ≡ true
-      by true same rest = refl
-      by false apart rest = rest (stays_there one.number one.point k entry m (turned apart))
+  inside_gone (one ∷ gone) k last are none entry m inside =
+      grind (arith, common_steps, inside_gone gone, nat_eq-swapped, stays_there)
 
   -- all of them are gone, and no other
   pub just_gone : (gone : List Detached) (k last : Kept) → AreDetached namespace gone k last

@@ -1,6 +1,6 @@
 -- Events that change types of mounts keep to the numbers that the world had, and to those of the groups that are made.
-use Rattle.std.proofs.Common.{◌≡◌, ◌<◌, refl, sym, ap, subst, ◌∙◌, ℕ, ◌+◌, ◌*◌, ◌%◌, ◌/◌, ◌==◌, nat_eq, nat_lt, eq-eqb, ne_eqb, ltb-true, lt-ltb, Bool, true, false, cond, ◌||◌, ◌&&◌, List, [], ◌∷◌, ◌++◌, length, map, flat_map, Option, None, Some, arith, option_to_list}
-use Rattle.vt_spec.proofs.Common.{Fresh, Mount, Namespace, Private, Propagation, Shared, Slave, TaskName, ToSetType, TypeWord, Unbindable, group_of, has_members, holds_of, index_of, is_among, list_any-append, named_mounts, numbers_by, or-true, or_parts, retyped, settled, source_of, used_by_filesystem, used_by_mount}
+use Rattle.std.proofs.Common.{◌≡◌, ◌<◌, refl, sym, ap, subst, ◌∙◌, ℕ, ◌+◌, ◌*◌, ◌%◌, ◌/◌, ◌==◌, nat_eq, nat_lt, eq-eqb, ne_eqb, ltb-true, lt-ltb, Bool, true, false, cond, ◌||◌, ◌&&◌, List, [], ◌∷◌, ◌++◌, length, map, flat_map, Option, None, Some, arith}
+use Rattle.vt_spec.proofs.Common.{Fresh, Mount, Namespace, Propagation, TaskName, ToSetType, TypeWord, common_steps, group_of, has_members, holds_of, index_of, is_among, list_any-append, named_mounts, numbers_by, or-true, or_parts, retyped, settled, used_by_filesystem, used_by_mount}
 use Rattle.vt_mounting.proofs.Common.{Grouping, Has, IsHeld, KeepsTo, WorldValue, counted_later, counts_from, index_bound, is_counted_before, mounts_in, permits_keep_to_numbers, world_of}
 use Rattle.vt_group.specs.Grouping.{LacksGroup}
 use Rattle.vt_retype.specs.Retyping.{retyped as retyped_entry}
@@ -34,19 +34,7 @@ beyond number (mount ∷ rest) more =
 unused_lacks : (number : ℕ) (mounts : List (Mount ℕ)) → is_among nat_eq number (flat_map used_by_mount mounts) ≡ false
     → has_members nat_eq mounts number ≡ false
 unused_lacks number [] none = refl
-unused_lacks number (mount ∷ rest) none =
-    let parts = or_parts (nat_eq number mount.number) _ none in
-    let later = or_parts (is_among nat_eq number (option_to_list (source_of mount.propagation))) _
-    (sym (list_any-append (nat_eq number) (option_to_list (source_of mount.propagation)) (flat_map used_by_mount rest))
-    ∙ parts.1) in
-    (λ i. by mount.propagation later.0 i || unused_lacks number rest later.1 i)
-  where
-    by : (kind : Propagation ℕ) → is_among nat_eq number (option_to_list (source_of kind)) ≡ false
-        → holds_of (nat_eq number) (group_of kind) ≡ false
-    by (Shared group) e = (or_parts (nat_eq number group) false e).0
-    by (Slave master) e = refl
-    by Private e = refl
-    by Unbindable e = refl
+unused_lacks number (mount ∷ rest) none = grind (arith, common_steps, unused_lacks number rest, list_any-append)
 
 -- how a change of types is seen, whichever new numbers its groups have
 abbrev pub SeenAs : WorldValue → TypeWord → List (Mount ℕ) → (ℕ → Propagation ℕ → Propagation ℕ) → Grouping → Type 0

@@ -1,6 +1,6 @@
 -- A mount on which no other stands is unmounted: umount(2).
-use Rattle.std.proofs.Common.{◌≡◌, refl, sym, ap, subst, ◌∙◌, inl, ℕ, nat_eq, eqb-true, Bool, true, false, true≢false, ◌||◌, List, [], ◌∷◌, ◌++◌, map, flat_map, Option, Some, None, option_map, is_some, arith, IfSome}
-use Rattle.vt_spec.proofs.Common.{Location as Place, Mount, TaskName, ToUnmount, World, going, going_at, going_from, has_child, holds_of, is_shared, is_used, mount_at, mount_in, mount_numbered, numbers_in_use, or_parts, stands_on, taken_away, used_by_filesystem, used_by_mount}
+use Rattle.std.proofs.Common.{◌≡◌, refl, sym, ap, subst, ◌∙◌, inl, ℕ, nat_eq, eqb-true, Bool, true, false, true≢false, ◌||◌, List, [], ◌∷◌, ◌++◌, map, flat_map, Option, option_map, is_some, arith, IfSome}
+use Rattle.vt_spec.proofs.Common.{Location as Place, Mount, TaskName, ToUnmount, World, common_steps, going, has_child, holds_of, is_shared, is_used, mount_at, mount_in, mount_numbered, numbers_in_use, or_parts, stands_on, taken_away, used_by_filesystem, used_by_mount}
 use Rattle.vt_mounting.proofs.Common.{Among, Filesystems, IsHeld, MountEntry, WorldValue, among-append_left, among-flat_map, found_is_there, found_itself, in_use_of, is_among_numbers, is_counted_before, is_small_node, is_ungrouped, location_of, mounts_in, none_among, number-mount_in, used_numbers_are_named, world_of}
 use Rattle.vt_location.specs.declared.locations.Location.{Location}
 use Rattle.vt_mounting.specs.Detach.Events.{Permits}
@@ -31,15 +31,7 @@ pub goes_apart : (world : World ℕ) (number : ℕ)
     → holds_of (λ (place : Place ℕ). is_shared (mount_at nat_eq world place).propagation)
     (mount_numbered nat_eq world number).mount_point ≡ false
     → going nat_eq world (mount_numbered nat_eq world number) ≡ number ∷ []
-goes_apart world number apart = by (mount_numbered nat_eq world number).mount_point apart
-  where
-    its_number : (mount_numbered nat_eq world number).number ∷ [] ≡ number ∷ []
-    its_number = ap (λ n. n ∷ []) (number-mount_in world.mounts number)
-
-    by : (o : Option (Place ℕ)) → holds_of (λ (place : Place ℕ). is_shared (mount_at nat_eq world place).propagation) o
-        ≡ false → going_at nat_eq world (mount_numbered nat_eq world number) o ≡ number ∷ []
-    by None e = its_number
-    by (Some place) e = ap (going_from nat_eq world (mount_numbered nat_eq world number) place) e ∙ its_number
+goes_apart world number apart = grind (arith, common_steps, number-mount_in)
 
 -- a mount without children is a list with its children
 pub childless : (world : World ℕ) (number : ℕ) → has_child nat_eq world number ≡ false

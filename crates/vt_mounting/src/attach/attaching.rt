@@ -31,12 +31,15 @@ fn has_room(filesystems: &Filesystems, mount: Mount, most: u64) -> bool
     ensures room { result ≡ meant.has_room most (shown filesystems.now) mount }
     ensures slots { has_small_nodes mount ≡ true }
 {
+    // The filesystem is looked for first, so that its hash serves for the root too.
+    let count = filesystems.mounts(mount.root.filesystem);
     node_has_room(filesystems, mount.root, most)
         && point_has_room(filesystems, mount.mount_point, most)
-        && filesystems.mounts(mount.root.filesystem) <= most
+        && count <= most
 }
 
 // Whether a node has no more uses than so many.
+#[inline(always)]
 fn node_has_room(filesystems: &Filesystems, node: NodeRef, most: u64) -> bool
     ensures room { result ≡ nat_le (uses_shown (inode_of node) (shown filesystems.now)) most }
     ensures slots { is_small_node node ≡ true }

@@ -22,13 +22,12 @@ pub fn detach(mounts: &mut Mounts, store: &mut Store, id: MountId) -> Option<Loc
     ensures overlays { OverlaysLeft store.old.overlays store.new.overlays }
     ensures slot { IfSome result (λ point. is_small_node point.node ≡ true) }
 {
-    let mount = mounts.get(id)?;
-    mounts.detach(id);
-    if let Some(point) = mount.mount_point {
+    let left = mounts.detach(id);
+    if let Some(point) = left {
         store.plain_mut().unpin(point.node);
     }
     let_go_mount(mounts, store, id);
-    mount.mount_point
+    left
 }
 
 /// Mounts leave their namespaces one after the other. It does not allocate.

@@ -2,10 +2,11 @@
 use Rattle.std.proofs.Common.{◌≡◌, refl, sym, ap, ◌∙◌, ℕ, zero, suc, ◌+◌, nat_eq, Bool, true, false, cond, not, List, [], ◌∷◌, map, filter, find, take, Option, Some, None, option_map, is_some, length, get_or, ◌<◌, arith, slice_get}
 use Rattle.vt_spec.proofs.Common.{Mount, holds_of, same_Some, slice_get-get_or, slice_get-map}
 use Rattle.vt_ns.proofs.Common.{MountEntry, among-from_filter, among-from_map, are_ascending, counted, is_some_mapped, location_of, mount_of, mounts_in}
+use Rattle.vt_laws_trees.proofs.trees.Lists.{nth_among}
 use Rattle.vt_location.specs.declared.mounts.Mount.{Mount as Attached}
 use Rattle.vt_location.specs.declared.numbers.MountId.{MountId}
 use Rattle.vt_ns.specs.Entering.{root_mount_in}
-use Rattle.vt_mounting.proofs.detach.EndingLemmas.{entry_ascending, last_is_among}
+use Rattle.vt_mounting.proofs.detach.EndingLemmas.{entry_ascending}
 use Rattle.vt_mounting.proofs.detach.Shown.{found_entry}
 
 -- the first that passes is the next one, or none of those with it passes
@@ -66,7 +67,7 @@ listed_at entries namespace ids n id rising listed at = by (slice_get inside n) 
         let number : counted id.count ≡ mount.number = same_Some _ _
         (numbers ∙ ap (option_map (λ (mount : Mount ℕ). mount.number)) e) in
         let among = among-from_filter (λ (x : Mount ℕ). holds_of (nat_eq namespace) x.namespace)
-        (mounts_in entries) mount (last_is_among inside n mount e) in
+        (mounts_in entries) mount (nth_among inside n mount e) in
         let entry = among-from_map (λ (one : MountEntry). one.mount) entries mount among.0 in (
           mount,
           e,

@@ -1,5 +1,5 @@
 -- Mounts that get other mount points: what is kept of the world then.
-use Rattle.std.proofs.Common.{◌≡◌, refl, sym, ap, subst, ◌∙◌, ⊎_elim, inl, inr, ℕ, ◌+◌, nat_eq, eqb-true, Bool, true, false, true≢false, cond, not, ◌&&◌, ◌||◌, List, [], ◌∷◌, ◌++◌, filter, map, find, Option, Some, None, option_map, is_some, unwrap_or, option_and_then, option_to_list, append-nil}
+use Rattle.std.proofs.Common.{◌≡◌, refl, sym, ap, subst, ◌∙◌, ⊎_elim, inl, inr, ℕ, ◌+◌, nat_eq, eqb-true, Bool, true, false, true≢false, cond, not, ◌&&◌, ◌||◌, List, [], ◌∷◌, ◌++◌, filter, map, find, Option, Some, None, option_map, is_some, unwrap_or, option_and_then, option_to_list, append-nil, map-id}
 use Rattle.vt_spec.proofs.Common.{Filesystem, Location, Mount, World, all_locations, and_parts, filesystem_lives, filesystem_numbered, is_among, is_located_well, is_mounted, is_nowhere_or_attached, is_overlay, is_private, is_there, list_all, lookup, map_alike, map_twice, mount_at, mount_in, mount_lives, no_mount, node_in, or_else, same_Some, shown-mapped, with_mounts}
 use Rattle.vt_spec.specs.Inodes as Trees
 use Rattle.vt_ns.proofs.Common.{Among, CountsItsMounts, CountsItsUses, Exchanges, FilesystemEntry, Filesystems, Inode, IsHeld, IsKeptBut, Kept, Merged, MountEntry, Point, Shown, WorldValue, all_from_among, all_in_use, among-from_map, among-map, among_from_all, among_from_list_all, counted, entry_numbered, filesystem_seen, found_mapped, found_plain_one, inode_at, inodes_seen, is_small, kept_of, kept_with, layer_count, location_of, merged_seen, mounts_in, mounts_showing, moved_by, number_of, overlays_seen, point_seen, points_left, points_taken, seen_where_located, shown, shown_entry, with_planned, world_of}
@@ -23,7 +23,6 @@ use Rattle.vt_mounting.proofs.detach.Grouped.{stays_private}
 use Rattle.vt_mounting.proofs.detach.Keeping.{IsShownIn}
 use Rattle.vt_mounting.proofs.detach.LostUses.{entry_found_at}
 use Rattle.vt_mounting.proofs.detach.MountsChanged.{times_map}
-use Rattle.vt_mounting.proofs.detach.Moving.{map_itself}
 use Rattle.vt_mounting.proofs.detach.Overlaid.{plain_ones_are}
 use Rattle.vt_mounting.proofs.detach.OverlaysGone.{layers_used, merged_in}
 
@@ -307,7 +306,7 @@ module _ (value : WorldValue) (whole : IsHeld value) (points : List Point) (may 
     -- the uses of both are counted
     pub moved_is_kept : IsKeptBut value [] [] gained lost after (kept_with mounts filesystems overlays)
     moved_is_kept = record {
-      mounts = mounts_are ∙ map_itself (mounts_in mounts);
+      mounts = mounts_are ∙ sym (map-id (mounts_in mounts));
       uses = all_from_among (CountsItsUses after) mounts (λ entry m.
           let was = among_from_all (CountsItsUses before) (with_points points value.mounts)
           (points_count before points value.mounts whole.mounts) entry (subst (Among entry) entries_are m) in

@@ -1,5 +1,5 @@
 -- The event that renames, with the mounts on what is replaced: rename(2).
-use Rattle.std.proofs.Common.{◌≡◌, ◌≢◌, refl, sym, ap, subst, ◌∙◌, true, ℕ, nat_eq, ◌&&◌, List, [], ◌∷◌, Option, None, Some, option_map, map, length, IfSome, option_to_list}
+use Rattle.std.proofs.Common.{◌≡◌, ◌≢◌, refl, sym, ap, subst, ◌∙◌, true, ℕ, nat_eq, ◌&&◌, List, [], ◌∷◌, Option, None, Some, option_map, map, length, IfSome, option_to_list, map-id}
 use Rattle.vt_spec.proofs.Common.{Change, Fresh, Mount, Move, Permit, TaskName, ToChange, ToRename, World, apply, entry_at, filesystem_at, filesystem_numbered, mount_at, mount_numbered, mounts_on, regrouped, same_Some, with_change, with_mounts, without_replaced}
 use Rattle.vt_spec.specs.Machine.Mounts as meant
 use Rattle.vt_ns.proofs.Common.{Among, ChangesFiles, ChangesInodes, Filesystems, Grouping, HasChildrenOf, IsDone, IsFilesEvent, IsHeld, IsSmall, LeaveTogether, Merged, MountEntry, NamesWhatIsThere, OverlaysLeft, Permits, StoreValue, WorldValue, counted, detached_world, inodes_seen, is_counted_before, is_small_node, kept, kept_of, kept_with, location_of, merged_of, mounts_in, nodes_named, number_of, numbers_of_trees, permit_named, remade_with, taken_regroups, with_filesystems, with_store, world_of}
@@ -17,7 +17,6 @@ use Rattle.vt_mounting.proofs.detach.LazilyUnmounted.{trees_have_children}
 use Rattle.vt_ns.proofs.world.DetachedStored.{collected_leave, left_is_stored, none_goes, some_go}
 use Rattle.vt_ns.proofs.world.MountsOn.{none_on, one_on, tops_on, trees_collected}
 use Rattle.vt_ns.proofs.world.PlainStored.{files_stored}
-use Rattle.vt_mounting.proofs.detach.Moving.{map_itself}
 
 -- the mounts on what is replaced
 abbrev pub tops_on_replaced : WorldValue → Option Location → List (Mount ℕ)
@@ -76,7 +75,7 @@ module _ (value : WorldValue) (held : IsHeld value) (name : TaskName) (from : Lo
   taken : (o : Option Location) → without_replaced nat_eq world (option_map location_of o)
       ≡ regrouped nat_eq (detached_world (numbers_of_trees world (tops_on_replaced value o)) world)
   taken None = sym (regrouped_living world held.in_world.mounts.groups)
-      ∙ ap (λ mounts. regrouped nat_eq (with_mounts world mounts)) (map_itself world.mounts)
+      ∙ ap (λ mounts. regrouped nat_eq (with_mounts world mounts)) (sym (map-id world.mounts))
   taken (Some other) = taken_regroups world (numbers_of_trees world (tops_on value other))
       (trees_have_children world held.in_world.mounts (tops_on value other))
 

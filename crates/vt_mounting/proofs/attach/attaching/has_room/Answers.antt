@@ -15,7 +15,7 @@ returns-then-point_has_room-clause-room c =
           let point : meant.point_has_room c.args.most all c.args.mount.mount_point ≡ true =
           sym w.point_has_room.ensures.room ∙ sym w.value-is ∙ c.if-point_has_room.true in
           ap (λ n. nat_le n c.args.most)
-          (c.mounts.ensures ∙ mounts_are_shown c.args.mount.root.filesystem.count c.args.filesystems.now)
+          (c.mounts-count.ensures ∙ mounts_are_shown c.args.mount.root.filesystem.count c.args.filesystems.now)
           ∙ (λ i. sym used i && sym point i
           && nat_le (mounts_shown (counted c.args.mount.root.filesystem.count) all) c.args.most)
       | else-node_has_room w ↦
