@@ -29,10 +29,10 @@ pub trait Calls {
     ///
     /// S2 (ESRCH): there is no such task. S5 (ENOMEM): an allocation failed, or a count of uses is full. The other
     /// rules are those of the call, in its order.
-    fn call(&mut self, name: &TaskName, call: Call) -> Result<Answer, Deny>
-        ensures ends { Ends world self.old name.now (call_of call) result self.new }
+    fn call(&mut self, name: &TaskName, call: Call<'_>) -> Result<Answer, Deny>
+        ensures ends { Ends world self.old name.now (call_of call.entry) result self.new }
         ensures change { OnOk result
-            ((world self.new).change ≡ change_after (call_of call) (world self.old).change) };
+            ((world self.new).change ≡ change_after (call_of call.entry) (world self.old).change) };
 
     /// What a directive tells. It is nobody's call, and changes nothing.
     ///
@@ -41,4 +41,7 @@ pub trait Calls {
         ensures ok { IfOk result (λ answer. (directed nat_eq (world self.now) (directive_of directive)).answer
             ≡ Ok (answer_of answer)) }
         ensures memory { IfErr result (λ deny. deny ≡ denial S5) };
+
+    /// Frees the world. Crates above end worlds by this call alone, so that one crate proves the drop of a world.
+    fn end(self);
 }

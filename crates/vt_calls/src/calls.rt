@@ -50,7 +50,7 @@ impl Calls for Kernel {
         })
     }
 
-    fn call(&mut self, name: &TaskName, call: Call) -> Result<Answer, Deny> {
+    fn call(&mut self, name: &TaskName, call: Call<'_>) -> Result<Answer, Deny> {
         let after = change_after(&call, self.change);
         let answer = judged_call(&mut self.world, self.change, name, call)?;
         self.change = after;
@@ -62,10 +62,12 @@ impl Calls for Kernel {
             Directive::Peers => Ok(Answer::PeerList(self.world.peers()?)),
         }
     }
+
+    fn end(self) {}
 }
 
 // The world's change number once a call has succeeded; the largest one stays.
-fn change_after(call: &Call, change: u64) -> u64
+fn change_after(call: &Call<'_>, change: u64) -> u64
     ensures { result ≡ change_after (call_of call.now) change }
 {
     if call.only_looks() || change == u64::MAX {
@@ -76,8 +78,13 @@ fn change_after(call: &Call, change: u64) -> u64
 
 // Judges a call in the world of this change number, and spends its permit.
 #[inline(always)]
-fn judged_call(world: &mut World, change: u64, name: &TaskName, call: Call) -> Result<Answer, Deny>
-    ensures ends { Ends world.old name.now (call_of call) result world.new }
+fn judged_call(
+    world: &mut World,
+    change: u64,
+    name: &TaskName,
+    call: Call<'_>,
+) -> Result<Answer, Deny>
+    ensures ends { Ends world.old name.now (call_of call.entry) result world.new }
     ensures held { IsHeld world.old }
 {
     match permit_of(world, change, name, call) {
@@ -89,9 +96,9 @@ fn judged_call(world: &mut World, change: u64, name: &TaskName, call: Call) -> R
 // The permit of a call in the world of this change number. S2 (ESRCH): there is no such task. The other rules are those
 // of the call.
 #[inline(always)]
-fn permit_of(world: &World, change: u64, name: &TaskName, call: Call) -> Result<Permit, Deny>
-    ensures ok { IfOk result (λ permit. IsPermitted world.now change name.now (call_of call) permit) }
-    ensures err { IfErr result (λ deny. Ends world.now name.now (call_of call) (Err deny) world.now) }
+fn permit_of(world: &World, change: u64, name: &TaskName, call: Call<'_>) -> Result<Permit, Deny>
+    ensures ok { IfOk result (λ permit. IsPermitted world.now change name.now (call_of call.entry) permit) }
+    ensures err { IfErr result (λ deny. Ends world.now name.now (call_of call.entry) (Err deny) world.now) }
     ensures held { IsHeld world.now }
 {
     let Some(task) = world.task(name) else {

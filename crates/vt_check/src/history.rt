@@ -284,7 +284,7 @@ impl History {
     }
 
     // What a call of a task leaves for later ones, if it is no fork.
-    fn apply<'a>(&mut self, line: u64, numbers: &'a [u8], call: &'a Call) -> Option<Warning<'a>> {
+    fn apply<'a>(&mut self, line: u64, numbers: &'a [u8], call: &Call<'a>) -> Option<Warning<'a>> {
         let task = self.tasks.get_mut(numbers)?;
         match call {
             Call::Task(TaskCall::Umask { mode }) => task.umask = mode.bits(),
@@ -305,7 +305,7 @@ impl History {
                 return Warning::of_mode(5, *mode, task.umask);
             }
             Call::Mount(MountCall::Overlay { path, options, .. }) => {
-                return Warning::of_overlay(path.as_slice(), options.as_slice());
+                return Warning::of_overlay(path, options);
             }
             _ => {}
         }
@@ -317,7 +317,7 @@ impl History {
         &mut self,
         line: u64,
         name: &'a TaskName,
-        call: &'a Call,
+        call: &Call<'a>,
     ) -> Option<Warning<'a>> {
         let numbers = name.numbers();
         let is_new = self.meet(numbers, UMASK);

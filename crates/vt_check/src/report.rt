@@ -11,10 +11,10 @@ use crate::history::{History, Warning};
 use crate::words::word_at;
 use std::alloc::{AllocError, Global};
 use strsim::osa_distance;
-use vt_line::line::Line;
+use vt_line::line::{Line, Unescaped};
 use vt_line::version::Version;
 use vt_lines::lines::first_line;
-use vt_lines::reading::reading;
+use vt_lines::reading::{free, reading};
 use vt_request::{Call, TaskName};
 
 /// The most findings of a file that are shown.
@@ -127,17 +127,29 @@ impl<'a> Scan<'a> {
         if !self.is_like_fork(word_at(line, 1).text) {
             return;
         }
-        match exit_of(self.version, self.alloc, word_at(line, 0).text) {
+        match exit_of(self.alloc, word_at(line, 0).text) {
+            Ok(exit) => {
+                self.refuse_fork_before(number, exit.as_bytes());
+                drop(exit);
+            }
+            Err(_) => self.failed = true,
+        }
+    }
+
+    // Goes on by a refused line of this number that was to fork a child of the task that ends by another line.
+    fn refuse_fork_before(&mut self, number: u64, exit: &[u8]) {
+        let mut texts = None;
+        match reading(self.version, self.alloc, exit, &mut texts) {
             Ok(read) => {
                 self.refuse_fork_of(number, &read);
-                drop(read);
+                free(read);
             }
             Err(_) => self.failed = true,
         }
     }
 
     // Goes on by a refused line of this number that was to fork a child of the task of another line.
-    fn refuse_fork_of(&mut self, number: u64, read: &Option<Line>) {
+    fn refuse_fork_of(&mut self, number: u64, read: &Option<Line<'_>>) {
         if let Some(Line::Call(task, _)) = read {
             self.history.refused_fork(number, task);
         }
@@ -162,7 +174,7 @@ impl<'a> Scan<'a> {
     }
 
     // Goes on by a line as a run reads it, or by one that it refuses.
-    fn follow(&mut self, number: u64, line: &'a [u8], read: &Option<Line>) {
+    fn follow(&mut self, number: u64, line: &'a [u8], read: &Option<Line<'_>>) {
         match read {
             None => self.refuse(number, line),
             Some(Line::Call(name, call)) => self.called(number, line, name, call),
@@ -171,20 +183,27 @@ impl<'a> Scan<'a> {
     }
 
     // Goes on by a task's call.
-    fn called(&mut self, number: u64, line: &'a [u8], name: &TaskName, call: &Call) {
+    fn called(&mut self, number: u64, line: &'a [u8], name: &TaskName, call: &Call<'_>) {
         if let Some(warning) = self.history.call(number, name, call) {
             self.warn(number, line, warning);
         }
     }
 
-    // Goes on by a line, and says whether a run refuses it, in this version of the language.
-    fn take(&mut self, version: Version, number: u64, line: &'a [u8]) -> Result<bool, AllocError>
+    // Goes on by a line, and says whether a run refuses it, in this version of the language. Its texts are kept in a place
+    // that serves each line in turn.
+    fn take(
+        &mut self,
+        version: Version,
+        number: u64,
+        line: &'a [u8],
+        texts: &mut Option<Unescaped>,
+    ) -> Result<bool, AllocError>
         ensures { IfOk result (λ refused. refused ≡ is_refused (version_of version) line.now) }
     {
-        let read = reading(version, self.alloc, line)?;
+        let read = reading(version, self.alloc, line, texts)?;
         let refused = read.is_none();
         self.follow(number, line, &read);
-        drop(read);
+        free(read);
         Ok(refused)
     }
 
@@ -196,9 +215,10 @@ impl<'a> Scan<'a> {
         let mut rest = text;
         let mut number: u64 = 0;
         let mut errors: u64 = 0;
+        let mut texts = None;
         while let Some((line, after)) = first_line(rest) {
             number = number.saturating_add(1);
-            if self.take(version, number, line)? {
+            if self.take(version, number, line, &mut texts)? {
                 errors += 1;
             }
             rest = after;
@@ -248,14 +268,11 @@ fn line_of(text: &[u8], number: u64) -> &[u8] {
 }
 
 // The line by which a task of this name ends, if the name is one.
-fn exit_of(version: Version, alloc: Global, name: &str) -> Result<Option<Line>, AllocError> {
+fn exit_of(alloc: Global, name: &str) -> Result<String, AllocError> {
     let mut exit = Draft::new(alloc);
     exit.push(name);
     exit.push(" exit");
-    let exit = exit.end()?;
-    let read = reading(version, alloc, exit.as_bytes());
-    drop(exit);
-    read
+    exit.end()
 }
 
 // A warning with its place in the line.

@@ -6,7 +6,7 @@ use crate::tools::{hand_on, readable, told};
 use std::alloc::AllocError;
 use std::io::Write;
 use std::rt::Files;
-use vt_calls::Kernel;
+use vt_calls::{Calls, Kernel};
 use vt_lines::reached::reached_before;
 use vt_run::fault::{Fault, out_of_memory};
 use vt_script::Version;
@@ -76,8 +76,7 @@ fn show_script<R: Eprint + AllocGlobal, W: Write>(
     count_refused(rt, name, reached.refused);
     let mut shown = Vec::new(alloc);
     let outcome = show_world(alloc, reached.world.world(), options, &mut shown);
-    // By a call: the proof of a function that drops a world itself takes minutes.
-    drop(reached);
+    reached.world.end();
     match outcome {
         Ok(true) => hand_on(output, shown.as_slice()),
         Ok(false) => Err(refuse(rt, name, NO_TASK)),

@@ -62,7 +62,7 @@ fn two<'a>(first: &'a [u8], last: Last, second: &'a [u8], other: Last) -> Paths<
     }
 }
 
-fn of_look(call: &LookCall) -> Paths<'_> {
+fn of_look<'a>(call: &LookCall<'a>) -> Paths<'a> {
     match call {
         LookCall::Ls { path } | LookCall::Stat { path } => one(path, Last::Object),
         LookCall::Read { path } | LookCall::Exec { path } => one(path, Last::Object),
@@ -80,7 +80,7 @@ fn unfollowed(path: &[u8]) -> Last {
     }
 }
 
-fn of_make(call: &MakeCall) -> Paths<'_> {
+fn of_make<'a>(call: &MakeCall<'a>) -> Paths<'a> {
     match call {
         MakeCall::Mkdir { path, .. } | MakeCall::Symlink { path, .. } => one(path, Last::Name),
         MakeCall::Whiteout { path } => one(path, Last::Name),
@@ -88,14 +88,14 @@ fn of_make(call: &MakeCall) -> Paths<'_> {
     }
 }
 
-fn of_remove(call: &RemoveCall) -> Paths<'_> {
+fn of_remove<'a>(call: &RemoveCall<'a>) -> Paths<'a> {
     match call {
         RemoveCall::Unlink { path } | RemoveCall::Rmdir { path } => one(path, Last::Name),
         RemoveCall::Rename { old, new } => two(old, Last::Name, new, Last::Name),
     }
 }
 
-fn of_write(call: &WriteCall) -> Paths<'_> {
+fn of_write<'a>(call: &WriteCall<'a>) -> Paths<'a> {
     match call {
         WriteCall::Write { path, .. } => one(path, Last::File),
         WriteCall::Pwrite { .. } => NONE,
@@ -104,7 +104,7 @@ fn of_write(call: &WriteCall) -> Paths<'_> {
     }
 }
 
-fn of_descriptor(call: &DescriptorCall) -> Paths<'_> {
+fn of_descriptor<'a>(call: &DescriptorCall<'a>) -> Paths<'a> {
     match call {
         DescriptorCall::Open { path, creation, .. } => match creation {
             Creation::Never => one(path, Last::Object),
@@ -115,14 +115,14 @@ fn of_descriptor(call: &DescriptorCall) -> Paths<'_> {
     }
 }
 
-fn of_task(call: &TaskCall) -> Paths<'_> {
+fn of_task<'a>(call: &TaskCall<'a>) -> Paths<'a> {
     match call {
         TaskCall::Chdir { path } | TaskCall::Chroot { path } => one(path, Last::Object),
         _ => NONE,
     }
 }
 
-fn of_mount(call: &MountCall) -> Paths<'_> {
+fn of_mount<'a>(call: &MountCall<'a>) -> Paths<'a> {
     match call {
         MountCall::Plain { path, .. } | MountCall::Overlay { path, .. } => {
             one(path, Last::Destination)
@@ -139,7 +139,7 @@ fn of_mount(call: &MountCall) -> Paths<'_> {
 }
 
 /// The paths of a call.
-pub fn paths_of(call: &Call) -> Paths<'_> {
+pub fn paths_of<'a>(call: &Call<'a>) -> Paths<'a> {
     match call {
         Call::Look(call) => of_look(call),
         Call::Make(call) => of_make(call),
@@ -152,15 +152,15 @@ pub fn paths_of(call: &Call) -> Paths<'_> {
 }
 
 /// The options of the overlay that a call is to mount, if it is such a call.
-pub fn overlay_options(call: &Call) -> Option<&[u8]> {
+pub fn overlay_options<'a>(call: &Call<'a>) -> Option<&'a [u8]> {
     match call {
-        Call::Mount(MountCall::Overlay { options, .. }) => Some(options.as_slice()),
+        Call::Mount(MountCall::Overlay { options, .. }) => Some(options),
         _ => None,
     }
 }
 
 /// The descriptor of the file that a call is to write to.
-pub fn descriptor_of(call: &Call) -> Option<u8> {
+pub fn descriptor_of(call: &Call<'_>) -> Option<u8> {
     match call {
         Call::Write(WriteCall::Pwrite { descriptor, .. }) => Some(*descriptor),
         _ => None,

@@ -116,13 +116,12 @@ impl Earlier {
     fn record_all(&mut self, version: Version, alloc: Global, kernel: Kernel, script: &[u8]) {
         let mut kernel = kernel;
         self.record_lines(version, alloc, &mut kernel, script);
-        // By a call: the proof of a function that drops a world itself takes minutes.
-        drop(kernel);
+        kernel.end();
     }
 }
 
 impl Teller<Kernel> for Earlier {
-    fn before(&mut self, _kernel: &Kernel, _name: &TaskName, _call: &Call) {}
+    fn before(&mut self, _kernel: &Kernel, _name: &TaskName, _call: &Call<'_>) {}
 
     fn after(
         &mut self,

@@ -222,7 +222,7 @@ impl Before {
     }
 
     // Tells where the paths of the call lead.
-    fn tell_paths(&mut self, asked: Asked<'_>, view: View<'_>, call: &Call) {
+    fn tell_paths(&mut self, asked: Asked<'_>, view: View<'_>, call: &Call<'_>) {
         let paths = paths_of(call);
         self.first = self.tell_path(asked, view, paths.first);
         self.second = self.tell_path(asked, view, paths.second);
@@ -236,7 +236,7 @@ impl Before {
     }
 
     // Tells where the paths lead of a task's call.
-    fn tell_walks(&mut self, asked: Asked<'_>, world: &World, name: &TaskName, call: &Call) {
+    fn tell_walks(&mut self, asked: Asked<'_>, world: &World, name: &TaskName, call: &Call<'_>) {
         let Some(who) = world.task(name) else {
             return;
         };
@@ -261,7 +261,7 @@ impl Before {
     }
 
     // Tells what is told before a call is made.
-    fn tell(&mut self, asked: Asked<'_>, world: &World, name: &TaskName, call: &Call) {
+    fn tell(&mut self, asked: Asked<'_>, world: &World, name: &TaskName, call: &Call<'_>) {
         match picture_of(asked.alloc, world) {
             Ok(picture) => {
                 self.tell_caller(asked, &picture.tasks, name);
@@ -495,7 +495,7 @@ impl<'a> Explanation<'a> {
 }
 
 impl Teller<Kernel> for Explanation<'_> {
-    fn before(&mut self, kernel: &Kernel, name: &TaskName, call: &Call) {
+    fn before(&mut self, kernel: &Kernel, name: &TaskName, call: &Call<'_>) {
         self.before.tell(self.asked, kernel.world(), name, call);
     }
 

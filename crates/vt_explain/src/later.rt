@@ -39,7 +39,8 @@ fn refusal_of<L: LookAtLayers>(
         → rule ≡ refusal (L.looks refused.now.world.now) (L.overfills refused.now.world.now)
         (task_of refused.now.who.now) call passed) }
 {
-    match Line::parse_as(refused.version, refused.alloc, refused.line) {
+    let mut texts = None;
+    match Line::parse_as(refused.version, refused.alloc, refused.line, &mut texts) {
         Ok(Line::Call(_, call)) => {
             refusal(refused.alloc, refused.world, refused.who, call, passed)
         }

@@ -21,7 +21,11 @@ pub fn line_at(
 
 /// Whether a line has an answer.
 pub fn is_spoken(version: Version, alloc: Global, line: &[u8]) -> bool {
-    !matches!(Line::parse_as(version, alloc, line), Ok(Line::Silent))
+    let mut texts = None;
+    !matches!(
+        Line::parse_as(version, alloc, line, &mut texts),
+        Ok(Line::Silent)
+    )
 }
 
 /// The number of the line with an answer that is nearest to this one; of two that are as near, the earlier.

@@ -45,12 +45,12 @@ pub fn refusal<L: LookAtLayers>(
     alloc: Global,
     world: &L,
     who: &Task,
-    call: Call,
+    call: Call<'_>,
     passed: Passed,
 ) -> Result<Option<Rule>, AllocError>
     ensures { IfOk result (λ rule. rule ≡ refused_by (judge nat_eq
         (lenient_looks passed (L.looks world.now)) (lenient_overfills passed (L.overfills world.now))
-        (lenient_task passed (task_of who.now)) (call_of call))) }
+        (lenient_task passed (task_of who.now)) (call_of call.entry))) }
 {
     let caller = lenient_task(alloc, who, passed)?;
     let lenient = Lenient { world, passed };

@@ -1,7 +1,6 @@
 -- Calls by their names and words.
 use Rattle.std.proofs.Common.{List, None, Option, Some, Result, Err, option_map, refl, false, true, subst, sym, ap, ◌≡◌, ◌∙◌, ◌∷◌, [], ℕ, IsSome, IsSomeAnd}
 use Rattle.vt_spec.proofs.Common.{Call, One, Two, Version, call_read, no_more, path_word, then_some, word_then}
-use Rattle.std.specs.Global.{Vec}
 use Rattle.vt_spec.specs.Language.Calls as spec
 use Rattle.vt_spec.specs.Language.Script.{names_no_upper, path_alone, two_paths}
 use Rattle.vt_request.specs.declared.request.Call.{Call as KeptCall}
@@ -12,8 +11,7 @@ use Rattle.vt_line.specs.declared.names.PairCall.TheVariants as pair
 use Rattle.vt_line.specs.declared.names.PathCall.{PathCall}
 use Rattle.vt_line.specs.declared.names.PathCall.TheVariants as path
 use Rattle.vt_line.specs.declared.calls.ReadError.{ReadError}
-use Rattle.vt_line.specs.declared.calls.ReadError.TheVariants.{Grammar, Memory}
-use Rattle.vt_line.specs.Calls.{ArePathsRead, IsCallRead, KeepsWords, as_read, call_named, lone_path, path_pair, with_pair}
+use Rattle.vt_line.specs.Calls.{IsCallRead, as_read, call_named, lone_path, path_pair, with_pair}
 use Rattle.vt_line.specs.Names.{pair_call, path_call}
 
 -- Words that are read alone, and then made a call
@@ -49,11 +47,6 @@ two_paths-pair call words =
     (λ first. word_then path_word (λ second. no_more (call first second))) words
     (λ first rest. word_then-map (with_pair call) path_word (λ second. no_more (first, second))
     (λ second. no_more (call first second)) rest (λ second rest. no_more-map (with_pair call) (first, second) rest))
-
-some_keeps : {A : Type 0} (call : A → Call) (paths : Option A) → ((x : A) → KeepsWords (call x)) → IsSome paths
-    → IsSomeAnd (option_map call paths) KeepsWords
-some_keeps call None keeps some = cc
-some_keeps call (Some x) keeps some = keeps x
 
 -- calls that have no options are read as they are
 had : {A : Type 0} (call : A → Call) (words : Option A) → ((x : A) → call_read names_no_upper (call x) ≡ call x)
@@ -97,69 +90,14 @@ pair_named version pair.Bind words = pair_had (λ source path. spec.Call.Bind so
 pair_named version pair.Rbind words = pair_had (λ source path. spec.Call.Bind source path true) words (λ first second. refl)
 pair_named version pair.Move words = pair_had spec.Call.MoveMount words (λ first second. refl)
 
--- all of them keep their words
-path_keeps : (name : PathCall) (path : List ℕ) → KeepsWords (path_call name path)
-path_keeps path.Ls path = tt
-path_keeps path.Stat path = tt
-path_keeps path.Lstat path = tt
-path_keeps path.Readlink path = tt
-path_keeps path.Read path = tt
-path_keeps path.Exec path = tt
-path_keeps path.Unlink path = tt
-path_keeps path.Rmdir path = tt
-path_keeps path.Chdir path = tt
-path_keeps path.Chroot path = tt
-path_keeps path.Umount path = tt
-path_keeps path.Lazy path = tt
-path_keeps path.Whiteout path = tt
+-- a path alone, or two, that were not read
+pub path_refused : (version : Version) (name : PathCall) (words : List (List ℕ)) → lone_path words ≡ None
+    → call_named version (Path name) words ≡ None
+path_refused version name words none = path_named version name words ∙ ap (option_map (path_call name)) none
 
-pair_keeps : (name : PairCall) (first second : List ℕ) → KeepsWords (pair_call name first second)
-pair_keeps pair.Symlink first second = tt
-pair_keeps pair.Link first second = tt
-pair_keeps pair.Rename first second = tt
-pair_keeps pair.Bind first second = tt
-pair_keeps pair.Rbind first second = tt
-pair_keeps pair.Move first second = tt
-
--- a path alone, or two, that were not read or not kept
-path_unread : (version : Version) (name : PathCall) (words : List (List ℕ)) (e : ReadError) →
-    ArePathsRead {B = Vec ℕ} (λ path. path.items) (lone_path words) (Err e)
-    → IsCallRead (call_named version (Path name) words) (Err e)
-path_unread version name words Grammar none = path_named version name words ∙ ap (option_map (path_call name)) none
-path_unread version name words Memory some =
-    subst (λ asked. IsSomeAnd asked KeepsWords) (sym (path_named version name words))
-    (some_keeps (path_call name) (lone_path words) (path_keeps name) some)
-
-two_unread : (call : List ℕ → List ℕ → Call) → ((a b : List ℕ) → KeepsWords (call a b)) → (words : List (List ℕ))
-    (asked : Option Call) → asked ≡ option_map (with_pair call) (path_pair words) → (e : ReadError)
-    → ArePathsRead {B = Vec ℕ × Vec ℕ} (λ paths. (paths.0.items, paths.1.items)) (path_pair words) (Err e)
-    → IsCallRead asked (Err e)
-two_unread call keeps words asked is Grammar none = is ∙ ap (option_map (with_pair call)) none
-two_unread call keeps words asked is Memory some = subst (λ asked. IsSomeAnd asked KeepsWords) (sym is)
-    (some_keeps (with_pair call) (path_pair words) (λ pair. keeps pair.0 pair.1) some)
-
-pair_unread : (version : Version) (name : PairCall) (words : List (List ℕ)) (e : ReadError) →
-    ArePathsRead {B = Vec ℕ × Vec ℕ} (λ paths. (paths.0.items, paths.1.items)) (path_pair words) (Err e) →
-    IsCallRead (call_named version (Pair name) words) (Err e)
-pair_unread version name words =
-    two_unread (pair_call name) (pair_keeps name) words (call_named version (Pair name) words)
-    (pair_named version name words)
-
-pub path_refused : (version : Version) (name : CallName) (of : PathCall) (words : List (List ℕ)) {read : Result KeptCall ReadError}
-    (e : ReadError) →
-    name ≡ Path of → read ≡ Err e → ArePathsRead {B = Vec ℕ} (λ path. path.items) (lone_path words) (Err e)
-    → IsCallRead (call_named version name words) read
-path_refused version name of words {read} e is error paths =
-    subst (λ read. IsCallRead (call_named version name words) read) (sym error)
-    (subst (λ name. IsCallRead (call_named version name words) (Err e)) (sym is) (path_unread version of words e paths))
-
-pub pair_refused : (version : Version) (name : CallName) (of : PairCall) (words : List (List ℕ)) {read : Result KeptCall ReadError}
-    (e : ReadError) →
-    name ≡ Pair of → read ≡ Err e → ArePathsRead {B = Vec ℕ × Vec ℕ} (λ paths. (paths.0.items, paths.1.items))
-    (path_pair words) (Err e) → IsCallRead (call_named version name words) read
-pair_refused version name of words {read} e is error paths =
-    subst (λ read. IsCallRead (call_named version name words) read) (sym error)
-    (subst (λ name. IsCallRead (call_named version name words) (Err e)) (sym is) (pair_unread version of words e paths))
+pub pair_refused : (version : Version) (name : PairCall) (words : List (List ℕ)) → path_pair words ≡ None
+    → call_named version (Pair name) words ≡ None
+pair_refused version name words none = pair_named version name words ∙ ap (option_map (with_pair (pair_call name))) none
 
 -- and those that were
 pub path_asked : (version : Version) (name : CallName) (of : PathCall) (words : List (List ℕ)) (path : List ℕ) → name ≡ Path of
@@ -181,14 +119,10 @@ pub pivot_lacking : (version : Version) (words : List (List ℕ)) → version �
     → call_named version PivotRoot words ≡ None
 pivot_lacking version words is = ap (λ version. call_named version PivotRoot words) is
 
-pub pivot_refused : (version : Version) (words : List (List ℕ)) {read : Result KeptCall ReadError} (e : ReadError)
-    → version ≡ Two → read ≡ Err e
-    → ArePathsRead {B = Vec ℕ × Vec ℕ} (λ paths. (paths.0.items, paths.1.items)) (path_pair words) (Err e)
-    → IsCallRead (call_named version PivotRoot words) read
-pivot_refused version words {read} e is error paths =
-    subst (λ read. IsCallRead (call_named version PivotRoot words) read) (sym error)
-    (two_unread spec.Call.PivotRoot (λ new put. tt) words (call_named version PivotRoot words)
-    (ap (λ version. call_named version PivotRoot words) is ∙ pivot_named words) e paths)
+pub pivot_refused : (version : Version) (words : List (List ℕ)) → version ≡ Two → path_pair words ≡ None
+    → call_named version PivotRoot words ≡ None
+pivot_refused version words is none = ap (λ version. call_named version PivotRoot words) is ∙ pivot_named words
+    ∙ ap (option_map (with_pair spec.Call.PivotRoot)) none
 
 pub pivot_asked : (version : Version) (words : List (List ℕ)) (new put : List ℕ) → version ≡ Two
     → path_pair words ≡ Some (new, put) → call_named version PivotRoot words ≡ Some (spec.Call.PivotRoot new put)

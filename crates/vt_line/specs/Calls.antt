@@ -1,7 +1,7 @@
 -- Calls as their words are read, and what becomes of a line that asks for one.
-use Rattle.std.specs.Prelude.{List, None, Option, Some, length, true, ℕ, ◌<◌, ◌≡◌, ◌⊎◌, IsSome, IsSomeAnd, Result, Ok, Err}
+use Rattle.std.specs.Prelude.{List, None, Option, Some, length, true, ℕ, ◌<◌, ◌≡◌, ◌⊎◌, ⊤, IsSomeAnd, Result, Ok, Err}
 use Rattle.vt_spec.specs.Language.Calls as spec
-use Rattle.vt_spec.specs.Language.Calls.Call.{Close, Drop, Exit, Fork, ListMounts, Pread, Setns, Umask, Unshare}
+use Rattle.vt_spec.specs.Language.Calls.Call.{Fork, Pwrite, Setns, Write}
 use Rattle.vt_spec.specs.Language.Script.{Request, Version, call_read, call_words, mount_words, names_no_upper, no_more, path_word, word_then}
 use Rattle.vt_spec.specs.Language.Script.Request.{Asking, Calling}
 use Rattle.vt_spec.specs.Lists.{then_some, when}
@@ -19,19 +19,14 @@ use Rattle.vt_line.specs.declared.calls.tasks.Child.{Child}
 use Rattle.vt_line.specs.declared.calls.ReadError.{ReadError}
 use Rattle.vt_line.specs.declared.calls.ReadError.TheVariants.{Grammar, Memory}
 
--- A call that keeps a text of its line, a list of groups, or a task's name of many numbers, takes memory for it. The
--- others take none.
+-- A call takes memory for the bytes that it writes, for a list of groups, and for a task's name of many numbers. The
+-- others take none: their paths and texts are lent.
 abbrev pub KeepsWords : spec.Call → Type 0
-KeepsWords (Pread descriptor offset size) = ⊥
-KeepsWords (Close descriptor) = ⊥
-KeepsWords (Umask mode) = ⊥
-KeepsWords (Drop which) = ⊥
-KeepsWords (Fork None) = ⊥
-KeepsWords Exit = ⊥
-KeepsWords Unshare = ⊥
+KeepsWords (Write path bytes) = ⊤
+KeepsWords (Pwrite descriptor offset bytes) = ⊤
+KeepsWords (Fork (Some words)) = ⊤
 KeepsWords (Setns task) = INLINE_NUMBERS < length task
-KeepsWords ListMounts = ⊥
-KeepsWords call = Unit {0}
+KeepsWords call = ⊥
 
 -- A request takes memory for what its call keeps, and for a task's name of many numbers.
 abbrev pub TakesMemory : Request → Type 0
@@ -58,12 +53,6 @@ abbrev pub IsCallRead : Option spec.Call → Result Call ReadError → Type 0
 IsCallRead asked (Ok call) = asked ≡ Some (call_of call)
 IsCallRead asked (Err Grammar) = asked ≡ None
 IsCallRead asked (Err Memory) = IsSomeAnd asked KeepsWords
-
--- the paths of a call were read, or why none were
-abbrev pub ArePathsRead : {A B : Type 0} → (B → A) → Option A → Result B ReadError → Type 0
-ArePathsRead of asked (Ok paths) = asked ≡ Some (of paths)
-ArePathsRead of asked (Err Grammar) = asked ≡ None
-ArePathsRead of asked (Err Memory) = IsSome asked
 
 -- the refusal of a line of which no call was read
 abbrev pub refusal : ReadError → Deny

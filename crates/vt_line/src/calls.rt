@@ -1,8 +1,7 @@
 //! The calls of the grammar, read from the words behind their names.
 ghost use Rattle.std.specs.Prelude.{◌≡◌, option_map};
-ghost use Rattle.std.specs.Global.{Vec};
 ghost use Rattle.vt_spec.specs.Language.Script.Version.{One};
-ghost use Rattle.vt_line.specs.Calls.{call_named, lone_path, path_pair, ArePathsRead, IsCallRead};
+ghost use Rattle.vt_line.specs.Calls.{call_named, lone_path, path_pair, IsCallRead};
 ghost use Rattle.vt_line.specs.Versions.{version_of};
 
 mod files;
@@ -70,62 +69,47 @@ fn path_pair<'a>(words: &mut Words<'a>) -> Option<(&'a [u8], &'a [u8])>
     Some((first, second))
 }
 
-/// A path that is kept, and no more.
-fn path(alloc: Global, words: &mut Words<'_>) -> Result<Vec<u8>, ReadError>
-    ensures { ArePathsRead (λ (path : Vec _). path.items) (lone_path words.old) result }
+/// A call that is given a path alone.
+#[inline(never)]
+fn path_call<'a>(name: PathCall, words: &mut Words<'a>) -> Result<Call<'a>, ReadError>
+    ensures { IsCallRead (call_named One (CallName.Path name) words.old) result }
 {
     let Some(path) = lone_path(words) else {
         return Err(ReadError::Grammar);
     };
-    Ok(path.to_vec(alloc)?)
-}
-
-/// Two paths that are kept, and no more.
-fn paths(alloc: Global, words: &mut Words<'_>) -> Result<(Vec<u8>, Vec<u8>), ReadError>
-    ensures { ArePathsRead (λ (paths : Vec _ × Vec _). (paths.0.items, paths.1.items)) (path_pair words.old) result }
-{
-    let Some((first, second)) = path_pair(words) else {
-        return Err(ReadError::Grammar);
-    };
-    Ok((first.to_vec(alloc)?, second.to_vec(alloc)?))
-}
-
-/// A call that is given a path alone.
-#[inline(never)]
-fn path_call(alloc: Global, name: PathCall, words: &mut Words<'_>) -> Result<Call, ReadError>
-    ensures { IsCallRead (call_named One (CallName.Path name) words.old) result }
-{
-    Ok(name.call(path(alloc, words)?))
+    Ok(name.call(path))
 }
 
 /// A call that is given two paths, or a text and a path.
 #[inline(never)]
-fn pair_call(alloc: Global, name: PairCall, words: &mut Words<'_>) -> Result<Call, ReadError>
+fn pair_call<'a>(name: PairCall, words: &mut Words<'a>) -> Result<Call<'a>, ReadError>
     ensures { IsCallRead (call_named One (CallName.Pair name) words.old) result }
 {
-    let (first, second) = paths(alloc, words)?;
+    let Some((first, second)) = path_pair(words) else {
+        return Err(ReadError::Grammar);
+    };
     Ok(name.call(first, second))
 }
 
-/// The call of this name with these words, in a version of the language. What it keeps is copied last.
+/// The call of this name with these words, in a version of the language. What it owns is copied last.
 #[inline(always)]
-pub fn call(
+pub fn call<'a>(
     version: Version,
     alloc: Global,
     name: CallName,
-    words: &mut Words<'_>,
-) -> Result<Call, ReadError>
+    words: &mut Words<'a>,
+) -> Result<Call<'a>, ReadError>
     ensures { IsCallRead (call_named (version_of version) name words.old) result }
 {
     match name {
-        CallName::Path(name) => path_call(alloc, name, words),
-        CallName::Pair(name) => pair_call(alloc, name, words),
+        CallName::Path(name) => path_call(name, words),
+        CallName::Pair(name) => pair_call(name, words),
         CallName::Write => files::write(alloc, words),
-        CallName::Mkdir => files::mkdir(alloc, words),
-        CallName::Chmod => files::chmod(alloc, words),
-        CallName::Chown => files::chown(alloc, words),
-        CallName::Opaque => files::opaque(alloc, words),
-        CallName::Open => files::open(alloc, words),
+        CallName::Mkdir => files::mkdir(words),
+        CallName::Chmod => files::chmod(words),
+        CallName::Chown => files::chown(words),
+        CallName::Opaque => files::opaque(words),
+        CallName::Open => files::open(words),
         CallName::Pread => files::pread(words),
         CallName::Pwrite => files::pwrite(alloc, words),
         CallName::Close => files::close(words),
@@ -135,11 +119,11 @@ pub fn call(
         CallName::Exit => tasks::exit(words),
         CallName::Unshare => tasks::unshare(words),
         CallName::Setns => tasks::setns(alloc, words),
-        CallName::Mount => mounting::mount(version, alloc, words),
-        CallName::Remount => mounting::remount(version, alloc, words),
-        CallName::SetType => mounting::set_type(alloc, words, false),
-        CallName::SetTypeRecursive => mounting::set_type(alloc, words, true),
+        CallName::Mount => mounting::mount(version, words),
+        CallName::Remount => mounting::remount(version, words),
+        CallName::SetType => mounting::set_type(words, false),
+        CallName::SetTypeRecursive => mounting::set_type(words, true),
         CallName::Mounts => mounting::mounts(words),
-        CallName::PivotRoot => mounting::pivot_root(version, alloc, words),
+        CallName::PivotRoot => mounting::pivot_root(version, words),
     }
 }

@@ -15,7 +15,8 @@ ghost use Rattle.vt_line.specs.Versions.{version_of};
 
 use crate::calls::call;
 use crate::names::CallName;
-use crate::token::{Unescaped, is_silent, is_unescaped};
+pub use crate::token::Unescaped;
+use crate::token::{is_silent, is_unescaped};
 use crate::version::Version;
 use crate::words::{Words, is_task, task_name};
 use std::alloc::Global;
@@ -25,11 +26,11 @@ use vt_spec::errors::{Deny, Rule};
 
 /// A line of a script.
 #[derive(Debug, Drop)]
-pub enum Line {
+pub enum Line<'a> {
     /// Spaces alone, or a comment: it has no answer.
     Silent,
     /// A task makes a call.
-    Call(TaskName, Call),
+    Call(TaskName, Call<'a>),
     /// Nobody's line, behind a `!` in place of a task.
     Ask(Directive),
 }
@@ -37,7 +38,7 @@ pub enum Line {
 /// Lets go of a call, where the name of its task was refused memory. Out of line, so that elsewhere a call is moved
 /// as a whole.
 #[inline(never)]
-fn given_up(_call: Call) -> Deny
+fn given_up(_call: Call<'_>) -> Deny
     ensures { result ≡ denial S5 }
 {
     Rule::S5.denial()
@@ -45,13 +46,13 @@ fn given_up(_call: Call) -> Deny
 
 /// A task's call, by their texts and the words behind them. What is kept of them is copied once all are of the grammar.
 #[inline(always)]
-fn task_call(
+fn task_call<'a>(
     version: Version,
     alloc: Global,
     task: &[u8],
     name: &[u8],
-    words: &mut Words<'_>,
-) -> Result<Line, Deny>
+    words: &mut Words<'a>,
+) -> Result<Line<'a>, Deny>
     ensures { let task = option_map Someone (task_word task.now) in
         IsRequestRead (asked_by (overlays (version_of version)) task (name.now ∷ words.old)) result }
 {
@@ -86,7 +87,11 @@ fn directive(name: &[u8], words: &Words<'_>) -> Option<Directive>
 
 /// What a line asks for, by its words.
 #[inline(never)]
-fn words_request(version: Version, alloc: Global, mut words: Words<'_>) -> Result<Line, Deny>
+fn words_request<'a>(
+    version: Version,
+    alloc: Global,
+    mut words: Words<'a>,
+) -> Result<Line<'a>, Deny>
     ensures { IsRequestRead (request_of_texts (overlays (version_of version)) words.entry) result }
 {
     let (Some(who), Some(name)) = (words.next(), words.next()) else {
@@ -104,31 +109,46 @@ fn words_request(version: Version, alloc: Global, mut words: Words<'_>) -> Resul
 /// What a line asks for that has escapes, or bytes that no token has. Out of line, since the texts take much of the
 /// stack.
 #[inline(never)]
-fn escaped_request(version: Version, alloc: Global, line: &[u8]) -> Result<Line, Deny>
+fn escaped_request<'a>(
+    version: Version,
+    alloc: Global,
+    line: &[u8],
+    texts: &'a mut Option<Unescaped>,
+) -> Result<Line<'a>, Deny>
     requires { length line.now ≤ longest_line }
     ensures { IsRequestRead (request_of (overlays (version_of version)) line.now) result }
 {
-    let Some(texts) = Unescaped::from_line(line) else {
+    let Some(unescaped) = Unescaped::from_line(line) else {
         return Err(Rule::S1.denial());
     };
-    words_request(version, alloc, Words::of_texts(&texts))
+    let unescaped = texts.insert(unescaped);
+    words_request(version, alloc, Words::of_texts(unescaped))
 }
 
 /// What a line asks for, if it is of the grammar.
 #[inline(always)]
-fn request(version: Version, alloc: Global, line: &[u8]) -> Result<Line, Deny>
+fn request<'a>(
+    version: Version,
+    alloc: Global,
+    line: &'a [u8],
+    texts: &'a mut Option<Unescaped>,
+) -> Result<Line<'a>, Deny>
     requires { length line.now ≤ longest_line }
     ensures { IsRequestRead (request_of (overlays (version_of version)) line.now) result }
 {
     if !is_unescaped(line) {
-        return escaped_request(version, alloc, line);
+        return escaped_request(version, alloc, line, texts);
     }
     words_request(version, alloc, Words::of_tokens(line))
 }
 
-impl Line {
+impl<'a> Line<'a> {
     /// Reads a line of version 1, given without its newline: `parse_as` of that version.
-    pub fn parse(alloc: Global, line: &[u8]) -> Result<Line, Deny>
+    pub fn parse(
+        alloc: Global,
+        line: &'a [u8],
+        texts: &'a mut Option<Unescaped>,
+    ) -> Result<Line<'a>, Deny>
         ensures silent { (result ≡ Ok Line.Silent) ↔ IsSilent line.now }
         ensures reading { IfOk result (IsReadingOf One line.now) }
 
@@ -139,14 +159,20 @@ impl Line {
         ensures no_memory { result ≡ Err (denial S5)
             → IsSpoken line.now × IsSomeAnd (request_of (overlays One) line.now) TakesMemory }
     {
-        Line::parse_as(Version::One, alloc, line)
+        Line::parse_as(Version::One, alloc, line, texts)
     }
 
     /// Reads a line, given without its newline, in a version of the language.
     ///
-    /// Refused by S1 where it is too long or not of the grammar, whatever memory there is, and by S5 where there is
-    /// none for what the line's request keeps. A line without an answer does not allocate.
-    pub fn parse_as(version: Version, alloc: Global, line: &[u8]) -> Result<Line, Deny>
+    /// Its paths and texts are lent: from `line`, or from `texts` where they have escapes. Refused by S1 where it is too
+    /// long or not of the grammar, whatever memory there is, and by S5 where there is none for what the line's request
+    /// keeps. A line without an answer does not allocate.
+    pub fn parse_as(
+        version: Version,
+        alloc: Global,
+        line: &'a [u8],
+        texts: &'a mut Option<Unescaped>,
+    ) -> Result<Line<'a>, Deny>
         ensures silent { (result ≡ Ok Line.Silent) ↔ IsSilent line.now }
         ensures reading { IfOk result (IsReadingOf (version_of version) line.now) }
 
@@ -164,6 +190,6 @@ impl Line {
         if is_silent(line) {
             return Ok(Line::Silent);
         }
-        request(version, alloc, line)
+        request(version, alloc, line, texts)
     }
 }

@@ -28,8 +28,8 @@ impl PathCall {
 
     /// The call with its path.
     #[inline(always)]
-    pub fn call(self, path: Vec<u8>) -> Call
-        ensures { call_of result ≡ path_call self path.items }
+    pub fn call(self, path: &[u8]) -> Call<'_>
+        ensures { call_of result ≡ path_call self path.now }
     {
         match self {
             PathCall::Ls => Call::Look(LookCall::Ls { path }),
@@ -66,8 +66,8 @@ impl PairCall {
 
     /// The call with its two words.
     #[inline(always)]
-    pub fn call(self, first: Vec<u8>, second: Vec<u8>) -> Call
-        ensures { call_of result ≡ pair_call self first.items second.items }
+    pub fn call<'a>(self, first: &'a [u8], second: &'a [u8]) -> Call<'a>
+        ensures { call_of result ≡ pair_call self first.now second.now }
     {
         match self {
             PairCall::Symlink => Call::Make(MakeCall::Symlink {

@@ -10,7 +10,7 @@ use vt_script::{Calls, Version, run_as};
 /// What a run of the script writes, in a version of its language, read and written in pieces of this size.
 ///
 /// Where no memory is left for what is written, there is none.
-pub fn answers<C: Calls + Drop>(
+pub fn answers<C: Calls>(
     version: Version,
     alloc: Global,
     script: &[u8],

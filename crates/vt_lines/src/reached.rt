@@ -19,7 +19,7 @@ pub struct Reached<C> {
 /// from 1; after all of them where there are fewer.
 ///
 /// `Memory` and `Write`: an allocation failed.
-pub fn reached_before<C: Calls + Drop>(
+pub fn reached_before<C: Calls>(
     version: Version,
     alloc: Global,
     script: &[u8],

@@ -13,7 +13,7 @@ use vt_spec::errors::Deny;
 /// Who tells of a line while it is answered, and sees the world for that.
 pub trait Teller<C> {
     /// A task makes a call next.
-    fn before(&mut self, world: &C, name: &TaskName, call: &Call);
+    fn before(&mut self, world: &C, name: &TaskName, call: &Call<'_>);
 
     /// The call was made, and has this answer.
     fn after(&mut self, world: &C, name: TaskName, kind: CallKind, outcome: &Result<Answer, Deny>);
@@ -33,7 +33,8 @@ pub fn answer_told<C: Calls, T: Teller<C>>(
     ensures { HasNumbers (C.world world.old)
         → IsLeftBy (version_of version) (C.world world.old) line.now (C.world world.new) }
 {
-    match Line::parse_as(version, alloc, line) {
+    let mut texts = None;
+    match Line::parse_as(version, alloc, line, &mut texts) {
         Ok(Line::Silent) => {}
         Ok(Line::Call(name, call)) => {
             teller.before(world, &name, &call);

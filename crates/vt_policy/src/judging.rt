@@ -30,19 +30,19 @@ pub(crate) fn granted<L: LookAtLayers>(
     alloc: Global,
     world: &L,
     who: &Task,
-    call: Call,
+    call: Call<'_>,
 ) -> Result<Grant, Deny>
-    ensures judged { JudgesByReceivers (call_of call) (task_of who.now)
-        (judge nat_eq (L.looks world.now) (L.overfills world.now) (task_of who.now) (call_of call)) result }
-    ensures memory { ¬ IsJudgedWithMemory (call_of call) → JudgesAlike (task_of who.now)
-        (judge nat_eq (L.looks world.now) (L.overfills world.now) (task_of who.now) (call_of call)) result }
+    ensures judged { JudgesByReceivers (call_of call.entry) (task_of who.now)
+        (judge nat_eq (L.looks world.now) (L.overfills world.now) (task_of who.now) (call_of call.entry)) result }
+    ensures memory { ¬ IsJudgedWithMemory (call_of call.entry) → JudgesAlike (task_of who.now)
+        (judge nat_eq (L.looks world.now) (L.overfills world.now) (task_of who.now) (call_of call.entry)) result }
 {
     match call {
         Call::Look(call) => judge_look(world, who, call),
-        Call::Make(call) => judge_make(alloc, world, who, call),
+        Call::Make(call) => judge_make(alloc, world, who, &call),
         Call::Remove(call) => judge_remove(alloc, world, who, call),
         Call::Write(call) => judge_write(alloc, world, who, call),
-        Call::Descriptor(call) => judge_descriptor(alloc, world, who, call),
+        Call::Descriptor(call) => judge_descriptor(alloc, world, who, &call),
         Call::Task(call) => judge_task(world, who, call),
         Call::Mount(call) => judge_mount(alloc, world, who, call),
     }
@@ -50,19 +50,19 @@ pub(crate) fn granted<L: LookAtLayers>(
 
 // A call that only looks.
 #[inline(always)]
-fn judge_look<L: LookAtLayers>(world: &L, who: &Task, call: LookCall) -> Result<Grant, Deny>
-    ensures judged { JudgesByReceivers (look_call_of call) (task_of who.now)
-        (judge nat_eq (L.looks world.now) (L.overfills world.now) (task_of who.now) (look_call_of call)) result }
-    ensures memory { ¬ IsJudgedWithMemory (look_call_of call) → JudgesAlike (task_of who.now)
-        (judge nat_eq (L.looks world.now) (L.overfills world.now) (task_of who.now) (look_call_of call)) result }
+fn judge_look<L: LookAtLayers>(world: &L, who: &Task, call: LookCall<'_>) -> Result<Grant, Deny>
+    ensures judged { JudgesByReceivers (look_call_of call.entry) (task_of who.now)
+        (judge nat_eq (L.looks world.now) (L.overfills world.now) (task_of who.now) (look_call_of call.entry)) result }
+    ensures memory { ¬ IsJudgedWithMemory (look_call_of call.entry) → JudgesAlike (task_of who.now)
+        (judge nat_eq (L.looks world.now) (L.overfills world.now) (task_of who.now) (look_call_of call.entry)) result }
 {
     match call {
-        LookCall::Ls { path } => list(world, who, &path),
-        LookCall::Stat { path } => stat(world, who, &path),
-        LookCall::Lstat { path } => lstat(world, who, &path),
-        LookCall::Readlink { path } => readlink(world, who, &path),
-        LookCall::Read { path } => read(world, who, &path),
-        LookCall::Exec { path } => exec(world, who, &path),
+        LookCall::Ls { path } => list(world, who, path),
+        LookCall::Stat { path } => stat(world, who, path),
+        LookCall::Lstat { path } => lstat(world, who, path),
+        LookCall::Readlink { path } => readlink(world, who, path),
+        LookCall::Read { path } => read(world, who, path),
+        LookCall::Exec { path } => exec(world, who, path),
         LookCall::Pread {
             descriptor,
             offset,
@@ -78,18 +78,18 @@ fn judge_make<L: LookAtLayers>(
     alloc: Global,
     world: &L,
     who: &Task,
-    call: MakeCall,
+    call: &MakeCall<'_>,
 ) -> Result<Grant, Deny>
-    ensures judged { JudgesByReceivers (make_call_of call) (task_of who.now)
-        (judge nat_eq (L.looks world.now) (L.overfills world.now) (task_of who.now) (make_call_of call)) result }
-    ensures memory { ¬ IsJudgedWithMemory (make_call_of call) → JudgesAlike (task_of who.now)
-        (judge nat_eq (L.looks world.now) (L.overfills world.now) (task_of who.now) (make_call_of call)) result }
+    ensures judged { JudgesByReceivers (make_call_of call.now) (task_of who.now)
+        (judge nat_eq (L.looks world.now) (L.overfills world.now) (task_of who.now) (make_call_of call.now)) result }
+    ensures memory { ¬ IsJudgedWithMemory (make_call_of call.now) → JudgesAlike (task_of who.now)
+        (judge nat_eq (L.looks world.now) (L.overfills world.now) (task_of who.now) (make_call_of call.now)) result }
 {
     match call {
-        MakeCall::Mkdir { path, mode } => mkdir(alloc, world, who, &path, mode),
-        MakeCall::Symlink { text, path } => symlink(alloc, world, who, text, &path),
-        MakeCall::Whiteout { path } => whiteout(alloc, world, who, &path),
-        MakeCall::Link { old, new } => link(alloc, world, who, &old, &new),
+        MakeCall::Mkdir { path, mode } => mkdir(alloc, world, who, path, *mode),
+        MakeCall::Symlink { text, path } => symlink(alloc, world, who, text, path),
+        MakeCall::Whiteout { path } => whiteout(alloc, world, who, path),
+        MakeCall::Link { old, new } => link(alloc, world, who, old, new),
     }
 }
 
@@ -99,17 +99,17 @@ fn judge_remove<L: LookAtLayers>(
     alloc: Global,
     world: &L,
     who: &Task,
-    call: RemoveCall,
+    call: RemoveCall<'_>,
 ) -> Result<Grant, Deny>
-    ensures judged { JudgesByReceivers (remove_call_of call) (task_of who.now)
-        (judge nat_eq (L.looks world.now) (L.overfills world.now) (task_of who.now) (remove_call_of call)) result }
-    ensures memory { ¬ IsJudgedWithMemory (remove_call_of call) → JudgesAlike (task_of who.now)
-        (judge nat_eq (L.looks world.now) (L.overfills world.now) (task_of who.now) (remove_call_of call)) result }
+    ensures judged { JudgesByReceivers (remove_call_of call.entry) (task_of who.now)
+        (judge nat_eq (L.looks world.now) (L.overfills world.now) (task_of who.now) (remove_call_of call.entry)) result }
+    ensures memory { ¬ IsJudgedWithMemory (remove_call_of call.entry) → JudgesAlike (task_of who.now)
+        (judge nat_eq (L.looks world.now) (L.overfills world.now) (task_of who.now) (remove_call_of call.entry)) result }
 {
     match call {
-        RemoveCall::Unlink { path } => unlink(alloc, world, who, &path),
-        RemoveCall::Rmdir { path } => rmdir(alloc, world, who, &path),
-        RemoveCall::Rename { old, new } => rename(alloc, world, who, &old, &new),
+        RemoveCall::Unlink { path } => unlink(alloc, world, who, path),
+        RemoveCall::Rmdir { path } => rmdir(alloc, world, who, path),
+        RemoveCall::Rename { old, new } => rename(alloc, world, who, old, new),
     }
 }
 
@@ -119,23 +119,23 @@ fn judge_write<L: LookAtLayers>(
     alloc: Global,
     world: &L,
     who: &Task,
-    call: WriteCall,
+    call: WriteCall<'_>,
 ) -> Result<Grant, Deny>
-    ensures judged { JudgesByReceivers (write_call_of call) (task_of who.now)
-        (judge nat_eq (L.looks world.now) (L.overfills world.now) (task_of who.now) (write_call_of call)) result }
-    ensures memory { ¬ IsJudgedWithMemory (write_call_of call) → JudgesAlike (task_of who.now)
-        (judge nat_eq (L.looks world.now) (L.overfills world.now) (task_of who.now) (write_call_of call)) result }
+    ensures judged { JudgesByReceivers (write_call_of call.entry) (task_of who.now)
+        (judge nat_eq (L.looks world.now) (L.overfills world.now) (task_of who.now) (write_call_of call.entry)) result }
+    ensures memory { ¬ IsJudgedWithMemory (write_call_of call.entry) → JudgesAlike (task_of who.now)
+        (judge nat_eq (L.looks world.now) (L.overfills world.now) (task_of who.now) (write_call_of call.entry)) result }
 {
     match call {
-        WriteCall::Write { path, bytes } => write(alloc, world, who, &path, bytes),
+        WriteCall::Write { path, bytes } => write(alloc, world, who, path, bytes),
         WriteCall::Pwrite {
             descriptor,
             offset,
             bytes,
         } => pwrite(world, who, descriptor, offset, bytes),
-        WriteCall::Chmod { path, mode } => chmod(world, who, &path, mode),
-        WriteCall::Chown { path, uid, gid } => chown(world, who, &path, uid, gid),
-        WriteCall::Opaque { path, mark } => opaque(world, who, &path, mark),
+        WriteCall::Chmod { path, mode } => chmod(world, who, path, mode),
+        WriteCall::Chown { path, uid, gid } => chown(world, who, path, uid, gid),
+        WriteCall::Opaque { path, mark } => opaque(world, who, path, mark),
     }
 }
 
@@ -145,34 +145,34 @@ fn judge_descriptor<L: LookAtLayers>(
     alloc: Global,
     world: &L,
     who: &Task,
-    call: DescriptorCall,
+    call: &DescriptorCall<'_>,
 ) -> Result<Grant, Deny>
-    ensures judged { JudgesByReceivers (descriptor_call_of call) (task_of who.now)
-        (judge nat_eq (L.looks world.now) (L.overfills world.now) (task_of who.now) (descriptor_call_of call)) result }
-    ensures memory { ¬ IsJudgedWithMemory (descriptor_call_of call) → JudgesAlike (task_of who.now)
-        (judge nat_eq (L.looks world.now) (L.overfills world.now) (task_of who.now) (descriptor_call_of call)) result }
+    ensures judged { JudgesByReceivers (descriptor_call_of call.now) (task_of who.now)
+        (judge nat_eq (L.looks world.now) (L.overfills world.now) (task_of who.now) (descriptor_call_of call.now)) result }
+    ensures memory { ¬ IsJudgedWithMemory (descriptor_call_of call.now) → JudgesAlike (task_of who.now)
+        (judge nat_eq (L.looks world.now) (L.overfills world.now) (task_of who.now) (descriptor_call_of call.now)) result }
 {
     match call {
         DescriptorCall::Open {
             path,
             access,
             creation,
-        } => open(alloc, world, who, &path, access, creation),
-        DescriptorCall::Close { descriptor } => close(who, descriptor),
+        } => open(alloc, world, who, path, *access, *creation),
+        DescriptorCall::Close { descriptor } => close(who, *descriptor),
     }
 }
 
 // A call that changes the caller, or makes a task.
 #[inline(always)]
-fn judge_task<L: LookAtLayers>(world: &L, who: &Task, call: TaskCall) -> Result<Grant, Deny>
-    ensures judged { JudgesByReceivers (task_call_of call) (task_of who.now)
-        (judge nat_eq (L.looks world.now) (L.overfills world.now) (task_of who.now) (task_call_of call)) result }
-    ensures memory { ¬ IsJudgedWithMemory (task_call_of call) → JudgesAlike (task_of who.now)
-        (judge nat_eq (L.looks world.now) (L.overfills world.now) (task_of who.now) (task_call_of call)) result }
+fn judge_task<L: LookAtLayers>(world: &L, who: &Task, call: TaskCall<'_>) -> Result<Grant, Deny>
+    ensures judged { JudgesByReceivers (task_call_of call.entry) (task_of who.now)
+        (judge nat_eq (L.looks world.now) (L.overfills world.now) (task_of who.now) (task_call_of call.entry)) result }
+    ensures memory { ¬ IsJudgedWithMemory (task_call_of call.entry) → JudgesAlike (task_of who.now)
+        (judge nat_eq (L.looks world.now) (L.overfills world.now) (task_of who.now) (task_call_of call.entry)) result }
 {
     match call {
-        TaskCall::Chdir { path } => chdir(world, who, &path),
-        TaskCall::Chroot { path } => chroot(world, who, &path),
+        TaskCall::Chdir { path } => chdir(world, who, path),
+        TaskCall::Chroot { path } => chroot(world, who, path),
         TaskCall::Umask { mode } => Ok(Grant::Task(TaskGrant::SetUmask {
             umask: permission_bits(mode),
         })),
@@ -192,34 +192,34 @@ fn judge_mount<L: LookAtLayers>(
     alloc: Global,
     world: &L,
     who: &Task,
-    call: MountCall,
+    call: MountCall<'_>,
 ) -> Result<Grant, Deny>
-    ensures judged { JudgesByReceivers (mount_call_of call) (task_of who.now)
-        (judge nat_eq (L.looks world.now) (L.overfills world.now) (task_of who.now) (mount_call_of call)) result }
-    ensures memory { ¬ IsJudgedWithMemory (mount_call_of call) → JudgesAlike (task_of who.now)
-        (judge nat_eq (L.looks world.now) (L.overfills world.now) (task_of who.now) (mount_call_of call)) result }
+    ensures judged { JudgesByReceivers (mount_call_of call.entry) (task_of who.now)
+        (judge nat_eq (L.looks world.now) (L.overfills world.now) (task_of who.now) (mount_call_of call.entry)) result }
+    ensures memory { ¬ IsJudgedWithMemory (mount_call_of call.entry) → JudgesAlike (task_of who.now)
+        (judge nat_eq (L.looks world.now) (L.overfills world.now) (task_of who.now) (mount_call_of call.entry)) result }
 {
     match call {
-        MountCall::Plain { path, flags } => mount_plain(world, who, &path, flags),
+        MountCall::Plain { path, flags } => mount_plain(world, who, path, flags),
         MountCall::Overlay {
             path,
             options,
             flags,
-        } => mount_overlay(alloc, world, who, &path, &options, flags),
+        } => mount_overlay(alloc, world, who, path, options, flags),
         MountCall::Bind {
             source,
             path,
             recursive,
-        } => bind(world, who, &source, &path, recursive),
-        MountCall::Move { source, path } => move_mount(world, who, &source, &path),
-        MountCall::Umount { path } => umount(world, who, &path),
-        MountCall::Lazy { path } => lazy(world, who, &path),
-        MountCall::Remount { path, flags } => remount(world, who, &path, flags),
+        } => bind(world, who, source, path, recursive),
+        MountCall::Move { source, path } => move_mount(world, who, source, path),
+        MountCall::Umount { path } => umount(world, who, path),
+        MountCall::Lazy { path } => lazy(world, who, path),
+        MountCall::Remount { path, flags } => remount(world, who, path, flags),
         MountCall::SetType {
             path,
             word,
             recursive,
-        } => set_type(world, who, &path, word, recursive),
-        MountCall::Pivot { new, put } => pivot_root(world, who, &new, &put),
+        } => set_type(world, who, path, word, recursive),
+        MountCall::Pivot { new, put } => pivot_root(world, who, new, put),
     }
 }

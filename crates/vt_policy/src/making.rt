@@ -1,5 +1,7 @@
 //! Calls that make a name, and write: mkdir(2), symlink(2), mknod(2), link(2), write(2).
-ghost use Rattle.std.specs.Prelude.{nat_eq};
+ghost use Rattle.std.specs.Prelude.{◌≡◌, nat_eq, IfErr, IfOk};
+ghost use Rattle.vt_spec.specs.declared.errors.Rule.TheVariants.{S5};
+ghost use Rattle.vt_spec.specs.Errors.{denial};
 ghost use Rattle.vt_spec.specs.Machine.Judge.{hard_link_permit, mkdir_permit, symlink_permit, whiteout_permit, write_permit};
 ghost use Rattle.vt_permits.specs.Memory.{Judges};
 ghost use Rattle.vt_tasks.specs.TaskValue.{task_of};
@@ -46,6 +48,14 @@ pub fn mkdir<L: Look>(
     })))
 }
 
+// A symlink's text, in memory of its own. S5 (ENOMEM): an allocation failed.
+fn text_of(alloc: Global, text: &[u8]) -> Result<Vec<u8>, Deny>
+    ensures ok { IfOk result (λ copy. copy.items ≡ text.now) }
+    ensures memory { IfErr result (λ deny. deny ≡ denial S5) }
+{
+    Vec::from_slice(alloc, text).map_err(|_error| Rule::S5.denial())
+}
+
 /// Before the rules of the walk, of the symlink's text: W1 (ENOENT), W2 (ENAMETOOLONG). After them: E1 (EEXIST),
 /// and those of `may_make`.
 #[tactic(auto, unfolding(vt_spec::specs::Machine::Judge::symlink_permit))]
@@ -53,11 +63,11 @@ pub fn symlink<L: Look>(
     alloc: Global,
     world: &L,
     who: &Task,
-    text: Vec<u8>,
+    text: &[u8],
     path: &[u8],
 ) -> Result<Grant, Deny>
     ensures { Judges (task_of who.now)
-        (symlink_permit nat_eq (L.looks world.now) (task_of who.now) text.items path.now) result }
+        (symlink_permit nat_eq (L.looks world.now) (task_of who.now) text.now path.now) result }
 {
     if text.is_empty() {
         return Err(Rule::W1.denial());
@@ -73,7 +83,7 @@ pub fn symlink<L: Look>(
     Ok(Grant::Make(MakeGrant::Node(ToMake {
         directory: place.parent,
         name: name_at(alloc, place.last)?,
-        node: NewNode::symlink(symlink_attr(who), text),
+        node: NewNode::symlink(symlink_attr(who), text_of(alloc, text)?),
     })))
 }
 

@@ -59,15 +59,15 @@ pub fn judge<L: LookAtLayers>(
     world: &L,
     change: u64,
     who: &Task,
-    call: Call,
+    call: Call<'_>,
 ) -> Result<Permit, Deny>
-    ensures judged { JudgesByReceivers (call_of call) (task_of who.now)
-        (judge nat_eq (L.looks world.now) (L.overfills world.now) (task_of who.now) (call_of call))
+    ensures judged { JudgesByReceivers (call_of call.entry) (task_of who.now)
+        (judge nat_eq (L.looks world.now) (L.overfills world.now) (task_of who.now) (call_of call.entry))
         (grant_in result) }
-    ensures memory { ¬ IsJudgedWithMemory (call_of call) → JudgesAlike (task_of who.now)
-        (judge nat_eq (L.looks world.now) (L.overfills world.now) (task_of who.now) (call_of call))
+    ensures memory { ¬ IsJudgedWithMemory (call_of call.entry) → JudgesAlike (task_of who.now)
+        (judge nat_eq (L.looks world.now) (L.overfills world.now) (task_of who.now) (call_of call.entry))
         (grant_in result) }
-    ensures named { IfOk result (λ permit. kind_of (call_of call) ≡ permit.call) }
+    ensures named { IfOk result (λ permit. kind_of (call_of call.entry) ≡ permit.call) }
     ensures change { IfOk result (λ permit. permit.change ≡ change) }
 {
     let kind = call.kind();

@@ -67,46 +67,46 @@ type_word_of Unbindable = spec.TypeWord.ToUnbindable
 
 -- a call that only looks
 abbrev pub look_call_of : LookCall → spec.Call
-look_call_of (look.Ls path) = spec.Call.Ls path.items
-look_call_of (look.Stat path) = spec.Call.Stat path.items
-look_call_of (look.Lstat path) = spec.Call.Lstat path.items
-look_call_of (look.Readlink path) = spec.Call.Readlink path.items
-look_call_of (look.Read path) = spec.Call.Read path.items
-look_call_of (look.Exec path) = spec.Call.Exec path.items
+look_call_of (look.Ls path) = spec.Call.Ls path.now
+look_call_of (look.Stat path) = spec.Call.Stat path.now
+look_call_of (look.Lstat path) = spec.Call.Lstat path.now
+look_call_of (look.Readlink path) = spec.Call.Readlink path.now
+look_call_of (look.Read path) = spec.Call.Read path.now
+look_call_of (look.Exec path) = spec.Call.Exec path.now
 look_call_of (look.Pread descriptor offset size) = spec.Call.Pread descriptor offset size
 look_call_of look.ListMounts = spec.Call.ListMounts
 
 -- a call that makes a name
 abbrev pub make_call_of : MakeCall → spec.Call
-make_call_of (make.Mkdir path mode) = spec.Call.Mkdir path.items mode
-make_call_of (make.Symlink text path) = spec.Call.SymlinkAt text.items path.items
-make_call_of (make.Whiteout path) = spec.Call.MakeWhiteout path.items
-make_call_of (make.Link old new) = spec.Call.LinkTo old.items new.items
+make_call_of (make.Mkdir path mode) = spec.Call.Mkdir path.now mode
+make_call_of (make.Symlink text path) = spec.Call.SymlinkAt text.now path.now
+make_call_of (make.Whiteout path) = spec.Call.MakeWhiteout path.now
+make_call_of (make.Link old new) = spec.Call.LinkTo old.now new.now
 
 -- a call that takes a name away
 abbrev pub remove_call_of : RemoveCall → spec.Call
-remove_call_of (remove.Unlink path) = spec.Call.Unlink path.items
-remove_call_of (remove.Rmdir path) = spec.Call.Rmdir path.items
-remove_call_of (remove.Rename old new) = spec.Call.Rename old.items new.items
+remove_call_of (remove.Unlink path) = spec.Call.Unlink path.now
+remove_call_of (remove.Rmdir path) = spec.Call.Rmdir path.now
+remove_call_of (remove.Rename old new) = spec.Call.Rename old.now new.now
 
 -- a call that sets the content, the owner or the mode of an object, or the mark of a directory
 abbrev pub write_call_of : WriteCall → spec.Call
-write_call_of (write.Write path bytes) = spec.Call.Write path.items bytes.items
+write_call_of (write.Write path bytes) = spec.Call.Write path.now bytes.items
 write_call_of (write.Pwrite descriptor offset bytes) = spec.Call.Pwrite descriptor offset bytes.items
-write_call_of (write.Chmod path mode) = spec.Call.Chmod path.items mode
-write_call_of (write.Chown path uid gid) = spec.Call.Chown path.items uid gid
-write_call_of (write.Opaque path mark) = spec.Call.Opaque path.items mark
+write_call_of (write.Chmod path mode) = spec.Call.Chmod path.now mode
+write_call_of (write.Chown path uid gid) = spec.Call.Chown path.now uid gid
+write_call_of (write.Opaque path mark) = spec.Call.Opaque path.now mark
 
 -- a call that opens or closes a file
 abbrev pub descriptor_call_of : DescriptorCall → spec.Call
 descriptor_call_of (descriptor.Open path access creation) =
-    spec.Call.OpenFile path.items (access_of access) (creation_of creation)
+    spec.Call.OpenFile path.now (access_of access) (creation_of creation)
 descriptor_call_of (descriptor.Close number) = spec.Call.Close number
 
 -- a call that changes the caller, or makes a task
 abbrev pub task_call_of : TaskCall → spec.Call
-task_call_of (task.Chdir path) = spec.Call.Chdir path.items
-task_call_of (task.Chroot path) = spec.Call.Chroot path.items
+task_call_of (task.Chdir path) = spec.Call.Chdir path.now
+task_call_of (task.Chroot path) = spec.Call.Chroot path.now
 task_call_of (task.Umask mode) = spec.Call.Umask mode
 task_call_of (task.Drop caps) = spec.Call.Drop (capabilities_of caps)
 task_call_of (task.Fork words) = spec.Call.Fork (option_map fork_words_of words)
@@ -121,16 +121,16 @@ options_named text = known_options names_no_upper (options_of text)
 
 -- a call that changes mounts
 abbrev pub mount_call_of : MountCall → spec.Call
-mount_call_of (mount.Plain path flags) = spec.Call.MountPlain path.items (flags_of flags)
+mount_call_of (mount.Plain path flags) = spec.Call.MountPlain path.now (flags_of flags)
 mount_call_of (mount.Overlay path options flags) =
-    spec.Call.MountOverlay path.items (options_named options.items) (flags_of flags)
-mount_call_of (mount.Bind source path recursive) = spec.Call.Bind source.items path.items recursive
-mount_call_of (mount.Move source path) = spec.Call.MoveMount source.items path.items
-mount_call_of (mount.Umount path) = spec.Call.Umount path.items
-mount_call_of (mount.Lazy path) = spec.Call.Lazy path.items
-mount_call_of (mount.Remount path flags) = spec.Call.Remount path.items (flags_of flags)
-mount_call_of (mount.SetType path word recursive) = spec.Call.SetType path.items (type_word_of word) recursive
-mount_call_of (mount.Pivot new put) = spec.Call.PivotRoot new.items put.items
+    spec.Call.MountOverlay path.now (options_named options.now) (flags_of flags)
+mount_call_of (mount.Bind source path recursive) = spec.Call.Bind source.now path.now recursive
+mount_call_of (mount.Move source path) = spec.Call.MoveMount source.now path.now
+mount_call_of (mount.Umount path) = spec.Call.Umount path.now
+mount_call_of (mount.Lazy path) = spec.Call.Lazy path.now
+mount_call_of (mount.Remount path flags) = spec.Call.Remount path.now (flags_of flags)
+mount_call_of (mount.SetType path word recursive) = spec.Call.SetType path.now (type_word_of word) recursive
+mount_call_of (mount.Pivot new put) = spec.Call.PivotRoot new.now put.now
 
 -- the call, in the policy's words
 abbrev pub call_of : Call → spec.Call

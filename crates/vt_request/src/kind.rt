@@ -52,7 +52,7 @@ pub enum CallKind {
     PivotRoot,
 }
 
-impl Call {
+impl Call<'_> {
     /// Which call it is.
     pub fn kind(&self) -> CallKind
         ensures { kind_of (call_of self.now) ≡ result }
@@ -76,7 +76,7 @@ impl Call {
     }
 }
 
-impl LookCall {
+impl LookCall<'_> {
     fn kind(&self) -> CallKind
         ensures { kind_of (look_call_of self.now) ≡ result }
     {
@@ -93,7 +93,7 @@ impl LookCall {
     }
 }
 
-impl MakeCall {
+impl MakeCall<'_> {
     fn kind(&self) -> CallKind
         ensures { kind_of (make_call_of self.now) ≡ result }
     {
@@ -106,7 +106,7 @@ impl MakeCall {
     }
 }
 
-impl RemoveCall {
+impl RemoveCall<'_> {
     fn kind(&self) -> CallKind
         ensures { kind_of (remove_call_of self.now) ≡ result }
     {
@@ -118,7 +118,7 @@ impl RemoveCall {
     }
 }
 
-impl WriteCall {
+impl WriteCall<'_> {
     fn kind(&self) -> CallKind
         ensures { kind_of (write_call_of self.now) ≡ result }
     {
@@ -132,7 +132,7 @@ impl WriteCall {
     }
 }
 
-impl DescriptorCall {
+impl DescriptorCall<'_> {
     fn kind(&self) -> CallKind
         ensures { kind_of (descriptor_call_of self.now) ≡ result }
     {
@@ -143,7 +143,7 @@ impl DescriptorCall {
     }
 }
 
-impl TaskCall {
+impl TaskCall<'_> {
     fn kind(&self) -> CallKind
         ensures { kind_of (task_call_of self.now) ≡ result }
     {
@@ -160,7 +160,7 @@ impl TaskCall {
     }
 }
 
-impl MountCall {
+impl MountCall<'_> {
     fn kind(&self) -> CallKind
         ensures { kind_of (mount_call_of self.now) ≡ result }
     {

@@ -73,44 +73,44 @@ pub struct ForkWords {
     ghost few_groups: { vec_len groups ≤ MAX_GROUPS },
 }
 
-/// A call of a task.
+/// A call of a task. Its paths and other texts are lent; it owns the bytes that it writes.
 #[derive(Debug, Drop)]
-pub enum Call {
-    Look(LookCall),
-    Make(MakeCall),
-    Remove(RemoveCall),
-    Write(WriteCall),
-    Descriptor(DescriptorCall),
-    Task(TaskCall),
-    Mount(MountCall),
+pub enum Call<'a> {
+    Look(LookCall<'a>),
+    Make(MakeCall<'a>),
+    Remove(RemoveCall<'a>),
+    Write(WriteCall<'a>),
+    Descriptor(DescriptorCall<'a>),
+    Task(TaskCall<'a>),
+    Mount(MountCall<'a>),
 }
 
 /// A call that only looks.
 #[derive(Debug, Drop)]
-pub enum LookCall {
+pub enum LookCall<'a> {
     /// The names in a directory: open(2) with `O_DIRECTORY`, then getdents(2).
     Ls {
-        path: Vec<u8>,
+        path: &'a [u8],
     },
     /// stat(2)
     Stat {
-        path: Vec<u8>,
+        path: &'a [u8],
     },
     /// lstat(2)
     Lstat {
-        path: Vec<u8>,
+        path: &'a [u8],
     },
     /// readlink(2)
     Readlink {
-        path: Vec<u8>,
+        path: &'a [u8],
     },
     /// The whole content of a file: open(2) with `O_RDONLY`, then read(2) to the end.
     Read {
-        path: Vec<u8>,
+        path: &'a [u8],
     },
     /// execve(2), as far as it asks for rights.
     Exec {
-        path: Vec<u8>,
+        path: &'a [u8],
     },
     /// pread(2)
     Pread {
@@ -124,35 +124,35 @@ pub enum LookCall {
 
 /// A call that makes a name.
 #[derive(Debug, Drop)]
-pub enum MakeCall {
+pub enum MakeCall<'a> {
     /// mkdir(2)
-    Mkdir { path: Vec<u8>, mode: Option<Mode> },
+    Mkdir { path: &'a [u8], mode: Option<Mode> },
     /// symlink(2): a link with this text at this path.
-    Symlink { text: Vec<u8>, path: Vec<u8> },
+    Symlink { text: &'a [u8], path: &'a [u8] },
     /// mknod(2) of a whiteout, the character device 0/0.
-    Whiteout { path: Vec<u8> },
+    Whiteout { path: &'a [u8] },
     /// link(2)
-    Link { old: Vec<u8>, new: Vec<u8> },
+    Link { old: &'a [u8], new: &'a [u8] },
 }
 
 /// A call that takes a name away.
 #[derive(Debug, Drop)]
-pub enum RemoveCall {
+pub enum RemoveCall<'a> {
     /// unlink(2)
-    Unlink { path: Vec<u8> },
+    Unlink { path: &'a [u8] },
     /// rmdir(2)
-    Rmdir { path: Vec<u8> },
+    Rmdir { path: &'a [u8] },
     /// rename(2)
-    Rename { old: Vec<u8>, new: Vec<u8> },
+    Rename { old: &'a [u8], new: &'a [u8] },
 }
 
 /// A call that sets the content, the owner or the mode of an object, or the mark of a directory.
 #[derive(Debug, Drop)]
-pub enum WriteCall {
+pub enum WriteCall<'a> {
     /// Sets the whole content of a file, and makes a missing one: open(2) with `O_WRONLY`,
     /// `O_CREAT` and `O_TRUNC`, then write(2).
     Write {
-        path: Vec<u8>,
+        path: &'a [u8],
         bytes: Vec<u8>,
     },
     /// pwrite(2)
@@ -163,28 +163,28 @@ pub enum WriteCall {
     },
     /// chmod(2)
     Chmod {
-        path: Vec<u8>,
+        path: &'a [u8],
         mode: Mode,
     },
     /// chown(2): `None` keeps the user, or the group.
     Chown {
-        path: Vec<u8>,
+        path: &'a [u8],
         uid: Option<u32>,
         gid: Option<u32>,
     },
     /// setxattr(2) of `trusted.overlay.opaque`: a directory is marked, or no longer.
     Opaque {
-        path: Vec<u8>,
+        path: &'a [u8],
         mark: bool,
     },
 }
 
 /// A call that opens or closes a file.
 #[derive(Debug, Drop)]
-pub enum DescriptorCall {
+pub enum DescriptorCall<'a> {
     /// open(2)
     Open {
-        path: Vec<u8>,
+        path: &'a [u8],
         access: Access,
         creation: Creation,
     },
@@ -196,11 +196,11 @@ pub enum DescriptorCall {
 
 /// A call that changes the caller, or makes a task.
 #[derive(Debug, Drop)]
-pub enum TaskCall {
+pub enum TaskCall<'a> {
     /// chdir(2)
-    Chdir { path: Vec<u8> },
+    Chdir { path: &'a [u8] },
     /// chroot(2)
-    Chroot { path: Vec<u8> },
+    Chroot { path: &'a [u8] },
     /// umask(2)
     Umask { mode: Mode },
     /// Gives capabilities up: capset(2).
@@ -217,52 +217,52 @@ pub enum TaskCall {
 
 /// A call that changes mounts.
 #[derive(Debug, Drop)]
-pub enum MountCall {
+pub enum MountCall<'a> {
     /// mount(2) of a new, empty tmpfs
     Plain {
-        path: Vec<u8>,
+        path: &'a [u8],
         flags: MountFlags,
     },
     /// mount(2) of an overlay with these options, a text as mount(8) takes it
     Overlay {
-        path: Vec<u8>,
-        options: Vec<u8>,
+        path: &'a [u8],
+        options: &'a [u8],
         flags: MountFlags,
     },
     /// mount(2) with `MS_BIND`, and `MS_REC`
     Bind {
-        source: Vec<u8>,
-        path: Vec<u8>,
+        source: &'a [u8],
+        path: &'a [u8],
         recursive: bool,
     },
     /// mount(2) with `MS_MOVE`
     Move {
-        source: Vec<u8>,
-        path: Vec<u8>,
+        source: &'a [u8],
+        path: &'a [u8],
     },
     /// umount(2)
     Umount {
-        path: Vec<u8>,
+        path: &'a [u8],
     },
     /// umount(2) with `MNT_DETACH`
     Lazy {
-        path: Vec<u8>,
+        path: &'a [u8],
     },
     /// mount(2) with `MS_REMOUNT` and `MS_BIND`
     Remount {
-        path: Vec<u8>,
+        path: &'a [u8],
         flags: MountFlags,
     },
     /// mount(2) with a propagation type, and `MS_REC`
     SetType {
-        path: Vec<u8>,
+        path: &'a [u8],
         word: TypeWord,
         recursive: bool,
     },
     /// pivot_root(2)
     Pivot {
-        new: Vec<u8>,
-        put: Vec<u8>,
+        new: &'a [u8],
+        put: &'a [u8],
     },
 }
 

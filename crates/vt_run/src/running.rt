@@ -68,7 +68,7 @@ impl<D: Read> Read for Watched<D> {
 /// Answers the script that a source gives, in a version of its language, and flushes the sink, also before a fault.
 ///
 /// `Read` and `Write`: that device failed. `Memory`: an allocation failed before anything was read or written.
-pub fn answer<C: Calls + Drop, R: Read + Drop, W: Write + Drop>(
+pub fn answer<C: Calls, R: Read + Drop, W: Write + Drop>(
     version: Version,
     alloc: Global,
     source: &mut ReadSource<R>,
@@ -96,7 +96,7 @@ pub fn answer<C: Calls + Drop, R: Read + Drop, W: Write + Drop>(
 
 // Answers the script that a reader gives, with the fault that the program tells. The writer that is returned was handed
 // all that was kept back.
-fn answer_named<C: Calls + Drop, R: Read + Drop, W: Write + Drop>(
+fn answer_named<C: Calls, R: Read + Drop, W: Write + Drop>(
     version: Version,
     alloc: Global,
     name: &str,
@@ -141,7 +141,7 @@ fn read_fault(alloc: Global, name: &str, cause: Option<io::Error>) -> Fault
 ///
 /// What was answered is handed on to the output, also before a fault. What a file holds no clause can say: that it is
 /// what is read, tests show.
-pub fn run_named<C: Calls + Drop, R: Files + Input + AllocGlobal, W: Write>(
+pub fn run_named<C: Calls, R: Files + Input + AllocGlobal, W: Write>(
     rt: &R,
     version: Version,
     name: &str,

@@ -19,7 +19,7 @@ use vt_line::version::Version;
 const CHUNK: usize = 8192;
 
 // Answers a script in a new session. `Read` and `Write`: that device failed.
-fn answer_all<C: Calls + Drop, R: Source, W: Sink>(
+fn answer_all<C: Calls, R: Source, W: Sink>(
     session: &mut Session<C>,
     source: &mut R,
     sink: &mut W,
@@ -70,7 +70,7 @@ fn answer_all<C: Calls + Drop, R: Source, W: Sink>(
 /// `Memory` where the opening world or the line's buffer was refused, before anything was read.
 ///
 /// The script is in version 1 of its language, as [`run_as`] has it.
-pub fn run<C: Calls + Drop, R: Source, W: Sink>(
+pub fn run<C: Calls, R: Source, W: Sink>(
     alloc: Global,
     source: &mut R,
     sink: &mut W,
@@ -108,7 +108,7 @@ pub fn run<C: Calls + Drop, R: Source, W: Sink>(
 }
 
 /// Answers a script as [`run`] does, in a version of its language.
-pub fn run_as<C: Calls + Drop, R: Source, W: Sink>(
+pub fn run_as<C: Calls, R: Source, W: Sink>(
     version: Version,
     alloc: Global,
     source: &mut R,
@@ -145,7 +145,6 @@ pub fn run_as<C: Calls + Drop, R: Source, W: Sink>(
 {
     let mut session = Session::<C>::new(version, alloc)?;
     let outcome = answer_all(&mut session, source, sink);
-    // By a call: the proof of a function that drops a world itself takes minutes.
-    drop(session);
+    session.into_world().end();
     outcome
 }

@@ -13,7 +13,7 @@ use vt_answers::Calls;
 use vt_io::line::LineBuffer;
 use vt_io::output::Sink;
 use vt_line::fault::RunFault;
-use vt_line::line::Line;
+use vt_line::line::{Line, Unescaped};
 use vt_line::print::write_reply;
 use vt_line::version::Version;
 use vt_spec::errors::Rule;
@@ -27,6 +27,8 @@ pub struct Session<C> {
     pub answered: u64,
     /// What was read of the next line.
     pub line: LineBuffer,
+    /// The texts of the last line that had escapes.
+    pub texts: Option<Unescaped>,
     pub alloc: Global,
 }
 
@@ -47,6 +49,7 @@ fn answer<C: Calls, W: Sink>(
     world: &mut C,
     number: u64,
     line: &LineBuffer,
+    texts: &mut Option<Unescaped>,
     sink: &mut W,
 ) -> Result<(), RunFault>
     requires { W.failures sink.old + 1 < 2 ^ 64 }
@@ -59,7 +62,7 @@ fn answer<C: Calls, W: Sink>(
     if line.is_overlong() {
         return write_reply(sink, number, &Err(Rule::S1.denial()));
     }
-    match Line::parse_as(version, alloc, line.bytes()) {
+    match Line::parse_as(version, alloc, line.bytes(), texts) {
         Ok(Line::Silent) => Ok(()),
         Ok(Line::Call(task, call)) => {
             let answer = world.call(&task, call);
@@ -73,7 +76,7 @@ fn answer<C: Calls, W: Sink>(
     }
 }
 
-impl<C: Calls + Drop> Session<C> {
+impl<C: Calls> Session<C> {
     /// The opening world, before the first byte. `Memory`: the world or the line's buffer was refused.
     pub fn new(version: Version, alloc: Global) -> Result<Self, RunFault>
         ensures version { IfOk result (λ session. session.version ≡ version) }
@@ -93,6 +96,7 @@ impl<C: Calls + Drop> Session<C> {
             world,
             answered: 0,
             line,
+            texts: None,
             alloc,
         })
     }
@@ -124,6 +128,7 @@ impl<C: Calls + Drop> Session<C> {
             &mut self.world,
             number,
             &self.line,
+            &mut self.texts,
             sink,
         )?;
         self.answered = number;
@@ -189,6 +194,7 @@ impl<C: Calls + Drop> Session<C> {
             &mut self.world,
             self.answered + 1,
             &self.line,
+            &mut self.texts,
             sink,
         )
     }

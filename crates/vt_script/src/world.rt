@@ -17,11 +17,7 @@ const PIECE: usize = 8192;
 /// newline is not looked at.
 ///
 /// `Memory` and `Write`: an allocation failed.
-pub fn world_after<C: Calls + Drop>(
-    version: Version,
-    alloc: Global,
-    script: &[u8],
-) -> Result<C, RunFault>
+pub fn world_after<C: Calls>(version: Version, alloc: Global, script: &[u8]) -> Result<C, RunFault>
     ensures { IfOk result (λ world. IsReachedBy (version_of version) script.now (C.world world)) }
 {
     let mut session = Session::<C>::new(version, alloc)?;
@@ -32,7 +28,7 @@ pub fn world_after<C: Calls + Drop>(
     match outcome {
         Ok(()) => Ok(world),
         Err(fault) => {
-            drop(world);
+            world.end();
             Err(fault)
         }
     }

@@ -6,7 +6,7 @@ use anyhow::{Result, bail};
 use std::alloc::{AllocError, Global};
 use std::fs;
 use std::rt::Files;
-use vt_calls::Kernel;
+use vt_calls::{Calls, Kernel};
 use vt_check::check::{Options as CheckOptions, check as check_script};
 use vt_explain::{Format as ExplainFormat, Numbered, explain, line_at};
 use vt_lines::reached::reached_before;
@@ -34,8 +34,7 @@ impl Tool {
             Tool::Show(version, options) => {
                 let reached = reached_before::<Kernel>(version, alloc, script, u64::MAX)?;
                 let outcome = show_world(alloc, reached.world.world(), options, &mut text);
-                // By a call: the proof of a function that drops a world itself takes minutes.
-                drop(reached);
+                reached.world.end();
                 if !outcome? {
                     bail!("there is no such task");
                 }
@@ -67,8 +66,7 @@ fn explained(
         before,
     };
     let outcome = explain(version, alloc, &mut reached.world, numbered, format);
-    // By a call: the proof of a function that drops a world itself takes minutes.
-    drop(reached);
+    reached.world.end();
     Ok(outcome?.into_bytes())
 }
 

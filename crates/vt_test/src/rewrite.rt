@@ -69,7 +69,7 @@ fn push_changes(
 }
 
 // Appends the changes of a script, as it is answered.
-fn push_changes_of<C: Calls + Drop>(
+fn push_changes_of<C: Calls>(
     alloc: Global,
     changes: &mut Vec<Change>,
     script: &Script<'_>,
@@ -81,7 +81,7 @@ fn push_changes_of<C: Calls + Drop>(
 }
 
 // Appends the changes of scripts.
-fn push_all_changes<C: Calls + Drop>(
+fn push_all_changes<C: Calls>(
     alloc: Global,
     changes: &mut Vec<Change>,
     scripts: &[Script<'_>],
@@ -93,7 +93,7 @@ fn push_all_changes<C: Calls + Drop>(
 }
 
 // Appends the changes of a file, in the order of its lines.
-fn push_changes_in<C: Calls + Drop>(
+fn push_changes_in<C: Calls>(
     version: Version,
     alloc: Global,
     changes: &mut Vec<Change>,
@@ -168,7 +168,7 @@ impl Rewriting {
     }
 
     // Finds the changes of a file, and makes them.
-    fn rewrite<C: Calls + Drop>(
+    fn rewrite<C: Calls>(
         &mut self,
         version: Version,
         alloc: Global,
@@ -189,7 +189,7 @@ pub struct Rewritten {
 
 /// The file, whose scripts are in a version of their language, with the given answers in the place of those that are
 /// wanted and are not given; all else stays.
-pub fn with_given_answers<C: Calls + Drop>(
+pub fn with_given_answers<C: Calls>(
     version: Version,
     alloc: Global,
     file: &[u8],

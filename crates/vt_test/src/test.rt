@@ -120,7 +120,7 @@ fn outcome_of(
 }
 
 // The outcome of a script.
-fn tested<C: Calls + Drop>(
+fn tested<C: Calls>(
     alloc: Global,
     file: &str,
     format: Format,
@@ -166,7 +166,7 @@ fn write_text<W: Write>(output: &mut W, text: Result<String, AllocError>) -> io:
 }
 
 // Tests scripts, and writes what is to be said of each.
-fn test_scripts<C: Calls + Drop, W: Write>(
+fn test_scripts<C: Calls, W: Write>(
     alloc: Global,
     file: &str,
     scripts: &[Script<'_>],
@@ -197,7 +197,7 @@ fn write_fault<W: Write>(
 }
 
 /// Tests the scripts of a file, in a version of their language, and writes what is to be said of each.
-pub fn test_file<C: Calls + Drop, W: Write>(
+pub fn test_file<C: Calls, W: Write>(
     version: Version,
     alloc: Global,
     file: &str,

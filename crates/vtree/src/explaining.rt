@@ -5,7 +5,7 @@ ghost use Rattle.vt_run.specs.Status.{comes_before_output};
 use std::alloc::{AllocError, Global};
 use std::io::Write;
 use std::rt::Files;
-use vt_calls::Kernel;
+use vt_calls::{Calls, Kernel};
 use vt_commands::{
     Explainer, Fault, LineAsked, count_refused, hand_on_text, readable, refuse_text, script_at,
     scripts_in,
@@ -64,8 +64,7 @@ fn explain_call<R: Eprint + AllocGlobal, W: Write>(
     };
     let told = explain(version, alloc, &mut reached.world, line, format);
     let refused = reached.refused;
-    // By a call: the proof of a function that drops a world itself takes minutes.
-    drop(reached);
+    reached.world.end();
     if told.is_ok() {
         count_refused(rt, explained.name, refused);
     }

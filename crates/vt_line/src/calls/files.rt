@@ -114,7 +114,7 @@ fn pwrite_words<'a>(words: &mut Words<'a>) -> Option<(u8, u32, &'a [u8])>
 }
 
 /// The call of `pread DESCRIPTOR OFFSET SIZE`.
-fn pread_call(words: &mut Words<'_>) -> Option<Call>
+fn pread_call<'a>(words: &mut Words<'a>) -> Option<Call<'a>>
     ensures { option_map call_of result ≡ call_named One CallName.Pread words.old }
 {
     let descriptor = descriptor_word(words.next()?)?;
@@ -129,7 +129,7 @@ fn pread_call(words: &mut Words<'_>) -> Option<Call>
 }
 
 /// The call of `close DESCRIPTOR`.
-fn close_call(words: &mut Words<'_>) -> Option<Call>
+fn close_call<'a>(words: &mut Words<'a>) -> Option<Call<'a>>
     ensures { option_map call_of result ≡ call_named One CallName.Close words.old }
 {
     let descriptor = descriptor_word(words.next()?)?;
@@ -139,74 +139,68 @@ fn close_call(words: &mut Words<'_>) -> Option<Call>
 
 /// `write PATH BYTES`.
 #[inline(never)]
-pub fn write(alloc: Global, words: &mut Words<'_>) -> Result<Call, ReadError>
+pub fn write<'a>(alloc: Global, words: &mut Words<'a>) -> Result<Call<'a>, ReadError>
     ensures { IsCallRead (call_named One CallName.Write words.old) result }
 {
     let Some((path, bytes)) = write_words(words) else {
         return Err(ReadError::Grammar);
     };
-    let path = path.to_vec(alloc)?;
     let bytes = bytes.to_vec(alloc)?;
     Ok(Call::Write(WriteCall::Write { path, bytes }))
 }
 
 /// `mkdir PATH [MODE]`.
 #[inline(never)]
-pub fn mkdir(alloc: Global, words: &mut Words<'_>) -> Result<Call, ReadError>
+pub fn mkdir<'a>(words: &mut Words<'a>) -> Result<Call<'a>, ReadError>
     ensures { IsCallRead (call_named One CallName.Mkdir words.old) result }
 {
     let Some((path, mode)) = mkdir_words(words) else {
         return Err(ReadError::Grammar);
     };
-    let path = path.to_vec(alloc)?;
     Ok(Call::Make(MakeCall::Mkdir { path, mode }))
 }
 
 /// `chmod PATH MODE`.
 #[inline(never)]
-pub fn chmod(alloc: Global, words: &mut Words<'_>) -> Result<Call, ReadError>
+pub fn chmod<'a>(words: &mut Words<'a>) -> Result<Call<'a>, ReadError>
     ensures { IsCallRead (call_named One CallName.Chmod words.old) result }
 {
     let Some((path, mode)) = chmod_words(words) else {
         return Err(ReadError::Grammar);
     };
-    let path = path.to_vec(alloc)?;
     Ok(Call::Write(WriteCall::Chmod { path, mode }))
 }
 
 /// `chown PATH UID GID`.
 #[inline(never)]
-pub fn chown(alloc: Global, words: &mut Words<'_>) -> Result<Call, ReadError>
+pub fn chown<'a>(words: &mut Words<'a>) -> Result<Call<'a>, ReadError>
     ensures { IsCallRead (call_named One CallName.Chown words.old) result }
 {
     let Some((path, uid, gid)) = chown_words(words) else {
         return Err(ReadError::Grammar);
     };
-    let path = path.to_vec(alloc)?;
     Ok(Call::Write(WriteCall::Chown { path, uid, gid }))
 }
 
 /// `opaque PATH yes` or `opaque PATH no`.
 #[inline(never)]
-pub fn opaque(alloc: Global, words: &mut Words<'_>) -> Result<Call, ReadError>
+pub fn opaque<'a>(words: &mut Words<'a>) -> Result<Call<'a>, ReadError>
     ensures { IsCallRead (call_named One CallName.Opaque words.old) result }
 {
     let Some((path, mark)) = opaque_words(words) else {
         return Err(ReadError::Grammar);
     };
-    let path = path.to_vec(alloc)?;
     Ok(Call::Write(WriteCall::Opaque { path, mark }))
 }
 
 /// `open PATH ACCESS [create MODE | excl MODE]`.
 #[inline(never)]
-pub fn open(alloc: Global, words: &mut Words<'_>) -> Result<Call, ReadError>
+pub fn open<'a>(words: &mut Words<'a>) -> Result<Call<'a>, ReadError>
     ensures { IsCallRead (call_named One CallName.Open words.old) result }
 {
     let Some((path, access, creation)) = open_words(words) else {
         return Err(ReadError::Grammar);
     };
-    let path = path.to_vec(alloc)?;
     Ok(Call::Descriptor(DescriptorCall::Open {
         path,
         access,
@@ -216,7 +210,7 @@ pub fn open(alloc: Global, words: &mut Words<'_>) -> Result<Call, ReadError>
 
 /// `pwrite DESCRIPTOR OFFSET BYTES`.
 #[inline(never)]
-pub fn pwrite(alloc: Global, words: &mut Words<'_>) -> Result<Call, ReadError>
+pub fn pwrite<'a>(alloc: Global, words: &mut Words<'a>) -> Result<Call<'a>, ReadError>
     ensures { IsCallRead (call_named One CallName.Pwrite words.old) result }
 {
     let Some((descriptor, offset, bytes)) = pwrite_words(words) else {
@@ -232,7 +226,7 @@ pub fn pwrite(alloc: Global, words: &mut Words<'_>) -> Result<Call, ReadError>
 
 /// `pread DESCRIPTOR OFFSET SIZE`.
 #[inline(never)]
-pub fn pread(words: &mut Words<'_>) -> Result<Call, ReadError>
+pub fn pread<'a>(words: &mut Words<'a>) -> Result<Call<'a>, ReadError>
     ensures { IsCallRead (call_named One CallName.Pread words.old) result }
 {
     pread_call(words).ok_or(ReadError::Grammar)
@@ -240,7 +234,7 @@ pub fn pread(words: &mut Words<'_>) -> Result<Call, ReadError>
 
 /// `close DESCRIPTOR`.
 #[inline(never)]
-pub fn close(words: &mut Words<'_>) -> Result<Call, ReadError>
+pub fn close<'a>(words: &mut Words<'a>) -> Result<Call<'a>, ReadError>
     ensures { IsCallRead (call_named One CallName.Close words.old) result }
 {
     close_call(words).ok_or(ReadError::Grammar)

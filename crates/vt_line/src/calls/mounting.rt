@@ -7,11 +7,10 @@ ghost use Rattle.vt_request.specs.Requests.{options_named, type_word_of};
 ghost use Rattle.vt_line.specs.Calls.{call_named, call_worded, mount_named, IsCallRead};
 ghost use Rattle.vt_line.specs.Versions.{version_of};
 
-use crate::calls::{ReadError, paths};
+use crate::calls::{ReadError, path_pair};
 use crate::names::CallName;
 use crate::version::Version;
 use crate::words::{Words, flags_word, path_word, type_word};
-use std::alloc::Global;
 use vt_cred::MountFlags;
 use vt_request::{Call, LookCall, MountCall, TypeWord};
 
@@ -73,26 +72,23 @@ fn type_words<'a>(words: &mut Words<'a>) -> Option<(&'a [u8], TypeWord)>
 
 /// `mount plain PATH [FLAGS]` behind the kind.
 #[inline(never)]
-fn mount_plain(version: Version, alloc: Global, words: &mut Words<'_>) -> Result<Call, ReadError>
+fn mount_plain<'a>(version: Version, words: &mut Words<'a>) -> Result<Call<'a>, ReadError>
     ensures { IsCallRead (mount_named (version_of version) (codes "plain") words.old) result }
 {
     let Some((path, flags)) = plain_words(version, words) else {
         return Err(ReadError::Grammar);
     };
-    let path = path.to_vec(alloc)?;
     Ok(Call::Mount(MountCall::Plain { path, flags }))
 }
 
 /// `mount overlay PATH OPTIONS [FLAGS]` behind the kind.
 #[inline(never)]
-fn mount_overlay(version: Version, alloc: Global, words: &mut Words<'_>) -> Result<Call, ReadError>
+fn mount_overlay<'a>(version: Version, words: &mut Words<'a>) -> Result<Call<'a>, ReadError>
     ensures { IsCallRead (mount_named (version_of version) (codes "overlay") words.old) result }
 {
     let Some((path, options, flags)) = overlay_words(version, words) else {
         return Err(ReadError::Grammar);
     };
-    let path = path.to_vec(alloc)?;
-    let options = options.to_vec(alloc)?;
     Ok(Call::Mount(MountCall::Overlay {
         path,
         options,
@@ -102,43 +98,41 @@ fn mount_overlay(version: Version, alloc: Global, words: &mut Words<'_>) -> Resu
 
 /// `mount plain PATH [FLAGS]`, and `mount overlay PATH OPTIONS [FLAGS]`.
 #[inline(never)]
-pub fn mount(version: Version, alloc: Global, words: &mut Words<'_>) -> Result<Call, ReadError>
+pub fn mount<'a>(version: Version, words: &mut Words<'a>) -> Result<Call<'a>, ReadError>
     ensures { IsCallRead (call_named (version_of version) CallName.Mount words.old) result }
 {
     let Some(kind) = words.next() else {
         return Err(ReadError::Grammar);
     };
     if kind == b"plain".as_slice() {
-        return mount_plain(version, alloc, words);
+        return mount_plain(version, words);
     }
     if kind == b"overlay".as_slice() {
-        return mount_overlay(version, alloc, words);
+        return mount_overlay(version, words);
     }
     Err(ReadError::Grammar)
 }
 
 /// `remount PATH FLAGS`.
 #[inline(never)]
-pub fn remount(version: Version, alloc: Global, words: &mut Words<'_>) -> Result<Call, ReadError>
+pub fn remount<'a>(version: Version, words: &mut Words<'a>) -> Result<Call<'a>, ReadError>
     ensures { IsCallRead (call_named (version_of version) CallName.Remount words.old) result }
 {
     let Some((path, flags)) = remount_words(version, words) else {
         return Err(ReadError::Grammar);
     };
-    let path = path.to_vec(alloc)?;
     Ok(Call::Mount(MountCall::Remount { path, flags }))
 }
 
 /// `type PATH TYPE`, and `rtype PATH TYPE`, which is recursive.
 #[inline(never)]
-pub fn set_type(alloc: Global, words: &mut Words<'_>, recursive: bool) -> Result<Call, ReadError>
+pub fn set_type<'a>(words: &mut Words<'a>, recursive: bool) -> Result<Call<'a>, ReadError>
     ensures one { recursive ≡ false → IsCallRead (call_named One CallName.SetType words.old) result }
     ensures recursive { recursive ≡ true → IsCallRead (call_named One CallName.SetTypeRecursive words.old) result }
 {
     let Some((path, word)) = type_words(words) else {
         return Err(ReadError::Grammar);
     };
-    let path = path.to_vec(alloc)?;
     Ok(Call::Mount(MountCall::SetType {
         path,
         word,
@@ -148,13 +142,15 @@ pub fn set_type(alloc: Global, words: &mut Words<'_>, recursive: bool) -> Result
 
 /// `pivot_root NEW PUT`, which version 1 does not have.
 #[inline(never)]
-pub fn pivot_root(version: Version, alloc: Global, words: &mut Words<'_>) -> Result<Call, ReadError>
+pub fn pivot_root<'a>(version: Version, words: &mut Words<'a>) -> Result<Call<'a>, ReadError>
     ensures { IsCallRead (call_named (version_of version) CallName.PivotRoot words.old) result }
 {
     match version {
         Version::One => Err(ReadError::Grammar),
         Version::Two => {
-            let (new, put) = paths(alloc, words)?;
+            let Some((new, put)) = path_pair(words) else {
+                return Err(ReadError::Grammar);
+            };
             Ok(Call::Mount(MountCall::Pivot { new, put }))
         }
     }
@@ -162,7 +158,7 @@ pub fn pivot_root(version: Version, alloc: Global, words: &mut Words<'_>) -> Res
 
 /// `mounts`, without words.
 #[inline(never)]
-pub fn mounts(words: &mut Words<'_>) -> Result<Call, ReadError>
+pub fn mounts<'a>(words: &mut Words<'a>) -> Result<Call<'a>, ReadError>
     ensures { IsCallRead (call_named One CallName.Mounts words.old) result }
 {
     if words.end().is_none() {

@@ -55,7 +55,7 @@ fn setns_word<'a>(words: &mut Words<'a>) -> Option<&'a [u8]>
 }
 
 /// The call of `umask MODE`.
-fn umask_call(words: &mut Words<'_>) -> Option<Call>
+fn umask_call<'a>(words: &mut Words<'a>) -> Option<Call<'a>>
     ensures { option_map call_of result ≡ call_named One CallName.Umask words.old }
 {
     let mode = mode_word(words.next()?)?;
@@ -64,7 +64,7 @@ fn umask_call(words: &mut Words<'_>) -> Option<Call>
 }
 
 /// The call of `drop CAPS`.
-fn drop_call(words: &mut Words<'_>) -> Option<Call>
+fn drop_call<'a>(words: &mut Words<'a>) -> Option<Call<'a>>
     ensures { option_map call_of result ≡ call_named One CallName.Drop words.old }
 {
     let caps = capabilities_word(words.next()?)?;
@@ -74,7 +74,7 @@ fn drop_call(words: &mut Words<'_>) -> Option<Call>
 
 /// `fork [UID GID GROUPS CAPS]`.
 #[inline(never)]
-pub fn fork(alloc: Global, words: &mut Words<'_>) -> Result<Call, ReadError>
+pub fn fork<'a>(alloc: Global, words: &mut Words<'a>) -> Result<Call<'a>, ReadError>
     ensures { IsCallRead (call_named One CallName.Fork words.old) result }
 {
     let Some(child) = fork_words(words) else {
@@ -95,7 +95,7 @@ pub fn fork(alloc: Global, words: &mut Words<'_>) -> Result<Call, ReadError>
 
 /// `setns TASK`. Only a name of many numbers can fail.
 #[inline(never)]
-pub fn setns(alloc: Global, words: &mut Words<'_>) -> Result<Call, ReadError>
+pub fn setns<'a>(alloc: Global, words: &mut Words<'a>) -> Result<Call<'a>, ReadError>
     ensures { IsCallRead (call_named One CallName.Setns words.old) result }
 {
     let Some(task) = setns_word(words) else {
@@ -107,7 +107,7 @@ pub fn setns(alloc: Global, words: &mut Words<'_>) -> Result<Call, ReadError>
 
 /// `umask MODE`.
 #[inline(never)]
-pub fn umask(words: &mut Words<'_>) -> Result<Call, ReadError>
+pub fn umask<'a>(words: &mut Words<'a>) -> Result<Call<'a>, ReadError>
     ensures { IsCallRead (call_named One CallName.Umask words.old) result }
 {
     umask_call(words).ok_or(ReadError::Grammar)
@@ -115,7 +115,7 @@ pub fn umask(words: &mut Words<'_>) -> Result<Call, ReadError>
 
 /// `drop CAPS`.
 #[inline(never)]
-pub fn drop(words: &mut Words<'_>) -> Result<Call, ReadError>
+pub fn drop<'a>(words: &mut Words<'a>) -> Result<Call<'a>, ReadError>
     ensures { IsCallRead (call_named One CallName.Drop words.old) result }
 {
     drop_call(words).ok_or(ReadError::Grammar)
@@ -123,7 +123,7 @@ pub fn drop(words: &mut Words<'_>) -> Result<Call, ReadError>
 
 /// `exit`, without words.
 #[inline(never)]
-pub fn exit(words: &mut Words<'_>) -> Result<Call, ReadError>
+pub fn exit<'a>(words: &mut Words<'a>) -> Result<Call<'a>, ReadError>
     ensures { IsCallRead (call_named One CallName.Exit words.old) result }
 {
     if words.end().is_none() {
@@ -134,7 +134,7 @@ pub fn exit(words: &mut Words<'_>) -> Result<Call, ReadError>
 
 /// `unshare`, without words.
 #[inline(never)]
-pub fn unshare(words: &mut Words<'_>) -> Result<Call, ReadError>
+pub fn unshare<'a>(words: &mut Words<'a>) -> Result<Call<'a>, ReadError>
     ensures { IsCallRead (call_named One CallName.Unshare words.old) result }
 {
     if words.end().is_none() {

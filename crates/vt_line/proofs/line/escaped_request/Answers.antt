@@ -17,5 +17,6 @@ pub returns : goal.returns
 returns c =
     let texts = sym c.from_line.ensures ∙ c.in-Some.is in
     let asked = request-few (version_of c.args.version) c.args.line.now ∙ ap (λ texts. then_some texts (request_of_texts (overlays (version_of c.args.version)))) texts
-    ∙ ap (request_of_texts (overlays (version_of c.args.version))) (sym c.of_texts.ensures) in
+    ∙ ap (request_of_texts (overlays (version_of c.args.version)))
+    (sym c.insert-unescaped.ensures.value ∙ sym c.of_texts.ensures) in
     subst (λ asked. IsRequestRead asked c.words_request.result) (sym asked) c.words_request.ensures

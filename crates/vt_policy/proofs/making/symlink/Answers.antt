@@ -16,16 +16,16 @@ returns-in_err-may_make g c =
     let task = task_of c.args.who.now in
     let at = c.in_ok-place.ensures.ok in
     let node : Place ℕ → Node ℕ = λ place.
-    record { attr = exact_attr task symlink_mode; content = Symlink c.args.text.items } in
+    record { attr = exact_attr task symlink_mode; content = Symlink c.args.text.now } in
     let rows = make_rules looks task at.0 (unnumbered at.0 (node at.0)) in
     let permit = make_permit at.0 (node at.0) in
     let special = ap is_special at.2.last ∙ sym c.is_special.ensures ∙ c.if-is_special.false in
     let missing = ap is_some at.2.object ∙ is_some_mapped c.in_ok-place.place.object ∙ sym c.is_some.ensures
     ∙ c.if-is_some.false in
     let p = err_from_is_err_and c.from_residual-in_err-may_make.result c.from_residual-in_err-may_make.ensures.1 in
-    rw (p.1, p.2) (refused task (symlink_permit nat_eq looks task c.args.text.items c.args.path.now) _
-    (skipped (is_empty c.args.text.items) W1 _ _ (search rules)
-    ∙ skipped _ W2 [] _ (le-ltb 4095 (length c.args.text.items) (omega arith))
+    rw (p.1, p.2) (refused task (symlink_permit nat_eq looks task c.args.text.now c.args.path.now) _
+    (skipped (is_empty c.args.text.now) W1 _ _ (search rules)
+    ∙ skipped _ W2 [] _ (le-ltb 4095 (length c.args.text.now) (omega arith))
     ∙ made_asked looks task (walk_end (new_leaf_walk nat_eq looks task c.args.path.now)) at.0 node at.1 special missing
     ∙ unless-stopped rows (Ok permit) _ (c.in_err-may_make.ensures at.0 (node at.0) at.2.parent)))
 
@@ -36,19 +36,40 @@ returns-in_err-name_at g c =
     let task = task_of c.args.who.now in
     let at = c.in_ok-place.ensures.ok in
     let node : Place ℕ → Node ℕ = λ place.
-    record { attr = exact_attr task symlink_mode; content = Symlink c.args.text.items } in
+    record { attr = exact_attr task symlink_mode; content = Symlink c.args.text.now } in
     let rows = make_rules looks task at.0 (unnumbered at.0 (node at.0)) in
     let permit = make_permit at.0 (node at.0) in
     let special = ap is_special at.2.last ∙ sym c.is_special.ensures ∙ c.if-is_special.false in
     let missing = ap is_some at.2.object ∙ is_some_mapped c.in_ok-place.place.object ∙ sym c.is_some.ensures
     ∙ c.if-is_some.false in
     let p = err_from_is_err_and c.from_residual-in_err-name_at.result c.from_residual-in_err-name_at.ensures.1 in
-    rw (p.1, p.2) (without_memory task (symlink_permit nat_eq looks task c.args.text.items c.args.path.now) permit _
-    (skipped (is_empty c.args.text.items) W1 _ _ (search rules)
-    ∙ skipped _ W2 [] _ (le-ltb 4095 (length c.args.text.items) (omega arith))
+    rw (p.1, p.2) (without_memory task (symlink_permit nat_eq looks task c.args.text.now c.args.path.now) permit _
+    (skipped (is_empty c.args.text.now) W1 _ _ (search rules)
+    ∙ skipped _ W2 [] _ (le-ltb 4095 (length c.args.text.now) (omega arith))
     ∙ made_asked looks task (walk_end (new_leaf_walk nat_eq looks task c.args.path.now)) at.0 node at.1 special missing
     ∙ unless-let_through rows (Ok permit) (c.in_ok-may_make.ensures at.0 (node at.0) at.2.parent))
     c.in_err-name_at.ensures.memory)
+
+pub returns-in_err-text_of : goal.returns-in_err-text_of
+unfolding symlink_permit
+returns-in_err-text_of g c =
+    let looks = g.L.Look.looks c.args.world.now in
+    let task = task_of c.args.who.now in
+    let at = c.in_ok-place.ensures.ok in
+    let node : Place ℕ → Node ℕ = λ place.
+    record { attr = exact_attr task symlink_mode; content = Symlink c.args.text.now } in
+    let rows = make_rules looks task at.0 (unnumbered at.0 (node at.0)) in
+    let permit = make_permit at.0 (node at.0) in
+    let special = ap is_special at.2.last ∙ sym c.is_special.ensures ∙ c.if-is_special.false in
+    let missing = ap is_some at.2.object ∙ is_some_mapped c.in_ok-place.place.object ∙ sym c.is_some.ensures
+    ∙ c.if-is_some.false in
+    let p = err_from_is_err_and c.from_residual-in_err-text_of.result c.from_residual-in_err-text_of.ensures.1 in
+    rw (p.1, p.2) (without_memory task (symlink_permit nat_eq looks task c.args.text.now c.args.path.now) permit _
+    (skipped (is_empty c.args.text.now) W1 _ _ (search rules)
+    ∙ skipped _ W2 [] _ (le-ltb 4095 (length c.args.text.now) (omega arith))
+    ∙ made_asked looks task (walk_end (new_leaf_walk nat_eq looks task c.args.path.now)) at.0 node at.1 special missing
+    ∙ unless-let_through rows (Ok permit) (c.in_ok-may_make.ensures at.0 (node at.0) at.2.parent))
+    c.in_err-text_of.ensures.memory)
 
 pub returns : goal.returns
 unfolding symlink_permit
@@ -57,7 +78,7 @@ returns g c =
     let task = task_of c.args.who.now in
     let at = c.in_ok-place.ensures.ok in
     let node : Place ℕ → Node ℕ = λ place.
-    record { attr = exact_attr task symlink_mode; content = Symlink c.args.text.items } in
+    record { attr = exact_attr task symlink_mode; content = Symlink c.args.text.now } in
     let rows = make_rules looks task at.0 (unnumbered at.0 (node at.0)) in
     let permit = make_permit at.0 (node at.0) in
     let special = ap is_special at.2.last ∙ sym c.is_special.ensures ∙ c.if-is_special.false in
@@ -65,8 +86,8 @@ returns g c =
     ∙ c.if-is_some.false in
     let name = ap name_of at.2.last ∙ sym c.in_ok-name_at.ensures.ok in
     let built : node at.0 ≡ node_in c.in_ok-place.place.parent c.symlink.result = search rules in
-    skipped (is_empty c.args.text.items) W1 _ _ (search rules)
-    ∙ skipped _ W2 [] _ (le-ltb 4095 (length c.args.text.items) (omega arith))
+    skipped (is_empty c.args.text.now) W1 _ _ (search rules)
+    ∙ skipped _ W2 [] _ (le-ltb 4095 (length c.args.text.now) (omega arith))
     ∙ made_asked looks task (walk_end (new_leaf_walk nat_eq looks task c.args.path.now)) at.0 node at.1 special missing
     ∙ unless-let_through rows (Ok permit) (c.in_ok-may_make.ensures at.0 (node at.0) at.2.parent)
     ∙ (λ i. Ok (ToMake (at.2.parent i) (name i) (built i)))
