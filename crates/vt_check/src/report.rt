@@ -189,8 +189,8 @@ impl<'a> Scan<'a> {
         }
     }
 
-    // Goes on by a line, and says whether a run refuses it, in this version of the language. Its texts are kept in a place
-    // that serves each line in turn.
+    // Goes on by a line, and says whether a run refuses it, in this version of the language. One place serves for the
+    // texts of each line in turn.
     fn take(
         &mut self,
         version: Version,
