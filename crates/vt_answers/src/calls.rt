@@ -42,6 +42,6 @@ pub trait Calls {
             ≡ Ok (answer_of answer)) }
         ensures memory { IfErr result (λ deny. deny ≡ denial S5) };
 
-    /// Frees the world. Crates above end worlds by this call alone, so that one crate proves the drop of a world.
+    /// Frees the world. Crates above end worlds by this call, so that one crate proves the drop of a world.
     fn end(self);
 }

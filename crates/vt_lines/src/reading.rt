@@ -25,7 +25,7 @@ pub fn reading<'a>(
     }
 }
 
-/// Frees a line that was read. Crates above free lines by this call alone, so that one crate proves the drop of a line.
+/// Frees a line that was read. Crates above may free lines by this call, so that one crate proves the drop of a line.
 pub fn free(_read: Option<Line<'_>>) {}
 
 /// Whether a run takes the line.
