@@ -8,3 +8,4 @@ pub mod NewFilesystem
 pub mod Nowhere
 pub mod PathsFound
 pub mod TreesLookedAt
+pub mod RootLemmas

@@ -1,10 +1,10 @@
 -- What contracts see of the plain filesystems, and what the definitions see of them.
-use Rattle.std.specs.Prelude.{List, None, Option, Some, [], filter, find, if◌then◌else◌, map, nat_eq, not, unwrap_or, ℕ, ◌+◌, ◌≡◌, ◌∷◌}
+use Rattle.std.specs.Prelude.{List, None, Option, Some, [], filter, find, if◌then◌else◌, map, nat_eq, not, unwrap_or, ℕ, ◌+◌, ◌-◌, ◌≡◌, ◌∷◌}
 use Rattle.vt_spec.specs.declared.attributes.Attr.{Attr}
 use Rattle.vt_spec.specs.FileTree.{FileTree}
 use Rattle.vt_spec.specs.Machine.Renaming.{renamed_node}
 use Rattle.vt_spec.specs.Machine.World.{Filesystem}
-use Rattle.vt_spec.specs.Inodes.{Inode, Inodes, one_directory, renamed_inodes, tree_of}
+use Rattle.vt_spec.specs.Inodes.{Inode, Inodes, one_directory, pinned, renamed_inodes, tree_of, unpinned}
 use Rattle.vt_spec.specs.Tree.{Node, tree_of_root}
 use Rattle.vt_fs.specs.Trees.TreeValue.{TreeValue, inodes_of, next_number}
 use Rattle.vt_location.specs.declared.numbers.FilesystemId.{FilesystemId}
@@ -130,6 +130,29 @@ shown_with count change all = map (shown_if count change) all
 pub record ChangesInodes (count : ℕ) (change : Inodes ℕ → Inodes ℕ) (old new : Filesystems) : Type 0 where
   pub changed : shown new ≡ shown_with count change (shown old)
   pub others : without count new ≡ without count old
+
+-- with one mount more of a filesystem, and with one less
+abbrev pub mounted_once_more : ℕ → Filesystems → Filesystems
+mounted_once_more count all = with_changed count (λ entry. record entry { mounts = entry.mounts + 1 }) all
+
+abbrev pub mounted_once_less : ℕ → Filesystems → Filesystems
+mounted_once_less count all = with_changed count (λ entry. record entry { mounts = entry.mounts - 1 }) all
+
+-- the filesystem goes if no mount shows it
+abbrev pub without_unmounted : ℕ → Filesystems → Filesystems
+without_unmounted count all = if nat_eq (entry_at all count).mounts 0 then without count all else all
+
+-- the root of a mount is used once more, and its filesystem has one mount more
+pub record HoldsRoot (count number : ℕ) (old new : Filesystems) : Type 0 where
+  pub between : Filesystems
+  pub pins : ChangesInodes count (λ inodes. pinned nat_eq inodes number) old between
+  pub mounted : new ≡ mounted_once_more count between
+
+-- the root of a mount is used once less, and its filesystem has one mount less, and goes with its last
+pub record LeavesRoot (count number : ℕ) (old new : Filesystems) : Type 0 where
+  pub between : Filesystems
+  pub unpins : ChangesInodes count (λ inodes. unpinned nat_eq inodes number) old between
+  pub left : new ≡ without_unmounted count (mounted_once_less count between)
 
 -- a new filesystem as the definitions see it: one empty directory, in the first slot
 abbrev pub new_filesystem : ℕ → Attr → Filesystem ℕ

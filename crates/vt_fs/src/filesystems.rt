@@ -1,5 +1,5 @@
 //! `Filesystems`, and the calls that look at them and change them.
-ghost use Rattle.std.specs.Prelude.{◌≡◌, ℕ, [], ◌+◌, ◌-◌, ◌++◌, ◌∷◌, ◌↔◌, ◌≤◌, nat_eq, length, map, drop, take, true, false, nat_lt, None, Some, IfOk, IfSome, IsOk, IsTrue, OnOk, OnErr, ◌<◌, is_some, option_copied, option_map, IsErr};
+ghost use Rattle.std.specs.Prelude.{◌≡◌, ℕ, [], ◌+◌, ◌-◌, ◌++◌, ◌∷◌, ◌↔◌, ◌≤◌, nat_eq, nat_le, ◌&&◌, length, map, drop, take, true, false, nat_lt, None, Some, IfOk, IfSome, IsOk, IsTrue, OnOk, OnErr, ◌<◌, is_some, option_copied, option_map, IsErr};
 ghost use Rattle.std.specs.Option.{option_copied_mut};
 ghost use Rattle.std.specs.Borrow.{sem};
 ghost use Rattle.std.specs.List.{list_all};
@@ -15,6 +15,7 @@ ghost use Rattle.vt_spec.specs.Lists.{any_pair};
 ghost use Rattle.vt_spec.specs.Machine.Descriptors.{overwritten};
 ghost use Rattle.vt_spec.specs.Tree.{bytes_in, entries_in, is_directory_node, names_in};
 ghost use Rattle.vt_spec.specs.TreeInvariant.{IsDirectory, entry_at as number_at};
+ghost use Rattle.vt_fs.specs.FilesystemsValue.{seen_in};
 ghost use Rattle.vt_fs.specs.Trees.Slots.{most_uses};
 ghost use Rattle.vt_fs.specs.Trees.TreeValue.{inodes_of};
 ghost use Rattle.vt_location.specs.Locations.{number_of};
@@ -47,6 +48,39 @@ impl Filesystem {
         ensures value { result.now ≡ self.old.tree }
     {
         &mut self.tree
+    }
+
+    // Counts one more use of a root, and one more mount.
+    #[inline(always)]
+    fn hold_root(&mut self, root: NodeRef) -> Result<(), AllocError>
+        ensures tree { OnOk result (seen_in root.filesystem.count self.new.tree
+            ≡ pinned nat_eq (seen_in root.filesystem.count self.old.tree) (number_of root)) }
+        ensures mounts { OnOk result (self.new.mounts ≡ self.old.mounts + 1) }
+        ensures few { self.old.mounts < most_uses
+            → uses_in ((seen_in root.filesystem.count self.old.tree).inode (number_of root)) < most_uses → IsOk result }
+        ensures err { OnErr result (self.new ≡ self.old) }
+    {
+        if self.mounts == u64::MAX {
+            return Err(AllocError);
+        }
+        if let Some(slot) = slot_in(&self.tree, root.filesystem, root) {
+            self.tree.pin(slot)?;
+        }
+        self.mounts += 1;
+        Ok(())
+    }
+
+    // Takes back one use of a root, and one mount; a count of 0 stays 0.
+    #[inline(always)]
+    fn leave_root(&mut self, root: NodeRef)
+        ensures tree { seen_in root.filesystem.count self.new.tree
+            ≡ unpinned nat_eq (seen_in root.filesystem.count self.old.tree) (number_of root) }
+        ensures mounts { self.new.mounts ≡ self.old.mounts - 1 }
+    {
+        if let Some(slot) = slot_in(&self.tree, root.filesystem, root) {
+            self.tree.unpin(slot);
+        }
+        self.mounts = self.mounts.saturating_sub(1);
     }
 }
 
@@ -86,7 +120,7 @@ impl Model for Filesystems {
 }
 
 impl Filesystems {
-    ghost use Rattle.vt_fs.specs.FilesystemsValue.{FilesystemEntry, ChangesInodes, IsNew, entry_at, entry_of, files_at, inodes_at, inodes_seen, next_seen, node_seen, with_changed, without};
+    ghost use Rattle.vt_fs.specs.FilesystemsValue.{FilesystemEntry, ChangesInodes, HoldsRoot, IsNew, LeavesRoot, entry_at, entry_of, files_at, inodes_at, inodes_seen, next_seen, node_seen, with_changed, without};
     ghost use Rattle.vt_fs.specs.Laws.{LieUnderRoot, ParentsAreNamed, is_lost_under};
     ghost use Rattle.vt_fs.specs.Lends.{lends_tree};
 
@@ -305,6 +339,50 @@ impl Filesystems {
     {
         if let Some(found) = self.by_number.get_mut(&filesystem) {
             found.mounts = found.mounts.saturating_sub(1);
+        }
+    }
+
+    /// Whether the root of a mount and its filesystem have no more uses than so many.
+    #[inline(always)]
+    pub fn root_has_room(&self, root: NodeRef, most: u64) -> bool
+        ensures { result
+            ≡ (nat_le (uses_in ((inodes_at self.now root.filesystem.count).inode (number_of root))) most
+            && nat_le (entry_at self.now root.filesystem.count).mounts most) }
+    {
+        let Some(found) = found_under(&self.by_number, root.filesystem) else {
+            return true;
+        };
+        uses_of(&found.tree, root) <= most && found.mounts <= most
+    }
+
+    /// Counts one more use of the root of a mount, and one more mount of its filesystem. It does not allocate.
+    ///
+    /// An error says that one of the two counts is 2^64 - 1.
+    #[inline(always)]
+    pub fn hold_root(&mut self, root: NodeRef) -> Result<(), AllocError>
+        ensures ok { OnOk result (HoldsRoot root.filesystem.count (number_of root) self.old self.new) }
+        ensures few { (entry_at self.old root.filesystem.count).mounts < most_uses
+            → uses_in ((inodes_at self.old root.filesystem.count).inode (number_of root)) < most_uses → IsOk result }
+        ensures err { OnErr result (self.new ≡ self.old) }
+    {
+        match self.by_number.get_mut(&root.filesystem) {
+            Some(found) => found.hold_root(root),
+            None => Ok(()),
+        }
+    }
+
+    /// Takes back one use of the root of a mount, and one mount of its filesystem, which is removed with its last mount. A
+    /// count of 0 stays 0. It does not allocate.
+    #[inline(always)]
+    pub fn leave_root(&mut self, root: NodeRef)
+        ensures { LeavesRoot root.filesystem.count (number_of root) self.old self.new }
+    {
+        let Some(found) = self.by_number.get_mut(&root.filesystem) else {
+            return;
+        };
+        found.leave_root(root);
+        if found.mounts == 0 {
+            self.remove(root.filesystem);
         }
     }
 
@@ -566,6 +644,17 @@ impl Filesystems {
         if let Some(slot) = slot_in(tree, object.filesystem, object) {
             tree.unpin(slot);
         }
+    }
+}
+
+// How often a node of a tree is in use.
+#[inline(always)]
+fn uses_of(tree: &Tree, node: NodeRef) -> u64
+    ensures { result ≡ uses_in ((seen_in node.filesystem.count tree.now).inode (number_of node)) }
+{
+    match slot_in(tree, node.filesystem, node) {
+        Some(slot) => tree.uses(slot),
+        None => 0,
     }
 }
 

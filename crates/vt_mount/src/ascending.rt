@@ -8,7 +8,7 @@ use std::alloc::{AllocError, Global};
 use vt_location::MountId;
 
 // For how many mounts a list has room when it is made.
-const FIRST_ROOM: usize = 8;
+const FIRST_ROOM: usize = 16;
 
 /// Mounts in the ascending order of their numbers, so that one is found by a binary search. A single one needs no
 /// allocation.

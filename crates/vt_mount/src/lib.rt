@@ -13,5 +13,6 @@ mod pivoting;
 mod places;
 mod trees;
 
+pub use changes::Left;
 pub use mounts::Mounts;
 pub use moving::{Moved, NewPoint};

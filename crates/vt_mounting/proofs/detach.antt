@@ -72,3 +72,4 @@ pub mod OverlaysKept
 pub mod StoreLends
 pub mod StoreTrees
 pub mod OverlaysListed
+pub mod LeftMounts

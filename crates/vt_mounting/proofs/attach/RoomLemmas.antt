@@ -1,12 +1,14 @@
 -- Uses of inodes and filesystems that new mounts make, and room for them.
-use Rattle.std.proofs.Common.{◌≡◌, refl, sym, ap, subst, ◌∙◌, ℕ, ◌+◌, ◌*◌, ◌-◌, ◌<◌, ◌≤◌, nat_eq, eqb-true, Bool, true, false, cond, ◌&&◌, List, [], ◌∷◌, ◌++◌, length, find, Option, Some, None, option_map, unwrap_or, take, get_or, arith, Err, IsErr, Ok, OnOk, Result, nat_le, le-leb, leb-true, length-take-le}
+use Rattle.std.proofs.Common.{◌≡◌, refl, sym, ap, subst, ◌∙◌, ℕ, ◌+◌, ◌*◌, ◌-◌, ◌<◌, ◌≤◌, nat_eq, eqb-true, Bool, true, false, cond, ◌&&◌, List, [], ◌∷◌, ◌++◌, length, find, Option, Some, None, option_map, unwrap_or, take, get_or, arith, Err, IsErr, Ok, OnOk, Result, nat_le, le-leb, leb-true, length-take-le, IsOk, true≢false}
 use Rattle.vt_spec.proofs.Common.{Inode as Counted, Inodes, and_parts, common_steps, folded, list_all, pinned, used_once_more, uses_in, ⊤}
 use Rattle.vt_mounting.proofs.Common.{Filesystems, Inode, Shown, among_from_list_all, counted, counted_test, entry_of, inodes_at, inodes_seen, no_entry, number_of, pinned_if, shown, shown_entry, with_changed}
+use Rattle.vt_fs.specs.FilesystemsValue.{HoldsRoot}
 use Rattle.vt_location.specs.declared.locations.Location.{Location}
 use Rattle.vt_location.specs.declared.mounts.Mount.{Mount}
 use Rattle.vt_mounting.specs.Attach.Room.{has_room, most_counted, point_has_room, uses_shown}
 use Rattle.vt_mounting.specs.Detach.Uses.{inode_of, mounted_if, mounted_in, mounts_shown, pinned_at, pinned_in, shown_by}
 use Rattle.vt_mounting.proofs.attach.EnteringLemmas.{among_at}
+use Rattle.vt_mounting.proofs.detach.Shown.{pins}
 
 -- the uses of an inode, as code counts them
 pub uses_are_shown : (count number : ℕ) (filesystems : Filesystems)
@@ -210,3 +212,57 @@ filesystem_has_room most all mount room = leb-true _ most (and_parts (nat_le (us
 pub point_room_left : (all : List Shown) (mount : Mount) → has_room (most_counted - 2) all mount ≡ true
     → point_has_room (most_counted - 1) (pinned_in (inode_of mount.root) all) mount.mount_point ≡ true
 point_room_left all mount room = grind (arith, common_steps, leb-true, pinned_uses, le-leb)
+
+-- room for a root and its filesystem, and for a mount point
+pub room_of_parts : (most : ℕ) (all : List Shown) (mount : Mount) (b : Bool)
+    → b ≡ (nat_le (uses_shown (inode_of mount.root) all) most
+    && nat_le (mounts_shown (counted mount.root.filesystem.count) all) most)
+    → (b && point_has_room most all mount.mount_point) ≡ has_room most all mount
+room_of_parts most all mount b is = ap (λ b. b && point_has_room most all mount.mount_point) is
+    ∙ turned (nat_le (uses_shown (inode_of mount.root) all) most) (point_has_room most all mount.mount_point)
+    (nat_le (mounts_shown (counted mount.root.filesystem.count) all) most)
+  where
+    turned : (a b c : Bool) → (a && c && b) ≡ (a && b && c)
+    turned true true true = refl
+    turned true true false = refl
+    turned true false true = refl
+    turned true false false = refl
+    turned false b c = refl
+
+-- A root that is held
+
+pub granted : {E P : Type 0} (result : Result ⊤ E) → IsOk result → OnOk result P → P
+granted (Ok value) fine ok = ok
+granted (Err refused) fine ok = absurd (true≢false (sym fine))
+
+pub held_shown : (count number : ℕ) (old new : Filesystems) → HoldsRoot count number old new
+    → shown new ≡ mounted_in (counted count) (pinned_in (counted count, number) (shown old))
+held_shown count number old new held = ap shown held.mounted ∙ holds count held.between
+    ∙ ap (mounted_in (counted count)) (pins count number old held.between held.pins)
+
+-- a mount more of a filesystem, and a use more of an inode, in either order
+mounted_pinned : (filesystem : ℕ) (inode : Inode) (all : List Shown)
+    → pinned_in inode (mounted_in filesystem all) ≡ mounted_in filesystem (pinned_in inode all)
+mounted_pinned filesystem inode [] = refl
+mounted_pinned filesystem inode (one ∷ rest) = λ i. by (nat_eq filesystem (counted one.count)) i
+    ∷ mounted_pinned filesystem inode rest i
+  where
+    by : (b : Bool) → record (cond b (record one { mounts = one.mounts + 1 }) one) {
+      inodes = pinned_if (counted (cond b (record one { mounts = one.mounts + 1 }) one).count)
+          (cond b (record one { mounts = one.mounts + 1 }) one).inodes inode;
+    } ≡ cond b (record one { inodes = pinned_if (counted one.count) one.inodes inode; mounts = one.mounts + 1 })
+        (record one { inodes = pinned_if (counted one.count) one.inodes inode })
+    by true = refl
+    by false = refl
+
+pub mounted_placed : (filesystem : ℕ) (point : Option Location) (all : List Shown)
+    → pinned_at point (mounted_in filesystem all) ≡ mounted_in filesystem (pinned_at point all)
+mounted_placed filesystem None all = refl
+mounted_placed filesystem (Some point) all = mounted_pinned filesystem (inode_of point.node) all
+
+-- room for a mount point does not change with the mounts of a filesystem
+pub point_room_mounted : (most filesystem : ℕ) (all : List Shown) (point : Option Location)
+    → point_has_room most all point ≡ true → point_has_room most (mounted_in filesystem all) point ≡ true
+point_room_mounted most filesystem all None room = refl
+point_room_mounted most filesystem all (Some point) room =
+    ap (λ uses. nat_le uses most) (mounted_uses filesystem (inode_of point.node) all) ∙ room

@@ -1,8 +1,8 @@
 -- Filesystems with the uses of their inodes, as contracts of vt_fs change them.
-use Rattle.std.proofs.Common.{◌≡◌, ◌≢◌, refl, sym, ap, ◌∙◌, ℕ, nat_eq, ◌-◌, eqb-true, eq-eqb, ne_eqb, Bool, true, false, true≢false, cond, List, [], ◌∷◌, map, find, Option, Some, None, option_map, arith}
+use Rattle.std.proofs.Common.{◌≡◌, refl, sym, ap, ◌∙◌, ℕ, nat_eq, ◌-◌, eqb-true, eq-eqb, ne_eqb, Bool, true, false, true≢false, cond, List, [], ◌∷◌, map, find, Option, Some, None, option_map, arith}
 use Rattle.vt_spec.proofs.Common.{Inodes, Mount, common_steps, holds_of, pinned, unpinned}
 use Rattle.vt_mounting.proofs.Common.{ChangesInodes, Filesystems, MountEntry, Shown, counted, counted_test, entry_at, entry_numbered, mounts_in, pinned_if, shown, shown_with, unpinned_if, with_changed}
-use Rattle.vt_fs.specs.FilesystemsValue.{without}
+use Rattle.vt_fs.specs.FilesystemsValue.{mounted_once_less, without, without_unmounted}
 use Rattle.vt_mounting.specs.Detach.Uses.{Kept, is_unused, let_go_entry, let_go_filesystem, let_go_mount, mounts_shown, pinned_in, released_in, unpinned_in, without_filesystem, without_mount}
 
 -- a comparison of counted numbers is one of the counts, turned round
@@ -72,26 +72,20 @@ found_entry number (entry ∷ rest) = grind (arith, common_steps, found_entry nu
 -- What functions of uses leave
 
 -- a filesystem goes with its last mount
-pub filesystem_goes : (count : ℕ) (old held new : Filesystems) (n : ℕ)
-    → held ≡ with_changed count (λ entry. record entry { mounts = entry.mounts - 1 }) old
-    → n ≡ (entry_at held count).mounts → n ≡ 0
-    → new ≡ without count held → shown new ≡ let_go_filesystem (counted count) (released_in (counted count) (shown old))
-filesystem_goes count old held new n is_held is zero gone =
-    let seen : shown held ≡ released_in (counted count) (shown old) = ap shown is_held ∙ releases count old in
-    let none : mounts_shown (counted count) (released_in (counted count) (shown old)) ≡ 0 =
-    sym (ap (mounts_shown (counted count)) seen) ∙ sym (mounts_are_shown count held) ∙ sym is ∙ zero in
-    cc (removes count held, eq-eqb _ 0 none)
+pub left_shown : (count : ℕ) (between new : Filesystems)
+    → new ≡ without_unmounted count (mounted_once_less count between)
+    → shown new ≡ let_go_filesystem (counted count) (released_in (counted count) (shown between))
+left_shown count between new is = ap shown is ∙ by (nat_eq (entry_at less count).mounts 0)
+    ∙ ap (λ many. cond (nat_eq many 0) (without_filesystem (counted count) (shown less)) (shown less))
+    (mounts_are_shown count less) ∙ ap (let_go_filesystem (counted count)) (releases count between)
+  where
+    less : Filesystems
+    less = mounted_once_less count between
 
--- and stays while another shows it
-pub filesystem_stays : (count : ℕ) (old held : Filesystems) (n : ℕ)
-    → held ≡ with_changed count (λ entry. record entry { mounts = entry.mounts - 1 }) old
-    → n ≡ (entry_at held count).mounts → n ≢ 0
-    → shown held ≡ let_go_filesystem (counted count) (released_in (counted count) (shown old))
-filesystem_stays count old held n is_held is some =
-    let seen : shown held ≡ released_in (counted count) (shown old) = ap shown is_held ∙ releases count old in
-    let same : n ≡ mounts_shown (counted count) (released_in (counted count) (shown old)) =
-    is ∙ mounts_are_shown count held ∙ ap (mounts_shown (counted count)) seen in
-    cc (ne_eqb _ 0 (λ none. some (same ∙ none)))
+    by : (b : Bool) → shown (cond b (without count less) less)
+        ≡ cond b (without_filesystem (counted count) (shown less)) (shown less)
+    by true = removes count less
+    by false = refl
 
 module _ (number : ℕ) (k : Kept) where
   abbrev found : Option (Mount ℕ)

@@ -117,6 +117,15 @@ leave_filesystem number k = record k {
   overlays = merged_left_by number (merged_at number k.overlays) k.overlays;
 }
 
+-- a root is used once less, and its filesystem has one mount less
+abbrev pub leave_root : ℕ → ℕ → Kept → Kept
+leave_root filesystem root k =
+    leave_filesystem filesystem (record k { filesystems = unpinned_in (filesystem, root) k.filesystems })
+
+abbrev pub root_left : Option NodeRef → Kept → Kept
+root_left None k = k
+root_left (Some root) k = leave_root (counted root.filesystem.count) (number_of root) k
+
 -- Mounts
 
 -- a mount goes with a use of its root, and one mount of its filesystem

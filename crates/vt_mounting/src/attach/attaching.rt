@@ -1,13 +1,14 @@
 //! What the attachment of mounts is made of beside their entries: room for their uses, and their uses.
-ghost use Rattle.std.specs.Prelude.{◌≡◌, ◌-◌, ◌*◌, length, map, nat_le, true};
+ghost use Rattle.std.specs.Prelude.{◌≡◌, ◌&&◌, ◌-◌, ◌*◌, length, map, nat_le, true};
 ghost use Rattle.std.specs.List.{list_all};
 ghost use Rattle.vt_fs.specs.FilesystemsValue.{shown};
 ghost use Rattle.vt_location.specs.Locations.{is_small_node};
+ghost use Rattle.vt_location.specs.Numbers.{filesystem_number};
 ghost use Rattle.vt_spec.specs.Lists.{folded};
 ghost use Rattle.vt_mounting.specs.Attach.Room as meant;
 ghost use Rattle.vt_mounting.specs.Attach.Room.{has_small_nodes, merged_has_room, most_counted, point_is_small, uses_shown};
 ghost use Rattle.vt_mounting.specs.Detach.Stored.{OverlaysStay, merged_of};
-ghost use Rattle.vt_mounting.specs.Detach.Uses.{inode_of, merged_by, pinned_at, shown_by};
+ghost use Rattle.vt_mounting.specs.Detach.Uses.{inode_of, merged_by, mounts_shown, pinned_at, shown_by};
 
 use vt_fs::Filesystems;
 use vt_location::{Location, Mount, NodeRef};
@@ -29,13 +30,20 @@ pub(crate) fn have_room(filesystems: &Filesystems, new: &[Mount], most: u64) -> 
 // Whether the root, the mount point and the filesystem of a mount have no more uses than so many.
 fn has_room(filesystems: &Filesystems, mount: Mount, most: u64) -> bool
     ensures room { result ≡ meant.has_room most (shown filesystems.now) mount }
-    ensures slots { has_small_nodes mount ≡ true }
+    ensures slots { result ≡ true → has_small_nodes mount ≡ true }
 {
-    // The filesystem is looked for first, so that its hash serves for the root too.
-    let count = filesystems.mounts(mount.root.filesystem);
-    node_has_room(filesystems, mount.root, most)
+    root_has_room(filesystems, mount.root, most)
         && point_has_room(filesystems, mount.mount_point, most)
-        && count <= most
+}
+
+// Whether a root and its filesystem have no more uses than so many.
+#[inline(always)]
+fn root_has_room(filesystems: &Filesystems, root: NodeRef, most: u64) -> bool
+    ensures room { result ≡ (nat_le (uses_shown (inode_of root) (shown filesystems.now)) most
+        && nat_le (mounts_shown (filesystem_number root.filesystem) (shown filesystems.now)) most) }
+    ensures slots { is_small_node root ≡ true }
+{
+    filesystems.root_has_room(root, most)
 }
 
 // Whether a node has no more uses than so many.
@@ -127,9 +135,8 @@ fn show(filesystems: &mut Filesystems, mount: &Mount)
     ensures { shown filesystems.new ≡ shown_by (shown filesystems.old) mount.now }
 {
     // Neither fails: there is room.
-    let _ = filesystems.pin(mount.root);
+    let _ = filesystems.hold_root(mount.root);
     pin_point(filesystems, mount.mount_point);
-    let _ = filesystems.hold_mount(mount.root.filesystem);
 }
 
 // A mount point is in use.

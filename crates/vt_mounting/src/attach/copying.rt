@@ -1,5 +1,5 @@
 //! Copies of a namespace's mounts: unshare(2) with `CLONE_NEWNS`.
-ghost use Rattle.std.specs.Prelude.{List, ℕ, ◌+◌, ◌*◌, ◌<◌, ◌≡◌, IfOk, OnErr, OnOk, false, find, length, map, nat_eq, nat_lt, option_map, true};
+ghost use Rattle.std.specs.Prelude.{List, ℕ, ◌+◌, ◌*◌, ◌<◌, ◌≡◌, IfOk, OnErr, OnOk, false, find, length, map, nat_eq, nat_lt, option_map, slice_index_or, true};
 ghost use Rattle.std.specs.List.{list_all};
 ghost use Rattle.vt_location.specs.Locations.{location_of};
 ghost use Rattle.vt_location.specs.MountValue.{mount_of};
@@ -66,7 +66,7 @@ fn copies(
     let mut copies = Vec::with_capacity(alloc, originals.len())?;
     for id in originals {
         if let Some(mount) = mounts.get(*id) {
-            copies.push(copied(mount, originals, next))?;
+            copies.push(copied(mount, originals, next, copies.len()))?;
         }
     }
     Ok(copies)
@@ -96,15 +96,15 @@ fn is_in(mounts: &Mounts, id: MountId, namespace: NamespaceId) -> bool
     }
 }
 
-// The copy of a mount.
-fn copied(mount: Mount, originals: &[MountId], next: u64) -> Mount
+// The copy of a mount, which is likely at this place among the originals.
+fn copied(mount: Mount, originals: &[MountId], next: u64, likely: usize) -> Mount
     requires order { are_rising originals.now ≡ true }
     requires room { next + 2 * length originals.now + 1 < u64.MAX }
     ensures { (all : List (meant.Mount ℕ)) → AreOf originals.now all
         → mount_of result ≡ copied_by next all (mount_of mount) }
 {
     Mount {
-        number: copy_number(mount.number, originals, next),
+        number: copy_number(mount.number, originals, next, likely),
         namespace: Some(NamespaceId::new(next)),
         mount_point: point_on_copy(mount.mount_point, originals, next),
         ..mount
@@ -129,23 +129,38 @@ fn on_copy(at: Location, originals: &[MountId], next: u64) -> Location
     ensures { (all : List (meant.Mount ℕ)) → AreOf originals.now all
         → location_of result ≡ location_on_copy (copy_numbers next all) (location_of at) }
 {
+    // Most mounts are on the root mount, which is mostly the first.
     Location {
-        mount: copy_number(at.mount, originals, next),
+        mount: copy_number(at.mount, originals, next, 0),
         node: at.node,
     }
 }
 
-// The number of the copy of a mount.
-fn copy_number(id: MountId, originals: &[MountId], next: u64) -> MountId
+// The number of the copy of a mount, which is likely at this place among the originals.
+fn copy_number(id: MountId, originals: &[MountId], next: u64, likely: usize) -> MountId
     requires order { are_rising originals.now ≡ true }
     requires room { next + 2 * length originals.now + 1 < u64.MAX }
     ensures { (all : List (meant.Mount ℕ)) → AreOf originals.now all
         → mount_number result ≡ copy_numbers next all (mount_number id) }
 {
+    if is_at(originals, likely, id) {
+        return MountId::new(next + 2 * likely as u64 + 1);
+    }
     let place = originals
         .binary_search_by_key(&id.count, |other| other.count)
         .unwrap_or(0);
     MountId::new(next + 2 * place as u64 + 1)
+}
+
+// Whether a mount is at this place of a list.
+fn is_at(ids: &[MountId], place: usize, id: MountId) -> bool
+    ensures inside { result ≡ true → place < length ids.now }
+    ensures same { result ≡ true → (d : MountId) → nat_eq (slice_index_or ids.now place d).count id.count ≡ true }
+{
+    match ids.get(place) {
+        Some(other) => other.count == id.count,
+        None => false,
+    }
 }
 
 /// A use of a mount goes to another one, which has room for it. It does not allocate.

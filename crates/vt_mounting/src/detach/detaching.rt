@@ -1,14 +1,16 @@
 //! Mounts that leave their namespaces: umount(2).
-ghost use Rattle.std.specs.Prelude.{◌≡◌, IfSome, map, option_map, true};
+ghost use Rattle.std.specs.Prelude.{◌≡◌, [], IfSome, map, option_map, true};
+ghost use Rattle.vt_fs.specs.FilesystemsValue.{shown};
 ghost use Rattle.vt_location.specs.Locations.{is_small_node, location_of};
 ghost use Rattle.vt_location.specs.Numbers.{mount_number};
 ghost use Rattle.vt_mounting.specs.Detach.Detached.{LeaveInTurn, LeaveTogether};
 ghost use Rattle.vt_mounting.specs.Detach.Stored.{OverlaysLeft, kept};
-ghost use Rattle.vt_mounting.specs.Detach.Uses.{point_of, without_attachment};
+ghost use Rattle.vt_mounting.specs.Detach.Uses.{point_of, root_left, unpinned_at, without_attachment};
 
-use crate::detach::uses::let_go_mount;
+use crate::detach::uses::leave_root;
+use vt_fs::Filesystems;
 use vt_group::Groups;
-use vt_location::{Location, MountId};
+use vt_location::{Location, MountId, NodeRef};
 use vt_mount::Mounts;
 use vt_retype::leave_all;
 use vt_store::Store;
@@ -22,12 +24,29 @@ pub fn detach(mounts: &mut Mounts, store: &mut Store, id: MountId) -> Option<Loc
     ensures overlays { OverlaysLeft store.old.overlays store.new.overlays }
     ensures slot { IfSome result (λ point. is_small_node point.node ≡ true) }
 {
-    let left = mounts.detach(id);
-    if let Some(point) = left {
-        store.plain_mut().unpin(point.node);
+    let left = mounts.leave(id);
+    unpin_point(store.plain_mut(), left.point);
+    leave_root_left(store, left.root);
+    left.point
+}
+
+// The inode at a mount point is used once less.
+fn unpin_point(filesystems: &mut Filesystems, point: Option<Location>)
+    ensures { shown filesystems.new ≡ unpinned_at point (shown filesystems.old) }
+{
+    if let Some(point) = point {
+        filesystems.unpin(point.node);
     }
-    let_go_mount(mounts, store, id);
-    left
+}
+
+// A mount with this root is gone, if one is.
+fn leave_root_left(store: &mut Store, root: Option<NodeRef>)
+    ensures left { kept [] store.new ≡ root_left root (kept [] store.old) }
+    ensures overlays { OverlaysLeft store.old.overlays store.new.overlays }
+{
+    if let Some(root) = root {
+        leave_root(store, root);
+    }
 }
 
 /// Mounts leave their namespaces one after the other. It does not allocate.

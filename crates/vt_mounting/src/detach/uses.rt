@@ -1,16 +1,14 @@
 //! Uses of locations: a root, a working directory or an open file is a use of its mount and of its inode.
 ghost use Rattle.std.specs.Prelude.{◌≡◌, [], IfSome, IsOk, OnErr, OnOk, true};
-ghost use Rattle.vt_fs.specs.FilesystemsValue.{shown};
-ghost use Rattle.vt_location.specs.Locations.{is_small_node};
+ghost use Rattle.vt_location.specs.Locations.{is_small_node, number_of};
 ghost use Rattle.vt_location.specs.Numbers.{filesystem_number, mount_number};
 ghost use Rattle.vt_mounting.specs.Detach.Forking.{HasRoom};
 ghost use Rattle.vt_mounting.specs.Detach.Uses as meant;
 ghost use Rattle.vt_mounting.specs.Detach.Stored.{OverlaysLeft, kept};
-ghost use Rattle.vt_mounting.specs.Detach.Uses.{merged_at, released_in, with_location, without_location};
+ghost use Rattle.vt_mounting.specs.Detach.Uses.{merged_at, with_location, without_location};
 
 use std::alloc::AllocError;
-use vt_fs::Filesystems;
-use vt_location::{FilesystemId, Location, MountId};
+use vt_location::{FilesystemId, Location, MountId, NodeRef};
 use vt_mount::Mounts;
 use vt_store::Store;
 
@@ -50,27 +48,29 @@ pub fn leave(mounts: &mut Mounts, store: &mut Store, at: Location, writes: bool)
     let_go_mount(mounts, store, at.mount);
 }
 
-/// A mount goes if it is in no namespace and nothing is on it, and its filesystem with its last mount.
-pub(crate) fn let_go_mount(mounts: &mut Mounts, store: &mut Store, id: MountId)
+// A mount goes if it is in no namespace and nothing is on it, and its filesystem with its last mount.
+fn let_go_mount(mounts: &mut Mounts, store: &mut Store, id: MountId)
     ensures left { kept mounts.new store.new ≡ meant.let_go_mount (mount_number id) (kept mounts.old store.old) }
     ensures overlays { OverlaysLeft store.old.overlays store.new.overlays }
 {
     let Some(mount) = mounts.remove_unused(id) else {
         return;
     };
-    store.plain_mut().unpin(mount.root);
-    leave_filesystem(store, mount.root.filesystem);
+    leave_root(store, mount.root);
 }
 
-// One mount less of a filesystem, which goes with its last.
-fn leave_filesystem(store: &mut Store, id: FilesystemId)
-    ensures left { kept [] store.new ≡ meant.leave_filesystem (filesystem_number id) (kept [] store.old) }
+/// A mount with this root is gone: one use less of the root, and one mount less of its filesystem, which goes with its
+/// last.
+pub(crate) fn leave_root(store: &mut Store, root: NodeRef)
+    ensures left { kept [] store.new
+        ≡ meant.leave_root (filesystem_number root.filesystem) (number_of root) (kept [] store.old) }
     ensures overlays { OverlaysLeft store.old.overlays store.new.overlays }
 {
-    if store.overlay(id).is_some() {
-        leave_overlay(store, id);
+    if store.overlay(root.filesystem).is_some() {
+        store.plain_mut().unpin(root);
+        leave_overlay(store, root.filesystem);
     } else {
-        leave_plain(store.plain_mut(), id);
+        store.plain_mut().leave_root(root);
     }
 }
 
@@ -83,16 +83,5 @@ fn leave_overlay(store: &mut Store, id: FilesystemId)
     store.release_mount(id);
     if store.mounts(id) == 0 {
         store.remove_overlay(id);
-    }
-}
-
-// One mount less of a plain filesystem, which goes with its last.
-fn leave_plain(filesystems: &mut Filesystems, id: FilesystemId)
-    ensures { shown filesystems.new
-        ≡ meant.let_go_filesystem (filesystem_number id) (released_in (filesystem_number id) (shown filesystems.old)) }
-{
-    filesystems.release_mount(id);
-    if filesystems.mounts(id) == 0 {
-        filesystems.remove(id);
     }
 }

@@ -1,9 +1,9 @@
 use Rattle.std.proofs.Common.{ap, cond, is_some, refl, ◌∙◌, sym}
-use Rattle.vt_mounting.proofs.Common.{counted, mount_of, number_of, shown, without}
+use Rattle.vt_mounting.proofs.Common.{counted, mount_of, without}
 use Rattle.vt_mounting.specs.Detach.Stored.{kept}
-use Rattle.vt_mounting.specs.Detach.Uses.{Kept, merged_at, shown_left_by, unpinned_in}
+use Rattle.vt_mounting.specs.Detach.Uses.{Kept}
 use Rattle.vt_mounting.proofs.detach.OverlaysListed.{left_itself}
-use Rattle.vt_mounting.proofs.detach.Shown.{let_go_kept, let_go_unused, unpins}
+use Rattle.vt_mounting.proofs.detach.Shown.{let_go_kept, let_go_unused}
 use Rattle.vt_mounting.proofs.detach.uses.let_go_mount.Goals as goal
 
 pub returns-in_default-clause-left : goal.returns-in_default-clause-left
@@ -20,16 +20,11 @@ returns-clause-left c =
     let mounts = c.args.mounts.now in
     let number = counted c.args.id.count in
     let k = kept mounts c.args.store.now in
-    let root = number_of c.in-Some.mount.root in
-    let f = counted c.in-Some.mount.root.filesystem.count in
     (λ i. record {
       mounts = (c.remove_unused.ensures.rest
           ∙ ap (λ gone. cond (is_some gone) (without number mounts) mounts) c.in-Some.is) i;
-      filesystems = (ap (λ (left : Kept). left.filesystems) c.leave_filesystem.ensures.left
-          ∙ ap (shown_left_by f (merged_at f k.overlays))
-          (unpins c.in-Some.mount.root.filesystem.count root c.plain_mut.result.now c.unpin.new.self c.unpin.ensures
-          ∙ ap (λ all. unpinned_in (f, root) (shown all)) c.plain_mut.ensures.value)) i;
-      overlays = ap (λ (left : Kept). left.overlays) c.leave_filesystem.ensures.left i;
+      filesystems = ap (λ (left : Kept). left.filesystems) c.leave_root.ensures.left i;
+      overlays = ap (λ (left : Kept). left.overlays) c.leave_root.ensures.left i;
     }) ∙ sym (let_go_unused number k (mount_of c.in-Some.mount) c.in-Some.ensures.value
     (sym c.remove_unused.ensures.unused ∙ ap is_some c.in-Some.is))
 
@@ -37,4 +32,4 @@ pub returns-in_default-clause-overlays : goal.returns-in_default-clause-overlays
 returns-in_default-clause-overlays c = left_itself c.args.store.now.overlays c.args.store.now.overlays refl
 
 pub returns-clause-overlays : goal.returns-clause-overlays
-returns-clause-overlays c = c.leave_filesystem.ensures.overlays
+returns-clause-overlays c = c.leave_root.ensures.overlays
