@@ -85,8 +85,8 @@ fn directive(name: &[u8], words: &Words<'_>) -> Option<Directive>
     Some(Directive::Peers)
 }
 
-/// What a line asks for, by its words.
-#[inline(never)]
+/// What a line asks for, by its words. Inlined, so that what was read is not moved as a whole.
+#[inline(always)]
 fn words_request<'a>(
     version: Version,
     alloc: Global,
