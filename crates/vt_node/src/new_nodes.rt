@@ -75,7 +75,6 @@ impl NewNode {
     }
 
     /// The node itself. It does not allocate.
-    #[inline(always)]
     pub fn into_node(self, alloc: Global) -> Node
         ensures { result ≡ self }
     {
