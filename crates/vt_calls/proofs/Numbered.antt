@@ -1,5 +1,5 @@
 -- A kernel's world is that of its events but for its change number, so a call ends alike in both.
-use Rattle.std.proofs.Common.{◌≡◌, refl, sym, ap, subst, ◌∙◌, ℕ, nat_eq, List, Result, Ok, Err, inl, inr, OnErr}
+use Rattle.std.proofs.Common.{◌≡◌, refl, sym, ap, subst, ◌∙◌, ℕ, nat_eq, List, Result, Ok, Err, inl, inr, OnErr, is_ok, true}
 use Rattle.vt_spec.proofs.Common.{Call, Fresh, Outcome, PeerList, SameWorlds, TaskName, directed, peer_lines, policy}
 use Rattle.vt_spec.specs.declared.errors.Deny.{Deny}
 use Rattle.vt_spec.specs.Language.Answers.{PeerLine}
@@ -79,6 +79,15 @@ pub ends_seen : (seen old new : KernelValue) → seen ≡ old → IsHeld seen.wo
 ends_seen seen old new is held name call result it kept =
     subst (λ kernel. any.Ends kernel_world kernel name call result new) is
     (ends_numbered seen held name call new result it kept)
+
+-- a call that was done owes nothing of a world that was kept
+pub kept_where_done : {T E : Type 0} {A : Type 0} (result : Result T E) → is_ok result ≡ true → OnErr result A
+kept_where_done (Ok t) done = tt
+kept_where_done (Err e) done = absurd cc
+
+pub kept_always : {T E : Type 0} {A : Type 0} (result : Result T E) → A → OnErr result A
+kept_always (Ok t) kept = tt
+kept_always (Err e) kept = kept
 
 -- and a directive is answered so
 pub directed_numbered : (seen kernel : KernelValue) → seen ≡ kernel → (directive : Directive) (lines : List PeerLine)

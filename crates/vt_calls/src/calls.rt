@@ -52,9 +52,13 @@ impl Calls for Kernel {
 
     fn call(&mut self, name: &TaskName, call: Call<'_>) -> Result<Answer, Deny> {
         let after = change_after(&call, self.change);
-        let answer = judged_call(&mut self.world, self.change, name, call)?;
-        self.change = after;
-        Ok(answer)
+        // By `?` the answer would be moved more often.
+        let answer = judged_call(&mut self.world, self.change, name, call);
+        if answer.is_ok() {
+            self.change = after;
+            return answer;
+        }
+        answer
     }
 
     fn direct(&self, directive: Directive) -> Result<Answer, Deny> {

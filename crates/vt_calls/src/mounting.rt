@@ -11,6 +11,7 @@ use vt_spec::errors::Deny;
 
 // Changes mounts as is granted. S5 (ENOMEM): an allocation failed, a count of uses is full, or no number is
 // left; nothing has changed.
+#[inline(always)]
 pub(crate) fn change_mounts(
     world: &mut World,
     name: &TaskName,
@@ -34,6 +35,7 @@ pub(crate) fn change_mounts(
 
 // Attaches mounts as is granted. S5 (ENOMEM): an allocation failed, a count of uses is full, or no number is left;
 // nothing has changed.
+#[inline(always)]
 fn attach(world: &mut World, name: &TaskName, attachment: Attachment) -> Result<Answer, Deny>
     requires { IsGiven world.old name.now (Mount (Attach attachment)) }
     ensures { EndsGiven world.old name.now (Mount (Attach attachment)) result world.new }
@@ -49,6 +51,7 @@ fn attach(world: &mut World, name: &TaskName, attachment: Attachment) -> Result<
 
 // Mounts a new overlay as is granted. S5 (ENOMEM): an allocation failed, a count of uses is full, or no number is
 // left; nothing has changed.
+#[inline(always)]
 pub(crate) fn mount_overlay(
     world: &mut World,
     name: &TaskName,

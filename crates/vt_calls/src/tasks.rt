@@ -9,6 +9,7 @@ use vt_request::{Answer, TaskName};
 use vt_spec::errors::Deny;
 
 // Changes tasks as is granted. S5 (ENOMEM): an allocation failed, or a count of uses is full; nothing has changed.
+#[inline(always)]
 pub(crate) fn change_tasks(
     world: &mut World,
     name: &TaskName,

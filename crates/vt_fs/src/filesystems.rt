@@ -27,7 +27,7 @@ use indexmap::IndexMap;
 use std::alloc::{AllocError, Global};
 use std::marker::Model;
 use vt_location::{Birth, FilesystemId, NodeRef};
-use vt_node::{Attr, Node, NodeId};
+use vt_node::{Attr, NewNode, Node, NodeId};
 
 // A filesystem, and how many mounts show it.
 #[derive(Debug, Drop)]
@@ -432,9 +432,10 @@ impl Filesystems {
     /// Makes an inode under a free name of a directory: mkdir(2), open(2) with O_CREAT, symlink(2), mknod(2).
     pub fn create(
         &mut self,
+        alloc: Global,
         directory: NodeRef,
         name: Vec<u8>,
-        node: Node,
+        node: NewNode,
     ) -> Result<NodeRef, AllocError>
         requires directory { IsDirectory (files_at self.old directory.filesystem.count).tree (number_of directory) }
         requires free { number_at (files_at self.old directory.filesystem.count).tree
@@ -452,7 +453,7 @@ impl Filesystems {
     {
         let parent = self.slot_of(directory).unwrap();
         let tree = self.get_mut(directory.filesystem).unwrap();
-        let slot = tree.create(parent, name, node)?;
+        let slot = tree.create(alloc, parent, name, node)?;
         Ok(in_slot(directory.filesystem, slot))
     }
 

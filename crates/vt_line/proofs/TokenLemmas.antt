@@ -1,7 +1,8 @@
 -- Tokens, read from left to right.
-use Rattle.std.proofs.Common.{◌≡◌, ℕ, ◌+◌, ◌≤◌, ◌<◌, eqb, leb, Bool, true, false, not, cond, ◌&&◌, ◌||◌, List, [], ◌∷◌, ◌++◌, codes, length, filter, take, drop, sum, Option, Some, None, option_map, refl, sym, subst, add-zero, zero-add, add_assoc, ap, ◌∙◌, arith, lit≤, length-drop, append_assoc, take_all, find, sum_by, bytes_eq}
+use Rattle.std.proofs.Common.{◌≡◌, ℕ, ◌+◌, ◌-◌, ◌≤◌, ◌<◌, eqb, leb, Bool, true, false, not, cond, ◌&&◌, ◌||◌, List, [], ◌∷◌, ◌++◌, codes, length, filter, take, drop, sum, Option, Some, None, option_map, refl, sym, subst, add-zero, zero-add, add_assoc, ap, ◌∙◌, arith, lit≤, length-drop, append_assoc, take_all, find, sum_by, bytes_eq}
 use Rattle.vt_spec.proofs.Common.{AfterBackslash, Between, Failed, and_parts, bytes_eq-Decides, cond-None, each_of, false≢true, is_empty, is_plain, is_silent, list_all, nat_tests, option_map_or, parts, raw_tokens, sum_by-cons, take-append-le, token_text, with_byte, with_first}
-use Rattle.std.proofs.lemmas.List.{drop-append-le}
+use Rattle.std.proofs.lemmas.List.{drop-append-le, drop-drop, drop-take, take-append-drop}
+use Rattle.std.proofs.lemmas.List.Folds.{list_all-append}
 use Rattle.std.proofs.lemmas.Iterator.{YieldsList}
 use Rattle.std.specs.List.{slice_split, onto_first}
 use Rattle.vt_spec.specs.Language.Script.{is_silent_token, spelled, with_completed}
@@ -207,3 +208,35 @@ not_appended old (Some bytes) e = cc
 pub read_before-nothing : {A : Type 0} (rest : Option (List A)) → read_before [] rest ≡ rest
 read_before-nothing None = refl
 read_before-nothing (Some rest) = refl
+
+and-repeated : (a b c : Bool) → ((a && b) && (b && c)) ≡ ((a && b) && c)
+and-repeated true true c = refl
+and-repeated true false c = refl
+and-repeated false b c = refl
+
+-- the elements of a front, and those from a place in it on
+list_all-shared : {A : Type 0} (p : A → Bool) (xs : List A) (i j : ℕ)
+    → (list_all p (take (i + j) xs) && list_all p (drop i xs)) ≡ list_all p xs
+list_all-shared p xs i j =
+    let front = take (i + j) xs in
+    let back = drop (i + j) xs in
+    let behind = drop i xs in
+    let shared = take j behind in
+    let fronts : list_all p front ≡ (list_all p (take i front) && list_all p shared) =
+    ap (list_all p) (sym (take-append-drop i front)) ∙ list_all-append p (take i front) (drop i front)
+    ∙ ap (λ l. list_all p (take i front) && list_all p l) (drop-take i j xs) in
+    let backs : list_all p behind ≡ (list_all p shared && list_all p back) =
+    ap (list_all p) (sym (take-append-drop j behind)) ∙ list_all-append p shared (drop j behind)
+    ∙ ap (λ l. list_all p shared && list_all p l) (drop-drop j i xs) in
+    let all : list_all p xs ≡ (list_all p front && list_all p back) =
+    ap (list_all p) (sym (take-append-drop (i + j) xs)) ∙ list_all-append p front back in
+    let three = and-repeated (list_all p (take i front)) (list_all p shared) (list_all p back) in
+    cc
+
+-- each element of a list passes where those of a front do, and those from a place in it on
+pub list_all-covered : {A : Type 0} (p : A → Bool) (xs : List A) (i k : ℕ) → i ≤ k
+    → (list_all p (take k xs) && list_all p (drop i xs)) ≡ list_all p xs
+list_all-covered p xs i k low =
+    let whole : i + (k - i) ≡ k = omega arith in
+    subst (λ n. (list_all p (take n xs) && list_all p (drop i xs)) ≡ list_all p xs) whole
+    (list_all-shared p xs i (k - i))

@@ -70,7 +70,7 @@ fn path_pair<'a>(words: &mut Words<'a>) -> Option<(&'a [u8], &'a [u8])>
 }
 
 /// A call that is given a path alone.
-#[inline(never)]
+#[inline(always)]
 fn path_call<'a>(name: PathCall, words: &mut Words<'a>) -> Result<Call<'a>, ReadError>
     ensures { IsCallRead (call_named One (CallName.Path name) words.old) result }
 {
@@ -91,9 +91,9 @@ fn pair_call<'a>(name: PairCall, words: &mut Words<'a>) -> Result<Call<'a>, Read
     Ok(name.call(first, second))
 }
 
-/// The call of this name with these words, in a version of the language. What it owns is copied last.
-#[inline(always)]
-pub fn call<'a>(
+/// As `call`, of any name.
+#[inline(never)]
+fn any_call<'a>(
     version: Version,
     alloc: Global,
     name: CallName,
@@ -125,5 +125,37 @@ pub fn call<'a>(
         CallName::SetTypeRecursive => mounting::set_type(words, true),
         CallName::Mounts => mounting::mounts(words),
         CallName::PivotRoot => mounting::pivot_root(version, words),
+    }
+}
+
+/// As `any_call`. It is inlined, so that room for what that returns is made only where it is called.
+#[inline(always)]
+fn other_call<'a>(
+    version: Version,
+    alloc: Global,
+    name: CallName,
+    words: &mut Words<'a>,
+) -> Result<Call<'a>, ReadError>
+    ensures { IsCallRead (call_named (version_of version) name words.old) result }
+{
+    any_call(version, alloc, name, words)
+}
+
+/// The call of this name with these words, in a version of the language. What it owns is copied last.
+///
+/// The calls that scripts make most are read in place, and so not moved as a whole.
+#[inline(always)]
+pub fn call<'a>(
+    version: Version,
+    alloc: Global,
+    name: CallName,
+    words: &mut Words<'a>,
+) -> Result<Call<'a>, ReadError>
+    ensures { IsCallRead (call_named (version_of version) name words.old) result }
+{
+    match name {
+        CallName::Path(name) => path_call(name, words),
+        CallName::Write => files::write(alloc, words),
+        _ => other_call(version, alloc, name, words),
     }
 }

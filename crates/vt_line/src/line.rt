@@ -85,8 +85,8 @@ fn directive(name: &[u8], words: &Words<'_>) -> Option<Directive>
     Some(Directive::Peers)
 }
 
-/// What a line asks for, by its words.
-#[inline(never)]
+/// What a line asks for, by its words. Inlined, so that what was read is not moved as a whole.
+#[inline(always)]
 fn words_request<'a>(
     version: Version,
     alloc: Global,
@@ -125,6 +125,20 @@ fn escaped_request<'a>(
     words_request(version, alloc, Words::of_texts(unescaped))
 }
 
+/// As `escaped_request`. It is inlined, so that room for what that returns is made only where a line has escapes.
+#[inline(always)]
+fn request_with_escapes<'a>(
+    version: Version,
+    alloc: Global,
+    line: &[u8],
+    texts: &'a mut Option<Unescaped>,
+) -> Result<Line<'a>, Deny>
+    requires { length line.now ≤ longest_line }
+    ensures { IsRequestRead (request_of (overlays (version_of version)) line.now) result }
+{
+    escaped_request(version, alloc, line, texts)
+}
+
 /// What a line asks for, if it is of the grammar.
 #[inline(always)]
 fn request<'a>(
@@ -137,7 +151,7 @@ fn request<'a>(
     ensures { IsRequestRead (request_of (overlays (version_of version)) line.now) result }
 {
     if !is_unescaped(line) {
-        return escaped_request(version, alloc, line, texts);
+        return request_with_escapes(version, alloc, line, texts);
     }
     words_request(version, alloc, Words::of_tokens(line))
 }

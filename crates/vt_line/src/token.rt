@@ -14,6 +14,9 @@ use vt_io::line::LONGEST_LINE;
 /// The most texts that a line of the grammar has: those of `fork` with a child's credentials.
 pub const MOST_TEXTS: usize = 6;
 
+/// How many bytes of a line the processor looks at together.
+const GROUP: usize = 8;
+
 /// How many bytes of a long line are looked at one by one.
 const NEAR: usize = 64;
 
@@ -84,8 +87,9 @@ fn is_unescaped_byte(byte: u8) -> bool
     matches!(byte, b' '..=b'~') & (byte != b'\\')
 }
 
-/// Whether each token of a line is its own text: it has no escape and no byte that a token cannot have.
-pub fn is_unescaped(line: &[u8]) -> bool
+/// Whether each byte of a line is a space, or stands for itself in a token.
+#[inline(always)]
+fn are_unescaped_bytes(line: &[u8]) -> bool
     ensures { result ≡ list_all (λ byte. byte == 32 || is_plain byte) line.now }
 {
     let mut unescaped = true;
@@ -93,6 +97,23 @@ pub fn is_unescaped(line: &[u8]) -> bool
         unescaped &= is_unescaped_byte(*byte);
     }
     unescaped
+}
+
+/// Whether each token of a line is its own text: it has no escape and no byte that a token cannot have.
+///
+/// The bytes are looked at in whole groups. Those behind the last group are looked at with some before them.
+#[inline(always)]
+pub fn is_unescaped(line: &[u8]) -> bool
+    ensures { result ≡ list_all (λ byte. byte == 32 || is_plain byte) line.now }
+{
+    if line.len() < GROUP {
+        return are_unescaped_bytes(line);
+    }
+    let (groups, _) = line.split_at(line.len() - line.len() % GROUP);
+    let (_, last) = line.split_at(line.len() - GROUP);
+    let in_groups = are_unescaped_bytes(groups);
+    let in_last = are_unescaped_bytes(last);
+    in_groups & in_last
 }
 
 /// The index of the first space, or the line's length.

@@ -100,10 +100,7 @@ impl World {
         ensures ok { OnOk result (Becomes self.old name.now (make_permit (Node new)) self.new) }
         ensures err { OnErr result (self.new ≡ self.old) }
     {
-        let node = new.node.into_node(self.mounts.alloc());
-        self.store
-            .plain_mut()
-            .create(new.directory.node, new.name, node)?;
+        self.store.plain_mut().create(self.mounts.alloc(), new.directory.node, new.name, new.node)?;
         Ok(())
     }
 }

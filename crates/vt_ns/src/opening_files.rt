@@ -18,11 +18,11 @@ ghost use Rattle.vt_ns.specs.Opening.{MakesNext};
 ghost use Rattle.vt_ns.specs.Vacancy.{NextInodeIsVacant};
 
 use crate::world::World;
-use std::alloc::AllocError;
+use std::alloc::{AllocError, Global};
 use vt_fs::Filesystems;
 use vt_location::{Location, MountId, NodeRef};
 use vt_mount::Mounts;
-use vt_node::Node;
+use vt_node::NewNode;
 use vt_permits::ToOpenNew;
 use vt_request::TaskName;
 use vt_tasks::{OpenFile, Tasks};
@@ -46,14 +46,22 @@ impl World {
             return Err(AllocError);
         }
         let access = new.access;
-        let made = new.node.into_node(self.mounts.alloc());
         let opened = OpenFile {
             location: Location { mount, node: file },
             access,
         };
         let tasks = &mut self.tasks;
         let filesystems = self.store.plain_mut();
-        let number = open_next(tasks, filesystems, name, opened, node, new.name, made)?;
+        let number = open_next(
+            self.mounts.alloc(),
+            tasks,
+            filesystems,
+            name,
+            opened,
+            node,
+            new.name,
+            new.node,
+        )?;
         // They cannot fail: the mount has room for a use more, and a new inode has one use.
         let _ = self.mounts.hold(mount, access.writes());
         let _ = self.store.plain_mut().pin(file);
@@ -72,13 +80,14 @@ fn mount_has_room(mounts: &Mounts, id: MountId) -> bool
 // Makes the next inode of a filesystem under a free name of a directory, and opens a file of a task: all or nothing. All
 // memory is taken before the first change.
 fn open_next(
+    alloc: Global,
     tasks: &mut Tasks,
     filesystems: &mut Filesystems,
     task: &TaskName,
     opened: OpenFile,
     directory: NodeRef,
     name: Vec<u8>,
-    node: Node,
+    node: NewNode,
 ) -> Result<u8, AllocError>
     requires may { MayOpenMore (called task.now tasks.old) }
     requires directory { IsDirectory (files_at filesystems.old directory.filesystem.count).tree (number_of directory) }
@@ -92,16 +101,17 @@ fn open_next(
     ensures err_filesystems { OnErr result (filesystems.new ≡ filesystems.old) }
 {
     tasks.open_after(task, opened, filesystems, |filesystems| {
-        create_next(filesystems, directory, name, node)
+        create_next(alloc, filesystems, directory, name, node)
     })
 }
 
 // Makes the next inode of a filesystem, under a free name of a directory.
 fn create_next(
+    alloc: Global,
     filesystems: &mut Filesystems,
     directory: NodeRef,
     name: Vec<u8>,
-    node: Node,
+    node: NewNode,
 ) -> Result<(), AllocError>
     requires directory { IsDirectory (files_at filesystems.old directory.filesystem.count).tree (number_of directory) }
     requires free { number_at (files_at filesystems.old directory.filesystem.count).tree
@@ -110,6 +120,6 @@ fn create_next(
     ensures ok { OnOk result (MakesNext directory name.items node filesystems.old filesystems.new) }
     ensures err { OnErr result (filesystems.new ≡ filesystems.old) }
 {
-    filesystems.create(directory, name, node)?;
+    filesystems.create(alloc, directory, name, node)?;
     Ok(())
 }

@@ -50,6 +50,7 @@ impl TaskName {
     }
 
     /// The name of this task's child of a number. Only one of more than [`INLINE_NUMBERS`] can fail.
+    #[inline(always)]
     pub fn into_child(mut self, number: u8) -> Result<TaskName, AllocError>
         requires some_child { 1 ≤ number }
         requires limit { number ≤ 64 }

@@ -1,8 +1,9 @@
 -- How the steps of a session follow one another.
-use Rattle.std.proofs.Common.{◌≡◌, ◌≢◌, ℕ, ◌+◌, true, false, List, [], ◌∷◌, ◌++◌, length, take, Option, Some, None, Result, Ok, Err, refl, sym, ap, ◌∙◌, subst, append_assoc, arith, length-append, length-take, ◌≤◌, append-nil}
+use Rattle.std.proofs.Common.{◌≡◌, ◌≢◌, ℕ, ◌+◌, true, false, List, [], ◌∷◌, ◌++◌, length, take, Option, Some, None, Result, Ok, Err, refl, sym, ap, ◌∙◌, subst, append_assoc, arith, nat_lt, length-append, length-take, ◌≤◌, append-nil}
 use Rattle.vt_spec.proofs.Common.{SameWorlds, World, lines_of, step_text, step_world}
 use Rattle.vt_io.specs.declared.output.Sink.{Ghosts}
 use Rattle.vt_io.specs.LineBuffer.{Holds}
+use Rattle.vt_io.specs.declared.line.TheConstants.{LONGEST_LINE}
 use Rattle.vt_io.proofs.Printing.{Wrote-nothing, Wrote-append, WroteFront-append}
 use Rattle.vt_spec.specs.Language.Script.{overlays}
 use Rattle.vt_laws_rules.specs.Numbers.{Allotment}
@@ -136,6 +137,44 @@ module _ {W : Type 0} (sink : Ghosts W) where
         runs = runs_line old line broke.handed left reading.whole broke.serves (sameness_is_an_equivalence.itself left);
         wrote = broke.wrote;
       }
+
+  -- the session once it has read a line, before its newline
+  abbrev read_whole : State → List ℕ → State
+  read_whole state line = record state {
+    kept = record { bytes = take LONGEST_LINE line; overlong = nat_lt LONGEST_LINE (length line) };
+  }
+
+  abbrev read_at_once : (old : State) (line : List ℕ) (x : W) → IsReading old [] → HasNoNewline line
+      → Fed sink (moment old []) line (read_whole old line) x x
+  read_at_once old line x reading whole = record {
+    line = line;
+    text = [];
+    reading = record {
+      held = record { bytes = refl; overlong = refl };
+      whole = whole;
+      numbers = reading.numbers;
+    };
+    runs = runs_bytes (moment old []) line;
+    wrote = Wrote-nothing sink x;
+  }
+
+  -- a line that was read at once, and answered
+  pub fed_whole : (old new : State) (line : List ℕ) (x y : W) → IsReading old [] → HasNoNewline line
+      → Replied sink old.version old.world line (old.answered + 1) new.world x y → new.version ≡ old.version
+      → new.answered ≡ old.answered + 1 → Holds [] new.kept → Fed sink (moment old []) (line ++ 10 ∷ []) new x y
+  fed_whole old new line x y reading whole replied version answered held =
+      let first = read_at_once old line x reading whole in
+      fed_then (moment old []) line (10 ∷ []) (read_whole old line) new x x y first
+      (fed_line (read_whole old line) new line x y first.reading replied version answered held)
+
+  -- a write failed in the answer to a line that was read at once
+  pub broke_whole : (old : State) (line : List ℕ) (x y : W) → IsReading old [] → HasNoNewline line
+      → BrokeReply sink old.version old.world line (old.answered + 1) x y
+      → Broke sink (moment old []) (line ++ 10 ∷ []) x y
+  broke_whole old line x y reading whole broke =
+      let first = read_at_once old line x reading whole in
+      broke_then (moment old []) line (10 ∷ []) (read_whole old line) x x y first
+      (broke_line (read_whole old line) line x y first.reading broke)
 
 -- what may be told of a last line of which some byte was read
 told_last : (moment : Moment) (handed : Option Allotment) (byte : ℕ) (bytes : List ℕ) → moment.line ≡ byte ∷ bytes

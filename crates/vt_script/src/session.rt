@@ -48,6 +48,37 @@ fn answer<C: Calls, W: Sink>(
     alloc: Global,
     world: &mut C,
     number: u64,
+    line: &[u8],
+    texts: &mut Option<Unescaped>,
+    sink: &mut W,
+) -> Result<(), RunFault>
+    requires { W.failures sink.old + 1 < 2 ^ 64 }
+    ensures replies { HasNumbers (C.world world.old)
+        → Replies W.Sink (version_of version) (C.world world.old) line.now number result (C.world world.new) sink.old sink.new }
+    ensures kept { OnOk result (W.failures sink.new ≡ W.failures sink.old) }
+    ensures counted { OnErr result (W.failures sink.new ≡ W.failures sink.old + 1) }
+    ensures fault { IfErr result (λ fault. fault ≡ RunFault.Write) }
+{
+    match Line::parse_as(version, alloc, line, texts) {
+        Ok(Line::Silent) => Ok(()),
+        Ok(Line::Call(task, call)) => {
+            let answer = world.call(&task, call);
+            write_reply(sink, number, &answer)
+        }
+        Ok(Line::Ask(directive)) => {
+            let answer = world.direct(directive);
+            write_reply(sink, number, &answer)
+        }
+        Err(deny) => write_reply(sink, number, &Err(deny)),
+    }
+}
+
+// Answers the line of this number, which was read in pieces.
+fn answer_kept<C: Calls, W: Sink>(
+    version: Version,
+    alloc: Global,
+    world: &mut C,
+    number: u64,
     line: &LineBuffer,
     texts: &mut Option<Unescaped>,
     sink: &mut W,
@@ -62,18 +93,7 @@ fn answer<C: Calls, W: Sink>(
     if line.is_overlong() {
         return write_reply(sink, number, &Err(Rule::S1.denial()));
     }
-    match Line::parse_as(version, alloc, line.bytes(), texts) {
-        Ok(Line::Silent) => Ok(()),
-        Ok(Line::Call(task, call)) => {
-            let answer = world.call(&task, call);
-            write_reply(sink, number, &answer)
-        }
-        Ok(Line::Ask(directive)) => {
-            let answer = world.direct(directive);
-            write_reply(sink, number, &answer)
-        }
-        Err(deny) => write_reply(sink, number, &Err(deny)),
-    }
+    answer(version, alloc, world, number, line.bytes(), texts, sink)
 }
 
 impl<C: Calls> Session<C> {
@@ -122,7 +142,7 @@ impl<C: Calls> Session<C> {
         ensures fault { IfErr result (λ fault. fault ≡ RunFault.Write) }
     {
         let number = self.answered + 1;
-        answer(
+        answer_kept(
             self.version,
             self.alloc,
             &mut self.world,
@@ -133,6 +153,35 @@ impl<C: Calls> Session<C> {
         )?;
         self.answered = number;
         self.line.clear();
+        Ok(())
+    }
+
+    // Answers a line that was read at once, without its newline. It is not copied.
+    #[inline(always)]
+    fn answer_whole<W: Sink>(&mut self, line: &[u8], sink: &mut W) -> Result<(), RunFault>
+        requires countable { W.failures sink.old + 1 < 2 ^ 64 }
+        requires lines { lines_begun (state_of C.world self.old) + 1 < 2 ^ 64 }
+        requires one { HasNoNewline line.now }
+        ensures feeds { IsReading (state_of C.world self.old) []
+            → Feeds W.Sink (moment (state_of C.world self.old) []) (line.now ++ 10 ∷ []) result
+            (state_of C.world self.new) sink.old sink.new }
+        ensures begun { OnOk result (lines_begun (state_of C.world self.new) ≤ lines_begun
+            (state_of C.world self.old) + 1) }
+        ensures kept { OnOk result (W.failures sink.new ≡ W.failures sink.old) }
+        ensures counted { OnErr result (W.failures sink.new ≡ W.failures sink.old + 1) }
+        ensures fault { IfErr result (λ fault. fault ≡ RunFault.Write) }
+    {
+        let number = self.answered + 1;
+        answer(
+            self.version,
+            self.alloc,
+            &mut self.world,
+            number,
+            line,
+            &mut self.texts,
+            sink,
+        )?;
+        self.answered = number;
         Ok(())
     }
 
@@ -150,6 +199,9 @@ impl<C: Calls> Session<C> {
         ensures counted { OnErr result (W.failures sink.new ≡ W.failures sink.old + 1) }
         ensures fault { IfErr result (λ fault. fault ≡ RunFault.Write) }
     {
+        if self.line.is_empty() {
+            return self.answer_whole(rest, sink);
+        }
         self.line.extend(rest);
         self.end_line(sink)
     }
@@ -188,7 +240,7 @@ impl<C: Calls> Session<C> {
         if self.line.is_empty() {
             return Ok(());
         }
-        answer(
+        answer_kept(
             self.version,
             self.alloc,
             &mut self.world,

@@ -1,5 +1,5 @@
 -- Tasks as the map keeps them, each under its name, and as contracts see them.
-use Rattle.std.proofs.Common.{Bor, MutBor, Result, Ok, Err, IfOk, IfErr, OnOk, OnErr, if◌then◌else◌, ◌≡◌, ℕ, ◌+◌, ◌≤◌, Bool, true, false, cond, List, [], ◌∷◌, ◌++◌, not, map, nat_eq, Option, Some, None, option_map, refl, sym, ap, ◌∙◌, true≢false, subst, IsSomeAnd, is_some, option_copied, slice_get}
+use Rattle.std.proofs.Common.{Bor, MutBor, Result, Ok, Err, IfOk, IfErr, OnOk, OnErr, if◌then◌else◌, ◌≡◌, ℕ, ◌+◌, ◌≤◌, Bool, true, false, cond, List, [], ◌∷◌, ◌++◌, not, map, nat_eq, Option, Some, None, option_map, refl, sym, ap, ◌∙◌, true≢false, subst, IsSomeAnd, is_some, option_copied}
 use Rattle.vt_spec.proofs.Common.{AllByRecursion, Credentials, Descriptor, IsDistinct-head, IsDistinct-tail, Task, TaskName, all-filter, are_ascending_from, child_name, child_of, free_from, inserted, keys_of, list_all, lookup, nat_list_eq_equiv, option_copied_mut, pointwise, remove_entry, replaced_if_called, same_name, same_task_name, set_value}
 use Rattle.std.specs.declared.vec.Vec.{Vec}
 use Rattle.std.specs.List.{IsDistinct}
@@ -26,13 +26,18 @@ module _ {A : Type 0} where
   abbrev pub is_key : TaskName → Vec ℕ A → Bool
   is_key name key = pointwise nat_eq name key.items
 
-  -- the first task is found under its name
-  pub first_called : (name : TaskName) (key : Vec ℕ A) (x : Held) (es : List (Vec ℕ A × Held))
-      → Some (key, x) ≡ slice_get es 0 → is_key name key ≡ true → Some x ≡ lookup (is_key name) es
-  first_called name key x [] at is = absurd cc
-  first_called name key x (e ∷ es) at is =
-      let here : e ≡ (key, x) = cc in
-      sym (ap (λ e. lookup (is_key name) (e ∷ es)) here ∙ ap (λ b. cond b (Some x) (lookup (is_key name) es)) is)
+  -- a name finds what a key of the same numbers finds
+  found-by_key : (name : TaskName) (key : Vec ℕ A) → is_key name key ≡ true → (es : List (Vec ℕ A × Held))
+      → lookup (is_key name) es ≡ lookup (key_eq key) es
+  found-by_key name key is [] = refl
+  found-by_key name key is (e ∷ es) =
+      ap (λ b. cond b (Some e.1) (lookup (is_key name) es)) (nat_list_eq_equiv.congr name key.items e.0.items is)
+      ∙ ap (λ rest. cond (key_eq key e.0) (Some e.1) rest) (found-by_key name key is es)
+
+  -- a task that the map has under a key is found by the key's numbers
+  pub called_by_key : (name : TaskName) (key : Vec ℕ A) (x : Held) (es : List (Vec ℕ A × Held))
+      → lookup (key_eq key) es ≡ Some x → is_key name key ≡ true → Some x ≡ lookup (is_key name) es
+  called_by_key name key x es at is = sym (found-by_key name key is es ∙ at)
 
   -- a name finds the task that it is under
   pub called-tasks : (name : TaskName) (es : List (Vec ℕ A × Held)) → AreKeyed es

@@ -28,13 +28,23 @@ use vt_cred::{Caps, Cred, Mode};
 use vt_location::{Location, Mount, NamespaceId};
 use vt_request::TaskName;
 
-// The task of a name. The first task is mostly the one that calls: its name is compared before a hash is taken.
+// Where a task mostly stands: the first task at 0, and a child of it at its own number, since children are forked in the
+// order of their numbers.
+#[inline(always)]
+fn likely_place(numbers: &[u8]) -> usize {
+    match numbers {
+        [number] => usize::from(*number),
+        _ => 0,
+    }
+}
+
+// The task of a name. The name at its likely place is compared before a hash is taken.
 #[inline(always)]
 fn found_called<'a>(by_name: &'a IndexMap<Vec<u8>, Task>, numbers: &[u8]) -> Option<&'a Task>
     ensures { option_copied result ≡ lookup (λ key. pointwise nat_eq numbers.now key.items) by_name.now.entries }
 {
-    match by_name.first() {
-        Some((first, found)) if numbers == first.as_slice() => Some(found),
+    match by_name.get_index(likely_place(numbers)) {
+        Some((own, found)) if numbers == own.as_slice() => Some(found),
         _ => by_name.get(numbers),
     }
 }

@@ -22,7 +22,7 @@ use crate::tree::names::Names;
 use crate::tree::slots::Slots;
 use std::alloc::{AllocError, Global};
 use std::marker::Model;
-use vt_node::{Attr, Node, NodeId, copied_bytes};
+use vt_node::{Attr, NewNode, Node, NodeId, copied_bytes};
 
 /// A tree of directories, files, symlinks and whiteouts, each with a number, and with a count of its uses: the names
 /// that lead to it, and what a caller pins. With its last use an object goes.
@@ -169,9 +169,10 @@ impl Tree {
     /// Makes an object under a free name of a directory: mkdir(2), open(2) with O_CREAT, symlink(2), mknod(2).
     pub fn create(
         &mut self,
+        alloc: Global,
         directory: NodeId,
         name: Vec<u8>,
-        node: Node,
+        node: NewNode,
     ) -> Result<NodeId, AllocError>
         requires directory { IsDirectory (tree_of self.old) directory }
         requires free { entry_at (tree_of self.old) directory name.items ≡ None }
@@ -186,7 +187,7 @@ impl Tree {
         self.names.reserve(id)?;
         insert_entry(&mut self.slots, directory, name, id)?;
         self.names.add(id, directory);
-        Ok(self.slots.insert_reserved(node))
+        Ok(self.slots.insert_reserved(node.into_node(alloc)))
     }
 
     /// Makes a further hard link to an object, under a free name: link(2).

@@ -138,7 +138,7 @@ fn close_call<'a>(words: &mut Words<'a>) -> Option<Call<'a>>
 }
 
 /// `write PATH BYTES`.
-#[inline(never)]
+#[inline(always)]
 pub fn write<'a>(alloc: Global, words: &mut Words<'a>) -> Result<Call<'a>, ReadError>
     ensures { IsCallRead (call_named One CallName.Write words.old) result }
 {

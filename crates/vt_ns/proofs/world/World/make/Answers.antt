@@ -24,7 +24,7 @@ create-requires-clause-free c =
 
 pub create-requires-clause-node : goal.create-requires-clause-node
 create-requires-clause-node c =
-    rw c.into_node-node.ensures (new_in_directory (the_view c.self.inside) c.self.invariant c.args.name.now c.args.new.directory
+    (new_in_directory (the_view c.self.inside) c.self.invariant c.args.name.now c.args.new.directory
     c.args.new.name.items c.args.new.node (omega arith) (subst (λ value. Grants value c.args.name.now
     (make_permit (Node c.args.new))) (sym c.self.view_is) c.requires))
 
@@ -38,7 +38,7 @@ returns-clause-vacant c =
     (here_is_own c.in_ok-create.field-0 (omega arith) (omega arith) c.in_ok-create.ensures.birth)
     c.in_ok-create.ensures.birth c.in_ok-create.ensures.filesystem
     (rw c.plain_mut.ensures.value at c.in_ok-create.ensures.number)
-    (rw c.into_node-node.ensures at (rw c.plain_mut.ensures.value at c.in_ok-create.ensures.ok)))
+    (rw c.plain_mut.ensures.value at c.in_ok-create.ensures.ok))
 
 pub invariant_of-self-2 : goal.invariant_of-self-2
 invariant_of-self-2 c =
@@ -51,13 +51,13 @@ invariant_of-self-2 c =
     c.args.new.name.items c.args.new.node (omega arith) granted c.alloc.ensures.counted c.alloc.ensures.sources
     c.create.new.self c.in_ok-create.field-0 (search rules) own c.in_ok-create.ensures.birth
     c.in_ok-create.ensures.filesystem (rw c.plain_mut.ensures.value at c.in_ok-create.ensures.number)
-    (rw c.into_node-node.ensures at (rw c.plain_mut.ensures.value at c.in_ok-create.ensures.ok)))
+    (rw c.plain_mut.ensures.value at c.in_ok-create.ensures.ok))
     c.create.new.self
     (make_is_done (the_view c.self.inside) c.self.invariant c.args.name.now c.args.new.directory c.args.new.name.items
     c.args.new.node (omega arith) granted c.alloc.ensures.counted c.alloc.ensures.sources c.create.new.self
     c.in_ok-create.field-0 (search rules) own c.in_ok-create.ensures.birth c.in_ok-create.ensures.filesystem
     (rw c.plain_mut.ensures.value at c.in_ok-create.ensures.number)
-    (rw c.into_node-node.ensures at (rw c.plain_mut.ensures.value at c.in_ok-create.ensures.ok)))).held
+    (rw c.plain_mut.ensures.value at c.in_ok-create.ensures.ok))).held
 
 pub returns-clause-ok : goal.returns-clause-ok
 returns-clause-ok c =
@@ -72,10 +72,10 @@ returns-clause-ok c =
     c.args.new.name.items c.args.new.node (omega arith) granted c.alloc.ensures.counted c.alloc.ensures.sources
     c.create.new.self c.in_ok-create.field-0 (search rules) own c.in_ok-create.ensures.birth
     c.in_ok-create.ensures.filesystem (rw c.plain_mut.ensures.value at c.in_ok-create.ensures.number)
-    (rw c.into_node-node.ensures at (rw c.plain_mut.ensures.value at c.in_ok-create.ensures.ok)))
+    (rw c.plain_mut.ensures.value at c.in_ok-create.ensures.ok))
     c.create.new.self
     (make_is_done (the_view c.self.inside) c.self.invariant c.args.name.now c.args.new.directory c.args.new.name.items
     c.args.new.node (omega arith) granted c.alloc.ensures.counted c.alloc.ensures.sources c.create.new.self
     c.in_ok-create.field-0 (search rules) own c.in_ok-create.ensures.birth c.in_ok-create.ensures.filesystem
     (rw c.plain_mut.ensures.value at c.in_ok-create.ensures.number)
-    (rw c.into_node-node.ensures at (rw c.plain_mut.ensures.value at c.in_ok-create.ensures.ok)))).becomes
+    (rw c.plain_mut.ensures.value at c.in_ok-create.ensures.ok))).becomes

@@ -75,7 +75,7 @@ open_next-requires-clause-node c =
     c.requires) c.alloc.ensures.counted c.alloc.ensures.sources c.next_number.result
     (rw c.plain.ensures at c.next_number.ensures.number) c.next_number.ensures.filesystem c.next_number.ensures.birth
     (rw c.plain.ensures at c.next_number.ensures.vacant) c.unwrap-file.result c.unwrap-file.ensures (search rules) in
-    rw c.into_node-made.ensures (new_in_directory (the_view c.self.inside) c.self.invariant c.args.name.now
+    (new_in_directory (the_view c.self.inside) c.self.invariant c.args.name.now
     c.args.new.directory c.args.new.name.items c.args.new.node
     (access_of c.args.new.access) (omega arith) permits)
 
@@ -101,7 +101,7 @@ invariant_of-self-2 c =
     (Make (number_of c.args.new.directory.node) c.args.new.name.items n
     (node_seen c.args.new.directory.node.filesystem.count c.args.new.node)))
     c.self.inside.store.plain c.open_next.new.filesystems) (sym number)
-    (rw c.into_node-made.ensures at (rw c.plain_mut-filesystems.ensures.value at c.in_ok-number.ensures.made.made)) in
+    (rw c.plain_mut-filesystems.ensures.value at c.in_ok-number.ensures.made.made) in
     let once = ap (λ filesystem. uses_in ((inodes_at c.open_next.new.filesystems filesystem.count).inode
     (number_of c.unwrap-file.result))) inside
     ∙ used_once (the_view c.self.inside) c.self.invariant c.args.name.now c.args.new.directory c.args.new.name.items
@@ -147,7 +147,7 @@ returns-clause-ok c =
     (Make (number_of c.args.new.directory.node) c.args.new.name.items n
     (node_seen c.args.new.directory.node.filesystem.count c.args.new.node)))
     c.self.inside.store.plain c.open_next.new.filesystems) (sym number)
-    (rw c.into_node-made.ensures at (rw c.plain_mut-filesystems.ensures.value at c.in_ok-number.ensures.made.made)) in
+    (rw c.plain_mut-filesystems.ensures.value at c.in_ok-number.ensures.made.made) in
     let once = ap (λ filesystem. uses_in ((inodes_at c.open_next.new.filesystems filesystem.count).inode
     (number_of c.unwrap-file.result))) inside
     ∙ used_once (the_view c.self.inside) c.self.invariant c.args.name.now c.args.new.directory c.args.new.name.items

@@ -16,4 +16,4 @@ overflow_add-self g c =
 pub returns-clause-closes : goal.returns-clause-closes
 returns-clause-closes g c = λ line reading.
     let some : line ≢ [] = λ none. let empty = (c.is_empty.ensures.holds line reading.held).1 none in cc in
-    closes_reply g.W.Sink _ line _ _ _ c.answer.result some reading (c.answer.ensures.replies line reading.held reading.numbers)
+    closes_reply g.W.Sink _ line _ _ _ c.answer_kept.result some reading (c.answer_kept.ensures.replies line reading.held reading.numbers)

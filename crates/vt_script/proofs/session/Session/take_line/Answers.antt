@@ -1,8 +1,16 @@
-use Rattle.std.proofs.Common.{[], ◌∷◌, refl}
-use Rattle.vt_script.specs.Session.{moment}
+use Rattle.std.proofs.Common.{◌≡◌, [], ◌∷◌, ◌++◌, refl, subst, sym}
+use Rattle.vt_script.specs.Session.{Feeds, IsReading, moment}
 use Rattle.vt_script.specs.SessionValue.{state_of}
 use Rattle.vt_script.proofs.SessionLemmas.{fed_bytes, feeds_then}
 use Rattle.vt_script.proofs.session.Session.take_line.Goals as goal
+
+pub returns-then-is_empty-clause-feeds : goal.returns-then-is_empty-clause-feeds
+returns-then-is_empty-clause-feeds g c = λ line reading.
+    let old = state_of g.C.Calls.world c.args.self.now in
+    let new = state_of g.C.Calls.world c.answer_whole.new.self in
+    let none : line ≡ [] = (c.is_empty.ensures.holds line reading.held).0 c.if-is_empty.true in
+    subst (λ l. Feeds g.W.Sink (moment old l) (c.args.rest.now ++ 10 ∷ []) c.answer_whole.result new c.args.sink.now
+    c.answer_whole.new.sink) (sym none) (c.answer_whole.ensures.feeds (subst (IsReading old) none reading))
 
 pub returns-clause-feeds : goal.returns-clause-feeds
 returns-clause-feeds g c = λ line reading.

@@ -18,7 +18,7 @@ returns-clause-ok c =
     ∙ ap (λ inodes. with_changed nat_eq inodes c.args.directory
     (node_with_entry c.args.name.items c.next-id.result)) room in
     inodes-created before c.insert_entry.new.slots c.insert_reserved.new.self c.args.directory c.next-id.result c.insert_reserved.result
-    c.args.name.items c.args.node entry c.insert_reserved.ensures.inserted c.insert_reserved.ensures.len number
+    c.args.name.items c.args.node entry (rw c.into_node.ensures at c.insert_reserved.ensures.inserted) c.insert_reserved.ensures.len number
     ∙ ap (λ value. with_new nat_eq
     (inodes_of value) c.args.directory c.args.name.items c.insert_reserved.result c.args.node) c.self.view_is
 
@@ -42,7 +42,7 @@ invariant_of-self-2 c =
     let root = c.self.inside.root in
     counted_as (inodes_in root c.insert_reserved.new.self) _ _ _ refl c.add.ensures
     (new_keeps (inodes_in root c.insert_entry.new.slots) (inodes_in root c.insert_reserved.new.self)
-    c.insert_reserved.result c.args.node _ c.insert_reserved.ensures.inserted
+    c.insert_reserved.result c.args.node _ (rw c.into_node.ensures at c.insert_reserved.ensures.inserted)
     (no_entries c.args.directory c.args.node.content c.requires.node)
     (counted_as _ _ _ _ (c.in_ok-insert_entry.ensures.ok root) refl
     (name_more (inodes_in root c.reserve.new.self) c.args.directory c.args.name.items c.next-id.result

@@ -1,0 +1,13 @@
+use Rattle.vt_line.specs.Versions.{version_of}
+use Rattle.vt_line.proofs.CallLemmas.{pair_every, path_every}
+use Rattle.vt_line.proofs.calls.any_call.Goals as goal
+
+pub returns-in-Path : goal.returns-in-Path
+returns-in-Path c =
+    path_every (version_of c.args.version) c.args.name c.in-Path.name c.args.words.now c.path_call.result c.in-Path.is
+    c.path_call.ensures
+
+pub returns-in-Pair : goal.returns-in-Pair
+returns-in-Pair c =
+    pair_every (version_of c.args.version) c.args.name c.in-Pair.name c.args.words.now c.pair_call.result c.in-Pair.is
+    c.pair_call.ensures
