@@ -54,23 +54,25 @@ module _ (inodes : Inodes ℕ) where
         → led tree directory names ≡ Some to
         → is_among nat_eq object (chain most (parent_above nat_eq inodes) directory) ≡ false
     not_above zero directory there reached names leads = cc (apart directory names leads)
-    not_above (suc most) directory there reached names leads =
-        ⊎_elim at_root below (reached_named tree directory reached)
+    not_above (suc most) directory there reached names leads = ⊎_elim at_root (λ named.
+        let leads_above : led tree (parent directory) (named.1 ∷ names) ≡ Some to =
+        ap (option_and_then (λ next. led tree next names))
+        (ap (λ d. entry_at tree d named.1) (is.one_parent named.0 named.1 directory named.2 there) ∙ named.2) ∙ leads in
+        below (not_above most (parent directory) (is.parent_directory directory there)
+        (parent_reached tree is directory there reached) (named.1 ∷ names) leads_above))
+        (reached_named tree directory reached)
       where
+        -- nothing is above the root
         at_root : tree.root ≡ directory
             → is_among nat_eq object (chain (suc most) (parent_above nat_eq inodes) directory) ≡ false
-        at_root same = let root = eq-eqb directory inodes.root (sym same) in
+        at_root same =
+            let root = eq-eqb directory inodes.root (sym same) in
             grind (arith, common_steps, chain_ends, apart directory names leads)
 
-        -- the names that lead from a directory lead from its parent after the directory's own name
-        below : HasName tree directory
+        -- above another directory are its parent and what is above that
+        below : is_among nat_eq object (chain most (parent_above nat_eq inodes) (parent directory)) ≡ false
             → is_among nat_eq object (chain (suc most) (parent_above nat_eq inodes) directory) ≡ false
-        below named =
-            let leads_above : led tree (parent directory) (named.1 ∷ names) ≡ Some to =
-            cc (is.one_parent named.0 named.1 directory named.2 there, named.2) in
-            let rest = not_above most (parent directory) (is.parent_directory directory there)
-            (parent_reached tree is directory there reached) (named.1 ∷ names) leads_above in
-            grind (arith, common_steps, chain_ends, chain_goes_on, apart directory names leads)
+        below rest = grind (arith, common_steps, chain_ends, chain_goes_on, apart directory names leads)
 
   fits : (change : Change ℕ) → Facts tree change → Fits inodes change
   fits (Make directory name number node) facts = (
@@ -110,7 +112,8 @@ module _ (world : World ℕ) (fresh : Fresh ℕ) (task : Task ℕ) (permit : Per
   -- the bytes of a file are within the limit
   bytes_small : (file : Location ℕ) → is_kind_in File (node_at nat_eq world file) ≡ true
       → nat_le (length (bytes_in (node_at nat_eq world file))) largest_file ≡ true
-  bytes_small file kind = ⊎_elim in_limit (λ missing. cc (missing.0)) (numbered_all Good
+  bytes_small file kind = ⊎_elim in_limit (λ missing. absurd (true≢false
+      (sym kind ∙ ap (λ (f : Filesystem ℕ). is_kind_in File (f.files.tree.node file.node)) missing.0))) (numbered_all Good
       (mount_at nat_eq world file).filesystem world.filesystems (all_from_among Good world.filesystems (λ f m. (
         among_from_list_all is_fit_filesystem world.filesystems whole.files.fit_filesystems f m,
         among_from_all (λ (g : Filesystem ℕ). ListsNumbers nat_eq g.files) world.filesystems whole.files.numbers f m,
