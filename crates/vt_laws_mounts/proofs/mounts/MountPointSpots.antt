@@ -13,5 +13,6 @@ pub spot_on : (world : World ℕ) (point : Location ℕ) → is_mount world poin
     → mount_point_spot nat_eq world point
     ≡ spot_of (path_down nat_eq (files_at nat_eq world point) (mount_at nat_eq world point).root point.node)
 spot_on world point there = ap (λ found. spot_of (option_and_then
-    (λ (mount : Mount ℕ). path_down nat_eq (filesystem_numbered nat_eq world mount.filesystem).files mount.root point.node)
+    (λ (mount : Mount ℕ). path_down nat_eq (filesystem_numbered nat_eq world mount.filesystem).files mount.root
+    point.node)
     found)) (numbered_found world.mounts point.mount there)

@@ -81,7 +81,8 @@ module _ {world : World ℕ} {names : List TaskName} {fresh : Fresh ℕ} (it : I
 
   abbrev pub IsCopyOf : Mount ℕ → Type 0
   IsCopyOf mount =
-      (part : Mount ℕ) × Among part parts × (origin : Mount ℕ) × Among origin it.mounts × (mount ≡ copied_to part origin)
+      (part : Mount ℕ) × Among part parts × (origin : Mount ℕ) × Among origin it.mounts ×
+      (mount ≡ copied_to part origin)
 
   -- Groups that are made are new, and their masters are groups of others.
   image_foreign : (twig_group : ℕ) (origin : Mount ℕ) → Among origin it.mounts

@@ -271,9 +271,11 @@ module _ {world : World ℕ} {names : List TaskName} {fresh : Fresh ℕ} (it : A
         at.0,
         sym (ap (λ (x : Mount ℕ). x.namespace) (found_itself world.mounts it.apart.is.mounts.one_number mount m))
             ∙ namespace_below world mount.number (record { mount = part.number; node = it.place.node })
-            (among_from_all (λ (x : Mount ℕ). Stands nat_eq world x.number) world.mounts it.apart.is.mounts.standing mount
+            (among_from_all (λ (x : Mount ℕ). Stands nat_eq world x.number) world.mounts it.apart.is.mounts.standing
+            mount
             m)
-            (ap (λ (x : Mount ℕ). x.mount_point) (found_itself world.mounts it.apart.is.mounts.one_number mount m) ∙ point)
+            (ap (λ (x : Mount ℕ). x.mount_point) (found_itself world.mounts it.apart.is.mounts.one_number mount m)
+            ∙ point)
             ∙ ap (λ (x : Mount ℕ). x.namespace)
             (found_itself world.mounts it.apart.is.mounts.one_number part (other_there part among)) ∙ at.1,
         at.2,
@@ -369,7 +371,8 @@ module _ {world : World ℕ} {names : List TaskName} {fresh : Fresh ℕ} (it : A
   change_shape : (mount : Mount ℕ) → Among mount world.mounts → IsReshaped mount (change mount)
   change_shape mount there =
       let plain = relocated_plain mount there in
-      reshaped_twice mount (relocated it.moves mount) (change mount) (mount.namespace, plain.0, plain.1, plain.2, inl refl)
+      reshaped_twice mount (relocated it.moves mount) (change mount)
+      (mount.namespace, plain.0, plain.1, plain.2, inl refl)
       (by (relocated it.moves mount) (receiver_stood_on nat_eq tree parts (relocated it.moves mount)))
     where
       by : (x : Mount ℕ) (o : Option (Mount ℕ)) → IsReshaped x (pushed_onto nat_eq base new tree parts x o)
@@ -401,7 +404,8 @@ module _ {world : World ℕ} {names : List TaskName} {fresh : Fresh ℕ} (it : A
       ∙ ap (λ ms. ms ++ added_mounts it.moves (copies_at nat_eq base new tree parts destination)
       ++ flat_map (copies_at nat_eq base new tree parts) (rest_of parts))
       (map_twice pushed (relocated it.moves) world.mounts)
-      ∙ append_assoc (map change world.mounts) (added_mounts it.moves (copies_at nat_eq base new tree parts destination))
+      ∙ append_assoc (map change world.mounts)
+      (added_mounts it.moves (copies_at nat_eq base new tree parts destination))
       (flat_map (copies_at nat_eq base new tree parts) (rest_of parts))
     where
       put_all : (list given : List (Mount ℕ))
@@ -530,7 +534,8 @@ module _ {world : World ℕ} {names : List TaskName} {fresh : Fresh ℕ} (it : A
       ∙ change_value (λ (x : Mount ℕ). x.filesystem) (λ x at kind. refl) old.0 (other_there old.0 old.1))
       ∙ none_shows old.0 old.1) (λ copy. ⊎_elim
       (λ old. ap (nat_eq number) (ap (λ (x : Mount ℕ). x.filesystem) copy.0.4 ∙ old.3) ∙ none_shows old.0 old.1)
-      (λ new_one. false_from_ne_true (nat_eq number other.filesystem) (λ e. not_of_the_world it.apart fresh it.serves number
+      (λ new_one. false_from_ne_true (nat_eq number other.filesystem)
+      (λ e. not_of_the_world it.apart fresh it.serves number
       new_one.1 of (eqb-true number other.filesystem e ∙ ap (λ (x : Mount ℕ). x.filesystem) copy.0.4 ∙ new_one.2)))
       (it.origins copy.0.2 copy.0.3)) (others_from other m)))) (ap not (none_from_among
       (λ location. nat_eq number (mount_at nat_eq left location).filesystem) (locations (outsiders world names))

@@ -114,7 +114,8 @@ stepping_keeps_footholds before names step step_number step_overlay step_layers 
       filter-map is_overlay step before.filesystems step_overlay,
       all-map_same free_in free_in step (overlays before) (λ merged.
           ap (λ b. not b || no_outsider_on nat_eq before names (step merged).number) (step_layers number merged)
-          ∙ ap (λ n. not (has_layer_on nat_eq number merged) || no_outsider_on nat_eq before names n) (step_number merged)),
+          ∙ ap (λ n. not (has_layer_on nat_eq number merged) || no_outsider_on nat_eq before names n)
+          (step_number merged)),
     )
   where
     free_in : Filesystem ℕ → Bool

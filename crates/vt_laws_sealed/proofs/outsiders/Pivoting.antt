@@ -129,7 +129,8 @@ module _ {world : World ℕ} {fresh : Fresh ℕ} {names : List TaskName} {name :
       by : (b : Bool) → same_location nat_eq from (root_of old_root) ≡ b → IsOutside world names location
       by true f =
           let it : location ≡ root_of new_root = cc in
-          inr (subst (λ x. Among x (other_mounts nat_eq world names)) (sym (cc (number-mount_in world.mounts new))) new_root_other)
+          inr (subst (λ x. Among x (other_mounts nat_eq world names)) (sym (cc (number-mount_in world.mounts new)))
+          new_root_other)
       by false f =
           let it : location ≡ from = cc in
           inl (

@@ -18,11 +18,13 @@ named_so files tree object name e = leads_among files.numbers e
         cc (same_Some (directory, entry.0) name e, named.0, named.1)
 
     -- the first name that some of the directories have
-    leads_among : (directories : List ℕ) → first_of_list (filter_map (name_in nat_eq files object) directories) ≡ Some name
+    leads_among : (directories : List ℕ)
+        → first_of_list (filter_map (name_in nat_eq files object) directories) ≡ Some name
         → entry_at files.tree name.0 name.1 ≡ Some object
     leads_among [] e = cc
     leads_among (directory ∷ rest) e =
-        let here = leads_in directory (find (λ entry. nat_eq object entry.1) (entries_in (files.tree.node directory))) refl
+        let here = leads_in directory (find (λ entry. nat_eq object entry.1) (entries_in (files.tree.node directory)))
+        refl
         in grind (arith, here, leads_among rest)
 
 -- what has an entry is a directory
@@ -63,7 +65,8 @@ module _ (files : FileTree ℕ) (tree : IsTree files.tree) where
   pub is_reached_in : (directory : ℕ) (name : List ℕ) (object : ℕ) → entry_at files.tree directory name ≡ Some object
       → (steps : ℕ) × ReachedIn files.tree steps directory
   is_reached_in directory name object e = ⊎_elim (λ same. (0, same.1)) (λ other. below other.1 (has_entry_to nat_eq
-      files.tree (parent_in directory (files.tree.node directory)) directory) refl) (eqb_tells directory files.tree.root)
+      files.tree (parent_in directory (files.tree.node directory)) directory) refl)
+      (eqb_tells directory files.tree.root)
     where
       is : IsDirectory files.tree directory
       is = has_entries files.tree directory name object e
@@ -82,5 +85,8 @@ module _ (files : FileTree ℕ) (tree : IsTree files.tree) where
           from_root (parent_in directory (files.tree.node directory), named.0, named.1)
       below other false h =
           let empty = tree.unnamed_empty directory is other (λ named.
-          cc (tree.one_parent named.0 named.1 directory named.2 is, entry_to files.tree named.0 named.1 directory named.2))
+          cc (
+            tree.one_parent named.0 named.1 directory named.2 is,
+            entry_to files.tree named.0 named.1 directory named.2,
+          ))
           in none_is_some object (cc (empty))

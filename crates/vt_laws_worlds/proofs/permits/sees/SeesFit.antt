@@ -113,7 +113,8 @@ module _ (world : World ℕ) (fresh : Fresh ℕ) (task : Task ℕ) (permit : Per
   bytes_small : (file : Location ℕ) → is_kind_in File (node_at nat_eq world file) ≡ true
       → nat_le (length (bytes_in (node_at nat_eq world file))) largest_file ≡ true
   bytes_small file kind = ⊎_elim in_limit (λ missing. absurd (true≢false
-      (sym kind ∙ ap (λ (f : Filesystem ℕ). is_kind_in File (f.files.tree.node file.node)) missing.0))) (numbered_all Good
+      (sym kind ∙ ap (λ (f : Filesystem ℕ). is_kind_in File (f.files.tree.node file.node)) missing.0)))
+      (numbered_all Good
       (mount_at nat_eq world file).filesystem world.filesystems (all_from_among Good world.filesystems (λ f m. (
         among_from_list_all is_fit_filesystem world.filesystems whole.files.fit_filesystems f m,
         among_from_all (λ (g : Filesystem ℕ). ListsNumbers nat_eq g.files) world.filesystems whole.files.numbers f m,

@@ -71,8 +71,10 @@ module _ (world : World ℕ) (fresh : Fresh ℕ) (task : Task ℕ) (serves : Ser
       spot_of (path_down nat_eq (filesystem_numbered nat_eq world parent.filesystem).files parent.root place.node)
 
   abbrev place_cell : World ℕ → List (Mount ℕ) → Location ℕ → ℕ × Spot
-  place_cell those list place =
-      (number_among nat_eq (map (λ (other : Mount ℕ). other.number) list) place.mount, mount_point_spot nat_eq those place)
+  place_cell those list place = (
+    number_among nat_eq (map (λ (other : Mount ℕ). other.number) list) place.mount,
+    mount_point_spot nat_eq those place,
+  )
 
   copied_cell : (parent : Mount ℕ) → Among parent copied → Among parent world.mounts → (place : Location ℕ)
       → parent.number ≡ place.mount

@@ -275,7 +275,8 @@ roots_stay fresh world name call filesystem root is =
     Stays left = (root_in left filesystem ≡ Some root) ⊎ (root_in left filesystem ≡ None)
 
     finished_stays : (looks : Bool) (changes : List ℕ) (outcome : Outcome ℕ)
-        → root_in outcome.world filesystem ≡ Some root → Stays (finished_by nat_eq looks world name changes outcome).world
+        → root_in outcome.world filesystem ≡ Some root
+        → Stays (finished_by nat_eq looks world name changes outcome).world
     finished_stays true changes outcome h = inl h
     finished_stays false changes outcome h = grind (arith, common_steps, settled_root, mapped, raises)
 
