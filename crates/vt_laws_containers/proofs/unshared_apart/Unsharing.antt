@@ -1,10 +1,9 @@
 -- No unshare(2) by a task of a sealed set gives others a foothold.
-use Rattle.std.proofs.Common.{◌≡◌, refl, sym, ap, ◌∙◌, ℕ, nat_eq, Bool, true, false, List, Option, Some, None, Ok, Err, filter, not, eqb-true, IfOk, is_ok}
+use Rattle.std.proofs.Common.{◌≡◌, refl, sym, ap, ℕ, nat_eq, Bool, true, false, List, Option, Some, None, Ok, Err, filter, not, eqb-true, IfOk, is_ok}
 use Rattle.vt_spec.proofs.Common.{Fresh, Judgement, Permit, Serves, Task, TaskName, ToUnshare, Unshare, World, admin_rules, among-filter, among-from_filter, any_among, judge_in, list_any, namespaces_ended, none_among, not-true, same_name, task_called, unshare_permit, unshared}
 use Rattle.vt_laws_members.specs.Changes.Changes.{IsCallOfTheirs}
 use Rattle.vt_laws_members.proofs.changes.looks.Granted.{of_rules}
 use Rattle.vt_laws_members.proofs.changes.looks.Told.{ran}
-use Rattle.vt_laws_members.proofs.changes.tasks.Denied.{run_by}
 use Rattle.vt_laws_containers.specs.Footholds.{GivesNoFoothold}
 use Rattle.vt_laws_containers.proofs.footholds.AsBefore.{OthersAsBefore}
 use Rattle.vt_laws_containers.proofs.footholds.Granting.{refused_out}
@@ -53,11 +52,10 @@ unshares_give_no_foothold world names name it fresh serves = by (task_called wor
         → (j : Judgement ℕ) → judge_in nat_eq fresh world task Unshare ≡ j → IfOk j Unshares
         → GivesNoFoothold world names name Unshare fresh
     judged_by task e (Ok permit) judged known =
-        permit_out (record { it = it; few = refl; serves = serves; called = e }) ToUnshare (judged ∙ ap Ok known)
+        permit_out (record { it = it; few = refl; serves = serves; called = e }) ToUnshare (cc)
         (λ ends. either_as_before world names name it task e fresh serves)
     judged_by task e (Err deny) judged known = refused_out it fresh
-        (ap (λ o. is_ok (ran name Unshare world fresh o).answer) e
-        ∙ ap (λ j. is_ok (run_by it world fresh task j).answer) judged)
+        (cc)
 
     by : (o : Option (Task ℕ)) → task_called world name ≡ o → GivesNoFoothold world names name Unshare fresh
     by None e = refused_out it fresh (ap (λ o. is_ok (ran name Unshare world fresh o).answer) e)
