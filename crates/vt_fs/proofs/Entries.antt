@@ -63,7 +63,8 @@ module _ (f : ℕ) where
 
   pub entry_of-held : (es : List (FilesystemId × Filesystem))
       → entry_of (held es) f ≡ option_map (of_count f) (lookup (is_key f) es)
-  entry_of-held es = entry_of-entries (in_order es) ∙ ap (option_map (of_count f)) (looked-in_order count_of (id_of f) es)
+  entry_of-held es = entry_of-entries (in_order es)
+      ∙ ap (option_map (of_count f)) (looked-in_order count_of (id_of f) es)
 
   -- the filesystem of a count is changed
   entries-changed : (written : Filesystem → Filesystem) (change : FilesystemEntry → FilesystemEntry)

@@ -75,7 +75,8 @@ pub slot_there : (f number : ℕ) (o : Option ℕ) (slot : ℕ) → IfSome o (λ
 slot_there f number None slot is e = absurd cc
 slot_there f number (Some other) slot is e = ap (exchanged f) (sym (same_Some other slot e)) ∙ is
 
-module _ (fs : Filesystems) (f number : ℕ) (o : Option ℕ) (nowhere : o ≡ None → (inodes_at fs f).inode number ≡ None) where
+module _ (fs : Filesystems) (f number : ℕ) (o : Option ℕ) (nowhere : o ≡ None
+    → (inodes_at fs f).inode number ≡ None) where
   has_slot : ((files_at fs f).tree.node number ≡ None → ⊥) → IsSome o
   has_slot there = by o nowhere
     where

@@ -109,7 +109,8 @@ module _ (tree : Tree ℕ) (once : NamesDirectoriesOnce tree) (directory : ℕ) 
           content : (content : Content ℕ) → tree.node directory ≡ Some (record { attr = node.attr; content = content })
               → HasOneName directory (entries_in
               (tree.node (parent_in directory (Some (record { attr = node.attr; content = content })))))
-          content (Directory above entries opaque) is = λ name other first second. once above name other directory first second (ap is_directory_node is)
+          content (Directory above entries opaque) is =
+              λ name other first second. once above name other directory first second (ap is_directory_node is)
           content (Regular bytes) is = none_there _ is refl
           content (Symlink text) is = none_there _ is refl
           content Whiteout is = none_there _ is refl

@@ -11,7 +11,12 @@ use Rattle.vt_location.proofs.NumberLemmas.{exchanged_back}
 
 -- slots and numbers of a filesystem, exchanged
 abbrev pub exchange : ℕ → Renaming ℕ ℕ
-exchange f = record { there = exchanged f; back = exchanged f; there_back = exchanged_back f; back_there = exchanged_back f }
+exchange f = record {
+  there = exchanged f;
+  back = exchanged f;
+  there_back = exchanged_back f;
+  back_there = exchanged_back f;
+}
 
 -- a tree, a node and a change with other numbers
 abbrev pub by_numbers : ℕ → Inodes ℕ → Inodes ℕ
@@ -56,7 +61,10 @@ named_two = record {
 
 -- What is made of it: a tree, a number, a node, or what has no numbers in it
 abbrev named_inodes : Named Inodes
-named_inodes = record { rename = λ A B there back inodes. renamed_inodes there back inodes; itself = λ A inodes. inodes_itself inodes }
+named_inodes = record {
+  rename = λ A B there back inodes. renamed_inodes there back inodes;
+  itself = λ A inodes. inodes_itself inodes;
+}
 
 abbrev named_number : Named Option
 named_number = record {

@@ -1,5 +1,5 @@
 -- Groups that lose their last member.
-use Rattle.std.proofs.Common.{arith, ◌≡◌, refl, ap, ◌∙◌, ℕ, nat_eq, true, false, List, [], ◌∷◌, length, map, Option, Some, None}
+use Rattle.std.proofs.Common.{arith, ◌≡◌, refl, ap, ℕ, nat_eq, true, false, List, [], ◌∷◌, length, map, Option, Some, None}
 use Rattle.vt_spec.proofs.Common.{Mount, Private, Propagation, Shared, Slave, Unbindable, World, chain_ends, common_steps, find-chain_start, group_of, has_members, heir, inherited, inheriting, lost_a_group, map_same, none_among, not-false, or_parts, regrouped, slave_of_heir}
 
 pub no_group_of_heir : (found : Option ℕ) → group_of (slave_of_heir found) ≡ None
@@ -36,8 +36,7 @@ module _ (world : World ℕ) where
   -- the groups that have members stay the same
   pub members-regrouped : (group : ℕ)
       → has_members nat_eq (regrouped nat_eq world).mounts group ≡ has_members nat_eq world.mounts group
-  members-regrouped group = ap (λ mounts. has_members nat_eq mounts group) mounts-regrouped
-      ∙ members-inherited world.mounts group
+  members-regrouped group = cc (mounts-regrouped, members-inherited world.mounts group)
 
   pub master-regrouped : (group above : ℕ) → world.master group ≡ Some above
       → has_members nat_eq world.mounts above ≡ true → (regrouped nat_eq world).master group ≡ Some above

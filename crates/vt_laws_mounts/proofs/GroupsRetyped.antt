@@ -1,5 +1,5 @@
 -- Groups live on through a change of type.
-use Rattle.std.proofs.Common.{arith, ◌≡◌, refl, sym, ap, subst, ◌∙◌, true, false, nat_eq, Bool, List, Option, Some, [], eq-eqb, eqb-true, inl, inr, true≢false, ⊎_elim, ◌∷◌, ◌⊎◌, ℕ, if◌then◌else◌, option_to_list}
+use Rattle.std.proofs.Common.{arith, ◌≡◌, refl, sym, ap, subst, ◌∙◌, true, false, nat_eq, Bool, List, Option, Some, [], eq-eqb, eqb-true, inl, inr, true≢false, ⊎_elim, ◌∷◌, ◌⊎◌, ℕ, option_to_list}
 use Rattle.vt_spec.proofs.Common.{Among, Mount, Private, Propagation, Shared, Slave, TypeWord, Unbindable, World, among-from_map, any_among, common_steps, eqb_tells, false_from_ne_true, found_or_none, has_master, has_members, has_no_master, index_of, is_among, is_among_numbers, is_member_of, master_after, named_mounts, numbers_in_use, same_Some, source_of, tree_among, type_after, used_by_mount, with_master, with_new_groups}
 use Rattle.vt_laws_mounts.proofs.GroupsUp.{EndsUp, LivesIn, lives_in}
 use Rattle.vt_laws_mounts.proofs.GroupsUp.EndsUp.{at_top, goes_up}
@@ -42,8 +42,7 @@ module _ (group : ℕ → ℕ) where
         first,
         inl refl,
         ap (λ (x : Mount ℕ). group x.number) e,
-        kept ∙ ap (λ b. if b then master_after first.propagation else master (group mount.number))
-            (eq-eqb (group mount.number) (group first.number) (ap (λ (x : Mount ℕ). group x.number) e)),
+        cc (kept, eq-eqb (group mount.number) (group first.number) (ap (λ (x : Mount ℕ). group x.number) e)),
       )) (λ l.
       let t =
       new_for_one (with_master nat_eq master (group first.number) (master_after first.propagation)) rest mount l in
@@ -61,7 +60,7 @@ module _ (world : World ℕ) (group : ℕ → ℕ) (word : TypeWord) (named : Li
   other_master : (one : ℕ) → has_members nat_eq world.mounts one ≡ true → after_all one ≡ world.master one
   unfolding IsNewMaster
   other_master one has = ⊎_elim (λ kept. kept)
-      (λ t. absurd (true≢false (sym has ∙ ap (has_members nat_eq world.mounts) t.2 ∙ none t.0.number)))
+      (λ t. absurd (cc (t.2, none t.0.number)))
       (new_or_old group world.master named one)
 
   still_ends : (one : ℕ) → LivesIn world one → EndsUp after_all one
@@ -76,11 +75,11 @@ module _ (world : World ℕ) (group : ℕ → ℕ) (word : TypeWord) (named : Li
     where
       by : (x : Mount ℕ) → Among x named → (kind : Propagation ℕ) → x.propagation ≡ kind
           → after_all (group mount.number) ≡ master_after x.propagation → EndsUp after_all (group mount.number)
-      by x l (Shared one) e is = at_top (group mount.number) (is ∙ ap master_after e)
-      by x l (Slave above) e is = goes_up (group mount.number) above (is ∙ ap master_after e)
+      by x l (Shared one) e is = at_top (group mount.number) (cc)
+      by x l (Slave above) e is = goes_up (group mount.number) above (cc)
           (still_ends above (lives_in world live x (sourced x l above (ap source_of e)) above (ap source_of e)))
-      by x l Private e is = at_top (group mount.number) (is ∙ ap master_after e)
-      by x l Unbindable e is = at_top (group mount.number) (is ∙ ap master_after e)
+      by x l Private e is = at_top (group mount.number) (cc)
+      by x l Unbindable e is = at_top (group mount.number) (cc)
 
   pub all_live : GroupsLive (next_world world group word named)
   all_live = grind (
@@ -105,7 +104,7 @@ unused_members world number h = false_from_ne_true (has_members nat_eq world.mou
     let used : Among number (used_by_mount member.0) =
     inr (subst (λ k. Among number (option_to_list (source_of k))) (sym shared) (inl refl)) in
     let among = mount_uses world member.0 member.1 number used in
-    true≢false (sym (is_among_numbers (numbers_in_use world) number among) ∙ h))
+    cc (is_among_numbers (numbers_in_use world) number among, h))
 
 -- a named mount with a source is one of the world's
 named_sourced : (world : World ℕ) (number : ℕ) (recursive : Bool) (mount : Mount ℕ)

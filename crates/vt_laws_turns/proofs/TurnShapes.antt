@@ -1,5 +1,5 @@
 -- What a turn leaves, by what stands first in its queue.
-use Rattle.std.proofs.Common.{◌≡◌, refl, sym, ap, subst, ◌∙◌, inl, inr, ℕ, nat_eq, Bool, true, false, List, [], ◌∷◌, Option, Some, None, ◌+◌, nat_le}
+use Rattle.std.proofs.Common.{◌≡◌, refl, sym, ap, subst, inl, inr, ℕ, nat_eq, Bool, true, false, List, [], ◌∷◌, Option, Some, None, ◌+◌, nat_le}
 use Rattle.vt_spec.proofs.Common.{Asks, Call, Calls, Fresh, Item, Nobody, Outcome, Progress, Queued, Refused, Sched, Someone, Task, TaskName, Turned, Who, call_turn_of, denial, denied, directed, first_of_list, first_progress, found_passes, is_overtaken, most_restarts, policy, queue_of, queue_turn, same_name, same_task_name, task_called, turn}
 use Rattle.vt_spec.specs.declared.errors.Rule.TheVariants.{S2, S5}
 use Rattle.vt_spec.specs.Machine.Turns.{call_replied, replied}
@@ -78,8 +78,8 @@ module _ (sched : Sched ℕ) where
           (found_passes (λ (other : Task ℕ). same_name name other.name) sched.world.tasks task t) in
           subst (λ n. Shape sched (Someone n) (Some given)
           (queue_turn nat_eq sched (Someone n) (record { line = line; item = Calls call } ∷ rest) (Some given)))
-          (sym same) (at_queue task line call given rest (ap (λ n. queue_of sched.queues (Someone n)) (sym same) ∙ f)
-          (ap (task_called sched.world) (sym same) ∙ t))
+          (sym same) (at_queue task line call given rest (cc (same))
+          (cc (same)))
         where
           at_queue : (task : Task ℕ) (line : ℕ) (call : Call) (given : Fresh ℕ) (rest : List Queued)
               → queue_of sched.queues (Someone task.name) ≡ record { line = line; item = Calls call } ∷ rest

@@ -160,10 +160,12 @@ module _ (trees : Filesystems) (overlay : OverlayValue) (b : Birthplace trees ov
       let within = slice_get_within overlay.lowers at.place at.lower at.layer in
       let at_slot = in_slot trees at.lower layer_is path at.object at.leads in
       let parts = number_parts (born_in overlay.number.count (birth_at trees at.place at.lower path))
-      (born_in overlay.number.count (Below place directory rank)) (slot_at trees at.lower path) slot at_slot.0 b.slot_small
+      (born_in overlay.number.count (Below place directory rank)) (slot_at trees at.lower path) slot at_slot.0
+      b.slot_small
       at.numbered in
       let birth = births_apart overlay.number.count (birth_at trees at.place at.lower path) (Below place directory rank)
-      (small_birth trees at.lower layer_is at.place path at.object (let few = b.few in omega (arith, within, few)) at.leads)
+      (small_birth trees at.lower layer_is at.place path at.object (let few = b.few in omega (arith, within, few))
+      at.leads)
       (b.directory_small, b.place_small) parts.0 in
       let f = at.lower.directory.filesystem.count in
       let object : at.object ≡ exchanged f slot =
@@ -172,7 +174,8 @@ module _ (trees : Filesystems) (overlay : OverlayValue) (b : Birthplace trees ov
     where
       by : (b : Bool) → is_root_path path ≡ b → at.object ≡ exchanged at.lower.directory.filesystem.count slot
           → (is : IsAt trees overlay are path node_number)
-          → (if b then Here else Below at.place (slot_at trees at.lower (without_last path)) (rank_at trees at.lower path))
+          → (if b then Here else Below at.place (slot_at trees at.lower (without_last path))
+          (rank_at trees at.lower path))
           ≡ Below place directory rank → IsBorn path at.lower
       by true e object is birth = absurd (true≢false (sym (ap is_below birth)))
       by false e object is birth =
@@ -294,7 +297,8 @@ module _ (trees : Filesystems) (overlay : OverlayValue) (b : Birthplace trees ov
           let at = in_layer trees overlay are way seen e in
           let here = same_lower at.0 (ap (slice_get overlay.lowers) (sym same) ∙ at.1) in
           let there : seen.object ≡ object = same_Some seen.object object (sym at.2
-          ∙ ap (λ (l : LayerRef). led (files_at trees l.directory.filesystem.count).tree (inode_of l.directory) way) here
+          ∙ ap (λ (l : LayerRef). led (files_at trees l.directory.filesystem.count).tree (inode_of l.directory) way)
+          here
           ∙ leads) in
           record {
             place = place;

@@ -163,9 +163,11 @@ module _ (trees : Filesystems) (overlay : OverlayValue) (b : Birthplace trees ov
 
         pub name_seen : (node : Node ℕ) → Some (node_seen inode.filesystem.count node)
             ≡ (files_at trees inode.filesystem.count).tree.node (inode_of inode) → (id : ℕ) → id ≡ b.slot
-            → name_ranked (entries_of node.content) id b.rank ≡ name_ranked (entries_in (files.node above)) object b.rank
+            → name_ranked (entries_of node.content) id b.rank ≡ name_ranked
+            (entries_in (files.node above)) object b.rank
         name_seen node seen id same = ranked_seen inode.filesystem.count node id b.rank
-            ∙ (λ i. name_ranked (entries_in ((seen ∙ above_node) i)) (exchanged (is i).filesystem.count (same i)) b.rank)
+            ∙ (λ i. name_ranked (entries_in ((seen ∙ above_node) i)) (exchanged (is i).filesystem.count (same i))
+            b.rank)
 
     -- where it has no such name, it has no real object
     unnamed : ((path : List (List ℕ)) → Born path lower → IsNamed path → ⊥) → None ≡ object_shown trees overlay number
@@ -225,7 +227,8 @@ module _ (trees : Filesystems) (overlay : OverlayValue) (b : Birthplace trees ov
           let ranked : rank_at trees lower path ≡ b.rank =
           rank_is path way name refl leads led_there there.0 ∙ sym there.1 in
           let birth : birth_at trees b.place lower path ≡ Below b.place b.directory b.rank =
-          ap (λ t. if t then Here else Below b.place (slot_at trees lower (without_last path)) (rank_at trees lower path))
+          ap (λ t. if t then Here else Below b.place (slot_at trees lower (without_last path))
+          (rank_at trees lower path))
           (root_of_longer way name) ∙ (λ i. Below b.place (up i) (ranked i)) in
           let own : slot_at trees lower path ≡ b.slot =
           (in_slot trees lower is_layer path object led_there).1 ∙ exchanged_back count b.slot in
@@ -238,7 +241,8 @@ module _ (trees : Filesystems) (overlay : OverlayValue) (b : Birthplace trees ov
           let in_it = in_layer trees overlay b.are path seen is in
           let here = same_lower in_it.0 (ap (slice_get overlay.lowers) (sym same) ∙ in_it.1) in
           let object_is : seen.object ≡ object = same_Some seen.object object (sym in_it.2
-          ∙ ap (λ (l : LayerRef). led (files_at trees l.directory.filesystem.count).tree (inode_of l.directory) path) here
+          ∙ ap (λ (l : LayerRef). led (files_at trees l.directory.filesystem.count).tree (inode_of l.directory) path)
+          here
           ∙ led_there) in
           let at : IsAt trees overlay b.are path number = record {
             place = b.place;

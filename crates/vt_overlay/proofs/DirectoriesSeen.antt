@@ -210,7 +210,8 @@ module _ (trees : Filesystems) (overlay : OverlayValue) (are : AreLayers trees o
             ap (λ p. is_some (shown all p)) (sym (ap without_last split) ∙ without_last_of_longer front name)
             ∙ subst (λ ls. (s : Shown ℕ) → shown ls (front ++ name ∷ []) ≡ Some s → is_some (shown ls front) ≡ true)
             (sym (layers_are trees overlay are))
-            (λ s h. shown_before (layers trees overlay are) (open_layers trees overlay are) front (name ∷ []) s h) seen e
+            (λ s h. shown_before (layers trees overlay are) (open_layers trees overlay are) front (name ∷ []) s h)
+            seen e
 
     filled : (o : Option ℕ) → is_some o ≡ true → o ≡ Some (unwrap_or o 0)
     filled None some = absurd (true≢false (sym some))

@@ -319,13 +319,16 @@ module _ (trees : Filesystems) (overlay : OverlayValue) (are : AreLayers trees o
   pub alone : (top number fuel : ℕ) → up number ≡ None → is_among nat_eq top (chain fuel up number) ≡ nat_eq top number
   alone top number zero none = or_nothing (nat_eq top number)
   alone top number (suc fuel) none =
-      ap (λ (o : Option ℕ). is_among nat_eq top (elim o [ None ↦ number ∷ [] | Some b ↦ number ∷ chain fuel up b ])) none
+      ap (λ (o : Option ℕ). is_among nat_eq top (elim o [ None ↦ number ∷ [] | Some b ↦ number ∷ chain fuel up b ]))
+      none
       ∙ or_nothing (nat_eq top number)
 
   one_more : (top number above fuel : ℕ) → up number ≡ Some above
-      → is_among nat_eq top (chain (suc fuel) up number) ≡ (nat_eq top number || is_among nat_eq top (chain fuel up above))
+      → is_among nat_eq top (chain (suc fuel) up number) ≡
+      (nat_eq top number || is_among nat_eq top (chain fuel up above))
   one_more top number above fuel some =
-      ap (λ (o : Option ℕ). is_among nat_eq top (elim o [ None ↦ number ∷ [] | Some b ↦ number ∷ chain fuel up b ])) some
+      ap (λ (o : Option ℕ). is_among nat_eq top (elim o [ None ↦ number ∷ [] | Some b ↦ number ∷ chain fuel up b ]))
+      some
 
   -- each directory at a front of its path is met
   pub meets : (fuel top number : ℕ) (path rest : List (List ℕ)) → directory_path trees overlay top ≡ Some path
@@ -430,7 +433,8 @@ module _ (layers : List (OpenLayer ℕ)) (are_open : AreOpen layers) (number : L
       let further = no_deeper depth (base ++ name ∷ []) rest seen (omega (arith, enough)) step in
       let has = by (shown layers (base ++ name ∷ [])) refl
       (shown_before layers are_open (base ++ name ∷ []) rest seen step) in
-      let among = one_of (λ n. paths_from depth layers (base ++ n ∷ [])) (names_shown layers base) name has.0 has.1 has.2
+      let among = one_of (λ n. paths_from depth layers (base ++ n ∷ []))
+      (names_shown layers base) name has.0 has.1 has.2
       in omega (arith, one, further, among)
     where
       by : (o : Option (Shown ℕ)) → shown layers (base ++ name ∷ []) ≡ o → is_some o ≡ true

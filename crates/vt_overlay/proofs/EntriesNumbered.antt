@@ -51,7 +51,8 @@ module _ (trees : Filesystems) (overlay : OverlayValue) (are : AreLayers trees o
 
   leads : at_path (layer_of trees lower) longer ≡ Some object
   leads =
-      led-append (layer_of trees lower).tree (inode_of lower.directory) path name (inode_of found.above.directory) object
+      led-append (layer_of trees lower).tree (inode_of lower.directory) path name
+      (inode_of found.above.directory) object
       first.above.leads
       (ap (λ (id : FilesystemId). entry_at (files_at trees id.count).tree (inode_of found.above.directory) name)
       (sym first.above.filesystem) ∙ first.entry.leads)

@@ -53,7 +53,8 @@ module _ (path : List (List ℕ)) (name : List ℕ) where
   decides depth [] seen place layer object shows at is leads = none_is_some layer at
   decides depth (top ∷ lower) seen zero layer object shows at is leads =
       let same = same_Some top layer at in
-      ap (λ o. shown_over (view_of top) depth o (cuts (view_of top) longer) (shown_from (depth + 1) (map view_of lower) longer))
+      ap (λ o. shown_over (view_of top) depth o (cuts (view_of top) longer)
+      (shown_from (depth + 1) (map view_of lower) longer))
       (ap (λ l. at_path l longer) same ∙ leads)
       ∙ (λ i. visible (view_of (same i)) ((let h : depth ≡ seen.layer = omega (arith, is) in h) i) object)
   decides depth (top ∷ lower) seen (suc place) layer object shows at is leads =
@@ -69,13 +70,16 @@ module _ (path : List (List ℕ)) (name : List ℕ) where
           → shown_from depth (map view_of (top ∷ lower)) longer ≡ visible (view_of layer) seen.layer object
       by (Some own) e cut c below =
           let here : seen.layer ≡ depth = visible_at top depth own seen
-          (sym (λ i. shown_over (view_of top) depth (e i) (c i) (shown_from (depth + 1) (map view_of lower) path)) ∙ shows) in
+          (sym (λ i. shown_over (view_of top) depth (e i) (c i) (shown_from (depth + 1) (map view_of lower) path))
+          ∙ shows) in
           absurd (omega (arith, here, is))
       by None e true c below = none_is_some seen
-          (sym (λ i. shown_over (view_of top) depth (e i) (c i) (shown_from (depth + 1) (map view_of lower) path)) ∙ shows)
+          (sym (λ i. shown_over (view_of top) depth (e i) (c i) (shown_from (depth + 1) (map view_of lower) path))
+          ∙ shows)
       by None e false c below = (λ i. shown_over (view_of top) depth (leads_no_further top e i) (cuts_no_more top e c i)
           (shown_from (depth + 1) (map view_of lower) longer)) ∙ below
-          (sym (λ i. shown_over (view_of top) depth (e i) (c i) (shown_from (depth + 1) (map view_of lower) path)) ∙ shows)
+          (sym (λ i. shown_over (view_of top) depth (e i) (c i) (shown_from (depth + 1) (map view_of lower) path))
+          ∙ shows)
 
 -- what is shown under a name is shown in a directory
 pub under_directory : (trees : Filesystems) (overlay : OverlayValue) (are : AreLayers trees overlay.lowers)

@@ -84,7 +84,8 @@ module _ (trees : Filesystems) (overlay : OverlayValue) (are : AreLayers trees o
     where
       at_path : (path : List (List ℕ)) → path_at trees overlay number ≡ Some path → (b : Bool)
           → is_directory_at path ≡ b → Some way ≡ (if b then Some path else None)
-          → names_shown (layers_of trees overlay.lowers) way ≡ names_in (node_found number (path_at trees overlay number))
+          → names_shown (layers_of trees overlay.lowers) way ≡ names_in
+          (node_found number (path_at trees overlay number))
       at_path path p false d e = none_is_some way (sym e)
       at_path path p true d e = ap (names_shown (layers_of trees overlay.lowers)) (same_Some way path e)
           ∙ sym (names_at path) ∙ sym (names_of_directory (parent_at path) (entries_at path)
@@ -93,7 +94,8 @@ module _ (trees : Filesystems) (overlay : OverlayValue) (are : AreLayers trees o
 
       by : (o : Option (List (List ℕ))) → path_at trees overlay number ≡ o
           → Some way ≡ only_of_directory trees overlay o
-          → names_shown (layers_of trees overlay.lowers) way ≡ names_in (node_found number (path_at trees overlay number))
+          → names_shown (layers_of trees overlay.lowers) way ≡ names_in
+          (node_found number (path_at trees overlay number))
       by None p e = none_is_some way (sym e)
       by (Some path) p e = at_path path p (is_directory_at path) refl e
 

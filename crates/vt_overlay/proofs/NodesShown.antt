@@ -52,7 +52,8 @@ module _ (trees : Filesystems) (overlay : OverlayValue) (are : AreLayers trees o
 
       pub root_birth : length path ≡ 0 → Some Here ≡ Some (birth_at trees place lower path)
       root_birth none = ap (λ b. Some (if b then Here
-          else Below place (slot_at trees lower (without_last path)) (rank_at trees lower path))) (sym (no_names path none))
+          else Below place (slot_at trees lower (without_last path)) (rank_at trees lower path)))
+          (sym (no_names path none))
 
       pub front_there : length path ≢ 0 → at_path (layer_of trees lower) (without_last path) ≢ None
       front_there some none =

@@ -91,7 +91,8 @@ module _ (trees : Filesystems) (overlay : OverlayValue) (are : AreLayers trees o
       ≡ (files_at trees real.inode.filesystem.count).tree.node (inode_of real.inode)
       → front node ≡ front ((merged_tree trees overlay).node number)
   some_alike real is tree node seen =
-      front_seen real.inode.filesystem.count node ∙ ap front (seen ∙ sym (in_layer (slice_get overlay.lowers real.layer) refl tree))
+      front_seen real.inode.filesystem.count node
+      ∙ ap front (seen ∙ sym (in_layer (slice_get overlay.lowers real.layer) refl tree))
       ∙ ap front (sym (inode_of_object (Some (seen_of real)) is)) ∙ objects_alike trees overlay number
     where
       in_layer : (o : Option LayerRef) → slice_get overlay.lowers real.layer ≡ o
@@ -126,5 +127,6 @@ module _ (trees : Filesystems) (overlay : OverlayValue) (are : AreLayers trees o
           ≡ then_some o (lent_at trees (inode_of real.inode))
       in_layer None t = none_is_some real.inode.filesystem t
       in_layer (Some lower) t =
-          ap (λ (f : FilesystemId). option_map (node_seen f.count) ((files_at trees f.count).tree.node (inode_of real.inode)))
+          ap (λ (f : FilesystemId). option_map (node_seen f.count)
+          ((files_at trees f.count).tree.node (inode_of real.inode)))
           (sym (same_Some lower.directory.filesystem real.inode.filesystem t))

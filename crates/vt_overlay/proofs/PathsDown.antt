@@ -163,7 +163,8 @@ module _ (trees : Filesystems) (overlay : OverlayValue) (are : AreLayers trees o
       where
         by : (b : Bool) → nat_eq top number ≡ b → when (nat_eq top number) [] ≡ path_down nat_eq files top number
         by true e = ap (λ b. when b []) e
-            ∙ sym (ap (λ b. when b (reverse (names_before top (chain (length (numbers_shown trees overlay)) up number))))
+            ∙ sym (ap (λ b. when b
+            (reverse (names_before top (chain (length (numbers_shown trees overlay)) up number))))
             (sym alone ∙ e)
             ∙ ap (λ names. Some (reverse names)) (stops (length (numbers_shown trees overlay)) top number e))
         by false e = ap (λ b. when b []) e ∙ not_down top number (sym alone ∙ e)

@@ -65,7 +65,8 @@ module _ (trees : Filesystems) (overlay : OverlayValue) (are : AreLayers trees o
       }
     where
       by : (b : Bool) → is_root_path path ≡ b
-          → (if b then Here else Below at.place (slot_at trees at.lower (without_last path)) (rank_at trees at.lower path))
+          → (if b then Here else Below at.place (slot_at trees at.lower (without_last path))
+          (rank_at trees at.lower path))
           ≡ Here → is_root_path path ≡ true
       by true e birth = e
       by false e birth = absurd (true≢false (sym (ap is_here birth)))
@@ -177,6 +178,7 @@ pub root_number_is : (trees : Filesystems) (overlay : OverlayValue) (are : AreLa
     → exchanged top.directory.filesystem.count (inode_of top.directory) ≡ top.directory.slot
     → number_of (born_here overlay.number top.directory.slot) ≡ (merged_tree trees overlay).root
 root_number_is trees overlay are top layer slot =
-    sym (ap (λ o. unwrap_or o 0) (number_of_shown trees overlay are [] (record { layer = 0; object = inode_of top.directory })
+    sym (ap (λ o. unwrap_or o 0)
+    (number_of_shown trees overlay are [] (record { layer = 0; object = inode_of top.directory })
     top (top_shown trees overlay.lowers top layer (are 0 top layer).directory) layer)
     ∙ ap (inode_number overlay.number.count) slot)

@@ -63,7 +63,8 @@ module _ (trees : Filesystems) (overlay : OverlayValue) (are : AreLayers trees o
   abbrev pub real_of : List (List ℕ) → Option (Shown ℕ) → Option (Real ℕ)
   real_of path seen = option_map (λ (s : Shown ℕ). Lower s.layer path) seen
 
-  pub real_is : (path : List (List ℕ)) → real_shown nat_eq world (overlay_seen overlay) path ≡ real_of path (shown layers path)
+  pub real_is : (path : List (List ℕ))
+      → real_shown nat_eq world (overlay_seen overlay) path ≡ real_of path (shown layers path)
   real_is path = ap (λ ls. option_map (λ object. real_object false object.seen.layer object)
       (merged_at ls path)) layers_are ∙ by (shown layers path)
     where

@@ -46,7 +46,8 @@ any_one test one only list among = by (test one) refl
 
 -- a node by slots and by the numbers of inodes
 node_numbered : (count : ℕ) (o : Option (Inode ℕ))
-    → option_map (node_seen count) (node_in o) ≡ node_in (option_map (renamed_inode (exchanged count) (exchanged count)) o)
+    → option_map (node_seen count) (node_in o) ≡ node_in
+    (option_map (renamed_inode (exchanged count) (exchanged count)) o)
 node_numbered count None = refl
 node_numbered count (Some inode) = refl
 

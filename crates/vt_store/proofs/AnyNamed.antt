@@ -46,7 +46,8 @@ module _ {D : Type 0} (has : D → Bool) where
 
   -- two lists, in the other order
   pub any-swapped : {X : Type 0} (test : X → D → Bool) (xs : List X) (ds : List D)
-      → list_any (λ x. list_any (λ d. has d && test x d) ds) xs ≡ list_any (λ d. has d && list_any (λ x. test x d) xs) ds
+      → list_any (λ x. list_any (λ d. has d && test x d) ds) xs ≡ list_any
+      (λ d. has d && list_any (λ x. test x d) xs) ds
   any-swapped test [] ds = sym (never ds)
   any-swapped test (x ∷ xs) ds = ap (λ b. list_any (λ d. has d && test x d) ds || b) (any-swapped test xs ds)
       ∙ any-or (test x) (λ d. list_any (λ x. test x d) xs) ds

@@ -139,7 +139,8 @@ kept_removed f es new x before after oldest is there goes counts = record {
 
 -- and where the mounts of one change
 pub kept_written : {S : Type 0} (f : ℕ) (change : ℕ → ℕ) (m n : IndexMap FilesystemId KeptOverlay S)
-    (x w : KeptOverlay) (counts : LayerCounts) (oldest : ℕ) → AreKept m.entries counts oldest → get_by (is_key f) m ≡ Some x
+    (x w : KeptOverlay) (counts : LayerCounts) (oldest : ℕ) → AreKept m.entries counts oldest
+    → get_by (is_key f) m ≡ Some x
     → w ≡ record x { mounts = change x.mounts } → WritesThrough key_eq (is_key f) m w n
     → AreKept n.entries counts oldest
 kept_written f change m n x w counts oldest is there so through = record {

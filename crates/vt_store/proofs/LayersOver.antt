@@ -116,7 +116,8 @@ module _ (overlays : Overlays) (counts : LayerCounts) (counted : AreCounted (all
           by true same =
               sym (ap (λ o. is_directory_under nat_eq (files_seen (unwrap_or o (no_entry filesystem.count))) top
               (inode_of directory)) none ∙ or-false (nat_eq top (inode_of directory))
-              ∙ inode_test layer.directory.filesystem.count filesystem.count layer.directory.slot directory.slot fits small
+              ∙ inode_test layer.directory.filesystem.count filesystem.count layer.directory.slot directory.slot fits
+              small
               ∙ ap (λ b. b && nat_eq layer.directory.slot directory.slot)
               (eq-eqb layer.directory.filesystem.count filesystem.count (sym (same refl)))
               ∙ same_either_way layer.directory.slot directory.slot)

@@ -67,7 +67,8 @@ its_own_parent own (Some node) isnt = by node.content isnt
     by Whiteout isnt = refl
 
 -- what is lent with an entry, by another name of what lends it
-pub lent_with : (entry : Option Entry) (lends other : ℕ → Option (Node ℕ)) → ((number : ℕ) → lends number ≡ other number)
+pub lent_with : (entry : Option Entry) (lends other : ℕ → Option (Node ℕ))
+    → ((number : ℕ) → lends number ≡ other number)
     → IfSome entry (λ one. option_copied one.object ≡ lends (number_of one.node))
     → IfSome entry (λ one. option_copied one.object ≡ other (number_of one.node))
 lent_with None lends other same is = is

@@ -44,7 +44,8 @@ pub filled_slot : (slots : Slots) (slot : ℕ) (o : Option (Node ℕ))
     → o ≡ option_map (λ (inode : Inode ℕ). inode.node) (slice_index_or slots slot None) → is_some o ≡ true
     → (inode : Inode ℕ) × (slice_index_or slots slot None ≡ Some inode)
 filled_slot slots slot o there some =
-    by (slice_index_or slots slot None) (sym (some_node (slice_index_or slots slot None)) ∙ ap is_some (sym there) ∙ some)
+    by (slice_index_or slots slot None) (sym (some_node (slice_index_or slots slot None)) ∙ ap is_some (sym there)
+    ∙ some)
   where
     by : (found : Option (Inode ℕ)) → is_some found ≡ true → (inode : Inode ℕ) × (found ≡ Some inode)
     by None e = absurd (true≢false (sym e))
@@ -54,7 +55,8 @@ pub vacant_slot : (slots : Slots) (slot : ℕ) (o : Option (Node ℕ))
     → o ≡ option_map (λ (inode : Inode ℕ). inode.node) (slice_index_or slots slot None) → is_some o ≡ false
     → slice_index_or slots slot None ≡ None
 vacant_slot slots slot o there none =
-    by (slice_index_or slots slot None) (sym (some_node (slice_index_or slots slot None)) ∙ ap is_some (sym there) ∙ none)
+    by (slice_index_or slots slot None) (sym (some_node (slice_index_or slots slot None)) ∙ ap is_some (sym there)
+    ∙ none)
   where
     by : (found : Option (Inode ℕ)) → is_some found ≡ false → found ≡ None
     by None e = refl

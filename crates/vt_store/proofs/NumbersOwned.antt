@@ -83,5 +83,6 @@ module _ (store : StoreValue) (count : ℕ) (small : count < 1844674407370955161
       ∙ ap (λ n. nat_eq n directory.filesystem.count
       && (nat_eq top.slot directory.slot && same_birth top.birth directory.birth)) here
       ∙ ap (λ b. b && (nat_eq top.slot directory.slot && same_birth top.birth directory.birth)) other in
-      path_to_itself files (number_of top) (number_of directory) (nowhere_under files (number_of top) (number_of directory)
+      path_to_itself files (number_of top) (number_of directory)
+      (nowhere_under files (number_of top) (number_of directory)
       (no_other_node directory (small_parts directory directory_small) other)) ∙ ap (λ b. when b []) apart

@@ -44,7 +44,8 @@ module _ {A : Type 0} (p q : A → Bool) (also : (x : A) → p x ≡ true → q 
       (λ l. each (p first) (q first) 1 first (filter p xs) (filter q xs) (also first) (fewer xs x l out within)) m
     where
       here : (b c : Bool) → b ≡ false → c ≡ true
-          → 1 + length (cond b (first ∷ filter p xs) (filter p xs)) ≤ length (cond c (first ∷ filter q xs) (filter q xs))
+          → 1 + length (cond b (first ∷ filter p xs) (filter p xs)) ≤ length
+          (cond c (first ∷ filter q xs) (filter q xs))
       here true c e f = absurd (true≢false e)
       here false true e f = let all = no_more xs in omega (arith, all)
       here false false e f = absurd (true≢false (sym f))
@@ -82,7 +83,8 @@ first_by entries id entry m leads smaller = by (find (before id entry.0) entries
         entries other among (not_before_itself id other) passes)
 
 first_ranked : (n : ℕ) (entries : Entries ℕ) (id : ℕ) (entry : List ℕ × ℕ) → Among entry entries
-    → nat_eq id entry.1 ≡ true → rank_among entries entry.0 id ≤ n → is_some (find (has_rank entries id 0) entries) ≡ true
+    → nat_eq id entry.1 ≡ true → rank_among entries entry.0 id ≤ n
+    → is_some (find (has_rank entries id 0) entries) ≡ true
 first_ranked zero entries id entry m leads within = first_by entries id entry m leads (λ other among leads_too smaller.
     absurd (let no : ⊥ = omega (arith, smaller, within) in no))
 first_ranked (suc n) entries id entry m leads within =

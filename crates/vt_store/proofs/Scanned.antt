@@ -22,12 +22,13 @@ none_beyond least slots none slot beyond = all_none (drop slot slots)
     dropped zero slots k = ap (λ n. slice_index_or slots n None) (let same : k ≡ 0 + k = omega arith in same)
     dropped (suc slot) [] k = refl
     dropped (suc slot) (first ∷ slots) k = dropped slot slots k
-        ∙ ap (λ n. slice_index_or (first ∷ slots) n None) (let same : suc (slot + k) ≡ suc slot + k = omega arith in same)
+        ∙ ap (λ n. slice_index_or (first ∷ slots) n None) (let same : suc (slot + k) ≡ suc slot + k = omega arith in
+        same)
 
     all_none : (slots : Slots) → ((k : ℕ) → slice_index_or slots k None ≡ None) → count_by is_some slots ≡ 0
     all_none [] each = refl
-    all_none (None ∷ slots) each = counted None slots ∙ omega arith ∙ all_none slots (λ k. each (suc k))
-    all_none (Some inode ∷ slots) each = absurd (true≢false (ap is_some (each 0)))
+    all_none (None ∷ slots) each = omega (arith, counted None slots, all_none slots (λ k. each (suc k)))
+    all_none (Some inode ∷ slots) each = cc (each 0)
 
 none_left : (k : ℕ) → drop {A = Option (Inode ℕ)} k [] ≡ []
 none_left zero = refl
@@ -41,26 +42,25 @@ module _ (test : ℕ → Bool) (number : ℕ → ℕ) where
   pub vacant_found : (first slot : ℕ) (slots : Slots) → slice_index_or slots slot None ≡ None
       → found_in (first + 1) (drop (slot + 1) slots) ≡ found_in first (drop slot slots)
   vacant_found first zero [] e = refl
-  vacant_found first zero (o ∷ slots) e = sym (ap (λ o. found_in first (o ∷ slots)) e)
-  vacant_found first (suc slot) [] e =
-      ap (found_in (first + 1)) (none_left (suc slot + 1)) ∙ sym (ap (found_in first) (none_left (suc slot)))
-  vacant_found first (suc slot) (o ∷ slots) e = ap (λ k. found_in (first + 1) (drop k (o ∷ slots)))
-      (let one : suc slot + 1 ≡ suc (slot + 1) = omega arith in one) ∙ vacant_found first slot slots e
+  vacant_found first zero (o ∷ slots) e = cc
+  vacant_found first (suc slot) [] e = cc (none_left (suc slot + 1), none_left (suc slot))
+  vacant_found first (suc slot) (o ∷ slots) e =
+      let one : suc slot + 1 ≡ suc (slot + 1) = omega arith in
+      cc (vacant_found first slot slots e)
 
   pub filled_found : (inode : Inode ℕ) (first slot : ℕ) (slots : Slots) → slice_index_or slots slot None ≡ Some inode
       → found_in first (drop slot slots) ≡ (test (number first) || found_in (first + 1) (drop (slot + 1) slots))
-  filled_found inode first zero [] e = none_is_some inode e
-  filled_found inode first zero (o ∷ slots) e = ap (λ o. found_in first (o ∷ slots)) e
-  filled_found inode first (suc slot) [] e = none_is_some inode e
-  filled_found inode first (suc slot) (o ∷ slots) e = filled_found inode first slot slots e
-      ∙ ap (λ k. test (number first) || found_in (first + 1) (drop k (o ∷ slots)))
-      (let one : suc (slot + 1) ≡ suc slot + 1 = omega arith in one)
+  filled_found inode first zero [] e = cc
+  filled_found inode first zero (o ∷ slots) e = cc
+  filled_found inode first (suc slot) [] e = cc
+  filled_found inode first (suc slot) (o ∷ slots) e =
+      let one : suc (slot + 1) ≡ suc slot + 1 = omega arith in
+      cc (filled_found inode first slot slots e)
 
 -- nothing is found where none is left
 pub none_found : (test : ℕ → Bool) (number : ℕ → ℕ) (slot : ℕ) (slots : Slots) → count_by is_some slots ≡ 0
     → list_any test (map number (filled_from slot slots)) ≡ false
 none_found test number slot [] none = refl
 none_found test number slot (None ∷ slots) none =
-    let all = counted None slots in none_found test number (slot + 1) slots (omega (arith, all, none))
-none_found test number slot (Some inode ∷ slots) none =
-    let all = counted (Some inode) slots in absurd (let no : ⊥ = omega (arith, all, none) in no)
+    none_found test number (slot + 1) slots (omega (arith, counted None slots, none))
+none_found test number slot (Some inode ∷ slots) none = absurd (omega (arith, counted (Some inode) slots, none))

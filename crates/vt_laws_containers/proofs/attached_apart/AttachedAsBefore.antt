@@ -45,7 +45,7 @@ module _ {world : World ℕ} {names : List TaskName} {attaching : AttachesTheirs
       ∙ push_keeps attaching new false origins (λ (x : Mount ℕ). source_of x.propagation) (λ x at. refl) old.0) ∙ e))
       (λ more. let of = of_copies attaching new false origins y more in
       copy_ours to new attaching.place false origins IsOurs (λ a b. inr (new_groups a b)) sources of.0 of.2 of.3 g
-      (ap (λ (x : Mount ℕ). source_of x.propagation) (sym of.4) ∙ e))
+      (cc (of.4)))
       (own_how grows y m mine)
 
   as_grown : attached_by nat_eq to new attaching.place false origins ≡ grown_world world names up added

@@ -9,7 +9,6 @@ use Rattle.vt_laws_members.proofs.judging.Grounds.{theirs_from}
 use Rattle.vt_laws_members.proofs.judging.MountTrees.{own_theirs}
 use Rattle.vt_laws_members.proofs.judging.SeenInPart.{theirs_directly}
 use Rattle.vt_laws_members.proofs.changes.looks.Told.{ran}
-use Rattle.vt_laws_members.proofs.changes.tasks.Denied.{run_by}
 use Rattle.vt_laws_members.proofs.attached.Binding.{Binds, all_copied, binds_there}
 use Rattle.vt_laws_members.proofs.attached.CopiesAlike.{AttachesTheirs, no_new_ones, parts}
 use Rattle.vt_laws_members.proofs.attached.Destination.{there}
@@ -88,11 +87,10 @@ binds_give_no_foothold world names name source path recursive it fresh serves = 
         → GivesNoFoothold world names name (Bind source path recursive) fresh
     judged_by task member e (Ok permit) judged its =
         permit_out (record { it = it; few = refl; serves = serves; called = e }) (ToBind its.0 its.1 recursive)
-        (judged ∙ ap Ok its.2) (λ ends. bound_as_before (sealing_of it) serves its.0 its.1 recursive its.3 its.4
+        (cc (its.2)) (λ ends. bound_as_before (sealing_of it) serves its.0 its.1 recursive its.3 its.4
         its.5 its.6)
     judged_by task member e (Err deny) judged its = refused_out it fresh
-        (ap (λ o. is_ok (ran name (Bind source path recursive) world fresh o).answer) e
-        ∙ ap (λ j. is_ok (run_by it world fresh task j).answer) judged)
+        (cc)
 
     by : (o : Option (Task ℕ)) → task_called world name ≡ o
         → GivesNoFoothold world names name (Bind source path recursive) fresh

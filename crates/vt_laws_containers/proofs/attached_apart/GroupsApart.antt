@@ -69,9 +69,9 @@ module _ {world : World ℕ} {names : List TaskName} (sealing : IsSealed world n
           among_from_all (HasLivingGroups nat_eq world) world.mounts so_far.mounts.groups mount there source e
 
       lives : (kind : Propagation ℕ) → mount.propagation ≡ kind → HearsIn world kind group → Lives group
-      lives (Shared g) k h = ⊎_elim (λ e. of_source group (ap source_of k ∙ e))
+      lives (Shared g) k h = ⊎_elim (λ e. of_source group (cc))
           (λ e. above_lives world names so_far.mounts so_far.events group g e (of_source g (ap source_of k))) h
-      lives (Slave g) k h = ⊎_elim (λ e. none_is_some group e) (λ e. of_source group (ap source_of k ∙ e)) h
+      lives (Slave g) k h = ⊎_elim (λ e. none_is_some group e) (λ e. of_source group (cc)) h
       lives Private k h = ⊎_elim (λ e. none_is_some group e) (λ e. none_is_some group e) h
       lives Unbindable k h = ⊎_elim (λ e. none_is_some group e) (λ e. none_is_some group e) h
 
@@ -104,13 +104,13 @@ module _ {world : World ℕ} {names : List TaskName} (sealing : IsSealed world n
             sourced y from.0 from.1
 
         above : (g : ℕ) → Ours g → left.master g ≡ Some group → Ours group
-        above g its e = ⊎_elim (λ same. above_ours g group its (sym same ∙ e))
+        above g its e = ⊎_elim (λ same. above_ours g group its (cc))
             (λ set. (made_ours set.0 set.1).1 group (sym set.3 ∙ e)) (masters_how g made world.master)
 
         by : (kind : Propagation ℕ) → y.propagation ≡ kind → HearsIn left kind group → Ours group
         by (Shared g) k h =
-            ⊎_elim (λ e. its_source group (ap source_of k ∙ e)) (above g (its_source g (ap source_of k))) h
-        by (Slave g) k h = ⊎_elim (λ e. none_is_some group e) (λ e. its_source group (ap source_of k ∙ e)) h
+            ⊎_elim (λ e. its_source group (cc)) (above g (its_source g (ap source_of k))) h
+        by (Slave g) k h = ⊎_elim (λ e. none_is_some group e) (λ e. its_source group (cc)) h
         by Private k h = ⊎_elim (λ e. none_is_some group e) (λ e. none_is_some group e) h
         by Unbindable k h = ⊎_elim (λ e. none_is_some group e) (λ e. none_is_some group e) h
 
@@ -120,8 +120,8 @@ module _ {world : World ℕ} {names : List TaskName} (sealing : IsSealed world n
     other_hears other m group how = by other.propagation refl how
       where
         above : (g : ℕ) → group_of other.propagation ≡ Some g → left.master g ≡ Some group → world.master g ≡ Some group
-        above g is_in e = ⊎_elim (λ same. sym same ∙ e)
-            (λ set. absurd (unheard other m set.0.0 (made_ours set.0 set.1).0 (inl (is_in ∙ ap Some set.2))))
+        above g is_in e = ⊎_elim (λ same. cc)
+            (λ set. absurd (unheard other m set.0.0 (made_ours set.0 set.1).0 (inl (cc (set.2)))))
             (masters_how g made world.master)
 
         by : (kind : Propagation ℕ) → other.propagation ≡ kind → HearsIn left kind group → HearsIn world kind group

@@ -1,6 +1,6 @@
 -- Where mounts of a sealed set change, and others come that are theirs, others are as they were.
-use Rattle.std.proofs.Common.{arith, ◌≡◌, refl, sym, ap, subst, ◌∙◌, ◌⊎◌, inl, inr, ⊎_elim, ℕ, nat_eq, Bool, true, false, cond, true≢false, List, [], ◌∷◌, ◌++◌, Option, Some, None, filter, find, map, not, ◌||◌, eq-eqb, unwrap_or}
-use Rattle.vt_spec.proofs.Common.{Among, Filesystem, Layer, Location, Mount, Task, TaskName, World, all_locations, among-append, among-append_left, among-append_right, among-filter, among-from_filter, among-from_map, among-map, among_from_list_all, any_from_among, change_layers, common_steps, holds_of, is_among, is_member_task, is_own_mount, is_own_namespace, layers_of, list_all_from_among, locations, locations_of, members, mount_at, mount_in, no_mount, of_overlay, other_mounts, outsiders, own_mounts, shares_no_events, used_directly, used_filesystems}
+use Rattle.std.proofs.Common.{arith, ◌≡◌, refl, sym, ap, subst, ◌∙◌, ◌⊎◌, inl, inr, ⊎_elim, ℕ, nat_eq, Bool, true, false, cond, List, [], ◌∷◌, ◌++◌, Option, Some, None, filter, find, map, not, ◌||◌, eq-eqb, unwrap_or}
+use Rattle.vt_spec.proofs.Common.{Among, Filesystem, Layer, Location, Mount, Task, TaskName, World, all_locations, among-append, among-append_left, among-append_right, among-filter, among-from_filter, among-from_map, among-map, among_from_list_all, any_from_among, change_layers, common_steps, holds_of, is_among, is_member_task, is_own_mount, is_own_namespace, layers_of, list_all_from_among, locations, locations_of, members, mount_at, mount_in, no_mount, of_overlay, other_mounts, outsiders, own_mounts, shares_no_events, used_directly}
 use Rattle.vt_laws_sealed.specs.Part.Seals.{IsApart}
 use Rattle.vt_laws_sealed.proofs.part.part.PartOfPart.{used_directly_used}
 use Rattle.vt_laws_sealed.proofs.part.seals.ByPart.{IsSealed, apart_if_sealed}
@@ -40,8 +40,8 @@ module _ {world : World ℕ} {names : List TaskName} (sealing : IsSealed world n
   -- The mounts of others stay.
   none_added : (list : List (Mount ℕ)) → ((x : Mount ℕ) → Among x list → Among x added) → filter is_out list ≡ []
   none_added [] sub = refl
-  none_added (x ∷ rest) sub = ap (λ b. cond b (x ∷ filter is_out rest) (filter is_out rest))
-      (own_not_out x.namespace (grows.ours x (sub x (inl refl)))) ∙ none_added rest (λ y m. sub y (inr m))
+  none_added (x ∷ rest) sub =
+      cc (own_not_out x.namespace (grows.ours x (sub x (inl refl))), none_added rest (λ y m. sub y (inr m)))
 
   outs_stay : (list : List (Mount ℕ)) → ((x : Mount ℕ) → Among x list → Among x world.mounts)
       → filter is_out (map change list ++ added) ≡ filter is_out list
@@ -50,13 +50,9 @@ module _ {world : World ℕ} {names : List TaskName} (sealing : IsSealed world n
     where
       by : (b : Bool) → owns x ≡ b → filter is_out (map change rest ++ added) ≡ filter is_out rest
           → filter is_out (map change (x ∷ rest) ++ added) ≡ filter is_out (x ∷ rest)
-      by true own later = ap (λ c. cond c (change x ∷ filter is_out (map change rest ++ added))
-          (filter is_out (map change rest ++ added)))
-          (own_not_out (change x).namespace (grows.kept x (sub x (inl refl)) own).0) ∙ later
-          ∙ sym (ap (λ c. cond c (x ∷ filter is_out rest) (filter is_out rest)) (own_not_out x.namespace own))
-      by false other later = ap (λ y. cond (is_out y) (y ∷ filter is_out (map change rest ++ added))
-          (filter is_out (map change rest ++ added))) (grows.others x (sub x (inl refl)) other).0
-          ∙ ap (λ l. cond (is_out x) (x ∷ l) l) later
+      by true own later =
+          cc (own_not_out (change x).namespace (grows.kept x (sub x (inl refl)) own).0, own_not_out x.namespace own)
+      by false other later = cc ((grows.others x (sub x (inl refl)) other).0)
 
   pub others_stay : other_mounts nat_eq left names ≡ other_mounts nat_eq world names
   others_stay = outs_stay world.mounts (λ x m. m)
@@ -86,11 +82,11 @@ module _ {world : World ℕ} {names : List TaskName} (sealing : IsSealed world n
       search : (list : List (Mount ℕ)) → ((x : Mount ℕ) → Among x list → Among x world.mounts)
           → is_among nat_eq number (map (λ (m : Mount ℕ). m.number) list) ≡ true
           → owns (mount_in nat_eq (map change list ++ added) number) ≡ owns (mount_in nat_eq list number)
-      search [] sub h = absurd (true≢false (sym h))
-      search (x ∷ rest) sub h = ap (λ n. owns (unwrap_or (cond (nat_eq number n) (Some (change x))
-          (find (λ (m : Mount ℕ). nat_eq number m.number) (map change rest ++ added))) (no_mount number)))
-          (as_before grows x (sub x (inl refl))).0
-          ∙ by (nat_eq number x.number) h (search rest (λ y m. sub y (inr m)))
+      search [] sub h = cc
+      search (x ∷ rest) sub h = cc (
+        (as_before grows x (sub x (inl refl))).0,
+        by (nat_eq number x.number) h (search rest (λ y m. sub y (inr m))),
+      )
         where
           by : (b : Bool) → (b || is_among nat_eq number (map (λ (m : Mount ℕ). m.number) rest)) ≡ true
               → (is_among nat_eq number (map (λ (m : Mount ℕ). m.number) rest) ≡ true
@@ -113,16 +109,14 @@ module _ {world : World ℕ} {names : List TaskName} (sealing : IsSealed world n
   new_is_not_there : (number : ℕ) → is_new world names change added new_ones master number ≡ true
       → IsThere world number → ⊥
   new_is_not_there number new there =
-      true≢false (sym (ap (is_new world names change added new_ones master) there.2 ∙ new)
-      ∙ grows.unlisted there.0 there.1)
+      cc (there.2, new, grows.unlisted there.0 there.1)
 
   goes_on : (f : Filesystem ℕ) → Among f left.filesystems → GoesOn world names f
   goes_on f m = ⊎_elim (λ old. inl (f, old, refl, refl)) (λ new. inr (
     new_is_not_there f.number (any_from_among (λ (g : Filesystem ℕ). nat_eq f.number g.number) new_ones f new
         (eq-eqb f.number f.number refl)),
     λ number n. let layer = written_layer f number n in
-        ap (λ k. is_among nat_eq k (used_filesystems nat_eq world names)) layer.2
-        ∙ used_directly_used world names layer.0.filesystem (grows.layers f new layer.0 layer.1),
+        cc (layer.2, used_directly_used world names layer.0.filesystem (grows.layers f new layer.0 layer.1)),
   )) (among-append world.filesystems new_ones f m)
 
   abbrev mounted : List ℕ
@@ -134,8 +128,7 @@ module _ {world : World ℕ} {names : List TaskName} (sealing : IsSealed world n
   shown_was : (y : Mount ℕ) → Among y left.mounts → owns y ≡ true
       → Among y.filesystem (used_directly nat_eq world names) ⊎ (IsThere world y.filesystem → ⊥)
   shown_was y m own = ⊎_elim (λ old. inl (among-append_left mounted located_at y.filesystem
-      (subst (λ n. Among n mounted) (sym (ap (λ (x : Mount ℕ). x.filesystem) old.3
-      ∙ (as_before grows old.0 old.1).1))
+      (subst (λ n. Among n mounted) (sym (cc (old.3, (as_before grows old.0 old.1).1)))
       (among-map (λ (x : Mount ℕ). x.filesystem) (own_mounts nat_eq world names) old.0
       (among-filter owns world.mounts old.0 old.1 old.2)))))
       (λ more. ⊎_elim inl (λ new. inr (new_is_not_there y.filesystem new)) (grows.shown y more))

@@ -1,12 +1,11 @@
 -- No mount(2) of a new plain filesystem by a task of a sealed set gives others a foothold.
-use Rattle.std.proofs.Common.{◌≡◌, refl, sym, ap, ◌∙◌, ⊎_elim, ℕ, nat_eq, true, List, [], Option, Some, None, Ok, Err, ◌&&◌, eq-eqb, IfOk, is_ok}
+use Rattle.std.proofs.Common.{◌≡◌, refl, ap, ⊎_elim, ℕ, nat_eq, true, List, [], Option, Some, None, Ok, Err, ◌&&◌, eq-eqb, IfOk, is_ok}
 use Rattle.vt_spec.proofs.Common.{Among, Filesystem, Fresh, Judgement, Layer, Location, Mount, MountFlags, MountPlain, Serves, Task, TaskName, ToMountPlain, World, evens, is_among, judge_in, layers_of, members, mount_at, mounted, named_in, none_is_some, odds, of_overlay, or_left, plain_filesystem, source_of, task_called, used_directly}
 use Rattle.vt_laws_members.proofs.judging.TheirCalls.{IsMember, caller_in, sealing_of}
 use Rattle.vt_laws_mounts.specs.LettingGo.Keeping.{has_only_named}
 use Rattle.vt_laws_sealed.proofs.part.part.PartOfPart.{is_own}
 use Rattle.vt_laws_members.specs.Judging.{is_theirs}
 use Rattle.vt_laws_members.proofs.changes.looks.Told.{ran}
-use Rattle.vt_laws_members.proofs.changes.tasks.Denied.{run_by}
 use Rattle.vt_laws_members.proofs.attached.PlainMounting.{Mounts, mounts_there}
 use Rattle.vt_laws_members.proofs.new_overlays.NewFilesystem.{origins, shows}
 use Rattle.vt_laws_containers.specs.Footholds.{GivesNoFoothold}
@@ -31,7 +30,7 @@ module _ {world : World ℕ} {names : List TaskName} (sealing : IsSealed world n
   -- it is private
   sources : (o : Mount ℕ) → Among o its_origins → (g : ℕ) → source_of o.propagation ≡ Some g
       → Ours sealing fresh serves g
-  sources o m g e = ⊎_elim (λ same. none_is_some g (sym (ap (λ (x : Mount ℕ). source_of x.propagation) same) ∙ e))
+  sources o m g e = ⊎_elim (λ same. none_is_some g (cc))
       (λ none. absurd none) m
 
   pub mounted_as_before : OthersAsBefore world (mounted nat_eq (odds fresh) world here new_one flags) names names
@@ -48,13 +47,12 @@ plain_mounts_give_no_foothold world names name path flags it fresh serves = by (
         → GivesNoFoothold world names name (MountPlain path flags) fresh
     judged_by task member e (Ok permit) judged its =
         permit_out (record { it = it; few = refl; serves = serves; called = e }) (ToMountPlain its.0 flags)
-        (judged ∙ ap Ok its.1) (λ ends. mounted_as_before (sealing_of it) serves its.0 its.2 its.3
+        (cc (its.1)) (λ ends. mounted_as_before (sealing_of it) serves its.0 its.2 its.3
         (plain_filesystem nat_eq fresh) refl (λ layer m. absurd m) (ap (λ b. b && true)
         (or_left (nat_eq (evens fresh 1) (evens fresh 1)) (is_among nat_eq (evens fresh 1)
         (named_in (plain_filesystem nat_eq fresh).files)) (eq-eqb (evens fresh 1) (evens fresh 1) refl))) flags)
     judged_by task member e (Err deny) judged its = refused_out it fresh
-        (ap (λ o. is_ok (ran name (MountPlain path flags) world fresh o).answer) e
-        ∙ ap (λ j. is_ok (run_by it world fresh task j).answer) judged)
+        (cc)
 
     by : (o : Option (Task ℕ)) → task_called world name ≡ o
         → GivesNoFoothold world names name (MountPlain path flags) fresh

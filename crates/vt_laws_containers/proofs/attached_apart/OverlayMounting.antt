@@ -1,11 +1,10 @@
 -- No mount(2) of a new overlay by a task of a sealed set gives others a foothold.
-use Rattle.std.proofs.Common.{◌≡◌, refl, ap, ◌∙◌, ℕ, nat_eq, Option, Some, None, Ok, Err, is_ok}
+use Rattle.std.proofs.Common.{◌≡◌, refl, ap, ℕ, nat_eq, Option, Some, None, Ok, Err, is_ok}
 use Rattle.vt_spec.proofs.Common.{Among, Judgement, MountOverlay, Overlay, Permit, Task, ToMountOverlay, evens, evens-distinct, judge_in, looks_of, members, overfills, overlay_at, overlay_filesystem, served-distinct, task_called}
 use Rattle.vt_laws_members.proofs.judging.TheirCalls.{a_member, caller_in, sealing_of}
 use Rattle.vt_laws_rules.proofs.given.Inversion.{calls_are_granted}
 use Rattle.vt_laws_worlds.proofs.overlays_let_go.mounting.NewOverlays.{new_overlays_are_named}
 use Rattle.vt_laws_members.proofs.changes.looks.Told.{ran}
-use Rattle.vt_laws_members.proofs.changes.tasks.Denied.{run_by}
 use Rattle.vt_laws_members.proofs.new_overlays.LayersTheirs.{MountsOverlay, all_used, mounts_overlay}
 use Rattle.vt_laws_containers.specs.Footholds.{GivesNoFoothold}
 use Rattle.vt_laws_containers.proofs.footholds.Granting.{refused_out}
@@ -23,7 +22,7 @@ overlay_mounts_give_no_foothold world names name path options flags it fresh ser
     granted_out task member e permit judged its =
         let overlay : Overlay ℕ = overlay_at (looks_of nat_eq world) task its.places in
         permit_out (record { it = it; few = refl; serves = serves; called = e }) (ToMountOverlay its.here overlay flags)
-        (judged ∙ ap Ok its.is_so) (λ ends. mounted_as_before (sealing_of it) serves its.here its.on its.own
+        (cc (its.is_so)) (λ ends. mounted_as_before (sealing_of it) serves its.here its.on its.own
         (overlay_filesystem nat_eq (evens fresh) world overlay) refl (all_used (a_member (sealing_of it) member)
         its.places its.all) (new_overlays_are_named (evens fresh) world overlay it.is its.are_layers
         (evens-distinct fresh (served-distinct world fresh serves))) flags)
@@ -36,8 +35,7 @@ overlay_mounts_give_no_foothold world names name path options flags it fresh ser
         (calls_are_granted nat_eq (looks_of nat_eq world) (overfills nat_eq fresh world task) task
         (MountOverlay path options flags) permit judged))
     judged_by task member e (Err deny) judged = refused_out it fresh
-        (ap (λ o. is_ok (ran name (MountOverlay path options flags) world fresh o).answer) e
-        ∙ ap (λ j. is_ok (run_by it world fresh task j).answer) judged)
+        (cc)
 
     by : (o : Option (Task ℕ)) → task_called world name ≡ o
         → GivesNoFoothold world names name (MountOverlay path options flags) fresh

@@ -59,7 +59,7 @@ layer_is_there world names is merged there number h = by merged.overlay refl h
     by : (o : Option (Overlay ℕ)) → merged.overlay ≡ o
         → overlay_or false (λ (overlay : Overlay ℕ). list_any (λ l. nat_eq number l.filesystem) (layers_of overlay)) o
         ≡ true → IsThere world number
-    by None e k = absurd (true≢false (sym k))
+    by None e k = cc
     by (Some overlay) e k =
         let at = any_among (λ (layer : Layer ℕ). nat_eq number layer.filesystem) (layers_of overlay) k in
         subst (IsThere world) (sym (eqb-true number at.0.filesystem at.2))
@@ -95,9 +95,7 @@ others_there world names is number h =
         subst (IsThere world) (sym (eqb-true number (mount_at nat_eq world at.0).filesystem at.2))
         (located_is_there world names is at.0 (among-flat_map locations_of world.tasks of.0 at.0
         (among-from_filter (λ (t : Task ℕ). not (is_member_task names t)) world.tasks of.0 of.1).0 of.2))
-    by false e false f k = absurd (true≢false (sym (ap (λ a. not a
-        && not (list_any (λ (l : Location ℕ). nat_eq number (mount_at nat_eq world l).filesystem)
-        (locations (outsiders world names)))) e ∙ ap not f) ∙ k))
+    by false e false f k = cc
 
 module _ {world left : World ℕ} {names set : List TaskName} (is : IsWorld nat_eq world)
     (left_is : IsWorld nat_eq left) (others : OthersAsBefore world left names set) where
@@ -154,7 +152,7 @@ module _ {world left : World ℕ} {names set : List TaskName} (is : IsWorld nat_
           ∙ ap (filesystem_numbered nat_eq world) (old.2 ∙ now.2)
           ∙ found_filesystem world.filesystems is.files.one_filesystem merged there in
           let has : has_layer_on nat_eq number now.0 ≡ true =
-          layers_alike number now.0 old.0 old.3 ∙ ap (has_layer_on nat_eq number) same ∙ layered in
+          cc (layers_alike number now.0 old.0 old.3, same, layered) in
           true≢false (sym (ap (λ b. not b || no_outsider_on nat_eq left set now.0.number) (sym has)
           ∙ among_from_list_all (free_in left set number) (overlays left) all now.0
           (among-filter is_overlay left.filesystems now.0 now.1 (layered_overlay number now.0 has)))
@@ -180,7 +178,7 @@ module _ {world left : World ℕ} {names set : List TaskName} (is : IsWorld nat_
       ⊎_elim (λ old. or_left (not (has_layer_on nat_eq number merged)) (no_outsider_on nat_eq left set merged.number)
       (ap not (false_from_ne_true (has_layer_on nat_eq number merged) (λ layered.
       new (layer_is_there world names is old.0 old.1 number
-      (sym (layers_alike number merged old.0 old.3) ∙ layered))))))
+      (cc (layers_alike number merged old.0 old.3)))))))
       (λ fresh. or_right (not (has_layer_on nat_eq number merged)) (no_outsider_on nat_eq left set merged.number)
       (none_on_unknown merged.number fresh.0)) (others.filesystems merged from.0)))
 
@@ -225,7 +223,7 @@ module _ {world left : World ℕ} {names set : List TaskName} (is : IsWorld nat_
           (sym (ap (filesystem_numbered nat_eq world) (its_number ∙ sym old.2)
           ∙ found_filesystem world.filesystems is.files.one_filesystem old.0 old.1))
           (subst (Among number) (changes_alike merged old.0 old.3) of)))
-          (λ new. absurd (new (old.0, old.1, old.2 ∙ sym its_number))) (others.direct k direct))
+          (λ new. absurd (new (old.0, old.1, cc (old.2)))) (others.direct k direct))
           (λ new. new.1 number of)
           (others.filesystems merged (found_among (λ (f : Filesystem ℕ). nat_eq k f.number) left.filesystems merged e))
 
@@ -235,6 +233,6 @@ module _ {world left : World ℕ} {names set : List TaskName} (is : IsWorld nat_
     events = others.events;
     locations = others.places;
     as_before = λ filesystem m was. same_footholds filesystem;
-    none_on_new = λ filesystem m new. ⊎_elim (λ was. absurd (true≢false (sym was ∙ new))) (free_if_new filesystem)
+    none_on_new = λ filesystem m new. ⊎_elim (λ was. absurd cc) (free_if_new filesystem)
         (used_or_new filesystem (among_from_contains (used_filesystems nat_eq left set) filesystem m));
   }

@@ -13,7 +13,7 @@ use Rattle.vt_laws_trees.proofs.trees.Lists.{among-flat_map_filter}
 pub going_on : (world : World ℕ) (names : List TaskName) (one other : Filesystem ℕ) → other.number ≡ one.number
     → layered_as other ≡ layered_as one → GoesOn world names one → GoesOn world names other
 going_on world names one other number layered goes =
-    ⊎_elim (λ old. inl (old.0, old.1, old.2 ∙ sym number, layered ∙ old.3)) (λ new. inr (
+    ⊎_elim (λ old. inl (old.0, old.1, cc (old.2), layered ∙ old.3)) (λ new. inr (
       λ there. new.0 (there.0, there.1, there.2 ∙ number),
       λ n m. new.1 n (subst (Among n) (changes_alike other one layered) m),
     )) goes
@@ -67,7 +67,7 @@ module _ (world left : World ℕ) (names set : List TaskName) (others : OthersAs
       (λ at. let l = among-from_map (λ (l : Location ℕ). (mount_at nat_eq last l).filesystem)
       (locations (members left set)) number at in
       among-append_right mounted located number (subst (λ n. Among n located)
-      (sym (l.2 ∙ ap (λ (x : Mount ℕ). x.filesystem) (found_living l.0 (placed (is_member_task set) l.0 l.1))))
+      (sym (cc (l.2, found_living l.0 (placed (is_member_task set) l.0 l.1))))
       (among-map (λ (l : Location ℕ). (mount_at nat_eq left l).filesystem) (locations (members left set)) l.0 l.1)))
       (among-append (map (λ (x : Mount ℕ). x.filesystem) (own_mounts nat_eq last set))
       (map (λ (l : Location ℕ). (mount_at nat_eq last l).filesystem) (locations (members left set))) number m)
@@ -113,8 +113,7 @@ module _ {world left : World ℕ} {names set : List TaskName} (others : OthersAs
   unraised t m = by (same_name name t.name) refl
     where
       by : (b : Bool) → same_name name t.name ≡ b → cond b (record t { change = raised t.change }) t ≡ t
-      by true e = absurd (true≢false
-          (sym (ap (λ n. is_among same_name n names) (sym (same_task_name name t.name e)) ∙ theirs) ∙ outside))
+      by true e = cc (same_task_name name t.name e, outside)
         where
           outside : is_member_task names t ≡ false
           outside = grind (arith, common_steps, not-true, among-from_filter)
@@ -136,7 +135,7 @@ module _ {world left : World ℕ} {names set : List TaskName} (others : OthersAs
   owned_by own = filter (λ (mount : Mount ℕ). holds_of own mount.namespace) left.mounts
 
   places_same : locations (members raised_left set) ≡ locations (members left set)
-  places_same = ap locations (raised_members set name left.tasks) ∙ flat (members left set)
+  places_same = cc (raised_members set name left.tasks, flat (members left set))
     where
       flat : (list : List (Task ℕ)) → flat_map locations_of (map raise list) ≡ flat_map locations_of list
       flat [] = refl
@@ -160,7 +159,7 @@ module _ {world left : World ℕ} {names set : List TaskName} (others : OthersAs
         let was = among-from_map (raised_if_changed nat_eq changed) left.filesystems f m in
         going_on world names was.0 f (ap (λ (x : Filesystem ℕ). x.number) was.2
         ∙ by_number was.0 (list_any (λ number. nat_eq number was.0.number) changed))
-        (ap layered_as was.2 ∙ by_layers was.0 (list_any (λ number. nat_eq number was.0.number) changed))
+        (cc (was.2, by_layers was.0 (list_any (λ number. nat_eq number was.0.number) changed)))
         (others.filesystems was.0 was.1);
     direct = λ number m. others.direct number (subst (Among number) direct_same m);
   }

@@ -32,7 +32,7 @@ module _ (world : World ℕ)
       by : (was : Filesystem ℕ) → IsPlaced world was → (b : Bool) → nat_eq new.number was.number ≡ b
           → IsPlaced world (cond b new was)
       by was old true e =
-          let same : number ≡ old.0.number = sym numbered ∙ eqb-true new.number was.number e ∙ sym old.2 in (
+          let same : number ≡ old.0.number = cc (eqb-true new.number was.number e, old.2) in (
             old.0,
             old.1,
             sym same ∙ sym numbered,

@@ -122,9 +122,9 @@ module _ {world : World ℕ} {names : List TaskName} {name : TaskName} {call : C
       → OthersAsBefore world (settled nat_eq (apply nat_eq fresh world task permit).world) names
       (grown names name call (apply nat_eq fresh world task permit).answer)) → Permits
   one_permit task called permit judged before other called_too given judged_too =
-      let same : task ≡ other = same_Some task other (sym called ∙ called_too) in
+      let same : task ≡ other = same_Some task other (cc) in
       let alike : Path (Result (Permit ℕ) Deny) (Ok permit) (Ok given) =
-      sym judged ∙ ap (λ t. judge_in nat_eq fresh world t call) same ∙ judged_too in
+      cc (judged, same, judged_too) in
       subst (λ t. Leaves t given) same (subst (λ p. Leaves task p) (same_permit permit given alike) before)
     where
       Leaves : Task ℕ → Permit ℕ → Type 0

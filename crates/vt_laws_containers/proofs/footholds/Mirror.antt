@@ -1,7 +1,7 @@
 -- Others beside a sealed set, as a set of their own in the world without its tasks: they have their namespaces and
 -- mounts for themselves, too.
 use Rattle.std.proofs.Common.{◌≡◌, refl, sym, ap, subst, ◌∙◌, ◌⊎◌, inl, inr, ⊎_elim, ℕ, nat_eq, Bool, true, false, true≢false, List, [], ◌∷◌, Option, Some, None, filter, map, not, ◌||◌, eq-eqb, eqb-true, arith}
-use Rattle.vt_spec.proofs.Common.{Among, Location, Mount, MountInvariants, Namespace, Stands, Task, TaskName, World, all_from_among, among-filter, among-flat_map, among-from_filter, among-from_flat_map, among-from_map, among-map, among_from_all, among_from_list_all, any_among, any_from_among, at_root, common_steps, false_from_ne_true, filter_alike, filter_all, group_of, has_tasks, holds_of, is_at, is_listed, is_member_task, is_own_mount, is_own_namespace, list_all, list_all_from_among, list_any, locations, locations_of, members, mount_at, mount_numbered, not-true, on_parent, other_mounts, outsiders, own_mounts, roots_and_directories, same_name, same_name_itself, share_events}
+use Rattle.vt_spec.proofs.Common.{Among, Location, Mount, MountInvariants, Namespace, Stands, Task, TaskName, World, all_from_among, among-filter, among-flat_map, among-from_filter, among-from_flat_map, among-from_map, among-map, among_from_all, among_from_list_all, any_among, any_from_among, at_root, common_steps, false_from_ne_true, filter_alike, filter_all, group_of, has_tasks, holds_of, is_at, is_listed, is_member_task, is_own_mount, is_own_namespace, list_all, list_all_from_among, list_any, locations, locations_of, members, mount_at, not-true, on_parent, other_mounts, outsiders, own_mounts, roots_and_directories, same_name, same_name_itself, share_events}
 use Rattle.vt_laws_mounts.proofs.letting_go.Lists.{nothing_passes}
 use Rattle.vt_laws_mounts.proofs.mounts.MountsReplaced.{found_itself}
 use Rattle.vt_laws_sealed.specs.Part.Seals.{IsApart}
@@ -66,14 +66,14 @@ module _ {world : World ℕ} {names : List TaskName} (apart : IsApart world name
   pub out_is_not_ours : (n : ℕ) → is_out n ≡ true → is_ours n ≡ false
   out_is_not_ours n h =
       let at = any_among (λ (t : Task ℕ). nat_eq n t.namespace) out h in
-      ap is_ours (eqb-true n at.0.namespace at.2) ∙ namespace_outside world names apart at.0 at.1
+      cc (eqb-true n at.0.namespace at.2, namespace_outside world names apart at.0 at.1)
 
   pub ours_is_not_out : (n : ℕ) → is_ours n ≡ true → is_out n ≡ false
-  ours_is_not_out n h = false_from_ne_true (is_out n) (λ e. true≢false (sym h ∙ out_is_not_ours n e))
+  ours_is_not_out n h = false_from_ne_true (is_out n) (λ e. cc (out_is_not_ours n e))
 
   pub out_if_not_ours : (n : ℕ) → is_listed nat_eq world n ≡ true → is_out n ≡ not (is_ours n)
-  out_if_not_ours n listed = ⊎_elim (λ ours. ours_is_not_out n ours ∙ ap not (sym ours))
-      (λ theirs. theirs ∙ ap not (sym (out_is_not_ours n theirs))) (side n listed)
+  out_if_not_ours n listed = ⊎_elim (λ ours. cc (ours_is_not_out n ours))
+      (λ theirs. cc (out_is_not_ours n theirs)) (side n listed)
 
   pub ours_if_not_out : (n : ℕ) → is_listed nat_eq world n ≡ true → not (is_out n) ≡ is_ours n
   ours_if_not_out n listed = grind (arith, common_steps, out_if_not_ours)
@@ -123,10 +123,9 @@ module _ {world : World ℕ} {names : List TaskName} (apart : IsApart world name
       let used : Among at.0 (locations out) = among-flat_map locations_of out of.0 at.0 of.1
       (⊎_elim inl (λ rest. inr (⊎_elim inl (λ none. absurd none) rest)) of.2) in
       let ours : is_ours n ≡ true =
-      sym (ours_if_not_out n (placed_listed mount m n e)) ∙ ap not (sym (own_out n) ∙ other) in
+      cc (ours_if_not_out n (placed_listed mount m n e), own_out n, other) in
       let it : mount_at nat_eq world at.0 ≡ mount =
-      ap (mount_numbered nat_eq world) (eqb-true at.0.mount mount.number at.2)
-      ∙ found_itself world.mounts apart.is.mounts.one_number mount m in
+      cc (eqb-true at.0.mount mount.number at.2, found_itself world.mounts apart.is.mounts.one_number mount m) in
       true≢false (sym (ap (λ (x : Mount ℕ). holds_of is_ours x.namespace) it ∙ ap (holds_of is_ours) e ∙ ours)
       ∙ not-true (is_own_mount nat_eq world names (mount_at nat_eq world at.0))
       (among_from_list_all (λ location. not (is_own_mount nat_eq world names (mount_at nat_eq world location)))

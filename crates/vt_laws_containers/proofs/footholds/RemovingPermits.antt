@@ -1,6 +1,6 @@
 -- Removals, renames and lazy unmounts of theirs give others no foothold: all mounts that go are theirs.
 use Rattle.std.proofs.Common.{◌≡◌, refl, sym, ap, subst, ◌∙◌, ⊎_elim, ℕ, nat_eq, eq-eqb, true, false, true≢false, List, [], Option, Some, None, Ok}
-use Rattle.vt_spec.proofs.Common.{Among, Call, Change, Filesystem, Fresh, IsWorld, Location, Mount, MountInvariants, Move, Overlay, Permit, Remove, Task, TaskName, ToRemoveDirectory, ToRename, ToUnmountLazily, World, any_pair, apply, filesystem_at, filesystem_numbered, filesystems-taken_away, folded, found_or_none, holds_of, is_own_namespace, judge_in, lazily_unmounted, looks_of, members, mount_at, mount_numbered, mounts_on, none_is_some, numbers_raised, overfills, part_of, points_of, settled, taken_away, task_called, unmounted_if_there, used_alone, with_change, without_mounts_on}
+use Rattle.vt_spec.proofs.Common.{Among, Call, Change, Filesystem, Fresh, IsWorld, Location, Mount, MountInvariants, Move, Overlay, Permit, Task, TaskName, ToRemoveDirectory, ToRename, ToUnmountLazily, World, any_pair, apply, filesystem_at, filesystem_numbered, filesystems-taken_away, folded, found_or_none, holds_of, is_own_namespace, judge_in, lazily_unmounted, looks_of, members, mount_at, mount_numbered, mounts_on, none_is_some, numbers_raised, overfills, part_of, points_of, settled, taken_away, task_called, unmounted_if_there, used_alone, with_change, without_mounts_on}
 use Rattle.vt_laws_containers.proofs.footholds.ServedCalls.{IsServedCall}
 use Rattle.vt_laws_members.proofs.judging.TheirCalls.{IsMember, caller_in, sealing_of}
 use Rattle.vt_laws_rules.proofs.given.GivenPermits.{permits_are_for_their_calls}

@@ -1,6 +1,6 @@
 -- Where mounts of a sealed set get other flags or mount points, others are as they were.
 use Rattle.std.proofs.Common.{◌≡◌, refl, sym, ap, subst, ◌∙◌, ◌⊎◌, inl, inr, ⊎_elim, ℕ, nat_eq, Bool, true, false, cond, true≢false, List, [], ◌∷◌, Option, Some, None, Ok, filter, map, not, eq-eqb, eqb-true, arith}
-use Rattle.vt_spec.proofs.Common.{Among, Call, Fresh, Location, Mount, MountFlags, Permit, PivotRoot, Propagation, Task, TaskName, ToPivot, ToSetFlags, World, among-append, among-append_left, among-append_right, among-flat_map, among-from_filter, among-from_flat_map, among-from_map, among-map, any_from_among, apply, common_steps, found_or_none, holds_of, is_among, is_member_task, is_own_namespace, judge_in, list_all, list_any, locations, locations_of, map_alike, members, mount_at, mount_in, mount_numbered, no_mount, none_is_some, not-true, number-mount_in, other_mounts, outsiders, own_mounts, pivoted_location, pivoted_mount, pivoted_task, replaced_if_same, root_of, same_Some, same_location, same_name, share_events, task_called, used_directly, with_mounts}
+use Rattle.vt_spec.proofs.Common.{Among, Call, Fresh, Location, Mount, MountFlags, Permit, PivotRoot, Propagation, Task, TaskName, ToPivot, ToSetFlags, World, among-append, among-append_left, among-append_right, among-flat_map, among-from_filter, among-from_flat_map, among-from_map, among-map, any_from_among, apply, common_steps, found_or_none, holds_of, is_among, is_member_task, is_own_namespace, judge_in, list_all, list_any, locations, locations_of, map_alike, members, mount_at, mount_in, mount_numbered, no_mount, none_is_some, not-true, number-mount_in, other_mounts, outsiders, own_mounts, pivoted_location, pivoted_mount, pivoted_task, replaced_if_same, root_of, same_Some, same_location, same_name, share_events, used_directly, with_mounts}
 use Rattle.vt_laws_containers.proofs.footholds.ServedCalls.{IsServedCall}
 use Rattle.vt_laws_members.proofs.judging.TheirCalls.{IsMember, caller_in, sealing_of}
 use Rattle.vt_laws_mounts.proofs.letting_go.Lists.{filter-map}
@@ -80,7 +80,7 @@ module _ {world : World ℕ} {names : List TaskName} (sealing : IsSealed world n
     where
       by : (mount : Mount ℕ) → Among mount world.mounts → (o : Option ℕ) → mount.namespace ≡ o
           → holds_of (λ n. not (ours n)) o ≡ true → change mount ≡ mount
-      by mount m None e h = absurd (true≢false (sym h))
+      by mount m None e h = cc
       by mount m (Some n) e h = replaces.fixed mount m n e (not-true (ours n) h)
 
   owns_changed : owned_by ours (map change world.mounts) ≡ map change (own_mounts nat_eq world names)
@@ -181,7 +181,7 @@ module _ {world : World ℕ} {names : List TaskName} {name : TaskName} {call : C
   flags_before number flags judged =
       let for = permits_are_for_their_calls fresh world task call (ToSetFlags number flags) judged in
       let placed = (all_permits_fit world fresh task call (ToSetFlags number flags) it.is it.serves
-      (ap (task_called world) (sym (name_found world name task it.called)) ∙ it.called) (ap mounts_overlay for.1)
+      (cc (name_found world name task it.called, it.called)) (ap mounts_overlay for.1)
       judged).names in
       kept it (ToSetFlags number flags) judged refl (apply nat_eq fresh world task (ToSetFlags number flags)).world
       (subst (λ w. OthersAsBefore world w names names) (sym (ap (with_mounts world)
@@ -233,7 +233,7 @@ module _ {world : World ℕ} {names : List TaskName} {name : TaskName} {call : C
 
     fits : MayPivot world task new put
     fits = (all_permits_fit world fresh task call (ToPivot new put) it.is it.serves
-        (ap (task_called world) (sym (name_found world name task it.called)) ∙ it.called)
+        (cc (name_found world name task it.called, it.called))
         (ap mounts_overlay for_pivot.2) judged).names
 
     abbrev old_root : Mount ℕ
@@ -310,8 +310,8 @@ module _ {world : World ℕ} {names : List TaskName} {name : TaskName} {call : C
     new_theirs : IsTheirs world names it.is.mounts new
     new_theirs = subst (IsTheirs world names it.is.mounts) (number-mount_in world.mounts new)
         (own_theirs world names it.is new_root (⊎_elim (λ m. m) (λ none. none_is_some task.namespace
-        (sym (ap (λ (x : Mount ℕ). x.namespace) none) ∙ fits.own)) (found_or_none world.mounts new))
-        (ap (holds_of is_ours) fits.own ∙ caller_ours))
+        (cc (fits.own))) (found_or_none world.mounts new))
+        (cc (fits.own, caller_ours)))
 
     -- a location of a member is where it was, or at the new root
     turned_located : (t : Task ℕ) (l : Location ℕ) → Among l (locations_of (turned t))
@@ -369,7 +369,7 @@ module _ {world : World ℕ} {names : List TaskName} {name : TaskName} {call : C
       → is_of_replacing permit ≡ true → Before it permit
   of_replacing (ToSetFlags number flags) judged e = flags_before number flags judged
   of_replacing (ToPivot new put) judged e = pivot_before new put judged
-  of_replacing permit judged e = absurd (true≢false (sym e))
+  of_replacing permit judged e = cc
 
 pub replacing_gives_no_foothold : ReplacingGivesNoFoothold
 replacing_gives_no_foothold world names name call it few fresh serves task called permit judged is_one =

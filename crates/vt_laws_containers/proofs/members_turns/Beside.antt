@@ -1,6 +1,6 @@
 -- Turns of outsiders change no turn of theirs.
-use Rattle.std.proofs.Common.{arith, ◌≡◌, ap, ◌∙◌, ℕ, nat_eq, List, Option, Some}
-use Rattle.vt_spec.proofs.Common.{Fresh, Queued, Sched, Serves, Someone, TaskName, Turned, common_steps, first_of_list, queue_of, turn}
+use Rattle.std.proofs.Common.{arith, ◌≡◌, ℕ, nat_eq, List, Option, Some}
+use Rattle.vt_spec.proofs.Common.{Fresh, Sched, Serves, Someone, TaskName, Turned, common_steps, turn}
 use Rattle.vt_laws_turns.specs.Commits.{left_by}
 use Rattle.vt_laws_turns.specs.Holds.Held.{HoldsWhatIsSeen}
 use Rattle.vt_laws_turns.proofs.holds.Holding.{schedules_hold_what_is_seen}
@@ -8,7 +8,7 @@ use Rattle.vt_laws_containers.specs.SealedTurns.MembersTurns.{part_of_sched}
 use Rattle.vt_laws_containers.specs.SealedTurns.OutsidersTurns.{HasItSealed}
 use Rattle.vt_laws_containers.proofs.sealed_turns.members.Overtaking.{fit_turns}
 use Rattle.vt_laws_containers.proofs.sealed_turns.outsiders.Turned.{outsiders_turns_leave_it_sealed_in_turn}
-use Rattle.vt_laws_containers.specs.MembersTurns.TheirTurns.{HaveOnePart, IsTurnOfTheirs, OutsidersChangeNoTurnOfTheirs, TurnsAlikeIn, grown_after, set_left}
+use Rattle.vt_laws_containers.specs.MembersTurns.TheirTurns.{HaveOnePart, IsTurnOfTheirs, OutsidersChangeNoTurnOfTheirs, TurnsAlikeIn, set_left}
 use Rattle.vt_laws_containers.proofs.members_turns.EachTurn.{each_turn_of_theirs_is_of_their_part}
 use Rattle.vt_laws_containers.proofs.members_turns.OtherQueues.{SameTurned, queue_after, same_turned, shortened_by}
 
@@ -30,9 +30,7 @@ module _ {one other : Sched ℕ} {names : List TaskName} (same : HaveOnePart one
   -- and leaves the set that it leaves in the one
   pub same_set : (turned other).reply ≡ (turned one).reply
       → set_left other names name fresh ≡ set_left one names name fresh
-  same_set reply = ap (λ (l : List Queued). grown_after names name (first_of_list l) (turned other).reply)
-      (same.queues name it.theirs)
-      ∙ ap (grown_after names name (first_of_list (queue_of one.queues (Someone name)))) reply
+  same_set reply = cc (same.queues name it.theirs)
 
   pub turns_alike_in : IsTurnOfTheirs other names name fresh
       → TurnsAlikeIn one other names (set_left one names name fresh) name fresh

@@ -1,6 +1,6 @@
 -- The set that a turn of theirs leaves has names of tasks alone.
-use Rattle.std.proofs.Common.{◌≡◌, refl, ap, ◌∙◌, ⊎_elim, ℕ, nat_eq, false, true, true≢false, List, [], ◌∷◌, Option, Some, None}
-use Rattle.vt_spec.proofs.Common.{Asks, Calls, Fresh, Item, Queued, Refused, Reply, Sched, Someone, TaskName, Turned, World, first_of_list, queue_of, turn}
+use Rattle.std.proofs.Common.{◌≡◌, refl, ⊎_elim, ℕ, nat_eq, false, true, true≢false, List, [], ◌∷◌, Option, Some, None}
+use Rattle.vt_spec.proofs.Common.{Asks, Calls, Fresh, Item, Queued, Refused, Sched, Someone, TaskName, Turned, first_of_list, queue_of, turn}
 use Rattle.vt_laws_sealed.specs.Outsiders.{are_all_called}
 use Rattle.vt_laws_containers.proofs.scripts.Called.{members_stay_called}
 use Rattle.vt_laws_turns.specs.Commits.{run_item}
@@ -22,17 +22,13 @@ module _ (sched : Sched ℕ) (names : List TaskName) (name : TaskName) (fresh : 
   goes_on : (first : Option Queued) (turned : Turned ℕ) → GoesOn sched turned
       → are_all_called turned.sched.world (grown_after names name first turned.reply) ≡ true
   goes_on first turned goes =
-      ap (λ (r : Option Reply). are_all_called turned.sched.world (grown_after names name first r)) goes.reply
-      ∙ ap (are_all_called turned.sched.world) (stays names name first)
-      ∙ ap (λ (w : World ℕ). are_all_called w names) goes.world ∙ there
+      cc (goes.reply, stays names name first, goes.world)
 
   answers : (first : Queued) (turned : Turned ℕ) → is_directive first.item ≡ false
       → Answers sched (Someone name) first fresh turned
       → are_all_called turned.sched.world (grown_after names name (Some first) turned.reply) ≡ true
   answers first turned e done =
-      ap (λ (r : Option Reply). are_all_called turned.sched.world (grown_after names name (Some first) r)) done.reply
-      ∙ ap (λ (w : World ℕ). are_all_called w (grown_by names name first.item
-      (run_item sched.world (Someone name) first.item fresh).answer)) done.world ∙ by_item first.item fresh e
+      cc (done.reply, done.world, by_item first.item fresh e)
 
   by_queue : (items : List Queued) (turned : Turned ℕ) → ((first : Queued) → first_of_list items ≡ Some first
       → is_directive first.item ≡ false) → Turns sched (Someone name) fresh items turned

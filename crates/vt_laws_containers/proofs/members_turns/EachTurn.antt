@@ -56,8 +56,7 @@ module _ (sched : Sched ℕ) (names : List TaskName) (name : TaskName) (is : IsW
 
   others_again : their_calls names (without_progress name part.under_way)
       ≡ their_calls names (without_progress name sched.under_way)
-  others_again = ap (filter own) (filters_swapped others own sched.under_way) ∙ filter_again own
-      (filter others sched.under_way)
+  others_again = cc (filters_swapped others own sched.under_way, filter_again own (filter others sched.under_way))
 
   module _ (fresh : Option (Fresh ℕ)) where
     abbrev whole : Turned ℕ
@@ -80,9 +79,9 @@ module _ (sched : Sched ℕ) (names : List TaskName) (name : TaskName) (is : IsW
         let still : IsWorld nat_eq world =
         subst (IsWorld nat_eq) (sym (unanswered_turns_change_nothing sched (Someone name, fresh) none).0) is in
         as_turned names
-        (ap (grown_after names name (first_of_list (queue_of sched.queues (Someone name)))) none ∙ stays names name _)
+        (cc (stays names name _))
         (record {
-          reply = ap (λ (t : Turned ℕ). t.reply) same ∙ sym none;
+          reply = cc;
           left = ap (λ (t : Turned ℕ). part_of_sched names t.sched) same
               ∙ cut world (part_of nat_eq world names) whole.sched.queues whole.sched.under_way
               (their_calls names whole.sched.under_way) (part_of_the_part world names still)
@@ -118,7 +117,7 @@ module _ (sched : Sched ℕ) (names : List TaskName) (name : TaskName) (is : IsW
     grown_is line call rest e =
         let turned : Turned ℕ = turn nat_eq sched (Someone name) (Some given) in
         ap (λ (o : Option Queued). grown_after names name o turned.reply) (ap first_of_list e)
-        ∙ ⊎_elim (λ goes. absurd (true≢false (sym answers ∙ ap is_some goes.reply)))
+        ∙ ⊎_elim (λ goes. absurd (cc (goes.reply)))
         (λ done. ap (grown_after names name (Some (record { line = line; item = Calls call }))) done.reply)
         (subst (λ (items : List Queued). Turns sched (Someone name) (Some given) items turned) e
         (turn_is sched (Someone name) (Some given)))

@@ -1,5 +1,5 @@
 -- A turn looks at no queue but its own.
-use Rattle.std.proofs.Common.{arith, ◌≡◌, refl, ap, subst, ◌∙◌, inl, inr, sym, true≢false, ℕ, nat_eq, Bool, true, false, cond, List, [], ◌∷◌, ◌+◌, Option, Some, None, Ok, Err, Result, find, Contains, nat_le, slice_get}
+use Rattle.std.proofs.Common.{arith, ◌≡◌, refl, ap, subst, ◌∙◌, inl, inr, sym, ℕ, nat_eq, Bool, true, false, cond, List, [], ◌∷◌, ◌+◌, Option, Some, None, Ok, Err, Result, find, Contains, nat_le, slice_get}
 use Rattle.vt_spec.proofs.Common.{Asks, Call, Calls, Fresh, Item, Progress, Queue, Queued, Refused, Reply, Route, Sched, Someone, Task, TaskName, Turned, Who, World, among_from_contains, call_turn, call_turn_of, common_steps, contains_from_among, entry_rules, first_progress, first_turn, first_turn_by, further, is_among, is_failing, is_overtaken, item_turn, later_turn, looks_of, most_restarts, next_word, queue_of, queue_turn, rest_of, restarted, routes, same_name, same_who, task_called, turn, turn_under_way, unless, word_walked_by, words_of}
 use Rattle.vt_spec.specs.declared.errors.Deny.{Deny}
 use Rattle.vt_laws_turns.specs.Commits.{Turn, left_by}
@@ -117,8 +117,7 @@ queue_after sched who fresh member =
 
     goes_on : (turned : Turned ℕ) → GoesOn sched turned → queue_of turned.sched.queues (Someone member)
         ≡ shortened_by turned.reply (same_who (Someone member) who) items
-    goes_on turned goes = ap (λ (q : List Queue). queue_of q (Someone member)) goes.queues
-        ∙ sym (ap (λ (r : Option Reply). shortened_by r (same_who (Someone member) who) items) goes.reply)
+    goes_on turned goes = cc (goes.queues, goes.reply)
 
     by : (list : List Queued) (turned : Turned ℕ) → Turns sched who fresh list turned
         → queue_of turned.sched.queues (Someone member)
@@ -140,8 +139,8 @@ queues_stay kin (given ∷ rest) sched apart member theirs =
   where
     another : (b : Bool) → same_who (Someone member) given.0 ≡ b → b ≡ false
     another false e = refl
-    another true e = absurd (true≢false (sym theirs ∙ ap (is_of_theirs kin) (same_whos (Someone member) given.0 e)
-        ∙ apart given (contains_from_among (given ∷ rest) given (inl refl))))
+    another true e =
+        cc (same_whos (Someone member) given.0 e, apart given (contains_from_among (given ∷ rest) given (inl refl)))
 
     whole : (reply : Option Reply)
         → shortened_by reply false (queue_of sched.queues (Someone member)) ≡ queue_of sched.queues (Someone member)

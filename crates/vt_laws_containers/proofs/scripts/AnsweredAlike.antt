@@ -132,7 +132,7 @@ module _ {number : ℕ} {full lone : World ℕ} {names : List TaskName} (both : 
             full_left.as_before filesystem used was,
             both.no_more filesystem (contains_from_among (used_filesystems nat_eq full names) filesystem
                 (among_numbers (used_filesystems nat_eq full names) filesystem was)) (sym (lone_out.as_before
-                filesystem used_too (ap (is_among nat_eq filesystem) (sym used_both) ∙ was)) ∙ alone),
+                filesystem used_too (cc (used_both))) ∙ alone),
           )
           by false new = full_left.none_on_new filesystem used new
 

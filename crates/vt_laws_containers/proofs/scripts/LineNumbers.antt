@@ -31,7 +31,7 @@ module _ (line : ℕ) (world : World ℕ) (has : HasEarlierNumbers (suc line) wo
         true≢false (sym (used_numbers_are_named has.named world has.keeps two_left (numbers_for (suc line) place) used)
         ∙ has.later (suc line) place (omega arith)));
     apart = λ j k e.
-        sym (col_of line j) ∙ ap col (eqb-true (numbers_for (suc line) j) (numbers_for (suc line) k) e) ∙ col_of line k;
+        cc (col_of line j, eqb-true (numbers_for (suc line) j) (numbers_for (suc line) k) e, col_of line k);
   }
 
   abbrev named_now : ℕ → Bool

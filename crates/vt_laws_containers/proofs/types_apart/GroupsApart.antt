@@ -1,6 +1,6 @@
 -- Where mounts of a sealed set change their types, they are in groups that the set heard or in new ones, and others
 -- keep theirs: so mounts share no events with others.
-use Rattle.std.proofs.Common.{arith, ◌≡◌, refl, sym, ap, subst, ◌∙◌, ◌⊎◌, inl, inr, ⊎_elim, ℕ, nat_eq, Bool, true, false, cond, true≢false, List, [], ◌∷◌, Option, Some, None, length, map, not, eq-eqb, eqb-true}
+use Rattle.std.proofs.Common.{arith, ◌≡◌, refl, sym, ap, subst, ◌∙◌, ◌⊎◌, inl, inr, ⊎_elim, ℕ, nat_eq, Bool, true, false, cond, List, [], ◌∷◌, Option, Some, None, length, map, not, eq-eqb, eqb-true}
 use Rattle.vt_spec.proofs.Common.{Among, Fresh, Mount, Private, Propagation, Serves, Shared, Slave, TaskName, TypeWord, Unbindable, World, among-from_filter, among-from_map, among-map, any_among, any_from_among, common_steps, false_from_ne_true, find-chain_start, found_among, group_of, groups_up, has_members, heir, holds_of, index_of, inherited, is_among_numbers, is_member_of, is_own_mount, is_own_namespace, list_all, list_all_from_among, map_same, master_after, master_of, none_is_some, not-true, numbers_by, or_cases, other_mounts, own_mounts, receives_events_of, same_Some, share_events, shares_no_events, slave_of_heir, source_of, type_after, with_master, with_new_groups}
 use Rattle.vt_laws_trees.specs.Layers.Layers.ChangesUpper.{IsNewBy}
 use Rattle.vt_laws_mounts.specs.LettingGo.Detaching.{with_changed}
@@ -33,7 +33,7 @@ shared_before t kind g e = grind (arith, common_steps, none_is_some)
 -- the group of which a mount is a member
 pub in_group : (o : Option ℕ) (mount : Mount ℕ) → holds_of (λ group. is_member_of nat_eq group mount) o ≡ true
     → (group : ℕ) × (o ≡ Some group) × (group_of mount.propagation ≡ Some group)
-in_group None mount h = absurd (true≢false (sym h))
+in_group None mount h = cc
 in_group (Some group) mount h = (group, refl, member_group group mount h)
 
 module _ {world : World ℕ} {names : List TaskName} (sealing : IsSealed world names) {fresh : Fresh ℕ}
@@ -109,8 +109,8 @@ module _ {world : World ℕ} {names : List TaskName} (sealing : IsSealed world n
   -- What is named is theirs.
   own_not_out : (o : Option ℕ) → holds_of (is_own_namespace nat_eq world names) o ≡ true
       → holds_of (λ n. not (is_own_namespace nat_eq world names n)) o ≡ true → ⊥
-  own_not_out None own out = true≢false (sym own)
-  own_not_out (Some n) own out = true≢false (sym own ∙ not-true (is_own_namespace nat_eq world names n) out)
+  own_not_out None own out = cc
+  own_not_out (Some n) own out = cc (not-true (is_own_namespace nat_eq world names n) out)
 
   named_there : (m : Mount ℕ) → Among m world.mounts → is_named fresh word named m ≡ true → Among m owns
   named_there m n h =
@@ -173,7 +173,7 @@ module _ {world : World ℕ} {names : List TaskName} (sealing : IsSealed world n
       of_heir s its (Some above) f e = subst Ours (same_Some above g e) (heir_ours s above its f)
 
       by : (k : Propagation ℕ) → kind m ≡ k → source_of (inherited nat_eq t k) ≡ Some g → Ours g
-      by (Shared h) f e = kind_ours m own g (ap source_of f ∙ e)
+      by (Shared h) f e = kind_ours m own g (cc)
       by (Slave s) f e = of_heir s (kind_ours m own s (ap source_of f)) (heir nat_eq t (Some s)) refl e
       by Private f e = none_is_some g e
       by Unbindable f e = none_is_some g e
@@ -184,7 +184,7 @@ module _ {world : World ℕ} {names : List TaskName} (sealing : IsSealed world n
   master_so m n g e = master_left_so world kind masters g
       (any_from_among (is_member_of nat_eq g) t.mounts (record m { propagation = kind m })
       (among-map (λ (x : Mount ℕ). record x { propagation = kind x }) world.mounts m n)
-      (ap (holds_of (nat_eq g)) (shared_before t (kind m) g e) ∙ eq-eqb g g refl))
+      (cc (shared_before t (kind m) g e, eq-eqb g g refl)))
 
   above_left : (g : ℕ) → Ours g → (above : ℕ) → heir nat_eq t (masters g) ≡ Some above → Ours above
   above_left g its above = by (masters g) refl
@@ -197,11 +197,11 @@ module _ {world : World ℕ} {names : List TaskName} (sealing : IsSealed world n
   own_hears m own group how = by (kind_after m) refl how
     where
       by : (k : Propagation ℕ) → kind_after m ≡ k → Hears left k group → Ours group
-      by (Shared g) k h = ⊎_elim (λ e. source_left m own group (ap source_of k ∙ e))
+      by (Shared g) k h = ⊎_elim (λ e. source_left m own group (cc))
           (λ e. above_left g (source_left m own g (ap source_of k)) group
           (sym (master_so m (among-from_filter (is_own_mount nat_eq world names) world.mounts m own).0 g
           (ap group_of k)) ∙ e)) h
-      by (Slave g) k h = ⊎_elim (λ e. none_is_some group e) (λ e. source_left m own group (ap source_of k ∙ e)) h
+      by (Slave g) k h = ⊎_elim (λ e. none_is_some group e) (λ e. source_left m own group (cc)) h
       by Private k h = ⊎_elim (λ e. none_is_some group e) (λ e. none_is_some group e) h
       by Unbindable k h = ⊎_elim (λ e. none_is_some group e) (λ e. none_is_some group e) h
 
@@ -217,7 +217,7 @@ module _ {world : World ℕ} {names : List TaskName} (sealing : IsSealed world n
       ⊎_elim (λ own. absurd (none_other world names so_far.mounts so_far.events g found.0 lives.0 own found.2))
       (λ out. any_from_among (is_member_of nat_eq g) t.mounts (record found.0 { propagation = kind found.0 })
       (among-map (λ (x : Mount ℕ). record x { propagation = kind x }) world.mounts found.0 found.1)
-      (ap (λ k. holds_of (nat_eq g) (group_of k)) (kind_kept found.0 out) ∙ found.2))
+      (cc (kind_kept found.0 out, found.2)))
       (sides world names so_far.mounts so_far.events found.0 g found.1 (member_group g found.0 found.2))
 
   heir_kept : (other : Mount ℕ) → Among other others → (g : ℕ) → Hears world other.propagation g
@@ -225,7 +225,7 @@ module _ {world : World ℕ} {names : List TaskName} (sealing : IsSealed world n
   heir_kept other m g how = find-chain_start has masters (length t.mounts) g (other_has other m g how)
 
   pub other_kept : (other : Mount ℕ) → Among other others → kind_after other ≡ other.propagation
-  other_kept other m = ap (inherited nat_eq t) (kind_kept other m) ∙ by other.propagation refl
+  other_kept other m = cc (kind_kept other m, by other.propagation refl)
     where
       by : (k : Propagation ℕ) → other.propagation ≡ k → inherited nat_eq t k ≡ k
       by (Shared g) e = refl
@@ -248,7 +248,7 @@ module _ {world : World ℕ} {names : List TaskName} (sealing : IsSealed world n
       up : (g : ℕ) → other.propagation ≡ Shared g → (o : Option ℕ) → world.master g ≡ o
           → heir nat_eq t o ≡ Some group → o ≡ Some group
       up g e None f h = none_is_some group h
-      up g e (Some upper) f h = sym (heir_kept other m upper (inr (ap (master_of world) e ∙ f))) ∙ h
+      up g e (Some upper) f h = sym (heir_kept other m upper (inr (cc))) ∙ h
 
       kept : (g : ℕ) → other.propagation ≡ Shared g → masters g ≡ world.master g
       kept g e = ⊎_elim (λ same. same) (λ new. absurd (unheard other m g (inr new) (inl (ap group_of e))))

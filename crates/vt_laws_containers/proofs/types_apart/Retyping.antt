@@ -5,7 +5,6 @@ use Rattle.vt_laws_members.proofs.judging.TheirCalls.{IsMember, caller_in, seali
 use Rattle.vt_laws_mounts.proofs.letting_go.sweeps.OfWorlds.{all_in_use}
 use Rattle.vt_laws_members.specs.Changes.Changes.{IsCallOfTheirs}
 use Rattle.vt_laws_members.proofs.changes.looks.Told.{ran}
-use Rattle.vt_laws_members.proofs.changes.tasks.Denied.{run_by}
 use Rattle.vt_laws_members.proofs.types.Retyping.{SetsType, all_own, named, sets_type, types_settled}
 use Rattle.vt_laws_containers.specs.Footholds.{GivesNoFoothold}
 use Rattle.vt_laws_containers.proofs.footholds.AsBefore.{OthersAsBefore}
@@ -31,8 +30,7 @@ module _ {world : World ℕ} {names : List TaskName} {name : TaskName} {path : L
       (types_as_before (sealing_of it) serves word (named it e fresh fresh its.0 its.2 its.3 granted)
       (all_own it e fresh fresh its.0 its.2 its.3 granted)))
   judged_by task member e (Err deny) judged its = refused_out it fresh
-      (ap (λ o. is_ok (ran name (SetType path word recursive) world fresh o).answer) e
-      ∙ ap (λ j. is_ok (run_by it world fresh task j).answer) judged)
+      (cc)
 
   by_caller : (o : Option (Task ℕ)) → task_called world name ≡ o → NoneGiven
   by_caller None e = refused_out it fresh (ap (λ o. is_ok (ran name (SetType path word recursive) world fresh o).answer)

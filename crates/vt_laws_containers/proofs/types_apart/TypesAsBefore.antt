@@ -1,5 +1,5 @@
 -- Where mounts of a sealed set change their types, others are as they were.
-use Rattle.std.proofs.Common.{arith, ◌≡◌, refl, ap, subst, ◌∙◌, inl, ℕ, nat_eq, Bool, List, [], ◌∷◌, ◌++◌, map, not}
+use Rattle.std.proofs.Common.{arith, ◌≡◌, refl, ap, subst, ◌∙◌, inl, ℕ, nat_eq, Bool, List, [], ◌∷◌, map, not}
 use Rattle.vt_spec.proofs.Common.{Among, Fresh, Location, Mount, Propagation, Serves, TaskName, TypeWord, World, among_from_list_all, common_steps, is_own_mount, list_all_from_among, locations, map_alike, map_twice, members, mount_at, mount_in, outsiders, own_mounts, used_directly}
 use Rattle.vt_laws_mounts.proofs.letting_go.Lists.{filter-map}
 use Rattle.vt_laws_sealed.proofs.part.seals.ByPart.{IsSealed, apart_if_sealed}
@@ -39,12 +39,12 @@ module _ {world : World ℕ} {names : List TaskName} (sealing : IsSealed world n
   shown_still l = kept_at kind shows (λ m. refl) l.mount world.mounts
 
   direct_same : used_directly nat_eq now names ≡ used_directly nat_eq world names
-  direct_same = ap (λ l. map shows l ++ map (λ k. shows (mount_at nat_eq now k)) (locations (members world names)))
-      (filter-map owned {q = owned} typed world.mounts (λ m. refl))
-      ∙ ap (λ l. l ++ map (λ k. shows (mount_at nat_eq now k)) (locations (members world names)))
-      (map_twice shows typed (own_mounts nat_eq world names)) ∙ ap (λ l. map shows (own_mounts nat_eq world names) ++ l)
-      (map_alike (λ k. shows (mount_at nat_eq now k)) (λ k. shows (mount_at nat_eq world k))
-      (locations (members world names)) (λ l m. shown_still l))
+  direct_same = cc (
+    filter-map owned {q = owned} typed world.mounts (λ m. refl),
+    map_twice shows typed (own_mounts nat_eq world names),
+    map_alike (λ k. shows (mount_at nat_eq now k)) (λ k. shows (mount_at nat_eq world k))
+        (locations (members world names)) (λ l m. shown_still l),
+  )
 
   pub types_as_before : OthersAsBefore world now names names
   types_as_before = record {

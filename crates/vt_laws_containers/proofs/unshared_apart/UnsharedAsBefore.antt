@@ -1,6 +1,6 @@
 -- After an unshare(2) of a task of a sealed set others are as they were.
 use Rattle.std.proofs.Common.{arith, ◌≡◌, refl, sym, ap, subst, ◌∙◌, ◌⊎◌, inl, inr, ⊎_elim, ℕ, nat_eq, Bool, true, false, cond, true≢false, List, [], ◌∷◌, ◌++◌, Option, Some, None, filter, map, not, ◌||◌, eq-eqb, eqb-true}
-use Rattle.vt_spec.proofs.Common.{Among, Fresh, Location, Mount, MountInvariants, Private, Serves, Task, TaskName, Unshare, World, all_locations, among-append, among-append_left, among-append_right, among-filter, among-from_filter, among-from_map, among-map, among_from_list_all, any_among, any_from_among, common_steps, detached, false_from_ne_true, group_of, holds_of, is_among, is_listed, is_member_of, is_member_task, is_own_mount, is_own_namespace, list_all, list_all_from_among, list_any, locations, locations_of, master_of, members, mount_at, mount_numbered, mounts_of, name-replaced_if_called, namespaces_ended, not-true, other_mounts, outsiders, own_mounts, replaced_if_called, same_name, same_name_itself, same_task_name, share_events, shares_no_events, task_called, unshared, used_directly}
+use Rattle.vt_spec.proofs.Common.{Among, Fresh, Location, Mount, MountInvariants, Private, Serves, Task, TaskName, Unshare, World, all_locations, among-append, among-append_left, among-append_right, among-filter, among-from_filter, among-from_map, among-map, among_from_list_all, any_among, any_from_among, common_steps, detached, false_from_ne_true, group_of, holds_of, is_among, is_listed, is_member_of, is_member_task, is_own_mount, is_own_namespace, list_all, list_all_from_among, list_any, locations, locations_of, master_of, members, mount_at, mounts_of, name-replaced_if_called, namespaces_ended, not-true, other_mounts, outsiders, own_mounts, replaced_if_called, same_name, same_name_itself, same_task_name, share_events, shares_no_events, task_called, unshared, used_directly}
 use Rattle.vt_laws_members.proofs.judging.TheirCalls.{IsMember, caller_in, sealing_of}
 use Rattle.vt_laws_members.proofs.namespaces.Unsharing.{places_moved}
 use Rattle.vt_laws_mounts.proofs.letting_go.Lists.{filter-map}
@@ -130,8 +130,8 @@ module _ {world : World ℕ} {names : List TaskName} {name : TaskName} (it : IsC
 
   unentered : (n : ℕ) → is_listed nat_eq world n ≡ true → ours n ≡ false → own_left n ≡ false
   unentered n listed other = false_from_ne_true (own_left n) (λ h.
-      ⊎_elim (λ own. true≢false (sym own ∙ other))
-      (λ same. true≢false (sym (eq-eqb n s same) ∙ not_new n listed)) (entered n h))
+      ⊎_elim (λ own. cc)
+      (λ same. cc (eq-eqb n s same, not_new n listed)) (entered n h))
 
   own_same : (n : ℕ) → is_listed nat_eq world n ≡ true → nat_eq k n ≡ false → own_left n ≡ ours n
   own_same n listed differ = grind (arith, common_steps, still, unentered)
@@ -142,7 +142,7 @@ module _ {world : World ℕ} {names : List TaskName} {name : TaskName} (it : IsC
     where
       by : (o : Option ℕ) → m.namespace ≡ o → holds_of own_left o ≡ holds_of ours o
       by None e = refl
-      by (Some i) e = own_same i (placed_listed its_apart m n i e) (sym (ap (holds_of (nat_eq k)) e) ∙ out)
+      by (Some i) e = own_same i (placed_listed its_apart m n i e) (cc)
 
   outs_same : (m : Mount ℕ) → Among m world.mounts → in_space k m ≡ false → is_out_left m ≡ is_out m
   outs_same m n out = by m.namespace refl
@@ -150,7 +150,7 @@ module _ {world : World ℕ} {names : List TaskName} {name : TaskName} (it : IsC
       by : (o : Option ℕ) → m.namespace ≡ o → holds_of (λ i. not (own_left i)) o ≡ holds_of (λ i. not (ours i)) o
       by None e = refl
       by (Some i) e = ap not
-          (own_same i (placed_listed its_apart m n i e) (sym (ap (holds_of (nat_eq k)) e) ∙ out))
+          (own_same i (placed_listed its_apart m n i e) (cc))
 
   own_in_k : (m : Mount ℕ) → in_space k m ≡ true → owns m ≡ true
   own_in_k m e = own_in (sealing_of it) k k_own m e
@@ -217,7 +217,7 @@ module _ {world : World ℕ} {names : List TaskName} {name : TaskName} (it : IsC
         in_old : (o : Option ℕ) → holds_of (nat_eq k) o ≡ true → own_left k ≡ true
             → holds_of (λ n. not (own_left n)) o ≡ false
         in_old None h own = refl
-        in_old (Some n) h own = ap (λ i. not (own_left i)) (sym (eqb-true k n h)) ∙ ap not own
+        in_old (Some n) h own = cc (eqb-true k n h)
 
         theirs : (t : Task ℕ) → Among t world.tasks → t.namespace ≡ k → (b : Bool)
             → is_member_task names t ≡ b → Among t old
@@ -240,15 +240,8 @@ module _ {world : World ℕ} {names : List TaskName} {name : TaskName} (it : IsC
       where
         by : (b : Bool) → in_space k x ≡ b → filter is_out_left (map turn rest ++ copies) ≡ filter is_out rest
             → filter is_out_left (map turn (x ∷ rest) ++ copies) ≡ filter is_out (x ∷ rest)
-        by true e later = ap (λ c. cond c (turn x ∷ filter is_out_left (map turn rest ++ copies))
-            (filter is_out_left (map turn rest ++ copies))) (turned_ours x e) ∙ later
-            ∙ sym (ap (λ c. cond c (x ∷ filter is_out rest) (filter is_out rest))
-            (own_not_out x.namespace (own_in_k x e)))
-        by false e later = ap (λ y. cond (is_out_left y) (y ∷ filter is_out_left (map turn rest ++ copies))
-            (filter is_out_left (map turn rest ++ copies))) (not_cut x e)
-            ∙ ap (λ c. cond c (x ∷ filter is_out_left (map turn rest ++ copies))
-            (filter is_out_left (map turn rest ++ copies))) (outs_same x (sub x (inl refl)) e)
-            ∙ ap (λ l. cond (is_out x) (x ∷ l) l) later
+        by true e later = cc (turned_ours x e, own_not_out x.namespace (own_in_k x e))
+        by false e later = cc (not_cut x e, outs_same x (sub x (inl refl)) e)
 
     mounts_stay : other_mounts nat_eq left names ≡ other_mounts nat_eq world names
     mounts_stay = outs_stay world.mounts (λ x m. m)
@@ -262,8 +255,8 @@ module _ {world : World ℕ} {names : List TaskName} {name : TaskName} (it : IsC
         × ((y.propagation ≡ m.propagation) ⊎ (y.propagation ≡ Private))
     origin y n own = ⊎_elim (λ turned. let from = among-from_map turn world.mounts y turned in (
       from.0,
-      among-filter owns world.mounts from.0 from.1 (own_before from.0 from.1 (ap owns_left (sym from.2) ∙ own)),
-      ap (λ (x : Mount ℕ). x.filesystem) from.2 ∙ turned_shows from.0,
+      among-filter owns world.mounts from.0 from.1 (own_before from.0 from.1 (cc (from.2))),
+      cc (from.2, turned_shows from.0),
       subst (λ (x : Mount ℕ). (x.propagation ≡ from.0.propagation) ⊎ (x.propagation ≡ Private)) (sym from.2)
           (turned_kind from.0),
     )) (λ late. let from = among-from_map copy copied y late in
@@ -295,7 +288,7 @@ module _ {world : World ℕ} {names : List TaskName} {name : TaskName} (it : IsC
     -- Locations
     found_left : (y : Mount ℕ) → Among y left.mounts → (l : Location ℕ) → l.mount ≡ y.number
         → mount_at nat_eq left l ≡ y
-    found_left y n l e = ap (mount_numbered nat_eq left) e ∙ found_itself left.mounts left_kept.one_number y n
+    found_left y n l e = cc (found_itself left.mounts left_kept.one_number y n)
 
     at_turned : (m : Mount ℕ) → Among m world.mounts → (l : Location ℕ) → l.mount ≡ m.number
         → mount_at nat_eq left l ≡ turn m
@@ -304,12 +297,11 @@ module _ {world : World ℕ} {names : List TaskName} {name : TaskName} (it : IsC
         (e ∙ sym (turned_number m))
 
     at_old : (m : Mount ℕ) → Among m world.mounts → (l : Location ℕ) → l.mount ≡ m.number → mount_at nat_eq world l ≡ m
-    at_old m n l e = ap (mount_numbered nat_eq world) e ∙ found_itself world.mounts it.is.mounts.one_number m n
+    at_old m n l e = cc (found_itself world.mounts it.is.mounts.one_number m n)
 
     shown_still : (m : Mount ℕ) → Among m world.mounts → (l : Location ℕ) → l.mount ≡ m.number
         → (mount_at nat_eq left l).filesystem ≡ (mount_at nat_eq world l).filesystem
-    shown_still m n l e = ap (λ (x : Mount ℕ). x.filesystem) (at_turned m n l e) ∙ turned_shows m
-        ∙ ap (λ (x : Mount ℕ). x.filesystem) (sym (at_old m n l e))
+    shown_still m n l e = cc (at_turned m n l e, turned_shows m, at_old m n l e)
 
     shown_there : (l : Location ℕ) → Among l (all_locations world)
         → (mount_at nat_eq left l).filesystem ≡ (mount_at nat_eq world l).filesystem

@@ -1,16 +1,15 @@
 -- No unshare(2) by a task of a sealed set gives others a foothold.
-use Rattle.std.proofs.Common.{◌≡◌, refl, sym, ap, ◌∙◌, ℕ, nat_eq, Bool, true, false, List, Option, Some, None, Ok, Err, filter, not, eqb-true, IfOk, is_ok}
-use Rattle.vt_spec.proofs.Common.{Fresh, Judgement, Permit, Serves, Task, TaskName, ToUnshare, Unshare, World, admin_rules, among-filter, among-from_filter, any_among, judge_in, list_any, namespaces_ended, none_among, not-true, same_name, task_called, unshare_permit, unshared}
+use Rattle.std.proofs.Common.{◌≡◌, refl, sym, ap, ℕ, nat_eq, Bool, true, false, List, Option, Some, None, Ok, Err, filter, not, eqb-true, IfOk, is_ok}
+use Rattle.vt_spec.proofs.Common.{Fresh, Judgement, Serves, Task, TaskName, ToUnshare, Unshare, World, among-filter, among-from_filter, any_among, judge_in, list_any, namespaces_ended, none_among, not-true, same_name, task_called, unshared}
 use Rattle.vt_laws_members.specs.Changes.Changes.{IsCallOfTheirs}
-use Rattle.vt_laws_members.proofs.changes.looks.Granted.{of_rules}
 use Rattle.vt_laws_members.proofs.changes.looks.Told.{ran}
-use Rattle.vt_laws_members.proofs.changes.tasks.Denied.{run_by}
 use Rattle.vt_laws_containers.specs.Footholds.{GivesNoFoothold}
 use Rattle.vt_laws_containers.proofs.footholds.AsBefore.{OthersAsBefore}
 use Rattle.vt_laws_containers.proofs.footholds.Granting.{refused_out}
 use Rattle.vt_laws_containers.proofs.footholds.TasksPermits.{permit_out}
 use Rattle.vt_laws_containers.specs.UnsharedApart.UnshareFootholds.{UnsharesGiveNoFoothold}
 use Rattle.vt_laws_containers.proofs.unshared_apart.UnsharedAsBefore.{unshared_as_before}
+use Rattle.vt_laws_members.proofs.namespaces.Unsharing.{Unshares, unshares}
 
 -- by whether another task is in the namespace of the caller
 either_as_before : (world : World ℕ) (names : List TaskName) (name : TaskName)
@@ -38,14 +37,6 @@ either_as_before world names name it task called fresh serves =
           not-true (same_name task.name at.0.name) from.1,
         )
 
--- The permit of unshare(2)
-abbrev Unshares : Permit ℕ → Type 0
-Unshares permit = permit ≡ ToUnshare
-
-unshares : (task : Task ℕ) → IfOk (unshare_permit task) Unshares
-unfolding unshare_permit
-unshares task = of_rules Unshares (admin_rules task) (Ok ToUnshare) refl
-
 pub unshares_give_no_foothold : UnsharesGiveNoFoothold
 unshares_give_no_foothold world names name it fresh serves = by (task_called world name) refl
   where
@@ -53,11 +44,10 @@ unshares_give_no_foothold world names name it fresh serves = by (task_called wor
         → (j : Judgement ℕ) → judge_in nat_eq fresh world task Unshare ≡ j → IfOk j Unshares
         → GivesNoFoothold world names name Unshare fresh
     judged_by task e (Ok permit) judged known =
-        permit_out (record { it = it; few = refl; serves = serves; called = e }) ToUnshare (judged ∙ ap Ok known)
+        permit_out (record { it = it; few = refl; serves = serves; called = e }) ToUnshare (cc)
         (λ ends. either_as_before world names name it task e fresh serves)
     judged_by task e (Err deny) judged known = refused_out it fresh
-        (ap (λ o. is_ok (ran name Unshare world fresh o).answer) e
-        ∙ ap (λ j. is_ok (run_by it world fresh task j).answer) judged)
+        (cc)
 
     by : (o : Option (Task ℕ)) → task_called world name ≡ o → GivesNoFoothold world names name Unshare fresh
     by None e = refused_out it fresh (ap (λ o. is_ok (ran name Unshare world fresh o).answer) e)

@@ -1,9 +1,6 @@
 -- Every call of theirs ends in the part as in the world.
 use Rattle.std.proofs.Common.{◌≡◌, refl, ℕ, nat_eq, false, List, Option, Some, Ok}
 use Rattle.vt_spec.proofs.Common.{Allowed, Bind, Call, Chdir, Chmod, Chown, Chroot, Close, Drop, Exec, Exit, Fork, ForkWords, Fresh, Lazy, LinkTo, ListMounts, Ls, Lstat, MakeWhiteout, Mkdir, MountOverlay, MountPlain, MoveMount, Opaque, OpenFile, Permit, PivotRoot, Pread, Pwrite, Read, Readlink, Remount, Rename, Rmdir, SetType, Setns, Stat, SymlinkAt, Task, TaskName, ToFork, ToRemoveDirectory, ToRename, Umask, Umount, Unlink, Unshare, World, Write, filesystem_at, is_overlay, judge_in, looks_of, only_looks, overfills, task_called, ⊤}
-use Rattle.vt_laws_rules.specs.Granted.{IsGranted}
-use Rattle.vt_laws_rules.specs.Granted.IsGranted.{writes_part}
-use Rattle.vt_laws_rules.proofs.given.Inversion.{calls_are_granted}
 use Rattle.vt_laws_members.specs.Changes.Changes.{EndsAlike, IsCallOfTheirs}
 use Rattle.vt_laws_members.proofs.changes.letting_go.EnterLast.{setns_ends_alike}
 use Rattle.vt_laws_members.proofs.changes.letting_go.Exiting.{exits_end_alike}
@@ -14,8 +11,7 @@ use Rattle.vt_laws_members.proofs.changes.mounts.Remounting.{remounts_end_alike}
 use Rattle.vt_laws_members.proofs.changes.tasks.Forking.{forks_end_alike}
 use Rattle.vt_laws_members.proofs.changes.tasks.Rights.{drops_end_alike, renames_of_one_end_alike, umasks_end_alike}
 use Rattle.vt_laws_members.specs.OverlayNames.EachCalls.{AlwaysEndsAlike}
-use Rattle.vt_laws_members.proofs.overlay_names.each_call.Permitted.{each_chmod_ends_alike, each_chown_ends_alike, each_link_ends_alike, each_mkdir_ends_alike, each_open_ends_alike, each_part_write_ends_alike, each_symlink_ends_alike, each_unlink_ends_alike, each_write_ends_alike, either}
-use Rattle.vt_laws_members.proofs.changes.tasks.ByPermit.{by_permit}
+use Rattle.vt_laws_members.proofs.overlay_names.each_call.Permitted.{Forks, Removes, Renames, each_chmod_ends_alike, each_chown_ends_alike, each_link_ends_alike, each_mkdir_ends_alike, each_open_ends_alike, each_part_write_ends_alike, each_symlink_ends_alike, each_unlink_ends_alike, each_write_ends_alike, either, fit_ends}
 use Rattle.vt_laws_members.proofs.overlay_names.names.HidingEnding.{all_opaques_end_alike, all_whiteouts_end_alike}
 use Rattle.vt_laws_members.proofs.overlay_names.names.OverlayRemovals.{overlay_renames_end_alike, overlay_rmdirs_end_alike}
 use Rattle.vt_laws_members.proofs.attached.Binding.{binds_end_alike}
@@ -28,41 +24,6 @@ use Rattle.vt_laws_members.proofs.namespaces.Unsharing.{unshares_end_alike}
 use Rattle.vt_laws_members.proofs.new_overlays.Mounting.{overlay_mounts_end_alike}
 use Rattle.vt_laws_members.proofs.types.Retyping.{types_end_alike}
 use Rattle.vt_laws_members.specs.EachCall.EachCall.{EachCallEndsAlike}
-
--- permits of calls that fork, remove a directory or rename
-abbrev Forks : Permit ℕ → Type 0
-Forks (ToFork credentials) = ⊤
-Forks permit = ⊥
-
-abbrev Removes : Permit ℕ → Type 0
-Removes (ToRemoveDirectory parent entry directory) = ⊤
-Removes permit = ⊥
-
-abbrev Renames : Permit ℕ → Type 0
-Renames Allowed = ⊤
-Renames (ToRename from entry to entry_new object replaced) = ⊤
-Renames permit = ⊥
-
-abbrev Fits : Call → Permit ℕ → Type 0
-Fits (Fork words) permit = Forks permit
-Fits (Rmdir path) permit = Removes permit
-Fits (Rename old new) permit = Renames permit
-Fits call permit = ⊤
-
-permits_fit : (world : World ℕ) (fresh : Fresh ℕ) (task : Task ℕ) (asked : Call) (permit : Permit ℕ)
-    → IsGranted nat_eq (looks_of nat_eq world) (overfills nat_eq fresh world task) task asked permit → Fits asked permit
-permits_fit world fresh task asked permit (writes_part number offset bytes descriptor found passed) = tt
-permits_fit world fresh task asked permit other_way = tt
-
-module _ {world : World ℕ} {names : List TaskName} {name : TaskName} {call : Call}
-    (it : IsCallOfTheirs world names name call) (fresh : Fresh ℕ) where
-  -- by its permit
-  fit_ends : only_looks call ≡ false → ((task : Task ℕ) → task_called world name ≡ Some task → (permit : Permit ℕ)
-      → judge_in nat_eq fresh world task call ≡ Ok permit → Fits call permit
-      → EndsAlike world names name call fresh fresh) → EndsAlike world names name call fresh fresh
-  fit_ends looks ends = by_permit it fresh fresh looks (λ task called permit judged.
-      ends task called permit judged (permits_fit world fresh task call permit
-      (calls_are_granted nat_eq (looks_of nat_eq world) (overfills nat_eq fresh world task) task call permit judged)))
 
 each_fork : (world : World ℕ) (names : List TaskName) (name : TaskName) (words : Option ForkWords)
     → AlwaysEndsAlike world names name (Fork words)

@@ -142,7 +142,8 @@ module _ (it : Remaking) (does : ChangesTheirs it) (moves : MovesTheirs it) wher
             cc (
               eq-eqb number (mount_at nat_eq world l).filesystem (sym (sym (other_shows l m out) ∙ e)),
               none_among
-                  (λ q. nat_eq number (mount_at nat_eq world q).filesystem) (locations (outsiders world names)) nobody.1 l
+                  (λ q. nat_eq number (mount_at nat_eq world q).filesystem)
+                  (locations (outsiders world names)) nobody.1 l
                   out,
             )
 

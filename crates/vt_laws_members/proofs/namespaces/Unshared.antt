@@ -125,7 +125,8 @@ module _ (w : World ℕ) (fresh : Fresh ℕ) (task : Task ℕ) (can : CanUnshare
       (λ fresh_one. cc (
         (among-from_map copy copied m fresh_one).2,
         is_among_numbers
-            (map (λ (x : Namespace ℕ). x.number) base.namespaces) s (among-map (λ (x : Namespace ℕ). x.number) base.namespaces
+            (map (λ (x : Namespace ℕ). x.number) base.namespaces) s
+            (among-map (λ (x : Namespace ℕ). x.number) base.namespaces
             new new_in),
       )) (among-append w.mounts copies m n))
     where

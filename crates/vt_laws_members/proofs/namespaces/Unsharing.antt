@@ -351,10 +351,10 @@ module _ {world : World ℕ} {names : List TaskName} {name : TaskName} (it : IsC
       theirs t m together = grind (arith, common_steps, among-filter, true≢false, k_own, namespace_outside, apart)
 
 -- The permit of unshare(2)
-abbrev Unshares : Permit ℕ → Type 0
+abbrev pub Unshares : Permit ℕ → Type 0
 Unshares permit = permit ≡ ToUnshare
 
-unshares : (task : Task ℕ) → IfOk (unshare_permit task) Unshares
+pub unshares : (task : Task ℕ) → IfOk (unshare_permit task) Unshares
 unfolding unshare_permit
 unshares task = of_rules Unshares (admin_rules task) (Ok ToUnshare) refl
 

@@ -12,7 +12,17 @@ use Rattle.vt_laws_sealed.proofs.part.groups.EventsApart.{member_group}
 pub master-inherited : (t : World ℕ) (group : ℕ) → has_members nat_eq t.mounts group ≡ true
     → (regrouped nat_eq t).master group ≡ heir nat_eq t (t.master group)
 master-inherited t group h =
-    grind (arith, common_steps, any_among, or_parts, none_among, source_from_group, member_group, find-chain_start, not-false)
+    grind (
+      arith,
+      common_steps,
+      any_among,
+      or_parts,
+      none_among,
+      source_from_group,
+      member_group,
+      find-chain_start,
+      not-false,
+    )
 
 module _ (w : World ℕ) (kind : Mount ℕ → Propagation ℕ) (masters : ℕ → Option ℕ) where
   -- the world with other types and masters, before groups inherit

@@ -1,5 +1,5 @@
 -- Groups live on through a bind, a new mount and a move.
-use Rattle.std.proofs.Common.{arith, ◌≡◌, sym, ap, subst, ◌∙◌, refl, true, false, nat_eq, ℕ, Bool, Some, [], is_some, length, true≢false, ⊎_elim, ◌∷◌}
+use Rattle.std.proofs.Common.{arith, ◌≡◌, sym, subst, refl, true, false, nat_eq, ℕ, Bool, Some, [], length, true≢false, ⊎_elim, ◌∷◌}
 use Rattle.vt_spec.proofs.Common.{Among, Location, Mount, World, bind_tree, common_steps, found_or_none, mount_at, moved_tree, new_mount, parts_of, source_of, tree_among, with_new_filesystem}
 use Rattle.vt_laws_mounts.specs.Mounts.Attached.{BindsKeepGroups, MovesKeepGroups, NewMountsKeepGroups}
 use Rattle.vt_laws_mounts.specs.Mounts.Receivers.{GroupsLive}
@@ -36,8 +36,7 @@ new_mounts_keep_groups world fresh place filesystem flags serves live =
     groups_live_after place false
     (supplies_serve_as_images larger fresh (parts_of nat_eq larger place) (mount ∷ []) serves) refl live
     (λ origin m group e.
-    ⊎_elim (λ same. absurd (true≢false (sym (ap is_some e)
-    ∙ ap (λ (x : Mount ℕ). is_some (source_of x.propagation)) same))) (λ none. absurd none) m)
+    ⊎_elim (λ same. absurd cc) (λ none. absurd none) m)
     (members_stay larger new place (mount ∷ [])) (copies_there larger new place (mount ∷ []))
     (old_or_copies larger new place false (mount ∷ []))
 

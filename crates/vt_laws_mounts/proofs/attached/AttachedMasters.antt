@@ -1,6 +1,6 @@
 -- The groups that are new where a tree of mounts is attached, and their masters.
 use Rattle.std.proofs.Common.{arith, ◌≡◌, refl, sym, ap, ◌∙◌, true, false, nat_eq, ℕ, Bool, List, None, Option, Some, [], eq-eqb, inl, inr, not, true≢false, ⊎_elim, ◌∷◌, ◌⊎◌, filter_map, option_map, if◌then◌else◌, unwrap_or}
-use Rattle.vt_spec.proofs.Common.{Among, Copies, Graft, Location, Mount, Propagation, Shared, Twig, World, all_groups_made, among-filter_map, among-flat_map, among-from_filter, among-from_filter_map, among-from_flat_map, among-from_map, among-map, any_from_among, attached_by, common_steps, eqb_tells, folded, graft_of, group_made, group_of, has_members, holds_of, image, is_destination, is_member_of, is_shared, master_after, masters_with, mount_at, mount_in, nat_eq_false_turned, nearest_image, number-mount_in, parts_of, receivers_of, takes_part, then_some, twig_master, twig_of, type_on_shared, when}
+use Rattle.vt_spec.proofs.Common.{Among, Copies, Graft, Location, Mount, Propagation, Shared, Twig, World, all_groups_made, among-filter_map, among-flat_map, among-from_filter, among-from_filter_map, among-from_flat_map, among-from_map, among-map, any_from_among, attached_by, common_steps, eqb_tells, folded, graft_of, group_made, group_of, has_members, image, is_destination, is_member_of, is_shared, master_after, masters_with, mount_at, nat_eq_false_turned, nearest_image, number-mount_in, parts_of, receivers_of, takes_part, then_some, twig_master, twig_of, type_on_shared, when}
 use Rattle.vt_laws_mounts.specs.Mounts.Attaching.{OneNumberAMount}
 use Rattle.vt_laws_mounts.specs.Mounts.Copies.{ServeAsImages}
 use Rattle.vt_laws_mounts.proofs.GroupsKept.{member_shared}
@@ -28,8 +28,7 @@ made_for_one master (first ∷ rest) entry m = ⊎_elim (λ kept.
       first,
       inl refl,
       ap (λ (x : ℕ × Option ℕ). x.0) e,
-      kept ∙ ap (λ b. if b then first.1 else master entry.0)
-          (eq-eqb entry.0 first.0 (ap (λ (x : ℕ × Option ℕ). x.0) e)),
+      cc (kept, eq-eqb entry.0 first.0 (ap (λ (x : ℕ × Option ℕ). x.0) e)),
     )) (λ later. let t = made_for_one (masters_with nat_eq master first) rest entry later in (t.0, inr t.1, t.2, t.3))
     m) (λ t. (t.0, inr t.1, t.2, t.3)) (made_or_old (masters_with nat_eq master first) rest entry.0)
 
@@ -66,7 +65,7 @@ module _ {world : World ℕ} {new : Copies ℕ} (place : Location ℕ) (moves : 
   -- at the destination
   pub member_by_group : (mount : Mount ℕ) (group : ℕ) → group_of mount.propagation ≡ Some group
       → is_member_of nat_eq group mount ≡ true
-  member_by_group mount group e = ap (holds_of (nat_eq group)) e ∙ eq-eqb group group refl
+  member_by_group mount group e = cc (eq-eqb group group refl)
 
   pub takes_part_in : (mount : Mount ℕ) (group : ℕ) → Among mount parts → group_of mount.propagation ≡ Some group
       → has_members nat_eq parts group ≡ true
@@ -116,18 +115,16 @@ module _ {world : World ℕ} {new : Copies ℕ} (place : Location ℕ) (moves : 
         origin.0,
         origin.1,
         by at.0 at.1 origin.0 (is_destination nat_eq tree at.0.number) refl
-            (sym (ap (group_made nat_eq world new tree parts at.0) origin.2) ∙ from.2),
+            (cc (origin.2, from.2)),
       )
     where
       by : (part : Mount ℕ) → Among part parts → (origin : Mount ℕ) (b : Bool)
           → is_destination nat_eq tree part.number ≡ b
           → group_made nat_eq world new tree parts part (twig origin) ≡ Some entry → IsImage origin entry
       by part n origin true f e = image_there origin entry
-          (sym (ap (λ b. if b then twig_master (twig origin) else made_elsewhere origin (group_of part.propagation)) f)
-          ∙ e)
+          (cc)
       by part n origin false f e = image_at_part part origin entry n
-          (sym (ap (λ b. if b then twig_master (twig origin) else made_elsewhere origin (group_of part.propagation)) f)
-          ∙ e)
+          (cc)
 
   -- groups that had members keep their masters
   pub old_master : (group : ℕ) → has_members nat_eq world.mounts group ≡ true → after.master group ≡ world.master group
@@ -148,9 +145,9 @@ module _ {world : World ℕ} {new : Copies ℕ} (place : Location ℕ) (moves : 
       let same : (group ≡ from.2.0) × (origin.number ≡ from.0.number) =
       serve.apart group origin.number from.2.0 from.0.number has (is_one_of mounts origin m) from.2.1
       (is_one_of mounts from.0 from.1) (t.2 ∙ from.2.2) in
-      let it : from.0 ≡ origin = sym (found_itself mounts own from.0 from.1) ∙ ap (mount_in nat_eq mounts) (sym same.1)
+      let it : from.0 ≡ origin = cc (found_itself mounts own from.0 from.1, same.1)
       ∙ found_itself mounts own origin m in
-      t.3 ∙ from.2.3 ∙ ap (λ g. image_master g from.0) (sym same.0) ∙ ap (image_master group) it
+      cc (t.3, from.2.3, same.0, it)
 
   -- what a mount of the tree makes at a part is made
   pub made_at : (part origin : Mount ℕ) → Among part parts → Among origin mounts → (entry : ℕ × Option ℕ)
@@ -182,7 +179,7 @@ module _ {world : World ℕ} {new : Copies ℕ} (place : Location ℕ) (moves : 
   pub is_elsewhere : (part : Mount ℕ) (group : ℕ) → Among part parts → is_member_of nat_eq group part ≡ true
       → is_member_of nat_eq group destination ≡ false → is_destination nat_eq tree part.number ≡ false
   is_elsewhere part group m has lacks = ⊎_elim
-      (λ same. absurd (true≢false (sym has ∙ ap (is_member_of nat_eq group) same ∙ lacks))) (λ later.
+      (λ same. absurd cc) (λ later.
       nat_eq_false_turned place.mount part.number (taker_elsewhere world place part
       (among-from_filter (takes_part nat_eq world place) (receivers_of nat_eq world destination) part later).1)) m
 

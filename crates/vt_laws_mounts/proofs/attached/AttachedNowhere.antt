@@ -1,6 +1,6 @@
 -- A mount outside every namespace stays nowhere where a tree of mounts is attached in one.
-use Rattle.std.proofs.Common.{arith, ◌≡◌, refl, sym, ap, ◌∙◌, true, false, nat_eq, ℕ, Bool, List, None, Option, Some, [], flat_map, is_some, map, not, true≢false, ⊎_elim, ◌&&◌, ◌++◌, ◌∷◌, ◌||◌}
-use Rattle.vt_spec.proofs.Common.{Among, Copies, Location, Mount, World, added_mounts, among-append, among-folded_mounts, among-from_filter, among-from_flat_map, among-from_map, among_from_list_all, and_parts, attached_by, bind_tree, common_steps, copies_at, copy_at, holds_of, is_nowhere_or_attached, is_private, list_all_from_among, mount_at, moved_tree, new_mount, pushed_onto, receiver_stood_on, rest_of, same_location, stands_at, with_moved_mounts, with_new_filesystem}
+use Rattle.std.proofs.Common.{arith, ◌≡◌, refl, true, false, nat_eq, ℕ, Bool, List, None, Option, Some, [], flat_map, is_some, map, ⊎_elim, ◌++◌, ◌∷◌}
+use Rattle.vt_spec.proofs.Common.{Among, Copies, Location, Mount, World, added_mounts, among-append, among-folded_mounts, among-from_filter, among-from_flat_map, among-from_map, among_from_list_all, and_parts, attached_by, bind_tree, common_steps, copies_at, copy_at, holds_of, is_nowhere_or_attached, list_all_from_among, mount_at, moved_tree, new_mount, pushed_onto, receiver_stood_on, rest_of, same_location, stands_at, with_moved_mounts, with_new_filesystem}
 use Rattle.vt_laws_mounts.specs.Mounts.Attached.{BindsKeepNowhere, MovesKeepNowhere, NewMountsKeepNowhere}
 use Rattle.vt_laws_mounts.specs.Mounts.Invariants.{NowhereOrAttached}
 use Rattle.vt_laws_mounts.proofs.mounts.MountsAttached.{arriving, graft, moved_ones, parts, push, supplied}
@@ -32,7 +32,7 @@ module _ (world : World ℕ) (new : Copies ℕ) (place : Location ℕ) (moves : 
   push_fits mount e = by (receiver_stood_on nat_eq (graft world new place moves mounts) part_list mount) refl
     where
       is_there : {A : Type 0} (test : A → Bool) (found : Option A) → holds_of test found ≡ true → is_some found ≡ true
-      is_there test None h = absurd (true≢false (sym h))
+      is_there test None h = cc
       is_there test (Some a) h = refl
 
       by : (part : Option (Mount ℕ))
@@ -42,8 +42,7 @@ module _ (world : World ℕ) (new : Copies ℕ) (place : Location ℕ) (moves : 
       by (Some part) f =
           let at : Mount ℕ → Location ℕ = λ part. record { mount = part.number; node = place.node } in
           let stood = (found_in (λ other. stands_at nat_eq (at other) mount) (rest_of part_list) part f).1 in
-          sym (ap (λ b. is_some mount.namespace || (not b && is_private mount.propagation))
-          (is_there (same_location nat_eq (at part)) mount.mount_point stood)) ∙ e
+          cc (is_there (same_location nat_eq (at part)) mount.mount_point stood, e)
 
   moved_fits : (b : Bool) (mount : Mount ℕ)
       → Among mount (with_moved_mounts nat_eq b world.mounts (arriving world new place moves mounts)) → IsFit mount
@@ -67,7 +66,7 @@ module _ (world : World ℕ) (new : Copies ℕ) (place : Location ℕ) (moves : 
       ⊎_elim (λ pushed.
       let from =
       among-from_map (push world new place moves mounts) (moved_ones world new place moves mounts) mount pushed in
-      ap is_nowhere_or_attached from.2 ∙ push_fits from.0 (moved_fits moves from.0 from.1)) (added_fits moves mount)
+      cc (from.2, push_fits from.0 (moved_fits moves from.0 from.1))) (added_fits moves mount)
       (among-append old added mount front)) (λ later.
       let from = among-from_flat_map copies (rest_of part_list) mount later in
       copy_fits from.0 mount (taker_attached from.0 from.1) from.2) (among-append (old ++ added) rest mount m))

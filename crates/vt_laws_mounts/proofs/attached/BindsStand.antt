@@ -1,5 +1,5 @@
 -- Binds, new mounts and moves: each mount goes on standing, with a number of its own.
-use Rattle.std.proofs.Common.{arith, ◌≡◌, refl, sym, ap, subst, ◌∙◌, true, false, nat_eq, ℕ, Bool, List, [], eq-eqb, eqb-true, filter, flat_map, inl, inr, length, suc, true≢false, zero, ⊎_elim, ◌∷◌, ◌⊎◌}
+use Rattle.std.proofs.Common.{arith, ◌≡◌, refl, sym, ap, subst, true, false, nat_eq, ℕ, Bool, List, [], eq-eqb, eqb-true, filter, flat_map, inl, inr, length, suc, true≢false, zero, ⊎_elim, ◌∷◌, ◌⊎◌}
 use Rattle.vt_spec.proofs.Common.{Among, Filesystem, Location, Mount, Stands, World, all_from_among, among-flat_map, among-from_filter, among-from_flat_map, among_from_all, at_root, bind_tree, bindable_children, bindable_tree, bound, children, common_steps, moved_tree, new_mount, number-mount_in, on_parent, parts_of, stands_on, stands_under, with_new_filesystem}
 use Rattle.vt_laws_mounts.specs.Mounts.Standing.{AllStand, BindsKeepNumbers, BindsKeepMountPoints, BindsKeepStanding, MovesKeepNumbers, NewMountsKeepNumbers, NewMountsKeepMountPoints, NewMountsKeepStanding}
 use Rattle.vt_laws_mounts.proofs.attached.Attaching.{Hangs, all_stand_after}
@@ -126,7 +126,7 @@ bindable_there world (suc fuel) mount x m = ⊎_elim inl (λ later.
     (bindable_there world fuel from.0 x from.2))) m
 
 not_itself : (a b : Mount ℕ) → nat_eq a.number b.number ≡ false → a ≡ b → ⊥
-not_itself a b differ e = true≢false (sym (eq-eqb a.number b.number (ap (λ (y : Mount ℕ). y.number) e)) ∙ differ)
+not_itself a b differ e = cc (eq-eqb a.number b.number (ap (λ (y : Mount ℕ). y.number) e))
 
 -- what a bind takes is a mount of the world, or the one at the source
 pub bind_there_or_source : (world : World ℕ) (source : Location ℕ) (recursive : Bool) (origin : Mount ℕ)

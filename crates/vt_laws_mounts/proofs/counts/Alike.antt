@@ -69,8 +69,8 @@ module _ (one other : World ℕ) (same : SameWorlds one other) where
 
 pub any_same_worlds_count_alike : AnySameWorldsCountAlike
 any_same_worlds_count_alike one other k inodes same counted = record {
-  root = counted.root ∙ ap (λ t. t.root) alike.files.tree;
-  node = λ n. counted.node n ∙ ap (λ t. t.node n) alike.files.tree;
+  root = cc (counted.root, alike.files.tree);
+  node = λ n. cc (counted.node n, alike.files.tree);
   uses = λ n. counted.uses n ∙ uses_are one f n
       ∙ (λ i. (one_if n (alike.files.tree i).root + ((times_in n (located_in nat_eq one (alike.number i))
       + times_in n (layers_in nat_eq one (alike.number i)))

@@ -1,5 +1,5 @@
 -- Numbers in lists: how often each stands there.
-use Rattle.std.proofs.Common.{◌≡◌, refl, sym, ap, subst, ◌∙◌, ⊎_elim, ℕ, ◌+◌, ◌≤◌, nat_eq, eq-eqb, Bool, true, false, cond, ◌||◌, List, [], ◌∷◌, arith, IsPermutation}
+use Rattle.std.proofs.Common.{◌≡◌, refl, sym, ap, subst, ⊎_elim, ℕ, ◌+◌, ◌≤◌, nat_eq, eq-eqb, Bool, true, false, cond, ◌||◌, List, [], ◌∷◌, arith, IsPermutation}
 use Rattle.vt_spec.proofs.Common.{IsPermutation-cons, IsPermutation-middle, IsPermutation-refl, IsPermutation-sym, IsPermutation-trans, any_pair, common_steps, eqb_tells, is_among, or_parts}
 use Rattle.vt_laws_mounts.proofs.counts.counting.Entries.{one_if}
 use Rattle.vt_laws_mounts.proofs.counts.counting.Times.{among_times, removed, times_among, times_in, times_removed}
@@ -74,8 +74,7 @@ permuted (first ∷ rest) other same = IsPermutation-trans (first ∷ rest) (fir
 
 pub same_numbers_are_permuted : SameNumbersArePermuted
 same_numbers_are_permuted one other first second same =
-    permuted one other (λ n. once_or_none n one first ∙ ap (λ b. cond b 1 0) (same n)
-    ∙ sym (once_or_none n other second))
+    permuted one other (λ n. cc (once_or_none n one first, same n, once_or_none n other second))
 
 -- what stands in a list once, or not
 pub among_by_times : (n : ℕ) (list : List ℕ) (b : Bool) → times_in n list ≡ cond b 1 0 → is_among nat_eq n list ≡ b

@@ -1,6 +1,6 @@
 -- What takes mounts away keeps the invariants of mounts.
-use Rattle.std.proofs.Common.{arith, ◌≡◌, sym, ap, ◌∙◌, false, nat_eq, ℕ, List, None, Some, eq-eqb, flat_map, is_some, map, true≢false, ⊎_elim}
-use Rattle.vt_spec.proofs.Common.{Among, Location, Mount, MountInvariants, World, all_from_among, among_from_all, common_steps, going, has_child, holds_of, mount_numbered, mount_tree, mounts_on, namespaces_ended, none_among, number-mount_in, stands_alike, stands_on, taken_away}
+use Rattle.std.proofs.Common.{arith, ◌≡◌, sym, ◌∙◌, false, nat_eq, ℕ, List, None, Some, eq-eqb, flat_map, map, ⊎_elim}
+use Rattle.vt_spec.proofs.Common.{Among, Location, Mount, MountInvariants, World, all_from_among, among_from_all, common_steps, going, has_child, mount_numbered, mount_tree, mounts_on, namespaces_ended, none_among, number-mount_in, stands_alike, stands_on, taken_away}
 use Rattle.vt_laws_mounts.specs.Mounts.Invariants.{AreApart, OneMountEachMountPoint}
 use Rattle.vt_laws_mounts.specs.Mounts.Ending.{EndedNamespacesKeepMounts, PointsKeepMounts, ReplacedKeepsMounts, TreesKeepMounts, UnmountKeepsMounts}
 use Rattle.vt_laws_mounts.specs.Mounts.Standing.{AllStand}
@@ -18,9 +18,8 @@ use Rattle.vt_laws_mounts.proofs.ends.UnmountingTrees.{AreClosed, closed_keeps_a
 -- nothing stands on a mount without children
 pub none_stands : (world : World ℕ) (one : ℕ) → has_child nat_eq world one ≡ false → (x : Mount ℕ) (place : Location ℕ)
     → Among x world.mounts → x.mount_point ≡ Some place → place.mount ≡ one → ⊥
-none_stands world one childless x place m e same = true≢false
-    (sym (ap (holds_of (λ p. nat_eq one p.mount)) e ∙ eq-eqb one place.mount (sym same))
-    ∙ none_among (stands_on nat_eq one) world.mounts childless x m)
+none_stands world one childless x place m e same =
+    cc (eq-eqb one place.mount (sym same), none_among (stands_on nat_eq one) world.mounts childless x m)
 
 apart_in : (world : World ℕ) → MountInvariants nat_eq world → AreApart world
 apart_in world kept = record { by_number = kept.one_number; by_place = kept.one_child }
@@ -55,8 +54,7 @@ unmount_keeps_mounts world one kept childless =
     (taken_stand world gone kept.one_number kept.standing
     (lands_by_places world gone kept.one_number kept.standing (λ x place m e goes.
     ⊎_elim (λ itself. absurd (none_stands world one childless x place m e (itself ∙ number-mount_in world.mounts one)))
-    (λ t. ap (λ n. is_some (mount_numbered nat_eq world n).mount_point) t.3
-    ∙ ap (λ z. is_some z.mount_point) (found_itself world.mounts kept.one_number t.0 t.1) ∙ t.4)
+    (λ t. cc (t.3, found_itself world.mounts kept.one_number t.0 t.1, t.4))
     (goes_or_may world mount place.mount goes))))
 
 pub trees_keep_mounts : TreesKeepMounts

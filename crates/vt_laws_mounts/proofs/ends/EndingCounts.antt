@@ -49,8 +49,8 @@ module _ (world : World ℕ) (gone : List ℕ) where
   taken_has_no_more namespace = le-leb _ _
       (subst (λ mounts. length (filter (is_in namespace) mounts) ≤ length (filter (is_in namespace) world.mounts))
       (sym mounts_after) (no_higher_count (is_in namespace) (is_in namespace) after_it world.mounts (λ mount e.
-      ⊎_elim (λ none. absurd (true≢false (sym e ∙ ap (holds_of (nat_eq namespace)) none)))
-      (λ same. ap (holds_of (nat_eq namespace)) (sym same) ∙ e) (namespace_after mount))))
+      ⊎_elim (λ none. absurd cc)
+      (λ same. cc) (namespace_after mount))))
 
   pub taken_takes_none_in : TakesNoMountsIn world (taken_away nat_eq world gone)
   taken_takes_none_in = all_from_among (IsOutOrStays world) (taken_away nat_eq world gone).mounts (λ mount m.
@@ -59,12 +59,12 @@ module _ (world : World ℕ) (gone : List ℕ) where
     where
       by : (mount old : Mount ℕ) → Among old world.mounts → mount ≡ after_it old
           → ((after_it old).namespace ≡ None) ⊎ ((after_it old).namespace ≡ old.namespace) → IsOutOrStays world mount
-      by mount old m e (inl none) = inl (ap (λ x. x.namespace) e ∙ none)
+      by mount old m e (inl none) = inl (cc)
       by mount old m e (inr same) = inr (
         old,
         contains_from_among world.mounts old m,
         ap (λ x. x.number) e ∙ number-after_going world gone old,
-        ap (λ x. x.namespace) e ∙ same,
+        cc (e, same),
       )
 
   abbrev is_root : ℕ → Mount ℕ → Bool
@@ -84,7 +84,7 @@ module _ (world : World ℕ) (gone : List ℕ) where
     where
       no_root : (mount : Mount ℕ) → (is_some mount.mount_point ≡ true) ⊎ (is_in namespace mount ≡ false)
           → is_root namespace mount ≡ false
-      no_root mount (inl e) = ap (λ b. is_in namespace mount && not b) e ∙ and-false (is_in namespace mount)
+      no_root mount (inl e) = cc (and-false (is_in namespace mount))
       no_root mount (inr e) = ap (λ b. b && is_root_mount nat_eq mount) e
 
       placed_alike : (place : Option (Location ℕ))
@@ -100,16 +100,14 @@ module _ (world : World ℕ) (gone : List ℕ) where
 -- a mount with the number of another is that one
 same_mount : (world : World ℕ) → OneNumberEach world → (a b : Mount ℕ) → Among a world.mounts → Among b world.mounts
     → a.number ≡ b.number → a ≡ b
-same_mount world one a b m n same = sym (found_itself world.mounts one a m) ∙ ap (mount_in nat_eq world.mounts) same
-    ∙ found_itself world.mounts one b n
+same_mount world one a b m n same = cc (found_itself world.mounts one a m, found_itself world.mounts one b n)
 
 pub unmount_keeps_roots : UnmountKeepsRootMounts
 unmount_keeps_roots world one each placed namespace =
     let itself = mount_numbered nat_eq world one in
     taken_keeps_roots world (going nat_eq world itself) namespace (λ mount m goes.
-    inl (⊎_elim (λ same. ap (λ x. is_some x.mount_point) (sym (found_itself world.mounts each mount m)
-    ∙ ap (mount_in nat_eq world.mounts) (same ∙ number-mount_in world.mounts one)) ∙ placed)
-    (λ t. ap (λ x. is_some x.mount_point) (same_mount world each mount t.0 m t.1 t.3) ∙ t.4)
+    inl (⊎_elim (λ same. cc (found_itself world.mounts each mount m, number-mount_in world.mounts one))
+    (λ t. cc (same_mount world each mount t.0 m t.1 t.3, t.4))
     (goes_or_may world itself mount.number goes)))
 
 -- what lies in a tree is its top, or stands at a place
@@ -121,12 +119,12 @@ tree_placed (suc depth) mounts top x m = ⊎_elim inl (λ later.
     let child = among-from_filter (stands_on nat_eq top.number) mounts from.0 from.1 in
     ⊎_elim (λ same. inr (
       subst (λ z. Among z mounts) (sym same) child.0,
-      ap (λ z. is_some z.mount_point) same ∙ placed from.0.mount_point child.1,
+      cc (same, placed from.0.mount_point child.1),
     )) inr (tree_placed depth mounts from.0 x from.2)) m
   where
     placed : (place : Option (Location ℕ)) → holds_of (λ p. nat_eq top.number p.mount) place ≡ true
         → is_some place ≡ true
-    placed None e = absurd (true≢false (sym e))
+    placed None e = cc
     placed (Some p) e = refl
 
 pub trees_keep_roots : TreesKeepRootMounts
@@ -141,7 +139,7 @@ trees_keep_roots world tops each placed namespace =
     ∙ ap (mount_in nat_eq world.mounts) (from.2 ∙ ap (λ x. x.number) same))
     ∙ among_from_list_all (λ (x : Mount ℕ). is_some
     (mount_numbered nat_eq world x.number).mount_point) tops placed tree.0 tree.1)
-    (λ t. ap (λ x. is_some x.mount_point) (same_mount world each mount from.0 m t.0 from.2) ∙ t.1)
+    (λ t. cc (same_mount world each mount from.0 m t.0 from.2, t.1))
     (tree_placed (length world.mounts) world.mounts tree.0 from.0 tree.2)))
 
 pub points_keep_roots : PointsKeepRootMounts
@@ -152,13 +150,12 @@ points_keep_roots world location each = trees_keep_roots world (mounts_on nat_eq
     (points_of nat_eq world location)) world.mounts mount m in
     let some =
     any_among (λ point. is_point nat_eq world point.0 point.1 mount) (points_of nat_eq world location) from.1 in
-    ap (λ x. is_some x.mount_point) (found_itself world.mounts each mount from.0)
-    ∙ placed mount.mount_point some.0 some.2))
+    cc (found_itself world.mounts each mount from.0, placed mount.mount_point some.0 some.2)))
   where
     placed : (place : Option (Location ℕ)) (point : ℕ × ℕ)
         → holds_of (λ p. nat_eq p.node point.1 && nat_eq (mount_at nat_eq world p).filesystem point.0) place ≡ true
         → is_some place ≡ true
-    placed None point e = absurd (true≢false (sym e))
+    placed None point e = cc
     placed (Some p) point e = refl
 
 pub replaced_keeps_roots : ReplacedKeepsRootMounts
@@ -171,8 +168,7 @@ ended_namespaces_keep_roots world listed each there tasks =
     let from = among-from_map (λ (x : Mount ℕ). x.number) (filter (is_in_ended nat_eq world) world.mounts) mount.number
     (among_numbers (in_ended world) mount.number goes) in
     let end = among-from_filter (is_in_ended nat_eq world) world.mounts from.0 from.1 in
-    inr (elsewhere mount.namespace (ap (λ (x : Mount ℕ). ended_of x.namespace)
-    (same_mount world each mount from.0 m end.0 from.2) ∙ end.1)))
+    inr (elsewhere mount.namespace (cc (same_mount world each mount from.0 m end.0 from.2, end.1))))
   where
     ended_of : Option ℕ → Bool
     ended_of namespace = holds_of (λ number. not (list_any

@@ -1,6 +1,6 @@
 -- A lazy unmount keeps the invariants of mounts: as the event of a mount comes, nothing stands on it any more.
-use Rattle.std.proofs.Common.{◌≡◌, refl, sym, ap, subst, ◌∙◌, true, false, nat_eq, ℕ, Bool, List, None, Option, Some, [], arith, eqb-true, inl, inr, is_some, suc, true≢false, ⊎_elim, ◌∷◌, ◌<◌, ◌≤◌, ◌⊎◌, if◌then◌else◌}
-use Rattle.vt_spec.proofs.Common.{Among, Location, Mount, MountInvariants, World, among-from_map, among_cases, among_from_list_all, among_numbers, common_steps, depth_of, false_from_ne_true, folded, found_or_none, going, has_child, holds_of, is_among, mount_numbered, none_from_among, stands_on, taken_away, unmounted, unmounted_if_there}
+use Rattle.std.proofs.Common.{◌≡◌, refl, sym, ap, subst, true, false, nat_eq, ℕ, Bool, List, None, Option, Some, [], arith, eqb-true, inl, inr, is_some, suc, true≢false, ⊎_elim, ◌∷◌, ◌<◌, ◌≤◌, ◌⊎◌, if◌then◌else◌}
+use Rattle.vt_spec.proofs.Common.{Among, Location, Mount, MountInvariants, World, among-from_map, among_cases, among_from_list_all, among_numbers, common_steps, depth_of, false_from_ne_true, folded, found_or_none, going, has_child, is_among, mount_numbered, none_from_among, stands_on, taken_away, unmounted, unmounted_if_there}
 use Rattle.vt_laws_mounts.specs.Mounts.Attaching.{numbers_of}
 use Rattle.vt_laws_mounts.specs.Mounts.Invariants.{NowhereOrAttached}
 use Rattle.vt_laws_mounts.specs.Mounts.Ending.{LazyUnmountKeepsMounts}
@@ -63,11 +63,9 @@ module _ (start : World ℕ) (at_first : MountInvariants nat_eq start) (one : �
       among-from_map (λ (x : Mount ℕ). x.number) left number (among_numbers (numbers_of left) number later) in
       let x = from.0 in
       let first : depth_of nat_eq start mount ≡ suc (rank_of mount.number) =
-      ap (depth_of nat_eq start) (sym (its mount (inl refl)))
-      ∙ depth_by_rank start at_first.one_number at_first.standing mount.number in
+      cc (its mount (inl refl), depth_by_rank start at_first.one_number at_first.standing mount.number) in
       let second : depth_of nat_eq start x ≡ suc (rank_of x.number) =
-      ap (depth_of nat_eq start) (sym (its x (inr from.1)))
-      ∙ depth_by_rank start at_first.one_number at_first.standing x.number in
+      cc (its x (inr from.1), depth_by_rank start at_first.one_number at_first.standing x.number) in
       let equal : rank_of number ≡ rank_of x.number = ap rank_of from.2 in
       let below = order.0 x from.1 in
       omega (arith, first, second, equal, below)) (among_cases number mount.number (numbers_of left) m)
@@ -79,12 +77,12 @@ module _ (start : World ℕ) (at_first : MountInvariants nat_eq start) (one : �
       where
         none : (x : Mount ℕ) → Among x world.mounts → (place : Option (Location ℕ)) → x.mount_point ≡ place
             → stands_on nat_eq mount.number x ≡ true → ⊥
-        none x m None e on = true≢false (sym on ∙ ap (holds_of (λ p. nat_eq mount.number p.mount)) e)
+        none x m None e on = cc
         none x m (Some p) e on =
             let same : mount.number ≡ p.mount =
-            eqb-true mount.number p.mount (sym (ap (holds_of (λ q. nat_eq mount.number q.mount)) e) ∙ on) in
+            eqb-true mount.number p.mount (cc) in
             let found = found_itself world.mounts way.kept.one_number x m in
-            let over = way.over x.number p (ap (λ z. z.mount_point) found ∙ e) in
+            let over = way.over x.number p (cc (found)) in
             let high = over.1 in
             let equal : rank_of mount.number ≡ rank_of p.mount = ap rank_of same in
             let lies = further_in start one mount.number x.number (way.lies mount (inl refl))
@@ -92,7 +90,7 @@ module _ (start : World ℕ) (at_first : MountInvariants nat_eq start) (one : �
             ⊎_elim (λ later.
             let low = no_deeper mount left way.order way.itself x.number later in
             absurd (omega (arith, low, high, equal)))
-            (λ gone. true≢false (sym (ap is_some e) ∙ ap (λ z. is_some z.mount_point) (sym found) ∙ ap is_some gone))
+            (λ gone. cc (found))
             (way.done x.number lies)
 
     abbrev gone : List ℕ
@@ -109,7 +107,7 @@ module _ (start : World ℕ) (at_first : MountInvariants nat_eq start) (one : �
         → (mount_numbered nat_eq (taken_away nat_eq world gone) number).mount_point ≡ Some place
         → StoodOver place.mount number
     over_then number place e = falls_over number place (stood world gone (mount_numbered nat_eq world number) place
-        (sym (ap (λ m. m.mount_point) (taken world gone number)) ∙ e)).1
+        (cc (taken world gone number))).1
 
     -- of a mount without a place nothing is left to do
     done_then : (after : World ℕ) → (mount_numbered nat_eq after mount.number).mount_point ≡ None
@@ -117,7 +115,7 @@ module _ (start : World ℕ) (at_first : MountInvariants nat_eq start) (one : �
         → (mount_numbered nat_eq after number).mount_point ≡ None) → (number : ℕ) → LiesIn start one number
         → (is_among nat_eq number (numbers_of left) ≡ true) ⊎ ((mount_numbered nat_eq after number).mount_point ≡ None)
     done_then after here stays number lies = ⊎_elim (λ later.
-        ⊎_elim (λ same. inr (ap (λ k. (mount_numbered nat_eq after k).mount_point) same ∙ here)) inl
+        ⊎_elim (λ same. inr (cc)) inl
         (among_cases number mount.number (numbers_of left) later)) (λ none. inr (stays number none))
         (way.done number lies)
 

@@ -1,5 +1,5 @@
 -- What namespaces have left of their mounts after a lazy unmount.
-use Rattle.std.proofs.Common.{◌≡◌, refl, sym, ap, ◌∙◌, true, false, nat_eq, ℕ, Bool, List, None, [], arith, inl, inr, is_some, length, true≢false, ⊎_elim, ◌∷◌, ◌⊎◌, ◌≤◌, le-leb, leb-true, if◌then◌else◌}
+use Rattle.std.proofs.Common.{◌≡◌, refl, ◌∙◌, true, false, nat_eq, ℕ, Bool, List, None, [], arith, inl, inr, is_some, length, ⊎_elim, ◌∷◌, ◌⊎◌, ◌≤◌, le-leb, leb-true, if◌then◌else◌}
 use Rattle.vt_spec.proofs.Common.{Among, Mount, World, all_from_among, among_from_all, among_from_contains, common_steps, folded, going, mount_numbered, mounts_of, number-mount_in, taken_away, unmounted, unmounted_if_there}
 use Rattle.vt_laws_mounts.specs.Mounts.Invariants.{OneNumberEach}
 use Rattle.vt_laws_mounts.specs.Mounts.Ending.{ByLazyUnmount, HasNoMoreMounts, IsOutOrStays, KeepsRootMounts, LazyUnmountKeepsRootMounts, TakesNoMountsIn, root_mounts_in}
@@ -40,7 +40,7 @@ stays_on world middle end first second = all_from_among (IsOutOrStays world) end
   where
     on : (mount old : Mount ℕ) → mount.number ≡ old.number → mount.namespace ≡ old.namespace → IsOutOrStays world old
         → IsOutOrStays world mount
-    on mount old number namespace (inl none) = inl (namespace ∙ none)
+    on mount old number namespace (inl none) = inl (cc)
     on mount old number namespace (inr was) = inr (was.0, was.1, number ∙ was.2, namespace ∙ was.3)
 
     by : (mount : Mount ℕ) → IsOutOrStays middle mount → IsOutOrStays world mount
@@ -84,15 +84,14 @@ all_keep_roots (mount ∷ mounts) world each placed namespace =
     by false e later = later world each (λ x m. placed x (inr m)) namespace
     by true e later =
         let there : is_some (mount_numbered nat_eq world mount.number).mount_point ≡ true =
-        ⊎_elim (λ f. f) (λ none. absurd (true≢false (sym e ∙ ap is_some none))) (placed mount (inl refl)) in
+        ⊎_elim (λ f. f) (λ none. absurd cc) (placed mount (inl refl)) in
         later (unmounted nat_eq world mount.number) (unmount_keeps_numbers world mount.number each)
         (λ x m. placed_or_out_then world (going nat_eq world (mount_numbered nat_eq world mount.number)) x.number
         (placed x (inr m))) namespace ∙ unmount_keeps_roots world mount.number each there namespace
 
 pub lazy_unmount_keeps_roots : LazyUnmountKeepsRootMounts
 lazy_unmount_keeps_roots world one each placed = all_keep_roots (taken_in_turn world one) world each (λ mount m.
-    inl (⊎_elim (λ top. ap (λ (x : Mount ℕ). is_some (mount_numbered nat_eq world x.number).mount_point) top
-    ∙ ap (λ n. is_some (mount_numbered nat_eq world n).mount_point) (number-mount_in world.mounts one) ∙ placed)
-    (λ t. ap (λ x. is_some x.mount_point) (found_itself world.mounts each mount t.0) ∙ t.1)
+    inl (⊎_elim (λ top. cc (number-mount_in world.mounts one))
+    (λ t. cc (found_itself world.mounts each mount t.0, t.1))
     (tree_placed (length world.mounts) world.mounts (mount_numbered nat_eq world one) mount
     (from_tree world one mount m))))

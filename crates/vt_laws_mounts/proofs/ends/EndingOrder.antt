@@ -1,6 +1,6 @@
 -- The mounts of a lazy unmount: each of the tree, the deepest first.
-use Rattle.std.proofs.Common.{◌≡◌, refl, sym, ap, subst, ◌∙◌, true, nat_eq, ℕ, List, [], arith, flat_map, inl, inr, length, map, zero, suc, ⊎_elim, ◌∷◌, ◌≤◌, ◌⊎◌, ltb-false, ltb-true}
-use Rattle.vt_spec.proofs.Common.{Among, Mount, World, among-flat_map, among-from_flat_map, among-from_map, among-map, among_numbers, common_steps, deepest_first, depth_of, folded, insert_deepest, is_among, is_among_numbers, is_going, mount_in, mount_numbered, mount_tree, number-mount_in, tree_among, tree_from, ⊤}
+use Rattle.std.proofs.Common.{◌≡◌, refl, sym, subst, true, nat_eq, ℕ, List, [], arith, flat_map, inl, inr, length, map, zero, suc, ⊎_elim, ◌∷◌, ◌≤◌, ◌⊎◌, ltb-false, ltb-true}
+use Rattle.vt_spec.proofs.Common.{Among, Mount, World, among-flat_map, among-from_flat_map, among-from_map, among-map, among_numbers, common_steps, deepest_first, depth_of, folded, insert_deepest, is_among, is_among_numbers, is_going, mount_numbered, mount_tree, number-mount_in, tree_among, tree_from, ⊤}
 use Rattle.vt_laws_mounts.specs.Mounts.Attaching.{numbers_of}
 use Rattle.vt_laws_mounts.specs.Mounts.Invariants.{OneNumberEach}
 use Rattle.vt_laws_mounts.specs.Mounts.Standing.{AllStand}
@@ -80,8 +80,7 @@ module _ (world : World ℕ) where
     pub is_itself : (number : ℕ) (x : Mount ℕ) → Among x (taken_in_turn number)
         → mount_numbered nat_eq world x.number ≡ x
     is_itself number x m = ⊎_elim (λ top.
-        ap (λ y. mount_numbered nat_eq world y.number) top
-        ∙ ap (mount_in nat_eq world.mounts) (number-mount_in world.mounts number) ∙ sym top)
+        cc (top, number-mount_in world.mounts number))
         (λ there. found_itself world.mounts one x there)
         (tree_among (length world.mounts) world.mounts (mount_numbered nat_eq world number) x (from_tree number x m))
 

@@ -15,8 +15,8 @@ last_longer next (suc n) a e = grind (arith, common_steps, last_longer next n, c
 
 pub one_namespace : (a b : Option ℕ) → same_option nat_eq a b ≡ true → a ≡ b
 one_namespace None None e = refl
-one_namespace None (Some b) e = absurd (true≢false (sym e))
-one_namespace (Some a) None e = absurd (true≢false (sym e))
+one_namespace None (Some b) e = cc
+one_namespace (Some a) None e = cc
 one_namespace (Some a) (Some b) e = ap Some (eqb-true a b e)
 
 module _ (world : World ℕ) (ends : ChainsEnd world) where
@@ -49,8 +49,8 @@ module _ (world : World ℕ) (ends : ChainsEnd world) where
       let same : last_parent nat_eq world on ≡ last_parent nat_eq world x =
       ap (λ k. last_or on (chain k under on)) size.1
       ∙ last_longer under size.0 on (no_more (last_or on (chain size.0 under on))
-      (ap (λ l. is_some l.mount_point) (sym shorter) ∙ first.0)) ∙ sym shorter in
-      first.1 ∙ sym (other.1 ∙ ap (λ l. l.namespace) same)
+      (cc (shorter, first.0))) ∙ sym shorter in
+      cc (first.1, other.1, same)
 
 -- the mounts of namespaces that end
 abbrev pub in_ended : World ℕ → List ℕ

@@ -1,5 +1,5 @@
 -- An unmount leaves at most one mount at a place.
-use Rattle.std.proofs.Common.{arith, ◌≡◌, refl, sym, ap, subst, ◌∙◌, true, false, zero, suc, Bool, List, None, Option, Some, [], eq-eqb, is_some, length, nat_eq, option_map, true≢false, ⊎_elim, ◌∷◌, ◌⊎◌, ℕ, inl, inr, filter_map, if◌then◌else◌}
+use Rattle.std.proofs.Common.{arith, ◌≡◌, refl, sym, ap, subst, ◌∙◌, true, false, zero, suc, Bool, List, None, Option, Some, [], eq-eqb, is_some, length, nat_eq, option_map, ⊎_elim, ◌∷◌, ◌⊎◌, ℕ, inl, inr, filter_map, if◌then◌else◌}
 use Rattle.vt_spec.proofs.Common.{Among, Location, Mount, World, after_going, among-filter, among-from_filter_map, among-from_map, among_numbers, any_pair, chain, chain_ends, chain_goes_on, children, common_steps, false_from_ne_true, goes_at, going, going_at, going_from, holds_of, inheriting, is_going, is_shared, last_of_chain, last_or, may_go, mount_at, mount_in, mount_numbered, mount_point_left, mount_point_of_parent, none_among, number-mount_in, only_cover, pair-map, receivers_of, same_Some, share_a_mount_point, stands_at, stands_on, taken_away}
 use Rattle.vt_laws_mounts.specs.Mounts.Invariants.{AreApart, OneMountEachMountPoint, UnmountLeavesOneMountAMountPoint}
 use Rattle.vt_laws_mounts.proofs.ends.UnmountingGoes.{child_goes}
@@ -49,16 +49,15 @@ module _ (world : World ℕ) (gone : List ℕ) where
 
       by : (b : Bool) → is_going nat_eq gone a.number ≡ b
           → (is_going nat_eq gone a.number ≡ false) × Falls world gone a rest
-      by true f = absurd (true≢false
-          (sym (ap is_some e) ∙ ap (λ m. is_some m.mount_point) (going_is_detached world gone a f)))
-      by false f = (f, at a.mount_point refl (sym (ap (λ m. m.mount_point) (staying_is_placed world gone a f)) ∙ e))
+      by true f = cc (e, going_is_detached world gone a f)
+      by false f = (f, at a.mount_point refl (cc (staying_is_placed world gone a f, e)))
 
 -- one child alone
 one_child_alone : (mount : Mount ℕ) (list : List (Mount ℕ)) → only_cover nat_eq mount list ≡ true → (a b : Mount ℕ)
     → Among a list → Among b list → a ≡ b
 one_child_alone mount [] h a b m n = absurd m
 one_child_alone mount (child ∷ []) h a b m n = grind (arith, common_steps)
-one_child_alone mount (child ∷ other ∷ rest) h a b m n = absurd (true≢false (sym h))
+one_child_alone mount (child ∷ other ∷ rest) h a b m n = cc
 
 module _ (world : World ℕ) (gone : List ℕ) (apart_all : AreApart world)
     (may : (x : Mount ℕ) (place : Location ℕ) → Among x world.mounts → x.mount_point ≡ Some place
@@ -81,33 +80,32 @@ module _ (world : World ℕ) (gone : List ℕ) (apart_all : AreApart world)
       let both : x ≡ y = one_child_alone under (children nat_eq world.mounts under.number) (may x p m e goes) x y
       (among-filter (stands_on nat_eq under.number) world.mounts x m (on_it x p e refl))
       (among-filter (stands_on nat_eq under.number) world.mounts y n (on_it y q f same)) in
-      same_Some p q (sym e ∙ ap (λ z. z.mount_point) both ∙ f)
+      same_Some p q (cc)
 
   -- what stays is no mount that goes
   not_both : (a : Mount ℕ) (place : Location ℕ) → is_going nat_eq gone a.number ≡ false
       → is_going nat_eq gone place.mount ≡ true → mount_at nat_eq world place ≡ a → ⊥
-  not_both a place stays goes same = true≢false (sym goes ∙ ap (is_going nat_eq gone)
-      (sym (number-mount_in world.mounts place.mount) ∙ ap (λ z. z.number) same) ∙ stays)
+  not_both a place stays goes same = cc (number-mount_in world.mounts place.mount)
 
   -- two that stay fall to one place only where they are one
   one_falls : (a b : Mount ℕ) → Among a world.mounts → Among b world.mounts → is_going nat_eq gone a.number ≡ false
       → is_going nat_eq gone b.number ≡ false
       → (r : Location ℕ) → Falls world gone a r → (q : Location ℕ) → Falls world gone b q → q ≡ r → a ≡ b
   one_falls a b m n stays also r (direct rest e) q (direct end f) same =
-      one_stander world.mounts apart_all.by_place a b m n rest e (f ∙ ap Some same)
+      one_stander world.mounts apart_all.by_place a b m n rest e (cc)
   one_falls a b m n stays also r (direct rest e) q (down at end fall goes under) same = absurd (not_both a at stays goes
       (one_stander world.mounts apart_all.by_place (mount_at nat_eq world at) a
-      (placed_among world.mounts at.mount end under) m end under (e ∙ ap Some (sym same))))
+      (placed_among world.mounts at.mount end under) m end under (cc)))
   one_falls a b m n stays also r (down at rest fall goes under) q (direct end f) same = absurd (not_both b at also goes
       (one_stander world.mounts apart_all.by_place (mount_at nat_eq world at) b
-      (placed_among world.mounts at.mount rest under) n rest under (f ∙ ap Some same)))
+      (placed_among world.mounts at.mount rest under) n rest under (cc)))
   one_falls a b m n stays also r (down at rest fall goes under) q (down at_too end fall_too goes_too under_too) same =
       let on_one : mount_at nat_eq world at ≡ mount_at nat_eq world at_too =
       one_stander world.mounts apart_all.by_place (mount_at nat_eq world at) (mount_at nat_eq world at_too)
       (placed_among world.mounts at.mount rest under) (placed_among world.mounts at_too.mount end under_too) rest under
-      (under_too ∙ ap Some same) in
+      (cc) in
       let number : at_too.mount ≡ at.mount =
-      sym (number-mount_in world.mounts at_too.mount) ∙ ap (λ z. z.number) (sym on_one)
+      cc (number-mount_in world.mounts at_too.mount, on_one)
       ∙ number-mount_in world.mounts at.mount in
       let x = stander a at m fall in
       let y = stander b at_too n fall_too in
@@ -124,7 +122,7 @@ module _ (world : World ℕ) (gone : List ℕ) (apart_all : AreApart world)
       let second = stood world gone b place.0 place.2 in
       let same : a ≡ b = one_falls a b m n first.0 second.0 place.0 first.1 place.0 second.1 refl in
       let had = had_place a place.0 first.1 in
-      true≢false (sym (one_place_of_two had.0 a b had.1 (ap (λ x. x.mount_point) (sym same) ∙ had.1)) ∙ differ))
+      cc (one_place_of_two had.0 a b had.1 (ap (λ x. x.mount_point) (sym same) ∙ had.1), differ))
     where
       had_place : (x : Mount ℕ) (place : Location ℕ) → Falls world gone x place
           → (at : Location ℕ) × (x.mount_point ≡ Some at)
@@ -151,7 +149,7 @@ goes_or_may world mount number h = by mount.mount_point refl
     alone m = inl (⊎_elim (λ e. e) (λ none. absurd none) m)
 
     listed : (numbers : List ℕ) → going nat_eq world mount ≡ numbers → Among number numbers
-    listed numbers e = among_numbers numbers number (sym (ap (λ ns. is_going nat_eq ns number) e) ∙ h)
+    listed numbers e = among_numbers numbers number (cc (h))
 
     on : (place : Location ℕ) (b : Bool) → Among number (going_from nat_eq world mount place b)
         → (number ≡ mount.number)
@@ -190,5 +188,4 @@ unmount_leaves_one_mount_a_place world one apart_all childless = record {
     no_child : (x : Mount ℕ) (place : Location ℕ) → Among x world.mounts → x.mount_point ≡ Some place
         → place.mount ≡ one → ⊥
     no_child x place m e same =
-        true≢false (sym (ap (holds_of (λ p. nat_eq one p.mount)) e ∙ eq-eqb one place.mount (sym same))
-        ∙ none_among (stands_on nat_eq one) world.mounts childless x m)
+        cc (e, eq-eqb one place.mount (sym same), none_among (stands_on nat_eq one) world.mounts childless x m)

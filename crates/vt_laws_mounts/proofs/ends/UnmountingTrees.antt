@@ -75,11 +75,11 @@ module _ (world : World ℕ) where
         → Among x (tree_from nat_eq depth world.mounts top)
         ⊎ Reaches (suc depth) x (mount_numbered nat_eq world top.number)
     in_tree zero top under x place m n e same =
-        let number : place.mount ≡ top.number = ⊎_elim (λ f. same ∙ ap (λ z. z.number) f) (λ none. absurd none) m in
+        let number : place.mount ≡ top.number = ⊎_elim (λ f. cc) (λ none. absurd none) m in
         inr (subst (λ k. Reaches 1 x (mount_numbered nat_eq world k)) number
         (down zero x (mount_at nat_eq world place) place e (arrived (mount_at nat_eq world place))))
     in_tree (suc depth) top under x place m n e same = ⊎_elim (λ f.
-        let number : place.mount ≡ top.number = same ∙ ap (λ z. z.number) f in
+        let number : place.mount ≡ top.number = cc in
         inl (inr (among-flat_map (tree_from nat_eq depth world.mounts) (children nat_eq world.mounts top.number) x x
         (among-filter (stands_on nat_eq top.number) world.mounts x n (ap (holds_of (λ p. nat_eq top.number p.mount)) e
         ∙ eq-eqb top.number place.mount (sym number))) (top_among depth x)))) (λ later.

@@ -31,7 +31,7 @@ module _ {A : Type 0} (next other : A → Option A) (key : A → ℕ) (there : L
   same_length a (ends it e f) c (goes_on x y g h m rest) same = grind (arith, common_steps, true≢false)
   same_length a (goes_on it b e f m rest) c (ends x g h) same = grind (arith, common_steps, true≢false)
   same_length a (goes_on it b e f m rest) c (goes_on x y g h n later) same =
-      grind (arith, common_steps, same_Some, same_length b rest y later (ap next (same_Some b y (sym e ∙ same ∙ g))))
+      grind (arith, common_steps, same_Some, same_length b rest y later (ap next (same_Some b y (cc))))
 
   rest_of : (a : A) (way : WayFrom a) (number : ℕ) → Among number (keys a way)
       → (c : A) × (road : WayFrom c) × (number ≡ key c) × (length (keys c road) ≤ length (keys a way))

@@ -1,5 +1,5 @@
 -- What stands in a list: tests over lists that are shortened or changed.
-use Rattle.std.proofs.Common.{◌≡◌, refl, sym, ap, subst, ◌∙◌, inl, inr, ⊎_elim, ℕ, nat_eq, eqb-true, eq-eqb, Bool, true, false, cond, ◌||◌, ◌&&◌, List, [], ◌∷◌, filter, find, map, true≢false, flat_map, ◌++◌, is_some, unwrap_or, None, Option, arith, ◌+◌, Some, nat_lt}
+use Rattle.std.proofs.Common.{◌≡◌, refl, sym, ap, subst, ◌∙◌, inl, inr, ⊎_elim, ℕ, nat_eq, eqb-true, eq-eqb, Bool, true, false, cond, ◌&&◌, List, [], ◌∷◌, filter, find, map, true≢false, flat_map, ◌++◌, unwrap_or, None, Option, arith, ◌+◌, Some, nat_lt}
 use Rattle.vt_spec.proofs.Common.{any_pair, common_steps, holds_of, is_among, list_any, one_more_is_some, or_parts}
 use Rattle.std.proofs.Math.Nat.{add_assoc}
 use Rattle.vt_spec.proofs.Truths.{as_many_with_none}
@@ -15,14 +15,13 @@ module _ {A : Type 0} where
   -- what is found is there and among_from_list_all
   pub found_in : (test : A → Bool) (xs : List A) (found : A) → find test xs ≡ Some found
       → Among found xs × (test found ≡ true)
-  found_in test [] found e = absurd (true≢false (sym (ap is_some e)))
+  found_in test [] found e = cc
   found_in test (first ∷ rest) found e = grind (arith, common_steps, found_in test rest found)
 
   -- where nothing among_from_list_all nothing is found
   pub find_none : (test : A → Bool) (xs : List A) → ((x : A) → Among x xs → test x ≡ false) → find test xs ≡ None
   find_none test [] none = refl
-  find_none test (first ∷ rest) none = ap (λ b. cond b (Some first) (find test rest)) (none first (inl refl))
-      ∙ find_none test rest (λ x m. none x (inr m))
+  find_none test (first ∷ rest) none = cc (none first (inl refl), find_none test rest (λ x m. none x (inr m)))
 
   -- what is there is found by its number
   pub found_by : (number : A → ℕ) (default : A) (xs : List A)
@@ -42,7 +41,7 @@ module _ {A : Type 0} where
           (sym (eq-eqb (number first) (number x) (sym (eqb-true (number x) (number first) e)))
           ∙ none_among (λ y. nat_eq (number first) (number y)) rest others x later))) n
       by others false e n next =
-          ⊎_elim (λ same. absurd (true≢false (sym (eq-eqb (number x) (number first) (ap number same)) ∙ e))) next n
+          ⊎_elim (λ same. absurd (cc (eq-eqb (number x) (number first) (ap number same)))) next n
 
   -- a filter that none among_from_list_all leaves nothing
   pub nothing_passes : (p : A → Bool) (xs : List A) → ((x : A) → Among x xs → p x ≡ false) → filter p xs ≡ []
@@ -64,7 +63,7 @@ module _ {A B : Type 0} where
   pub any-map : (p : B → Bool) {q : A → Bool} (f : A → B) (xs : List A) → ((x : A) → p (f x) ≡ q x)
       → list_any p (map f xs) ≡ list_any q xs
   any-map p f [] h = refl
-  any-map p {q = q} f (y ∷ ys) h = ap (λ b. b || list_any p (map f ys)) (h y) ∙ ap (λ b. q y || b) (any-map p f ys h)
+  any-map p {q = q} f (y ∷ ys) h = cc (h y, any-map p f ys h)
 
   pub filter-map : (p : B → Bool) {q : A → Bool} (f : A → B) (xs : List A) → ((x : A) → p (f x) ≡ q x)
       → filter p (map f xs) ≡ map f (filter q xs)
@@ -75,8 +74,7 @@ module _ {A B : Type 0} where
   pub flat_map-step : (f : A → A) (g : A → List B) (xs : List A) → ((x : A) → Among x xs → g (f x) ≡ g x)
       → flat_map g (map f xs) ≡ flat_map g xs
   flat_map-step f g [] h = refl
-  flat_map-step f g (y ∷ ys) h = ap (λ l. l ++ flat_map g (map f ys)) (h y (inl refl))
-      ∙ ap (λ l. g y ++ l) (flat_map-step f g ys (λ x m. h x (inr m)))
+  flat_map-step f g (y ∷ ys) h = cc (h y (inl refl), flat_map-step f g ys (λ x m. h x (inr m)))
 
   pub flat_map-map : (f : A → A) (g : A → List B) (xs : List A) → ((x : A) → g (f x) ≡ g x)
       → flat_map g (map f xs) ≡ flat_map g xs
@@ -84,7 +82,7 @@ module _ {A B : Type 0} where
 
   pub flat_map_none : (g : A → List B) (xs : List A) → ((x : A) → Among x xs → g x ≡ []) → flat_map g xs ≡ []
   flat_map_none g [] h = refl
-  flat_map_none g (y ∷ ys) h = ap (λ l. l ++ flat_map g ys) (h y (inl refl)) ∙ flat_map_none g ys (λ x m. h x (inr m))
+  flat_map_none g (y ∷ ys) h = cc (h y (inl refl), flat_map_none g ys (λ x m. h x (inr m)))
 
   -- a filter that skips only what gives nothing
   pub flat_map-filter : (p : A → Bool) (g : A → List B) (xs : List A) → ((x : A) → p x ≡ false → g x ≡ [])
@@ -96,7 +94,7 @@ module _ {A B : Type 0} where
       → flat_map f xs ≡ flat_map g xs
   flat_map_alike f g [] h = refl
   flat_map_alike f g (y ∷ ys) h =
-      ap (λ l. l ++ flat_map f ys) (h y (inl refl)) ∙ ap (λ l. g y ++ l) (flat_map_alike f g ys (λ x m. h x (inr m)))
+      cc (h y (inl refl), flat_map_alike f g ys (λ x m. h x (inr m)))
 
 module _ {A B C : Type 0} where
   pub flat_map-of_map : (g : B → List C) (f : A → B) (xs : List A) → flat_map g (map f xs) ≡ flat_map (λ x. g (f x)) xs
@@ -124,7 +122,7 @@ module _ {A : Type 0} where
 
 -- a number that is the one there may be is the one that is there
 pub held_number : (number : ℕ) (own : Option ℕ) → holds_of (nat_eq number) own ≡ true → own ≡ Some number
-held_number number None e = absurd (true≢false (sym e))
+held_number number None e = cc
 held_number number (Some one) e = ap Some (sym (eqb-true number one e))
 
 -- a number among numbers

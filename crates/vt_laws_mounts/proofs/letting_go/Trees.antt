@@ -1,5 +1,5 @@
 -- Names of a tree, and inodes that are used no more.
-use Rattle.std.proofs.Common.{arith, ◌≡◌, ◌≢◌, refl, sym, ap, ◌∙◌, true≢false, ⊎_elim, ℕ, nat_eq, true, false, List, [], map, Option, Some, None, is_some}
+use Rattle.std.proofs.Common.{arith, ◌≡◌, ◌≢◌, refl, ap, ◌∙◌, true≢false, ⊎_elim, ℕ, nat_eq, true, false, List, [], map, Option, Some, None, is_some}
 use Rattle.vt_spec.proofs.Common.{FileTree, HasName, Node, among_targets, cases_Bool, common_steps, entries_in, entry_named, is_among, is_directory_node, named_in, none_is_not, targets_in}
 use Rattle.vt_laws_mounts.specs.LettingGo.InUse.{IsListedTree}
 use Rattle.vt_laws_mounts.proofs.letting_go.Lists.{among-flat_map, among_numbers, is_among_numbers}
@@ -30,5 +30,5 @@ pub unnamed_is_empty : (files : FileTree ℕ) → IsListedTree files → (number
     → is_among nat_eq number (named_in files) ≡ false → targets_in (files.tree.node number) ≡ []
 unnamed_is_empty files conditions number root unnamed = ⊎_elim
     (λ is. ap (map (λ e. e.1)) (conditions.tree.unnamed_empty number is root
-    (λ named. true≢false (sym (named_among files conditions number named) ∙ unnamed))))
+    (λ named. cc (named_among files conditions number named))))
     (λ isnt. no_targets (files.tree.node number) isnt) (cases_Bool (is_directory_node (files.tree.node number)))

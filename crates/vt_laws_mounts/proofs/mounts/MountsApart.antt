@@ -1,6 +1,6 @@
 -- Mounts stay apart, by number and by place.
-use Rattle.std.proofs.Common.{arith, ◌≡◌, refl, ap, ◌∙◌, true, false, nat_eq, ℕ, Bool, List, [], eqb-true, is_some, map, ◌&&◌, ◌∷◌, ⊎_elim, ◌++◌, if◌then◌else◌}
-use Rattle.vt_spec.proofs.Common.{Among, Mount, World, among-append, among-from_map, among_from_list_all, any_pair, common_steps, copied_mount, deepest_first, evens, folded, inheriting, is_nowhere_or_attached, list_all_from_among, mount_at, mount_in, mount_lives, mount_numbered, mount_tree, mounts_of, named_mounts, number-mount_in, numbers_by, odds, pair-filter, pair-map, replaced_if_same, same_location, same_option, share_a_mount_point, unmounted, unmounted_if_there, with_mount}
+use Rattle.std.proofs.Common.{arith, ◌≡◌, refl, ap, ◌∙◌, true, false, nat_eq, ℕ, Bool, List, [], eqb-true, is_some, map, ◌∷◌, ⊎_elim, ◌++◌, if◌then◌else◌}
+use Rattle.vt_spec.proofs.Common.{Among, Mount, World, among-append, among-from_map, among_from_list_all, any_pair, common_steps, copied_mount, deepest_first, evens, folded, inheriting, is_nowhere_or_attached, list_all_from_among, mount_at, mount_in, mount_lives, mount_numbered, mount_tree, mounts_of, named_mounts, number-mount_in, numbers_by, odds, pair-filter, pair-map, replaced_if_same, share_a_mount_point, unmounted, unmounted_if_there, with_mount}
 use Rattle.vt_laws_mounts.specs.Mounts.Invariants.{AreApart, KeptByFlags, KeptByInheritance, KeptByLazyUnmount, KeptBySettling, KeptByType, NowhereOrAttached, OneNumberEach, FlagsKeepNowhere, KeptByUnshare}
 use Rattle.vt_laws_mounts.specs.Mounts.MountPoints.{OneMountAMountPoint}
 use Rattle.vt_laws_mounts.specs.Mounts.Attaching.{OneNumberAMount}
@@ -15,8 +15,7 @@ places_same : (f : Mount ℕ → Mount ℕ) (mounts : List (Mount ℕ))
     → OneMountAMountPoint mounts → OneMountAMountPoint (map f mounts)
 places_same f mounts same one = pair-map (share_a_mount_point nat_eq) (share_a_mount_point nat_eq) f mounts
     (λ a b m n differ.
-    ap (λ p. is_some p && same_option (same_location nat_eq) p (f b).mount_point) (same a m)
-    ∙ ap (λ q. is_some a.mount_point && same_option (same_location nat_eq) a.mount_point q) (same b n) ∙ differ) one
+    cc (same a m, same b n, differ)) one
 
 -- a mount in the place of the one with its number, at the same place
 replaced_same_place : (mounts : List (Mount ℕ)) → OneNumberAMount mounts → (new : Mount ℕ)
@@ -51,8 +50,8 @@ types_keep_apart world fresh number word recursive both =
 pub inheritance_keeps_apart : KeptByInheritance AreApart
 inheritance_keeps_apart world both = record {
   by_number = inheritance_keeps_numbers world both.by_number;
-  by_place = ap (any_pair (share_a_mount_point nat_eq)) (mounts-regrouped world)
-      ∙ places_same (inheriting nat_eq world) world.mounts (λ mount m. refl) both.by_place;
+  by_place =
+      cc (mounts-regrouped world, places_same (inheriting nat_eq world) world.mounts (λ mount m. refl) both.by_place);
 }
 
 pub settling_keeps_apart : KeptBySettling AreApart
@@ -105,7 +104,7 @@ flags_keep_nowhere world here flags one e =
     let new = record (mount_at nat_eq world here) { flags = flags } in
     list_all_from_among is_nowhere_or_attached (with_mount nat_eq world.mounts new) (λ mount m.
     let from = among-from_map (replaced_if_same nat_eq new) world.mounts mount m in
-    ap is_nowhere_or_attached from.2 ∙ by from.0 from.1 (nat_eq new.number from.0.number) refl)
+    cc (from.2, by from.0 from.1 (nat_eq new.number from.0.number) refl))
   where
     by : (old : Mount ℕ) → Among old world.mounts → (b : Bool)
         → nat_eq (mount_at nat_eq world here).number old.number ≡ b

@@ -1,5 +1,5 @@
 -- What is attached leaves the mounts that were there.
-use Rattle.std.proofs.Common.{arith, ◌≡◌, refl, sym, ap, ◌∙◌, Bool, List, None, Some, [], ℕ, ◌∷◌, nat_eq, append_assoc, cond, eq-eqb, find, flat_map, inl, inr, map, subst, ◌++◌, false, true, length, ◌⊎◌, if◌then◌else◌}
+use Rattle.std.proofs.Common.{arith, ◌≡◌, refl, sym, ap, ◌∙◌, Bool, List, None, [], ℕ, ◌∷◌, nat_eq, append_assoc, eq-eqb, find, flat_map, inl, inr, map, subst, ◌++◌, false, true, length, ◌⊎◌, if◌then◌else◌}
 use Rattle.vt_spec.proofs.Common.{Among, Copies, Fresh, Graft, Location, Mount, World, added_mounts, among-from_map, among-map, attached_by, common_steps, copies_at, copies_from, copy_number, folded, graft_of, is_among, list_any, map-append, mount_at, mount_in, mount_numbered, moved_tree, nat_eq_false_turned, no_mount, none_among, number-mount_in, or_parts, parts_of, pushed_onto, pushed_up, rest_of, stands_at, tree_among, with_mount, with_moved_mounts}
 use Rattle.vt_laws_mounts.specs.Mounts.Attaching.{KeepsAllButMountPoint, AttachKeepsMounts, AttachLeavesMounts, KeepsWhatItShows, MoveKeepsMounts, MoveLeavesMounts, NewMountsFollow, is_mount, numbers_of, stands_at_a_receiver, MovedMountsShow}
 use Rattle.vt_laws_mounts.proofs.mounts.MountsReplaced.{found-append, found-with_mount_other, numbers-with_mount, found_itself, related-with_mount}
@@ -10,7 +10,7 @@ none_found : {A : Type 0} (test : A → Bool) (xs : List A) → list_any test xs
 none_found test [] h = refl
 none_found test (x ∷ xs) h =
     let apart_from : (test x ≡ false) × (list_any test xs ≡ false) = or_parts _ _ h in
-    ap (λ b. cond b (Some x) (find test xs)) apart_from.0 ∙ none_found test xs apart_from.1
+    cc (apart_from.0, none_found test xs apart_from.1)
 
 module _ (world : World ℕ) (new : Copies ℕ) (graft : Graft ℕ) (parts : List (Mount ℕ)) where
   -- a receiver moves a mount up, or none does
@@ -86,9 +86,8 @@ module _ (world : World ℕ) (new : Copies ℕ) (place : Location ℕ) (moves : 
 
   pub numbers_attached : numbers_of (attached_by nat_eq world new place moves mounts).mounts
       ≡ numbers_of world.mounts ++ numbers_of others
-  numbers_attached = ap numbers_of in_front
-      ∙ map-append (λ (mount : Mount ℕ). mount.number) (map push moved_ones) others
-      ∙ ap (λ ns. ns ++ numbers_of others) numbers_pushed
+  numbers_attached =
+      cc (in_front, map-append (λ (mount : Mount ℕ). mount.number) (map push moved_ones) others, numbers_pushed)
 
   -- a mount that was there is found, moved up where it stood at a receiver
   pub found_attached : (number : ℕ) → is_mount world number ≡ true
@@ -210,6 +209,5 @@ moved_mounts_show world fresh source place number one there =
   where
     itself : (origin : Mount ℕ) → (origin ≡ mount_at nat_eq world source) ⊎ Among origin world.mounts
         → mount_in nat_eq world.mounts origin.number ≡ origin
-    itself origin (inl e) = ap (λ m. mount_in nat_eq world.mounts m.number) e
-        ∙ ap (mount_in nat_eq world.mounts) (number-mount_in world.mounts source.mount) ∙ sym e
+    itself origin (inl e) = cc (number-mount_in world.mounts source.mount)
     itself origin (inr m) = found_itself world.mounts one origin m

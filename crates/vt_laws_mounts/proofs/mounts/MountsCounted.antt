@@ -30,7 +30,7 @@ as_many world after f changed inside placed namespace =
     let before = mounts_of nat_eq world namespace in
     let these = as_many_mounts world after f changed inside namespace in
     record {
-      mounts = ap length these ∙ length-map before f;
+      mounts = cc (length-map before f);
       roots = ap (λ l. length (filter (is_root_mount nat_eq) l)) these
           ∙ ap length (filter-map (is_root_mount nat_eq) (is_root_mount nat_eq) f before (λ mount m.
           same_root (f mount) mount (placed mount (among-from_filter (is_in namespace) world.mounts mount m).0)))

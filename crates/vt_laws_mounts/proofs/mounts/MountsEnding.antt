@@ -1,6 +1,6 @@
 -- The places below places come to an end through changes of types and flags.
-use Rattle.std.proofs.Common.{arith, ◌≡◌, refl, sym, ap, subst, ◌∙◌, zero, suc, nat_eq, ℕ, Option, is_some, length, not, option_map, ◌&&◌}
-use Rattle.vt_spec.proofs.Common.{Among, Mount, World, among-map, among_from_list_all, chain, chain_ends, chain_goes_on, common_steps, is_among, is_among_numbers, last_of_chain, last_or, last_parent, length-map, list_all_from_among, mount_at, mount_in, mount_numbered, number-mount_in, same_option, stands_in_its_namespace, with_flags, with_type}
+use Rattle.std.proofs.Common.{arith, ◌≡◌, refl, sym, ap, subst, ◌∙◌, zero, suc, nat_eq, ℕ, Option, length, option_map}
+use Rattle.vt_spec.proofs.Common.{Among, Mount, World, among-map, among_from_list_all, chain, chain_ends, chain_goes_on, common_steps, is_among, is_among_numbers, last_of_chain, last_or, length-map, list_all_from_among, mount_at, mount_in, mount_numbered, number-mount_in, stands_in_its_namespace, with_flags, with_type}
 use Rattle.vt_laws_mounts.specs.Mounts.Invariants.{FlagsKeepChainsEnding, InheritanceKeepsChainsEnding, OneNumberEach, TypeKeepsChainsEnding}
 use Rattle.vt_laws_mounts.specs.Mounts.Unmounting.{ChainsEnd}
 use Rattle.vt_laws_mounts.proofs.mounts.MountsFound.{found-map, found_there, numbers-map}
@@ -42,15 +42,13 @@ module _ (world after : World ℕ)
       sym (length-map after.mounts (λ (x : Mount ℕ). x.number)) ∙ ap length numbers
       ∙ length-map world.mounts (λ (x : Mount ℕ). x.number) in
       let last = same_last (length world.mounts) old mount r in
-      ap (λ n. not (is_some (last_or mount (chain n below_after mount)).mount_point)
-      && same_option nat_eq mount.namespace (last_or mount (chain n below_after mount)).namespace) long
-      ∙ ap (λ p. not (is_some p) && same_option nat_eq mount.namespace
-      (last_or mount (chain (length world.mounts) below_after mount)).namespace) last.mount_point
-      ∙ ap (λ s. not (is_some (last_parent nat_eq world old).mount_point)
-      && same_option nat_eq mount.namespace s) last.namespace
-      ∙ ap (λ s. not (is_some (last_parent nat_eq world old).mount_point) && same_option nat_eq s
-      (last_parent nat_eq world old).namespace) r.namespace
-      ∙ among_from_list_all (stands_in_its_namespace nat_eq world) world.mounts ends old there)
+      cc (
+        long,
+        last.mount_point,
+        last.namespace,
+        r.namespace,
+        among_from_list_all (stands_in_its_namespace nat_eq world) world.mounts ends old there,
+      ))
 
 pub type_keeps_places_ending : TypeKeepsChainsEnding
 type_keeps_places_ending world fresh number word recursive one ends =

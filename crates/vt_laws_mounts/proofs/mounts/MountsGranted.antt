@@ -1,5 +1,5 @@
 -- What a granted call leaves.
-use Rattle.std.proofs.Common.{arith, ◌≡◌, refl, sym, ap, ◌∙◌, ℕ, nat_eq, Bool, true, false, not, ◌||◌, List, [], ◌∷◌, Some, is_ok, ok_or, Ok, Result, flat_map, inl, inr, is_some, map, subst, ◌++◌, ◌⊎◌}
+use Rattle.std.proofs.Common.{arith, ◌≡◌, refl, sym, ap, ◌∙◌, ℕ, nat_eq, Bool, true, false, not, ◌||◌, List, [], ◌∷◌, Some, is_ok, ok_or, Ok, Result, flat_map, inl, inr, is_some, map, subst, ◌⊎◌}
 use Rattle.vt_spec.proofs.Common.{Answer, Call, Fresh, Mount, Outcome, Permit, Stop, Task, TaskName, World, after, apply, call_outcome, common_steps, denial, filesystems_changed_by, finished, finished_by, judge_in, list_any, locations_of, looks_of, mount_lives, numbers_raised, only_looks, overfills, policy, raised_task, same_ok, settled, task_called, walk_end}
 use Rattle.vt_spec.specs.declared.errors.Rule.TheVariants.{S2}
 use Rattle.vt_laws_mounts.specs.Mounts.FileCalls.{HasLiving}
@@ -9,7 +9,7 @@ use Rattle.vt_laws_rules.specs.Granted.{IsGranted}
 
 -- a walk ends at one place
 pub one_end : {A : Type 0} (walk : Result A (Stop ℕ)) (a b : A) → walk ≡ Ok a → walk_end walk ≡ Ok b → a ≡ b
-one_end walk a b e f = same_ok a b (sym (ap walk_end e) ∙ f)
+one_end walk a b e f = same_ok a b (cc)
 
 -- a task with its change number raised is where it was
 locations_raised : (name : TaskName) (task : Task ℕ) → locations_of (raised_task name task) ≡ locations_of task
@@ -19,8 +19,7 @@ all_locations_raised : (name : TaskName) (tasks : List (Task ℕ))
     → flat_map locations_of (map (raised_task name) tasks) ≡ flat_map locations_of tasks
 all_locations_raised name [] = refl
 all_locations_raised name (task ∷ tasks) =
-    ap (λ here. here ++ flat_map locations_of (map (raised_task name) tasks)) (locations_raised name task)
-    ∙ ap (λ rest. locations_of task ++ rest) (all_locations_raised name tasks)
+    cc (locations_raised name task, all_locations_raised name tasks)
 
 -- what lives after a call lives as its outcome leaves it
 lives_then : (before world : World ℕ) (name : TaskName) (changed : List ℕ) (mount : Mount ℕ)
@@ -76,7 +75,7 @@ module _ (fresh : Fresh ℕ) (world : World ℕ) (name : TaskName) (task : Task 
   settles answer looks e =
       let outcome = call_outcome nat_eq fresh world task call in
       let ends : policy nat_eq fresh world name call ≡ finished_by nat_eq false world name (changed task) outcome =
-      policy_is ∙ ap (λ b. finished_by nat_eq (b || not (is_ok outcome.answer)) world name (changed task) outcome) looks
+      cc (policy_is, looks)
       ∙ ap (λ a. finished_by nat_eq (not (is_ok a)) world name (changed task) outcome) (sym answered ∙ e) in
       subst (λ o. HasLiving o.world outcome.world.mounts) (sym ends)
       (living_then world outcome.world name (changed task))

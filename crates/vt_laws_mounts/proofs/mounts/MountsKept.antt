@@ -11,8 +11,8 @@ use Rattle.vt_laws_mounts.proofs.mounts.MountsRetyped.{numbers_with_type}
 
 -- Numbers
 pub numbers_regrouped : (world : World ℕ) → numbers_of (regrouped nat_eq world).mounts ≡ numbers_of world.mounts
-numbers_regrouped world = ap numbers_of (mounts-regrouped world)
-    ∙ numbers-map (inheriting nat_eq world) (λ mount. refl) world.mounts
+numbers_regrouped world =
+    cc (mounts-regrouped world, numbers-map (inheriting nat_eq world) (λ mount. refl) world.mounts)
 
 pub taking_away_keeps_numbers : KeptByTakingAway OneNumberEach
 taking_away_keeps_numbers world gone e =

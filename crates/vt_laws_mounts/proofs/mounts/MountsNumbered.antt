@@ -304,7 +304,8 @@ copies_keep_numbers world new place true mounts serve own one = finish place tru
     (filter (takes_part nat_eq world place) (receivers_of nat_eq world (mount_at nat_eq world place)))
     (takers_apart world place one (group_of (mount_at nat_eq world place).propagation)) (λ part m. (
       inr m,
-      nat_eq_false_turned place.mount part.number (taker_elsewhere world place part (among-from_filter (takes_part nat_eq world place)
+      nat_eq_false_turned place.mount part.number
+          (taker_elsewhere world place part (among-from_filter (takes_part nat_eq world place)
           (receivers_of nat_eq world (mount_at nat_eq world place)) part m).1),
     )) refl
 

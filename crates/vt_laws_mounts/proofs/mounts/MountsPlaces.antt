@@ -1,6 +1,6 @@
 -- Where mounts stand.
-use Rattle.std.proofs.Common.{arith, ◌≡◌, refl, sym, ap, ◌∙◌, ℕ, nat_eq, eq-eqb, true, true≢false, ◌&&◌, List, [], ◌∷◌, Some, is_some}
-use Rattle.vt_spec.proofs.Common.{Among, Location, Mount, all_from_among, and_from, child_at, common_steps, holds_of, none_among, or_parts, same_Some, same_location, same_location_is, same_option, share_a_mount_point, stands_at}
+use Rattle.std.proofs.Common.{arith, ◌≡◌, refl, sym, ◌∙◌, ℕ, nat_eq, eq-eqb, true, true≢false, List, [], ◌∷◌, Some}
+use Rattle.vt_spec.proofs.Common.{Among, Location, Mount, all_from_among, and_from, child_at, common_steps, none_among, or_parts, same_Some, same_location, same_location_is, share_a_mount_point, stands_at}
 use Rattle.vt_laws_mounts.specs.Mounts.MountPoints.{OneMountAMountPoint, StandsAloneAtItsMountPoint}
 
 pub same_location_itself : (place : Location ℕ) → same_location nat_eq place place ≡ true
@@ -15,12 +15,11 @@ stands_there place mount h = grind (arith, common_steps, true≢false, same_loca
 
 pub stands_at_its_place : (place : Location ℕ) (mount : Mount ℕ) → mount.mount_point ≡ Some place
     → stands_at nat_eq place mount ≡ true
-stands_at_its_place place mount e = ap (holds_of (same_location nat_eq place)) e ∙ same_location_itself place
+stands_at_its_place place mount e = cc (same_location_itself place)
 
 pub one_place_of_two : (place : Location ℕ) (a b : Mount ℕ) → a.mount_point ≡ Some place → b.mount_point ≡ Some place
     → share_a_mount_point nat_eq a b ≡ true
-one_place_of_two place a b e f = ap (λ p. is_some p && same_option (same_location nat_eq) p b.mount_point) e
-    ∙ ap (same_option (same_location nat_eq) (Some place)) f ∙ same_location_itself place
+one_place_of_two place a b e f = cc (same_location_itself place)
 
 -- where no two stand at one place, one that stands there is found there
 pub found_at_its_place : (mounts : List (Mount ℕ)) → OneMountAMountPoint mounts → (mount : Mount ℕ) → Among mount mounts

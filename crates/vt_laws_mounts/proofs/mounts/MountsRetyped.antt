@@ -14,12 +14,12 @@ flags_are_set world here flags there =
     let number : one.number ≡ here.mount = number-mount_in world.mounts here.mount in
     let new = record one { flags = flags } in
     ap (mount_in nat_eq (with_mount nat_eq world.mounts new)) (sym number)
-    ∙ found-with_mount_itself new world.mounts (ap (λ n. is_among nat_eq n (numbers_of world.mounts)) number ∙ there)
+    ∙ found-with_mount_itself new world.mounts (cc (number))
 
 pub flags_are_of_one : FlagsAreOfOne
 flags_are_of_one world here flags number other =
     found-with_mount_other (record (mount_at nat_eq world here) { flags = flags }) world.mounts number
-    (ap (λ n. nat_eq n number) (number-mount_in world.mounts here.mount) ∙ other)
+    (cc (number-mount_in world.mounts here.mount))
 
 -- Types
 all_but_type_itself : (mount : Mount ℕ) → KeepsAllButType mount mount
@@ -63,7 +63,7 @@ module _ (world : World ℕ) (group : ℕ → ℕ) (word : TypeWord) (named : Li
   retyped_missing : (number : ℕ) → is_mount world number ≡ false
       → mount_numbered nat_eq next_world number ≡ mount_numbered nat_eq world number
   retyped_missing number missing =
-      none_numbered next_world.mounts number (ap (is_among nat_eq number) numbers-retyped ∙ missing)
+      none_numbered next_world.mounts number (cc (numbers-retyped))
       ∙ sym (none_numbered world.mounts number missing)
 
   pub keeps_all_but_type : (number : ℕ)
@@ -144,7 +144,7 @@ alone_is_private world fresh number one there shared no_master none =
     ∙ either_none (nat_eq one (group (mount_numbered nat_eq world number).number)) no_master in
     type_of_named world group ToSlave named number there chosen
     ∙ ap (λ kind. inherited nat_eq middle (type_after (group number) ToSlave kind)) shared
-    ∙ ap slave_of_heir (no_heir middle one above (sym (members_between world group ToSlave named one) ∙ none))
+    ∙ ap slave_of_heir (no_heir middle one above (cc (members_between world group ToSlave named one)))
   where
     either_none : (b : Bool) → world.master one ≡ None → (if b then None else world.master one) ≡ None
     either_none true e = refl

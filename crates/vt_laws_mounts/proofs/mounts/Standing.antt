@@ -131,7 +131,7 @@ module _ (world : World ℕ) where
 
   same_as_test : (a b : Option ℕ) → a ≡ b → same_option nat_eq a b ≡ true
   same_as_test None None e = refl
-  same_as_test None (Some b) e = absurd (true≢false (sym (ap is_some e)))
+  same_as_test None (Some b) e = cc
   same_as_test (Some a) None e = absurd (true≢false (ap is_some e))
   same_as_test (Some a) (Some b) e = eq-eqb a b (same_Some a b e)
 
@@ -170,7 +170,7 @@ module _ (world : World ℕ) where
           ∙ ap (last_or x) (chain_goes_on below long.0 x parent (ap (option_map (mount_at nat_eq world)) e))
           ∙ last_of_chain below long.0 parent x
           ∙ alone long.0 parent (ap (λ m. option_map (mount_at nat_eq world) m.mount_point) none) in
-          one_namespace x.namespace (last_parent nat_eq world x).namespace both.1 ∙ ap (λ m. m.namespace) end
+          cc (one_namespace x.namespace (last_parent nat_eq world x).namespace both.1, end)
 
   stands_by_test : OneNumberEach world → ChainsEnd world → (n number : ℕ)
       → is_some (last_in n (mount_of number)).mount_point ≡ false → Stand number
@@ -240,9 +240,9 @@ module _ (world : World ℕ) (one : OneNumberEach world) (all : AllStand world) 
     where
       by : Stands nat_eq world number
           → (mount_numbered nat_eq world number).namespace ≡ (mount_numbered nat_eq world place.mount).namespace
-      by (at_root it f) = absurd (true≢false (sym (ap is_some e) ∙ ap is_some f))
+      by (at_root it f) = cc
       by (on_parent it at f g x) =
-          g ∙ ap (λ (p : Location ℕ). (mount_numbered nat_eq world p.mount).namespace) (same_Some at place (sym f ∙ e))
+          cc (g, same_Some at place (sym f ∙ e))
 
   -- how deep a mount lies is counted so
   pub depth_by_rank : (number : ℕ) → depth_of nat_eq world (mount_numbered nat_eq world number) ≡ suc (rank number)
@@ -286,7 +286,7 @@ module _ (world : World ℕ) (one : OneNumberEach world) (all : AllStand world) 
       → rank child.number ≡ suc (rank mount.number)
   child_rank mount child m =
       let t = child_lies mount child m in
-      rank_child child.number t.0 t.1 ∙ ap (λ n. suc (rank n)) t.2
+      cc (rank_child child.number t.0 t.1, t.2)
 
   -- some children, each with what is taken below it, and each once
   module _ (mount : Mount ℕ) (trees : Mount ℕ → List (Mount ℕ)) (chosen : List (Mount ℕ))
@@ -312,7 +312,7 @@ module _ (world : World ℕ) (one : OneNumberEach world) (all : AllStand world) 
         child_rank mount a (are_children a m) ∙ sym (child_rank mount b (are_children b n)) in
         let equal : a.number ≡ b.number = one_above a.number b.number x.number (lie a x m k)
         (subst (LiesIn world b.number) (sym (eqb-true x.number y.number same)) (lie b y n l)) level in
-        true≢false (sym (eq-eqb a.number b.number equal) ∙ differ))))
+        cc (eq-eqb a.number b.number equal, differ))))
 
   each_once : (fuel : ℕ) (mount : Mount ℕ) → OneNumberAMount (tree_from nat_eq fuel world.mounts mount)
   each_once zero mount = refl

@@ -1,12 +1,11 @@
 -- A move leaves each mount standing, and at most one at a place.
-use Rattle.std.proofs.Common.{arith, ◌≡◌, refl, sym, ap, subst, ◌∙◌, true, nat_eq, ℕ, List, [], append-nil, eqb-true, flat_map, inl, inr, is_some, length, not, suc, true≢false, zero, ⊎_elim, ◌&&◌, ◌∷◌, ◌||◌}
-use Rattle.vt_spec.proofs.Common.{Among, Location, Mount, MountInvariants, Stands, World, among-flat_map, among-from_filter, among-from_flat_map, among-from_map, among_from_all, among_from_list_all, at_root, children, common_steps, found_or_none, is_among, is_nowhere_or_attached, is_private, mount_at, mount_in, mount_numbered, mount_tree, moved_tree, nat_eq_false_turned, none_among, none_from_among, number-mount_in, on_parent, or_false_alone, parts_of, stands_on, tree_among, tree_from}
+use Rattle.std.proofs.Common.{arith, ◌≡◌, refl, sym, ap, subst, ◌∙◌, true, nat_eq, ℕ, List, [], append-nil, eqb-true, flat_map, inl, inr, is_some, length, suc, true≢false, zero, ⊎_elim, ◌∷◌}
+use Rattle.vt_spec.proofs.Common.{Among, Location, Mount, MountInvariants, Stands, World, among-flat_map, among-from_filter, among-from_flat_map, among-from_map, among_from_all, among_from_list_all, at_root, children, common_steps, found_or_none, is_among, is_nowhere_or_attached, mount_at, mount_in, mount_numbered, mount_tree, moved_tree, nat_eq_false_turned, none_among, none_from_among, number-mount_in, on_parent, or_false_alone, parts_of, stands_on, tree_among, tree_from}
 use Rattle.vt_laws_mounts.specs.Mounts.Attaching.{numbers_of}
 use Rattle.vt_laws_mounts.specs.Mounts.Moving.{CanMove, MovesKeepMountPoints, MovesKeepStanding}
 use Rattle.vt_laws_mounts.proofs.attached.Attaching.{Hangs}
 use Rattle.vt_laws_mounts.proofs.attached.Attaching.Hangs.{from_top}
 use Rattle.vt_laws_mounts.proofs.attached.BindsStand.{child_hangs}
-use Rattle.vt_laws_mounts.proofs.mounts.MountsAttached.{supplied}
 use Rattle.vt_laws_mounts.proofs.mounts.MountsNumbered.{is_one_of, supplies_serve_as_copies}
 use Rattle.vt_laws_mounts.proofs.mounts.MountsReplaced.{found_itself}
 use Rattle.vt_laws_mounts.proofs.moves.MovingLeaves.{MayMove}
@@ -28,7 +27,7 @@ top_among_tree fuel mounts top = let t = tree_top fuel mounts top in subst (Amon
 pub placed_there : (mounts : List (Mount ℕ)) (number : ℕ) → is_some (mount_in nat_eq mounts number).mount_point ≡ true
     → Among (mount_in nat_eq mounts number) mounts
 placed_there mounts number placed = ⊎_elim (λ l. l)
-    (λ none. absurd (true≢false (sym placed ∙ ap (λ (x : Mount ℕ). is_some x.mount_point) none)))
+    (λ none. absurd cc)
     (found_or_none mounts number)
 
 attached_there : (mounts : List (Mount ℕ)) (number : ℕ) → is_some (mount_in nat_eq mounts number).namespace ≡ true
@@ -36,7 +35,7 @@ attached_there : (mounts : List (Mount ℕ)) (number : ℕ) → is_some (mount_i
 attached_there mounts number attached = ⊎_elim
     (λ l. subst (λ n. is_among nat_eq n (numbers_of mounts) ≡ true) (number-mount_in mounts number)
     (is_one_of mounts (mount_in nat_eq mounts number) l))
-    (λ none. absurd (true≢false (sym attached ∙ ap (λ (x : Mount ℕ). is_some x.namespace) none)))
+    (λ none. absurd cc)
     (found_or_none mounts number)
 
 module _ (world : World ℕ) where
@@ -120,8 +119,7 @@ module _ (world : World ℕ) where
         in_some : (mount : Mount ℕ) → Among mount world.mounts → is_some mount.mount_point ≡ true
             → is_some mount.namespace ≡ true
         in_some mount m placed = or_false_alone (is_some mount.namespace)
-            (sym (ap (λ b. is_some mount.namespace || (not b && is_private mount.propagation)) placed)
-            ∙ among_from_list_all is_nowhere_or_attached world.mounts invariants.nowhere mount m)
+            (cc (among_from_list_all is_nowhere_or_attached world.mounts invariants.nowhere mount m))
 
 pub moves_keep_standing : MovesKeepStanding
 moves_keep_standing world fresh source place serves invariants can =

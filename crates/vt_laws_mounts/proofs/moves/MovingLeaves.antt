@@ -1,6 +1,6 @@
 -- What moves, before anything is attached for the receivers: each mount stands, at most one at a place.
-use Rattle.std.proofs.Common.{arith, ◌≡◌, refl, sym, ap, subst, ◌∙◌, true, false, nat_eq, ℕ, Bool, List, None, Option, Some, [], eq-eqb, eqb-true, is_some, map, option_map, true≢false, ⊎_elim, ◌∷◌, if◌then◌else◌, unwrap_or}
-use Rattle.vt_spec.proofs.Common.{Among, Copies, Graft, Location, Mount, Stands, Twig, World, all_from_among, among-from_map, among-map, among_from_all, among_from_list_all, among_numbers, any_pair, at_root, child_at, common_steps, copy_at, false_from_ne_true, first_of_list, folded, graft_of, group_of, holds_of, is_among, list_all_from_among, list_any, mount_at, mount_in, mount_numbered, mount_point_on_copy, nat_eq_false_turned, none_among, none_from_among, number-mount_in, on_parent, or_from, or_parts, pair-map, parts_of, same_Some, stands_at, twig_of, with_mount}
+use Rattle.std.proofs.Common.{arith, ◌≡◌, refl, sym, ap, subst, ◌∙◌, true, false, nat_eq, ℕ, Bool, List, None, Option, Some, [], eq-eqb, eqb-true, is_some, option_map, true≢false, ⊎_elim, ◌∷◌, if◌then◌else◌, unwrap_or}
+use Rattle.vt_spec.proofs.Common.{Among, Copies, Graft, Location, Mount, Stands, Twig, World, all_from_among, among-from_map, among-map, among_from_all, among_from_list_all, among_numbers, any_pair, at_root, child_at, common_steps, copy_at, false_from_ne_true, first_of_list, folded, graft_of, group_of, is_among, list_all_from_among, list_any, mount_at, mount_in, mount_numbered, mount_point_on_copy, nat_eq_false_turned, none_among, none_from_among, number-mount_in, on_parent, or_from, or_parts, pair-map, parts_of, same_Some, stands_at, twig_of, with_mount}
 use Rattle.vt_laws_mounts.specs.Mounts.Attaching.{OneNumberAMount, is_mount, numbers_of}
 use Rattle.vt_laws_mounts.specs.Mounts.Invariants.{NowhereOrAttached}
 use Rattle.vt_laws_mounts.specs.Mounts.Standing.{AllStand}
@@ -29,7 +29,7 @@ found_folded mounts (first ∷ copies) own copy m is =
     ∙ found-with_mount_itself first mounts
     (subst (λ (x : Mount ℕ). is_among nat_eq x.number (numbers_of mounts) ≡ true) e is))) (λ later.
     found_folded (with_mount nat_eq mounts first) copies parted.1 copy later
-    (ap (is_among nat_eq copy.number) (numbers-with_mount first mounts) ∙ is)) m
+    (cc (numbers-with_mount first mounts))) m
 
 -- two of a list, told apart by their numbers
 pub pair_by : (test : Mount ℕ → Mount ℕ → Bool) (list : List (Mount ℕ)) → OneNumberAMount list
@@ -91,7 +91,7 @@ module _ (world : World ℕ) (new : Copies ℕ) (place : Location ℕ) (mounts :
 
   arrive_apart : OneNumberAMount (arriving world new place true mounts)
   arrive_apart = pair-map same_origin same_number made tree.twigs (λ a b m n differ.
-      ap (nat_eq (made a).number) (arrived_number b) ∙ ap (λ k. nat_eq k b.origin.number) (arrived_number a) ∙ differ)
+      cc (arrived_number b, arrived_number a, differ))
       (pair-map same_number same_origin twig mounts (λ a b m n differ. differ) may.own)
 
   pub same_numbers : numbers_of left.mounts ≡ numbers_of world.mounts
@@ -133,10 +133,10 @@ module _ (world : World ℕ) (new : Copies ℕ) (place : Location ℕ) (mounts :
       by true e =
           let origin = mover mount.number e in
           came origin.0 origin.1
-          (sym itself ∙ ap (mount_in nat_eq left.mounts) origin.2 ∙ found_arrived origin.0 origin.1)
+          (cc (itself, origin.2, found_arrived origin.0 origin.1))
       by false e = stayed (subst (λ x. Among x world.mounts) (sym (found_stayed mount.number e) ∙ itself)
           (found_there world.mounts mount.number
-          (ap (is_among nat_eq mount.number) (sym same_numbers) ∙ is_one_of left.mounts mount m)))
+          (cc (same_numbers, is_one_of left.mounts mount m))))
 
   pub nowhere_left : NowhereOrAttached left
   nowhere_left = grind (arith, common_steps, list_all_from_among, left_case, among_from_list_all)
@@ -154,7 +154,7 @@ module _ (world : World ℕ) (new : Copies ℕ) (place : Location ℕ) (mounts :
   placed : (origin : Mount ℕ) (b : Bool) → nat_eq origin.number may.top.number ≡ b
       → (arrived origin).mount_point ≡ Some (landing origin.mount_point b)
   placed origin b e = ap (λ c. Some (landing origin.mount_point c))
-      (ap (λ (ms : List (Mount ℕ)). holds_of (same_origin (twig origin)) (first_of_list (map twig ms))) may.is_tree ∙ e)
+      (cc (may.is_tree))
 
   top_place : (origin : Mount ℕ) → nat_eq origin.number may.top.number ≡ true
       → (arrived origin).mount_point ≡ Some place
@@ -170,11 +170,11 @@ module _ (world : World ℕ) (new : Copies ℕ) (place : Location ℕ) (mounts :
       → nat_eq number may.top.number ≡ true
   is_top_of first rest list number e =
       let same : first ≡ may.top = same_Some first may.top (ap first_of_list (sym list ∙ may.is_tree)) in
-      eq-eqb number may.top.number (e ∙ ap (λ (x : Mount ℕ). x.number) same)
+      eq-eqb number may.top.number (cc)
 
   same_mover : (a b : Mount ℕ) → Among a mounts → Among b mounts → a.number ≡ b.number → a ≡ b
   same_mover a b m n same =
-      sym (found_itself mounts may.own a m) ∙ ap (mount_in nat_eq mounts) same ∙ found_itself mounts may.own b n
+      cc (found_itself mounts may.own a m, same, found_itself mounts may.own b n)
 
   data ArrivedPlace (origin : Mount ℕ) : Type 0 where
     at_place : nat_eq origin.number may.top.number ≡ true → (arrived origin).mount_point ≡ Some place
@@ -192,13 +192,13 @@ module _ (world : World ℕ) (new : Copies ℕ) (place : Location ℕ) (mounts :
       by true e = at_place e (top_place origin e)
       by false e =
           let place_is : origin.mount_point ≡ Some on =
-          ap (λ (x : Mount ℕ). x.mount_point) (sym (same_mover other origin l m is)) ∙ f in
+          cc (same_mover other origin l m is, f) in
           as_before on place_is (other_place origin e on place_is)
 
   -- Standing
   stayed_stands : (number : ℕ) → Stands nat_eq world number → is_moved mounts number ≡ false → Stands nat_eq left number
   stayed_stands number (at_root it e) other =
-      at_root it (ap (λ (x : Mount ℕ). x.mount_point) (found_stayed it other) ∙ e)
+      at_root it (cc (found_stayed it other))
   stayed_stands number (on_parent it on e f stands) other =
       by (is_moved mounts on.mount) refl (stayed_stands on.mount stands)
     where
@@ -207,9 +207,8 @@ module _ (world : World ℕ) (new : Copies ℕ) (place : Location ℕ) (mounts :
       by true g parent_stands = absurd (true≢false
           (sym (may.closed (mount_numbered nat_eq world it) on (placed_among world.mounts it on e) e g)
           ∙ ap (is_moved mounts) (number-mount_in world.mounts it) ∙ other))
-      by false g parent_stands = on_parent it on (ap (λ (x : Mount ℕ). x.mount_point) (found_stayed it other) ∙ e)
-          (ap (λ (x : Mount ℕ). x.namespace) (found_stayed it other) ∙ f
-          ∙ sym (ap (λ (x : Mount ℕ). x.namespace) (found_stayed on.mount g))) (parent_stands g)
+      by false g parent_stands = on_parent it on (cc (found_stayed it other))
+          (cc (found_stayed it other, found_stayed on.mount g)) (parent_stands g)
 
   destination_stands : Stands nat_eq left place.mount
   destination_stands = stayed_stands place.mount (subst (Stands nat_eq world) (number-mount_in world.mounts place.mount)
@@ -219,9 +218,8 @@ module _ (world : World ℕ) (new : Copies ℕ) (place : Location ℕ) (mounts :
   top_stands : (origin : Mount ℕ) → Among origin mounts → nat_eq origin.number may.top.number ≡ true
       → Stands nat_eq left origin.number
   top_stands origin m e = on_parent origin.number place
-      (ap (λ (x : Mount ℕ). x.mount_point) (found_arrived origin m) ∙ top_place origin e)
-      (ap (λ (x : Mount ℕ). x.namespace) (found_arrived origin m)
-      ∙ sym (ap (λ (x : Mount ℕ). x.namespace) (found_stayed place.mount may.outside))) destination_stands
+      (cc (found_arrived origin m, top_place origin e))
+      (cc (found_arrived origin m, found_stayed place.mount may.outside)) destination_stands
 
   moved_stands : (number : ℕ) → Hangs mounts number → (origin : Mount ℕ) → Among origin mounts
       → origin.number ≡ number → Stands nat_eq left origin.number
@@ -236,10 +234,10 @@ module _ (world : World ℕ) (new : Copies ℕ) (place : Location ℕ) (mounts :
       by true e parent_stands = top_stands origin m e
       by false e parent_stands =
           let place_is : origin.mount_point ≡ Some on =
-          ap (λ (x : Mount ℕ). x.mount_point) (sym (same_mover other origin l m (sym same))) ∙ f in
+          cc (same_mover other origin l m (sym same), f) in
           let parent = hanging mounts on.mount later in
           on_parent origin.number on
-          (ap (λ (x : Mount ℕ). x.mount_point) (found_arrived origin m) ∙ other_place origin e on place_is)
+          (cc (found_arrived origin m, other_place origin e on place_is))
           (ap (λ (x : Mount ℕ). x.namespace) (found_arrived origin m)
           ∙ sym (ap (λ n. (mount_numbered nat_eq left n).namespace) (sym parent.2)
           ∙ ap (λ (x : Mount ℕ). x.namespace) (found_arrived parent.0 parent.1)))
@@ -276,13 +274,13 @@ module _ (world : World ℕ) (new : Copies ℕ) (place : Location ℕ) (mounts :
   left_place mount (came origin m e) = by (arrived_place origin m origin.number (may.hangs origin m) refl)
     where
       number : mount.number ≡ origin.number
-      number = ap (λ (x : Mount ℕ). x.number) e ∙ arrived_number (twig origin)
+      number = cc (arrived_number (twig origin))
 
       by : ArrivedPlace origin → LeftPlace mount
       by (at_place f g) =
-          at_destination (ap (λ k. nat_eq k may.top.number) number ∙ f) (ap (λ (x : Mount ℕ). x.mount_point) e ∙ g)
+          at_destination (cc (number)) (cc (e))
       by (as_before on f g) =
-          as_it_was origin (may.inside origin m) (sym number) (ap (λ (x : Mount ℕ). x.mount_point) e ∙ g ∙ sym f)
+          as_it_was origin (may.inside origin m) (sym number) (cc (e))
 
   pub places_left : OneMountAMountPoint world.mounts → child_at nat_eq world.mounts place ≡ None
       → OneMountAMountPoint left.mounts
@@ -292,17 +290,17 @@ module _ (world : World ℕ) (new : Copies ℕ) (place : Location ℕ) (mounts :
       -- none stood at the place
       not_there : (old : Mount ℕ) → Among old world.mounts → old.mount_point ≡ Some place → ⊥
       not_there old m e =
-          true≢false (sym (stands_at_its_place place old e) ∙ unfound (stands_at nat_eq place) world.mounts free old m)
+          cc (stands_at_its_place place old e, unfound (stands_at nat_eq place) world.mounts free old m)
 
       by : (a b : Mount ℕ) → LeftPlace a → LeftPlace b → same_number a b ≡ false → test a b ≡ false
       by a b (at_destination e f) (at_destination g h) differ = absurd (true≢false (sym (eq-eqb a.number b.number
           (eqb-true a.number may.top.number e ∙ sym (eqb-true b.number may.top.number g))) ∙ differ))
       by a b (at_destination e f) (as_it_was old m g h) differ = false_from_ne_true (test a b) (λ both.
           let t = one_place a b both in
-          not_there old m (sym h ∙ t.2 ∙ ap Some (sym (same_Some place t.0 (sym f ∙ t.1)))))
+          not_there old m (cc (t.2, same_Some place t.0 (sym f ∙ t.1))))
       by a b (as_it_was old m g h) (at_destination e f) differ = false_from_ne_true (test a b) (λ both.
           let t = one_place a b both in
-          not_there old m (sym h ∙ t.1 ∙ ap Some (sym (same_Some place t.0 (sym f ∙ t.2)))))
+          not_there old m (cc (t.1, same_Some place t.0 (sym f ∙ t.2))))
       by a b (as_it_was old m e f) (as_it_was other n g h) differ =
           ap (beside b.mount_point) f ∙ ap (λ p. beside p old.mount_point) h ∙ two_of world.mounts places old other m n
           (ap (λ k. nat_eq k other.number) e ∙ ap (nat_eq a.number) g ∙ differ)

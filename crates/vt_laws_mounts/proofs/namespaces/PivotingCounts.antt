@@ -1,6 +1,6 @@
 -- A pivot of the root leaves each namespace as many mounts and as many root mounts.
 use Rattle.std.proofs.Common.{arith, ◌≡◌, refl, sym, ap, ◌∙◌, true, false, suc, nat_eq, ℕ, Bool, List, [], eq-eqb, eqb-true, filter, is_some, length, not, true≢false, ⊎_elim, ◌&&◌, ◌∷◌}
-use Rattle.vt_spec.proofs.Common.{Among, Location, Mount, MountInvariants, World, among-filter, among-from_filter, any_pair, common_steps, filter_alike, filter_here, filter_skip, holds_of, is_root_mount, length-map, list_any, mounts_of, nat_eq_false_turned, none_among, or_parts, pair-filter, pivoted}
+use Rattle.vt_spec.proofs.Common.{Among, Location, Mount, MountInvariants, World, among-filter, among-from_filter, any_pair, common_steps, filter_alike, filter_here, filter_skip, is_root_mount, length-map, list_any, mounts_of, nat_eq_false_turned, none_among, or_parts, pair-filter, pivoted}
 use Rattle.vt_laws_mounts.specs.Mounts.Attaching.{OneNumberAMount}
 use Rattle.vt_laws_mounts.specs.Mounts.Namespaces.{CanPivot, PivotKeepsCounts}
 use Rattle.vt_laws_mounts.proofs.mounts.MountsCounted.{as_many_mounts, filter-map}
@@ -40,18 +40,17 @@ one_more p (y ∷ ys) one a m e =
     by : (b : Bool) → p y ≡ b → nat_eq a.number y.number ≡ false
         → length (filter p ys) ≡ suc (length (filter (besides p a) ys))
         → length (filter p (y ∷ ys)) ≡ suc (length (filter (besides p a) (y ∷ ys)))
-    by true f g rest = ap length (filter_here p y ys f) ∙ ap suc rest ∙ ap (λ l. suc (length l))
-        (sym (filter_here (besides p a) y ys (and_true (p y) (nat_eq a.number y.number) g ∙ f)))
-    by false f g rest = ap length (filter_skip p y ys f) ∙ rest ∙ ap (λ l. suc (length l))
-        (sym (filter_skip (besides p a) y ys (and_true (p y) (nat_eq a.number y.number) g ∙ f)))
+    by true f g rest =
+        cc (filter_here p y ys f, filter_here (besides p a) y ys (and_true (p y) (nat_eq a.number y.number) g ∙ f))
+    by false f g rest =
+        cc (filter_skip p y ys f, filter_skip (besides p a) y ys (and_true (p y) (nat_eq a.number y.number) g ∙ f))
 
 -- two tests, of which each passes one mount that the other does not
 as_many_pass : (p q : Mount ℕ → Bool) (xs : List (Mount ℕ)) → OneNumberAMount xs → (a b : Mount ℕ) → Among a xs
     → Among b xs → p a ≡ true → q b ≡ true → ((x : Mount ℕ) → Among x xs → besides p a x ≡ besides q b x)
     → length (filter p xs) ≡ length (filter q xs)
 as_many_pass p q xs one a b m n e f same =
-    one_more p xs one a m e ∙ ap (λ l. suc (length l)) (filter_alike (besides p a) (besides q b) xs same)
-    ∙ sym (one_more q xs one b n f)
+    cc (one_more p xs one a m e, filter_alike (besides p a) (besides q b) xs same, one_more q xs one b n f)
 
 module _ (world : World ℕ) (namespace : ℕ) (root new : Mount ℕ) (put : Location ℕ)
     (may : CanPivot world namespace root new put) (mounts : MountInvariants nat_eq world) where
@@ -126,9 +125,9 @@ module _ (world : World ℕ) (namespace : ℕ) (root new : Mount ℕ) (put : Loc
       by true e true f = as_many_pass later before (mounts_of nat_eq world other)
           (pair-filter same_number (is_in other) world.mounts mounts.one_number) new root
           (among-filter (is_in other) world.mounts new (new_among may mounts)
-          (ap (holds_of (nat_eq other)) may.new_inside ∙ f))
+          (cc (may.new_inside)))
           (among-filter (is_in other) world.mounts root (root_among may mounts)
-          (ap (holds_of (nat_eq other)) may.root_inside ∙ f))
+          (cc (may.root_inside)))
           (new_later ∙ e) e (λ mount m. besides_alike mount (here mount m).0)
 
 pub pivot_keeps_counts : PivotKeepsCounts

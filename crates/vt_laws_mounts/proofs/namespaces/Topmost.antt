@@ -39,8 +39,7 @@ module _ (world : World ℕ) (mounts : MountInvariants nat_eq world) where
           → child_at nat_eq world.mounts (last_or next (chain n over next)) ≡ None)
           → child_at nat_eq world.mounts (last_or here (chain (suc n) over here)) ≡ None
       by None e later =
-          ap (λ l. child_at nat_eq world.mounts (last_or here l)) (chain_ends over n here (ap (option_map root_of) e))
-          ∙ e
+          cc (chain_ends over n here (ap (option_map root_of) e), e)
       by (Some child) e later =
           let one = higher here child e in
           ap (child_at nat_eq world.mounts)

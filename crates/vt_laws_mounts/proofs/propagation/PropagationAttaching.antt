@@ -138,8 +138,7 @@ each_is_copied it part origin can c d = record {
 
 pub copies_are_new : CopiesAreNew
 copies_are_new it part origin can c d e =
-    ap (λ b. is_mount it.world (if b then origin.number else (supply it can).copy part.number origin.number)) e
-    ∙ number_new it can part origin c d
+    cc (e, number_new it can part origin c d)
 
 pub first_stands_on_its_part : FirstStandsOnItsPart
 first_stands_on_its_part it part first rest can c e = first_stands it can part first rest c e
@@ -157,9 +156,9 @@ not_shared Unbindable e = refl
 
 shared_group : (kind : Propagation ℕ) → is_shared kind ≡ true → (group : ℕ) × (group_of kind ≡ Some group)
 shared_group (Shared group) e = (group, refl)
-shared_group (Slave master) e = absurd (true≢false (sym e))
-shared_group Private e = absurd (true≢false (sym e))
-shared_group Unbindable e = absurd (true≢false (sym e))
+shared_group (Slave master) e = cc
+shared_group Private e = cc
+shared_group Unbindable e = cc
 
 module _ (it : Attachment) (can : CanAttach it) (origin : Mount ℕ) (d : IsOfTree it origin) where
   pub kind_at_destination : (copy_of it (destination_of it) origin).propagation
@@ -172,23 +171,23 @@ module _ (it : Attachment) (can : CanAttach it) (origin : Mount ℕ) (d : IsOfTr
 
   kind_on_shared : (group : ℕ) → group_of (destination_of it).propagation ≡ Some group
       → (copy_of it (destination_of it) origin).propagation ≡ type_on_shared (new_group group) origin.propagation
-  kind_on_shared group e = kind_at_destination ∙ ap (λ o. type_at (supply it can) o origin) e
+  kind_on_shared group e = cc (kind_at_destination)
 
 pub type_on_not_shared : TypeOnNotShared
-type_on_not_shared it origin can d e = kind_at_destination it can origin d
-    ∙ ap (λ o. type_at (supply it can) o origin) (not_shared (destination_of it).propagation e)
+type_on_not_shared it origin can d e =
+    cc (kind_at_destination it can origin d, not_shared (destination_of it).propagation e)
 
 pub shared_on_shared : SharedOnShared
 shared_on_shared it origin group can d e f =
     let own = shared_group (destination_of it).propagation e in
-    kind_on_shared it can origin d own.0 own.1 ∙ ap (type_on_shared (new_group it can origin d own.0)) f
+    cc (kind_on_shared it can origin d own.0 own.1, f)
 
 pub private_on_shared : PrivateOnShared
 private_on_shared it origin can d e f =
     let own = shared_group (destination_of it).propagation e in
     let m = tree_among it can origin d in (
       new_group it can origin d own.0,
-      kind_on_shared it can origin d own.0 own.1 ∙ ap (type_on_shared (new_group it can origin d own.0)) f,
+      cc (kind_on_shared it can origin d own.0 own.1, f),
       there_new it.world (supply it can) it.mount_point it.moves it.mounts
           (serve_images it can) can.each_once origin m own.0 own.1,
       private_there it.world (supply it can) it.mount_point it.moves it.mounts
@@ -200,7 +199,7 @@ slave_on_shared it origin master can d e f =
     let own = shared_group (destination_of it).propagation e in
     let m = tree_among it can origin d in (
       new_group it can origin d own.0,
-      kind_on_shared it can origin d own.0 own.1 ∙ ap (type_on_shared (new_group it can origin d own.0)) f,
+      cc (kind_on_shared it can origin d own.0 own.1, f),
       there_new it.world (supply it can) it.mount_point it.moves it.mounts
           (serve_images it can) can.each_once origin m own.0 own.1,
       slave_there it.world (supply it can) it.mount_point it.moves it.mounts

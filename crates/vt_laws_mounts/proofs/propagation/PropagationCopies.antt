@@ -1,6 +1,6 @@
 -- The copy of a mount at a part, as it is found after a tree was attached.
 use Rattle.std.proofs.Common.{arith, ◌≡◌, refl, sym, ap, subst, ◌∙◌, true, false, nat_eq, ℕ, Bool, List, Some, [], eq-eqb, eqb-true, flat_map, map, ⊎_elim, ◌&&◌, ◌++◌, ◌∷◌, if◌then◌else◌}
-use Rattle.vt_spec.proofs.Common.{Among, Copies, Graft, Location, Mount, Twig, World, among-append_left, among-append_right, among-flat_map, among-from_filter, among-map, attached_by, common_steps, copies_at, copy_at, graft_of, group_of, holds_of, is_among, list_any, mount_at, mount_in, mount_numbered, nat_eq_false_turned, none_from_among, number-mount_in, pair-map, parts_of, pushed_up, receivers_of, rest_of, same_location, takes_part, twig_of}
+use Rattle.vt_spec.proofs.Common.{Among, Copies, Graft, Location, Mount, Twig, World, among-append_left, among-append_right, among-flat_map, among-from_filter, among-map, attached_by, common_steps, copies_at, copy_at, graft_of, group_of, is_among, list_any, mount_at, mount_in, mount_numbered, nat_eq_false_turned, none_from_among, number-mount_in, pair-map, parts_of, pushed_up, receivers_of, rest_of, takes_part, twig_of}
 use Rattle.vt_laws_mounts.specs.Mounts.Attaching.{KeepsAllButMountPoint, OneNumberAMount, numbers_of}
 use Rattle.vt_laws_mounts.specs.Mounts.Copies.{ServeAsCopies}
 use Rattle.vt_laws_mounts.proofs.mounts.MountsAttached.{arriving, found_attached, is_pushed_by, keeps_number, moved_ones, none_pushes, push_keeps}
@@ -88,10 +88,7 @@ module _ (world : World ℕ) (new : Copies ℕ) (place : Location ℕ) (moves : 
       none : nat_eq part.number place.mount ≡ true
           → list_any (is_pushed_by world new tree parts (made part first)) (rest_of parts) ≡ false
       none there = none_from_among (is_pushed_by world new tree parts (made part first)) (rest_of parts) (λ receiver m.
-          ap (holds_of (same_location nat_eq (record { mount = receiver.number; node = place.node })))
-          (first_location part first rest e)
-          ∙ ap (λ n. nat_eq receiver.number n && nat_eq place.node place.node) (eqb-true part.number place.mount there)
-          ∙ ap (λ b. b && nat_eq place.node place.node) (not_there receiver m))
+          cc (first_location part first rest e, eqb-true part.number place.mount there, not_there receiver m))
 
       pushed : Bool
       pushed = list_any (is_pushed_by world new tree parts (made part first)) (rest_of parts)
@@ -162,7 +159,7 @@ module _ (world : World ℕ) (new : Copies ℕ) (place : Location ℕ) (mounts :
 
   put_apart : OneNumberAMount (arriving world new place true mounts)
   put_apart = pair-map same_origin same_number put (tree world new place true mounts).twigs (λ a b m n differ.
-      ap (nat_eq (put a).number) (put_number b) ∙ ap (λ k. nat_eq k b.origin.number) (put_number a) ∙ differ)
+      cc (put_number b, put_number a, differ))
       (pair-map same_number same_origin (twig world new place true mounts) mounts (λ a b m n differ. differ) own)
 
   moved_found : (origin : Mount ℕ) → Among origin mounts → mount_numbered nat_eq at_last origin.number

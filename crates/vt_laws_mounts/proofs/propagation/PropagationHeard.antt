@@ -1,6 +1,6 @@
 -- What the copies of a tree that is attached hear of.
-use Rattle.std.proofs.Common.{arith, ◌≡◌, refl, sym, ap, subst, ◌∙◌, true, false, nat_eq, ℕ, Bool, List, None, Option, Some, [], is_some, option_map, true≢false, unwrap_or, ⊎_elim}
-use Rattle.vt_spec.proofs.Common.{Among, Copies, Location, Mount, Shared, World, among-from_filter, among_from_contains, any_from_among, attached_by, common_steps, contains_from_among, group_of, groups_up, holds_of, is_among, is_member_of, parts_of, receivers, receivers_of, receives, same_truth, source_of, takes_part, type_at}
+use Rattle.std.proofs.Common.{arith, ◌≡◌, refl, ap, subst, ◌∙◌, true, false, nat_eq, ℕ, Bool, List, None, Option, Some, [], option_map, true≢false, unwrap_or, ⊎_elim}
+use Rattle.vt_spec.proofs.Common.{Among, Copies, Location, Mount, Shared, World, among-from_filter, among_from_contains, any_from_among, attached_by, common_steps, contains_from_among, group_of, groups_up, holds_of, is_among, is_member_of, parts_of, receivers, receivers_of, receives, same_truth, source_of, takes_part}
 use Rattle.vt_laws_mounts.specs.Mounts.Attaching.{OneNumberAMount}
 use Rattle.vt_laws_mounts.specs.Mounts.Copies.{ServeAsImages}
 use Rattle.vt_laws_mounts.specs.Mounts.Propagation.{Attachment, CanAttach, CopiesHearAsTheirOrigins, CopiesHearOneAnother, IsOfTree, IsPart, copy_of, destination_of, world_after}
@@ -31,9 +31,9 @@ module _ (it : Attachment) (can : CanAttach it) where
   pub sourced : (origin : Mount ℕ) → Among origin it.mounts → (source : ℕ) → source_of origin.propagation ≡ Some source
       → LivesIn it.world source
   sourced origin m source e = ⊎_elim
-      (λ alone. absurd (true≢false (sym (ap is_some e) ∙ ap (λ k. is_some (source_of k)) alone))) (λ old.
+      (λ alone. absurd cc) (λ old.
       lives_in it.world can.groups old.0 (among_from_contains it.world.mounts old.0 old.1) source
-      (ap source_of (sym old.2) ∙ e)) (can.types origin (contains_from_among it.mounts origin m))
+      (cc (old.2))) (can.types origin (contains_from_among it.mounts origin m))
 
   pub groups_after : GroupsLive (world_after it)
   groups_after =
@@ -84,14 +84,13 @@ copies_hear_as_their_origins it part origin group can c d lived = by (group_of (
     by None f = same_truth _ _ back forth
       where
         same_kind : (copy_of it part origin).propagation ≡ origin.propagation
-        same_kind = ap (λ x. (copy_of it x origin).propagation) (only_part it can f part c)
-            ∙ kind_at_destination it can origin d ∙ ap (λ o. type_at (supply it can) o origin) f
+        same_kind = cc (only_part it can f part c, kind_at_destination it can origin d)
 
         back : receives nat_eq (world_after it) group (copy_of it part origin) ≡ true
             → receives nat_eq it.world group origin ≡ true
         back r =
             let t = heard (world_after it) (copy_of it part origin) group r in
-            let e : source_of origin.propagation ≡ Some t.0 = sym (ap source_of same_kind) ∙ t.1 in
+            let e : source_of origin.propagation ≡ Some t.0 = cc (same_kind, t.1) in
             let life = sourced it can origin (tree_among it can origin d) t.0 e in
             ap (holds_of (λ s. is_among nat_eq group (groups_up it.world s))) e
             ∙ up_among it.world can.groups t.0 group life (old_up it.mount_point it.moves
@@ -102,6 +101,6 @@ copies_hear_as_their_origins it part origin group can c d lived = by (group_of (
         forth r =
             let t = heard it.world origin group r in
             hears (world_after it) (groups_after it can) (copy_of it part origin)
-            (copy_among it can part origin c d) t.0 group (ap source_of same_kind ∙ t.1)
+            (copy_among it can part origin c d) t.0 group (cc (same_kind, t.1))
             (old_up_after it.mount_point it.moves (serve_images it can) can.each_once t.0
             group (sourced it can origin (tree_among it can origin d) t.0 t.1) t.2)

@@ -1,5 +1,5 @@
 -- What the laws of propagation ask for holds of binds, new mounts and moves.
-use Rattle.std.proofs.Common.{arith, ◌≡◌, refl, sym, ap, subst, ◌∙◌, nat_eq, ℕ, inl, inr, true≢false, ⊎_elim, length, Contains}
+use Rattle.std.proofs.Common.{arith, ◌≡◌, refl, sym, ap, subst, nat_eq, ℕ, inl, inr, ⊎_elim, length, Contains}
 use Rattle.vt_spec.proofs.Common.{Among, Mount, among_from_contains, bind_tree, common_steps, contains_from_among, found_or_none, mount_at, moved_tree, tree_among}
 use Rattle.vt_laws_mounts.specs.Mounts.Propagation.{BindsCan, MovesCan, NewMountsCan}
 use Rattle.vt_laws_mounts.proofs.GroupsLiving.{tested_live}
@@ -13,7 +13,7 @@ binds_can world fresh source place recursive serves mounts = record {
   one_number = mounts.one_number;
   groups = tested_live world mounts.groups;
   each_once = binds_take_each_once world source recursive mounts.one_number mounts.standing;
-  moving = λ e. absurd (true≢false (sym e));
+  moving = λ e. absurd cc;
   types = λ origin c. ⊎_elim (λ same.
       let kind : origin.propagation ≡ (mount_at nat_eq world source).propagation =
       ap (λ (x : Mount ℕ). x.propagation) same in
@@ -21,7 +21,7 @@ binds_can world fresh source place recursive serves mounts = record {
         mount_at nat_eq world source,
         contains_from_among world.mounts (mount_at nat_eq world source) there,
         kind,
-      )) (λ none. inl (kind ∙ ap (λ (x : Mount ℕ). x.propagation) none)) (found_or_none world.mounts source.mount))
+      )) (λ none. inl (cc)) (found_or_none world.mounts source.mount))
       (λ there. inr (origin, contains_from_among world.mounts origin there, refl))
       (bind_there_or_source world source recursive origin
       (among_from_contains (bind_tree nat_eq world source recursive) origin c));

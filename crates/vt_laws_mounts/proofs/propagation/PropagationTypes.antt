@@ -1,6 +1,6 @@
 -- The types of copies, by those of the parts that they are at.
-use Rattle.std.proofs.Common.{arith, ◌≡◌, refl, sym, ap, ◌∙◌, true, false, nat_eq, ℕ, Bool, None, Option, Some, List, find, inl, option_map, true≢false, unwrap_or, ⊎_elim, if◌then◌else◌}
-use Rattle.vt_spec.proofs.Common.{Among, Copies, Location, Mount, Private, Propagation, Shared, Slave, Twig, Unbindable, World, common_steps, copy_type, group_of, groups_up, has_members, image, is_member_of, parts_of, slave_of_heir, type_at, type_on_shared}
+use Rattle.std.proofs.Common.{arith, ◌≡◌, refl, ap, ◌∙◌, true, false, nat_eq, ℕ, Bool, None, Option, Some, List, find, inl, option_map, unwrap_or, ⊎_elim, if◌then◌else◌}
+use Rattle.vt_spec.proofs.Common.{Among, Copies, Location, Mount, Private, Propagation, Shared, Slave, Twig, Unbindable, World, common_steps, copy_type, group_of, groups_up, has_members, image, is_member_of, parts_of, type_at, type_on_shared}
 use Rattle.vt_laws_mounts.specs.Mounts.Attaching.{OneNumberAMount}
 use Rattle.vt_laws_mounts.specs.Mounts.Copies.{ServeAsImages}
 use Rattle.vt_laws_mounts.proofs.attached.AttachedGroups.{kind_at}
@@ -41,7 +41,7 @@ module _ (world : World ℕ) (new : Copies ℕ) (place : Location ℕ) (moves : 
 
   part_itself : (part : Mount ℕ) → Among part all_parts → nat_eq part.number place.mount ≡ true → part ≡ there
   part_itself part m same = ⊎_elim (λ e. e)
-      (λ rest. absurd (true≢false (sym same ∙ not_there world new place moves mounts part rest))) m
+      (λ rest. absurd (cc (not_there world new place moves mounts part rest))) m
 
   pub kind_there : (origin : Mount ℕ) → kind there origin ≡ (of_tree origin).propagation
   kind_there origin = ap (λ b. if b then (of_tree origin).propagation
@@ -61,10 +61,7 @@ module _ (world : World ℕ) (new : Copies ℕ) (place : Location ℕ) (moves : 
   pub image_in : (origin : Mount ℕ) (group : ℕ) → group_of there.propagation ≡ Some group → image_of origin group
       ≡ unwrap_or (group_of (type_on_shared (new.image group origin.number) origin.propagation))
       (new.image group origin.number)
-  image_in origin group e = ap
-      (λ b. if b then unwrap_or (group_of (of_tree origin).propagation) (new.image group origin.number)
-      else new.image group origin.number) (member_by_group place moves serve own there group e)
-      ∙ ap (λ k. unwrap_or (group_of k) (new.image group origin.number)) (type_in origin group e)
+  image_in origin group e = cc (member_by_group place moves serve own there group e, type_in origin group e)
 
   -- the copy at a member of a group is a member of the image
   pub shared_kind : (part origin : Mount ℕ) → Among part all_parts → (group : ℕ) → part.propagation ≡ Shared group
@@ -77,8 +74,7 @@ module _ (world : World ℕ) (new : Copies ℕ) (place : Location ℕ) (moves : 
       → part.propagation ≡ Slave master → nearest_group master ≡ Some group
       → kind part origin ≡ Slave (image_of origin group)
   slave_kind part origin master group f e near =
-      kind_away part origin f ∙ ap (copy_type nat_eq world new all_parts there (of_tree origin)) e
-      ∙ ap (λ o. slave_of_heir (option_map (image_of origin) o)) near
+      cc (kind_away part origin f, e, near)
 
   -- the image of another group than the destination's is new
   pub image_new : (origin : Mount ℕ) → Among origin mounts → (group : ℕ) → has_members nat_eq all_parts group ≡ true

@@ -75,7 +75,13 @@ supplies_do_not_matter world other same first second name call keeps kept =
     let agrees : renamed joint.there joint.back world ≡ other = agree (is_kept first) world before joint keeps
     (λ number is. allotted_kept first second same.there number (kept_lot (first.lot number) is)) ∙ same.same in
     let again : SameWorld world other =
-    record { there = joint.there; back = joint.back; there_back = joint.there_back; back_there = joint.back_there; same = agrees } in
+    record {
+      there = joint.there;
+      back = joint.back;
+      there_back = joint.there_back;
+      back_there = joint.back_there;
+      same = agrees;
+    } in
     let supplied : (k : ℕ) → joint.there (first.new k) ≡ second.new k =
     λ k. allotted_new first second same.there (first.new k) k (first.new_lot k) in
     let P : Fresh ℕ → Type 0 = λ new.

@@ -81,7 +81,8 @@ module _ {world : World ℕ} {names : List TaskName} {fresh : Fresh ℕ} (it : I
 
   abbrev pub IsCopyOf : Mount ℕ → Type 0
   IsCopyOf mount =
-      (part : Mount ℕ) × Among part parts × (origin : Mount ℕ) × Among origin it.mounts × (mount ≡ copied_to part origin)
+      (part : Mount ℕ) × Among part parts × (origin : Mount ℕ) × Among origin it.mounts ×
+      (mount ≡ copied_to part origin)
 
   -- Groups that are made are new, and their masters are groups of others.
   image_foreign : (twig_group : ℕ) (origin : Mount ℕ) → Among origin it.mounts
@@ -132,8 +133,8 @@ module _ {world : World ℕ} {names : List TaskName} {fresh : Fresh ℕ} (it : I
           → Some (group, master_after origin.propagation) ≡ Some entry → IsMade entry
       made group number f =
           let entry_is = same_Some (group, master_after origin.propagation) entry f in (
-            (number.0, sym (ap (λ (x : ℕ × Option ℕ). x.0) entry_is) ∙ number.1),
-            λ above h. after_foreign origin m above (ap (λ (x : ℕ × Option ℕ). x.1) entry_is ∙ h),
+            (number.0, cc (number.1)),
+            λ above h. after_foreign origin m above (cc),
           )
 
       at : (kind : Propagation ℕ) → origin.propagation ≡ kind → (o : Option ℕ)
@@ -173,8 +174,8 @@ module _ {world : World ℕ} {names : List TaskName} {fresh : Fresh ℕ} (it : I
                 (world.master group),
           ) entry h in
           let number = new_image group origin.number in (
-            (number.0, sym (ap (λ (x : ℕ × Option ℕ). x.0) entry_is) ∙ number.1),
-            λ g k. nearest_foreign origin m (world.master group) g (ap (λ (x : ℕ × Option ℕ). x.1) entry_is ∙ k),
+            (number.0, cc (entry_is, number.1)),
+            λ g k. nearest_foreign origin m (world.master group) g (cc (entry_is)),
           )
 
   made_foreign : (entry : ℕ × Option ℕ) → Among entry (all_groups_made nat_eq base new tree parts) → IsMade entry
@@ -219,7 +220,7 @@ module _ {world : World ℕ} {names : List TaskName} {fresh : Fresh ℕ} (it : I
 
   foreign_master : (group above : ℕ) → IsForeign group → left.master group ≡ Some above → IsForeign above
   foreign_master group above foreign e = ⊎_elim
-      (λ same. foreign_above so_far group above foreign (sym same ∙ e)) (λ set. (made_foreign set.0 set.1).1 above
+      (λ same. foreign_above so_far group above foreign (cc)) (λ set. (made_foreign set.0 set.1).1 above
       (sym set.2 ∙ e)) (masters_from group (all_groups_made nat_eq base new tree parts) world.master)
 
   -- A type of which the group is one of others: then each group that it hears is.

@@ -1,17 +1,16 @@
 -- Copies of mounts of others, attached at a mount of others and at its receivers.
 use Rattle.std.proofs.Common.{arith, ◌≡◌, refl, sym, ap, subst, ◌∙◌, ◌⊎◌, inl, inr, ⊎_elim, ℕ, nat_eq, Bool, true, false, cond, true≢false, List, [], ◌∷◌, ◌++◌, ◌*◌, append-nil, append_assoc, Option, Some, None, filter, find, flat_map, is_some, length, map, not, ◌&&◌, ◌||◌, eq-eqb, eqb-true, option_map, unwrap_or, filter_map}
-use Rattle.vt_spec.proofs.Common.{Among, Copies, Filesystem, Fresh, Graft, Location, Mount, Private, Propagation, Serves, Shared, Slave, Stands, Task, TaskName, Unbindable, World, added_mounts, all_locations, among-append, among-filter, among-flat_map, among-from_filter, among-from_flat_map, among-from_map, among-map, among_from_all, among_from_list_all, and_from, and_parts, any_from_among, attach, common_steps, cons_option, contains_from_among, copies_at, copies_from, copy_at, false_from_ne_true, filter_map-append, folded, found_among, found_or_none, found_passes, graft_of, group_of, has_layer_on, holds_of, index_in_rows, index_of, is_at, is_destination, is_member_of, is_member_task, is_own_mount, is_own_namespace, list_all_from_among, list_any, locations, locations_of, map_same, map_twice, master_of, members, mount_at, mount_in, mount_numbered, no_mount, no_outsider_on, none_among, none_from_among, none_is_some, not-true, number-mount_in, other_mounts, outsiders, overlays, own_mounts, parts_of, pushed_onto, pushed_up, receiver_stood_on, receivers, receivers_of, receives, replaced_if_same, rest_of, roots_and_directories, seen_by_descriptor, shares_no_events, stands_at, takes_part, twig_of, when, with_mount, with_moved_mounts}
+use Rattle.vt_spec.proofs.Common.{Among, Copies, Filesystem, Fresh, Graft, Location, Mount, Private, Propagation, Shared, Slave, Stands, Task, TaskName, Unbindable, World, added_mounts, all_locations, among-append, among-filter, among-flat_map, among-from_filter, among-from_flat_map, among-from_map, among-map, among_from_all, among_from_list_all, and_from, and_parts, any_from_among, attach, common_steps, cons_option, contains_from_among, copies_at, copies_from, copy_at, false_from_ne_true, filter_map-append, folded, found_among, found_or_none, found_passes, graft_of, group_of, has_layer_on, holds_of, index_in_rows, index_of, is_at, is_destination, is_member_of, is_member_task, is_own_mount, is_own_namespace, list_all_from_among, list_any, locations, locations_of, map_same, map_twice, master_of, members, mount_at, mount_in, mount_numbered, no_mount, no_outsider_on, none_among, none_from_among, none_is_some, not-true, number-mount_in, other_mounts, outsiders, overlays, own_mounts, parts_of, pushed_onto, pushed_up, receiver_stood_on, receivers, receivers_of, receives, replaced_if_same, rest_of, roots_and_directories, seen_by_descriptor, shares_no_events, stands_at, takes_part, twig_of, when, with_mount, with_moved_mounts}
 use Rattle.vt_laws_mounts.proofs.mounts.MountsPlaces.{stands_there}
 use Rattle.vt_laws_mounts.proofs.mounts.MountsReplaced.{found_itself}
 use Rattle.vt_laws_worlds.proofs.worlds.Reached.{namespace_below}
 use Rattle.vt_laws_sealed.specs.Part.Parts.{SeesTheSame}
 use Rattle.vt_laws_trees.specs.Layers.Layers.ChangesUpper.{IsNewBy}
-use Rattle.vt_laws_sealed.specs.Part.Seals.{IsApart}
 use Rattle.vt_laws_sealed.proofs.part.Kept.{filter_map_map, filter_map_same}
 use Rattle.vt_laws_sealed.proofs.part.groups.EventsApart.{no_event_of_others_reaches_them}
 use Rattle.vt_laws_sealed.proofs.part.part.Observed.{own_mounts_same}
 use Rattle.vt_laws_sealed.proofs.part.part.PartOfPart.{keep}
-use Rattle.vt_laws_sealed.proofs.outsiders.AttachedGroups.{IsAttaching, IsCopyOf, OriginOf, copied_to, copy_foreign, old_foreign, own_master_stays}
+use Rattle.vt_laws_sealed.proofs.outsiders.AttachedGroups.{IsAttaching, IsCopyOf, copied_to, copy_foreign, old_foreign, own_master_stays}
 use Rattle.vt_laws_sealed.proofs.outsiders.Filesystems.{not_of_the_world}
 use Rattle.vt_laws_sealed.proofs.outsiders.OtherMounts.{Foreign, HearsGroup, events_stay_apart, is_other, located_there, number_not_new, standing_apart_with}
 use Rattle.vt_laws_sealed.proofs.outsiders.Reshaping.{IsReshaped, reshaped_kept, reshaped_twice}
@@ -272,9 +271,11 @@ module _ {world : World ℕ} {names : List TaskName} {fresh : Fresh ℕ} (it : A
         at.0,
         sym (ap (λ (x : Mount ℕ). x.namespace) (found_itself world.mounts it.apart.is.mounts.one_number mount m))
             ∙ namespace_below world mount.number (record { mount = part.number; node = it.place.node })
-            (among_from_all (λ (x : Mount ℕ). Stands nat_eq world x.number) world.mounts it.apart.is.mounts.standing mount
+            (among_from_all (λ (x : Mount ℕ). Stands nat_eq world x.number) world.mounts it.apart.is.mounts.standing
+            mount
             m)
-            (ap (λ (x : Mount ℕ). x.mount_point) (found_itself world.mounts it.apart.is.mounts.one_number mount m) ∙ point)
+            (ap (λ (x : Mount ℕ). x.mount_point) (found_itself world.mounts it.apart.is.mounts.one_number mount m)
+            ∙ point)
             ∙ ap (λ (x : Mount ℕ). x.namespace)
             (found_itself world.mounts it.apart.is.mounts.one_number part (other_there part among)) ∙ at.1,
         at.2,
@@ -370,7 +371,8 @@ module _ {world : World ℕ} {names : List TaskName} {fresh : Fresh ℕ} (it : A
   change_shape : (mount : Mount ℕ) → Among mount world.mounts → IsReshaped mount (change mount)
   change_shape mount there =
       let plain = relocated_plain mount there in
-      reshaped_twice mount (relocated it.moves mount) (change mount) (mount.namespace, plain.0, plain.1, plain.2, inl refl)
+      reshaped_twice mount (relocated it.moves mount) (change mount)
+      (mount.namespace, plain.0, plain.1, plain.2, inl refl)
       (by (relocated it.moves mount) (receiver_stood_on nat_eq tree parts (relocated it.moves mount)))
     where
       by : (x : Mount ℕ) (o : Option (Mount ℕ)) → IsReshaped x (pushed_onto nat_eq base new tree parts x o)
@@ -402,7 +404,8 @@ module _ {world : World ℕ} {names : List TaskName} {fresh : Fresh ℕ} (it : A
       ∙ ap (λ ms. ms ++ added_mounts it.moves (copies_at nat_eq base new tree parts destination)
       ++ flat_map (copies_at nat_eq base new tree parts) (rest_of parts))
       (map_twice pushed (relocated it.moves) world.mounts)
-      ∙ append_assoc (map change world.mounts) (added_mounts it.moves (copies_at nat_eq base new tree parts destination))
+      ∙ append_assoc (map change world.mounts)
+      (added_mounts it.moves (copies_at nat_eq base new tree parts destination))
       (flat_map (copies_at nat_eq base new tree parts) (rest_of parts))
     where
       put_all : (list given : List (Mount ℕ))
@@ -531,7 +534,8 @@ module _ {world : World ℕ} {names : List TaskName} {fresh : Fresh ℕ} (it : A
       ∙ change_value (λ (x : Mount ℕ). x.filesystem) (λ x at kind. refl) old.0 (other_there old.0 old.1))
       ∙ none_shows old.0 old.1) (λ copy. ⊎_elim
       (λ old. ap (nat_eq number) (ap (λ (x : Mount ℕ). x.filesystem) copy.0.4 ∙ old.3) ∙ none_shows old.0 old.1)
-      (λ new_one. false_from_ne_true (nat_eq number other.filesystem) (λ e. not_of_the_world it.apart fresh it.serves number
+      (λ new_one. false_from_ne_true (nat_eq number other.filesystem)
+      (λ e. not_of_the_world it.apart fresh it.serves number
       new_one.1 of (eqb-true number other.filesystem e ∙ ap (λ (x : Mount ℕ). x.filesystem) copy.0.4 ∙ new_one.2)))
       (it.origins copy.0.2 copy.0.3)) (others_from other m)))) (ap not (none_from_among
       (λ location. nat_eq number (mount_at nat_eq left location).filesystem) (locations (outsiders world names))

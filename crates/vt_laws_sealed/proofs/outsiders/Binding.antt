@@ -1,6 +1,6 @@
 -- Binds and new mounts of others: mount(2) with MS_BIND, and with MS_REC, and of a tmpfs.
-use Rattle.std.proofs.Common.{arith, ◌≡◌, refl, sym, ap, subst, ◌∙◌, inl, inr, ⊎_elim, ℕ, zero, suc, nat_eq, Bool, true, false, true≢false, List, [], ◌∷◌, ◌++◌, append-nil, ◌*◌, ◌+◌, Some, Ok, filter, length, not}
-use Rattle.vt_spec.proofs.Common.{Among, Call, Filesystem, Fresh, Location, Mount, MountFlags, Task, TaskName, ToBind, ToMountPlain, World, among-from_filter, among-from_flat_map, apply, bind_tree, bindable_children, bindable_tree, bound, children, common_steps, found_or_none, is_own_namespace, is_unbindable, judge_in, mount_at, new_mount, none_is_some, number-mount_in, odds, overlays, plain_filesystem, settled, stands_under, task_called}
+use Rattle.std.proofs.Common.{arith, ◌≡◌, refl, sym, ap, subst, ◌∙◌, inl, inr, ⊎_elim, ℕ, zero, suc, nat_eq, Bool, true, false, List, [], ◌∷◌, ◌++◌, append-nil, ◌*◌, ◌+◌, Some, Ok, filter, length, not}
+use Rattle.vt_spec.proofs.Common.{Among, Call, Filesystem, Fresh, Location, Mount, MountFlags, Task, TaskName, ToBind, ToMountPlain, World, among-from_filter, among-from_flat_map, apply, bind_tree, bindable_children, bindable_tree, bound, children, common_steps, found_or_none, is_own_namespace, is_unbindable, judge_in, mount_at, new_mount, none_is_some, number-mount_in, odds, overlays, plain_filesystem, settled, stands_under}
 use Rattle.vt_laws_sealed.proofs.outsiders.OthersCalls.{IsOthersCall, apart_from}
 use Rattle.vt_laws_trees.specs.Trees.Calls.{mounts_overlay}
 use Rattle.vt_laws_rules.proofs.given.GivenPermits.{permits_are_for_their_calls}
@@ -72,7 +72,7 @@ module _ {world : World ℕ} {fresh : Fresh ℕ} {names : List TaskName} {name :
       let apart = apart_from outsider.it in
       let for = permits_are_for_their_calls fresh world task call (ToBind source place recursive) judged in
       let named = (all_permits_fit world fresh task call (ToBind source place recursive) outsider.is outsider.serves
-      (ap (task_called world) (sym (name_found world name task outsider.called)) ∙ outsider.called)
+      (cc (name_found world name task outsider.called, outsider.called))
       (ap mounts_overlay for.2) judged).names in
       let outside = namespace_outside world names apart task
       (caller_outside outsider) in
@@ -109,7 +109,7 @@ module _ {world : World ℕ} {fresh : Fresh ℕ} {names : List TaskName} {name :
       let apart = apart_from outsider.it in
       let for = permits_are_for_their_calls fresh world task call (ToMountPlain place flags) judged in
       let named = (all_permits_fit world fresh task call (ToMountPlain place flags) outsider.is outsider.serves
-      (ap (task_called world) (sym (name_found world name task outsider.called)) ∙ outsider.called)
+      (cc (name_found world name task outsider.called, outsider.called))
       (ap mounts_overlay for.1) judged).names in
       let outside = namespace_outside world names apart task
       (caller_outside outsider) in

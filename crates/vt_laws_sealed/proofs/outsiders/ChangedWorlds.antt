@@ -1,5 +1,5 @@
 -- A world in which mounts of others, others themselves and their namespaces are changed, and what the set sees is not.
-use Rattle.std.proofs.Common.{arith, ◌≡◌, refl, sym, ap, subst, ◌∙◌, ◌⊎◌, ⊎_elim, ℕ, nat_eq, Bool, true, false, true≢false, List, [], ◌∷◌, Option, None, filter, map, not}
+use Rattle.std.proofs.Common.{arith, ◌≡◌, refl, ap, subst, ◌∙◌, ◌⊎◌, ⊎_elim, ℕ, nat_eq, Bool, true, false, List, [], ◌∷◌, Option, None, filter, map, not}
 use Rattle.vt_spec.proofs.Common.{Among, Location, Mount, Namespace, Task, TaskName, World, among-filter, among-from_filter, among-from_map, among_from_list_all, and_from, and_parts, common_steps, holds_of, is_member_of, is_member_task, is_own_namespace, list_all, list_all_from_among, list_any, locations, members, mount_at, mount_in, mount_numbered, no_outsider_on, none_among, none_from_among, not-true, other_mounts, outsiders, own_mounts, shares_no_events}
 use Rattle.vt_laws_sealed.specs.Part.Parts.{SeesTheSame}
 use Rattle.vt_laws_sealed.proofs.part.Kept.{filter_map_map, filter_map_same}
@@ -56,14 +56,14 @@ module _ {world : World ℕ} {names : List TaskName} {New : ℕ → Type 0} (apa
       let from = among-from_map change world.mounts other out.0 in (
         from.0,
         among-filter (λ (x : Mount ℕ). holds_of (λ n. not (theirs n)) x.namespace) world.mounts from.0 from.1
-            (was from.0 (ap (λ (x : Mount ℕ). holds_of (λ n. not (theirs n)) x.namespace) (sym from.2) ∙ out.1)),
+            (was from.0 (cc (from.2, out.1))),
         from.2,
       )
     where
       was : (mount : Mount ℕ) → holds_of (λ n. not (theirs n)) (change mount).namespace ≡ true
           → holds_of (λ n. not (theirs n)) mount.namespace ≡ true
-      was mount h = ⊎_elim (λ same. ap (holds_of (λ n. not (theirs n))) (sym same) ∙ h)
-          (λ none. absurd (true≢false (sym h ∙ ap (holds_of (λ n. not (theirs n))) none))) (keeps.namespace mount)
+      was mount h = ⊎_elim (λ same. cc)
+          (λ none. absurd cc) (keeps.namespace mount)
 
   -- what is found at a number
   found_in : {B : Type 0} (value : Mount ℕ → B) → ((mount : Mount ℕ) → value (change mount) ≡ value mount)
@@ -77,7 +77,7 @@ module _ {world : World ℕ} {names : List TaskName} {New : ℕ → Type 0} (apa
 
   still_out : (mount : Mount ℕ) → is_out mount ≡ true → is_out (change mount) ≡ true
   still_out mount h =
-      ⊎_elim (λ same. ap (λ o. not (holds_of theirs o)) same ∙ h) (λ none. ap (λ o. not (holds_of theirs o)) none)
+      ⊎_elim (λ same. cc) (λ none. ap (λ o. not (holds_of theirs o)) none)
       (keeps.namespace mount)
 
   found_out : (number : ℕ) → (list : List (Mount ℕ)) → is_out (mount_in nat_eq list number) ≡ true
@@ -108,8 +108,7 @@ module _ {world : World ℕ} {names : List TaskName} {New : ℕ → Type 0} (apa
       (not (list_any (λ location. nat_eq number (mount_at nat_eq left location).filesystem) (locations those_outside)))
       (ap not (none_from_among (λ (mount : Mount ℕ). nat_eq number mount.filesystem) (other_mounts nat_eq left names)
       (λ other m. let from = others_from other m in
-      ap (nat_eq number) (ap (λ (x : Mount ℕ). x.filesystem) from.2 ∙ keeps.filesystem from.0)
-      ∙ none_shows from.0 from.1)))
+      cc (from.2, keeps.filesystem from.0, none_shows from.0 from.1))))
       (ap not (none_from_among (λ location. nat_eq number (mount_at nat_eq left location).filesystem)
       (locations those_outside) (λ location m. ap (nat_eq number) (shown_at location) ∙ ⊎_elim
       (λ old. ap (λ n. nat_eq number (mount_numbered nat_eq world n).filesystem) old.2

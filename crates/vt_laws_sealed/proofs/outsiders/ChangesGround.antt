@@ -1,5 +1,5 @@
 -- Where others change something: on mounts of their namespaces, where they stand, or where they have a file open.
-use Rattle.std.proofs.Common.{◌≡◌, sym, ap, subst, ◌∙◌, inr, ℕ, nat_eq, Bool, true, false, List, [], ◌∷◌, Option, Some, Ok, is_some, ◌==◌}
+use Rattle.std.proofs.Common.{◌≡◌, subst, inr, ℕ, nat_eq, Bool, true, false, List, [], ◌∷◌, Option, Some, Ok, is_some, ◌==◌}
 use Rattle.vt_spec.proofs.Common.{Among, Call, Change, CopyUp, Descriptor, Fresh, Here, IsWorld, LastWord, Location, Permit, Place, SetMark, Task, TaskName, World, among-map, descriptor_found, directory_used, directory_walk, file_walk, files_at, found_among, is_copied_up, looks_of, none_is_some, object_walk, overfills, same_Some, task_called, when, words, ⊤}
 use Rattle.vt_laws_rules.specs.Granted.{IsGranted}
 use Rattle.vt_laws_rules.specs.Granted.IsGranted.{changes_mark, changes_mode, changes_owner, creates, creates_exclusively, makes_directory, makes_hard_link, makes_symlink, makes_whiteout, opens, opens_existing, overwrites_file, removes_directory, renames, unlinks, writes_new_file, writes_part}
@@ -144,7 +144,7 @@ module _ {world : World ℕ} {fresh : Fresh ℕ} {names : List TaskName} {name :
       )
     where
       itself : task_called world task.name ≡ Some task
-      itself = ap (task_called world) (sym (name_found world name task outsider.called)) ∙ outsider.called
+      itself = cc (name_found world name task outsider.called, outsider.called)
   granted_theirs asked permit (opens path access here few walk passed) =
       opened here.location (object_at path here walk) (is_copied_up nat_eq world here.location access)
   granted_theirs asked permit (opens_existing path access mode place file few walk named is_there passed) =

@@ -63,8 +63,7 @@ module _ {world : World ℕ} {fresh : Fresh ℕ} {names : List TaskName} {name :
       (filesystems_changed nat_eq world permit)
       (subst (LeavesApart world (apply nat_eq fresh world task permit).world names) (sym raised)
       (changed_files_leave outsider judged asks base (apply nat_eq fresh world task permit).world
-      same (left ∙ ap (λ list. record base { filesystems = list }) (permits_make_their_change world fresh task permit
-      location change asks)) leaves))
+      same (cc (permits_make_their_change world fresh task permit location change asks)) leaves))
 
   -- where the world stays but for its filesystems
   pub change_alone : (location : Location ℕ) (change : Change ℕ)

@@ -1,6 +1,6 @@
 -- What lies under a directory of a tree lies there, too, once what nothing uses is gone.
-use Rattle.std.proofs.Common.{arith, ◌≡◌, refl, sym, ap, ◌∙◌, inl, inr, ℕ, nat_eq, Bool, true, false, cond, true≢false, List, [], ◌∷◌, Option, Some, None, filter, ◌&&◌, ◌||◌, option_and_then}
-use Rattle.vt_spec.proofs.Common.{Among, FileTree, IsDirectory, Layer, among-from_filter, among_numbers, and_parts, any_among, common_steps, entries_in, entry_at, entry_named, is_among, is_directory_node, is_under, led, list_any, none_is_some, only_among, same_Some, same_truth}
+use Rattle.std.proofs.Common.{arith, ◌≡◌, refl, ap, ◌∙◌, inl, inr, ℕ, nat_eq, Bool, true, false, cond, true≢false, List, [], ◌∷◌, Option, Some, None, filter, ◌&&◌, option_and_then}
+use Rattle.vt_spec.proofs.Common.{Among, FileTree, IsDirectory, Layer, among-from_filter, among_numbers, and_parts, any_among, common_steps, entry_at, is_among, is_under, led, list_any, none_is_some, only_among, same_Some, same_truth}
 use Rattle.vt_laws_trees.specs.Trees.{IsFileTree}
 use Rattle.vt_laws_trees.specs.Trees.Settling.{HoldsTree}
 use Rattle.vt_laws_trees.proofs.trees.TreesForgotten.{entry_used, kept_file_tree}
@@ -19,8 +19,7 @@ module _ (used : List ℕ) (files : FileTree ℕ) (holds : HoldsTree used files)
 
   entry_kept : (directory : ℕ) (name : List ℕ) (number : ℕ) → entry_at files.tree directory name ≡ Some number
       → entry_at cut.tree directory name ≡ Some number
-  entry_kept directory name number e = ap (λ b. entry_named name (entries_in (cond b (files.tree.node directory) None)))
-      (entry_used used files holds conditions directory name number e) ∙ e
+  entry_kept directory name number e = cc (entry_used used files holds conditions directory name number e)
 
   -- names lead where they led, and to what is used
   led_was : (path : List (List ℕ)) (from object : ℕ) → led cut.tree from path ≡ Some object
@@ -33,7 +32,7 @@ module _ (used : List ℕ) (files : FileTree ℕ) (holds : HoldsTree used files)
           → led files.tree from (name ∷ path) ≡ Some object
       by below None f h = none_is_some object h
       by below (Some next) f h =
-          ap (option_and_then (λ n. led files.tree n path)) (entry_was from name next f) ∙ below next h
+          cc (entry_was from name next f, below next h)
 
   led_kept : (path : List (List ℕ)) (from object : ℕ) → led files.tree from path ≡ Some object
       → led cut.tree from path ≡ Some object
@@ -45,11 +44,11 @@ module _ (used : List ℕ) (files : FileTree ℕ) (holds : HoldsTree used files)
           → led cut.tree from (name ∷ path) ≡ Some object
       by below None f h = none_is_some object h
       by below (Some next) f h =
-          ap (option_and_then (λ n. led cut.tree n path)) (entry_kept from name next f) ∙ below next h
+          cc (entry_kept from name next f, below next h)
 
   led_used : (path : List (List ℕ)) (from object : ℕ) → is_among nat_eq from used ≡ true
       → led files.tree from path ≡ Some object → is_among nat_eq object used ≡ true
-  led_used [] from object is e = ap (λ n. is_among nat_eq n used) (sym (same_Some from object e)) ∙ is
+  led_used [] from object is e = cc (same_Some from object e)
   led_used (name ∷ path) from object is e =
       by (λ next. led_used path next object) (entry_at files.tree from name) refl e
     where
@@ -66,7 +65,7 @@ module _ (used : List ℕ) (files : FileTree ℕ) (holds : HoldsTree used files)
         let way = under_led files conditions.tree top object h in led_used way.0 top object is way.1
 
     directory_kept : IsDirectory cut.tree top
-    directory_kept = ap (λ b. is_directory_node (cond b (files.tree.node top) None)) is ∙ directory
+    directory_kept = cc
 
     pub under_same : (object : ℕ) → is_under nat_eq cut top object ≡ is_under nat_eq files top object
     under_same object = same_truth (is_under nat_eq cut top object) (is_under nat_eq files top object)
@@ -79,13 +78,11 @@ module _ (used : List ℕ) (files : FileTree ℕ) (holds : HoldsTree used files)
 pub any_alike : (p q : Layer ℕ → Bool) (list : List (Layer ℕ)) → ((x : Layer ℕ) → Among x list → p x ≡ q x)
     → list_any p list ≡ list_any q list
 any_alike p q [] same = refl
-any_alike p q (x ∷ rest) same = ap (λ b. b || list_any p rest) (same x (inl refl))
-    ∙ ap (λ b. q x || b) (any_alike p q rest (λ y m. same y (inr m)))
+any_alike p q (x ∷ rest) same = cc (same x (inl refl), any_alike p q rest (λ y m. same y (inr m)))
 
 pub filter_same : (p q : ℕ → Bool) (xs : List ℕ) → ((x : ℕ) → p x ≡ q x) → filter p xs ≡ filter q xs
 filter_same p q [] same = refl
-filter_same p q (x ∷ xs) same = ap (λ b. cond b (x ∷ filter p xs) (filter p xs)) (same x)
-    ∙ ap (λ l. cond (q x) (x ∷ l) l) (filter_same p q xs same)
+filter_same p q (x ∷ xs) same = cc (same x, filter_same p q xs same)
 
 -- of two lists of which one has all of the other, the other is left
 filter_within : (p : ℕ → Bool) (used : List ℕ) (xs : List ℕ)

@@ -46,7 +46,7 @@ module _ {world : World ℕ} {names : List TaskName} {New : ℕ → Type 0} (apa
       any_from_among (λ (namespace : Namespace ℕ). nat_eq number namespace.number && has_tasks nat_eq before namespace)
       world.namespaces listed.0 listed.1
       (and_from (nat_eq number listed.0.number) (has_tasks nat_eq before listed.0) listed.2
-      (own_has_tasks listed.0.number (ap is_own (sym (eqb-true number listed.0.number listed.2)) ∙ own)))
+      (own_has_tasks listed.0.number (cc (eqb-true number listed.0.number listed.2))))
 
   -- mounts that go
   abbrev ends : Mount ℕ → Bool
@@ -82,7 +82,7 @@ module _ {world : World ℕ} {names : List TaskName} {New : ℕ → Type 0} (apa
     located = located;
     listed = filter_less (λ (n : Namespace ℕ). is_own n.number) (has_tasks nat_eq before) world.namespaces
         (λ n m ended. false_from_ne_true (is_own n.number) (λ own.
-        true≢false (sym (own_has_tasks n.number own) ∙ ended)));
+        cc (own_has_tasks n.number own, ended)));
   }
 
   pub ended_leaves_apart : LeavesApart world (namespaces_ended nat_eq before) names []

@@ -1,5 +1,5 @@
 -- Other working and root directories of others: chdir(2), chroot(2).
-use Rattle.std.proofs.Common.{◌≡◌, refl, sym, ap, subst, ◌∙◌, inl, inr, ⊎_elim, ℕ, nat_eq, List, [], Ok}
+use Rattle.std.proofs.Common.{◌≡◌, refl, sym, subst, inl, inr, ⊎_elim, ℕ, nat_eq, List, [], Ok}
 use Rattle.vt_spec.proofs.Common.{Among, Call, Fresh, Location, Permit, Task, TaskName, ToSetDirectory, ToSetRoot, World, among-flat_map, apply, found_among, found_or_none, judge_in, locations_of, looks_of, mount_at, none_is_some, outsiders, overfills, same_name, settled}
 use Rattle.vt_laws_rules.proofs.given.Inversion.{calls_are_granted}
 use Rattle.vt_laws_rules.specs.Granted.{IsGranted}
@@ -20,7 +20,7 @@ pub ground_of_others : {world : World ℕ} {names : List TaskName} (apart : IsAp
 ground_of_others {world} {names} apart task outside there location ground = ⊎_elim
     (λ own. inr (is_other world names (namespace_outside world names apart task outside)
     (mount_at nat_eq world location) (⊎_elim (λ m. m)
-    (λ missing. none_is_some task.namespace (sym (ap (λ m. m.namespace) missing) ∙ own))
+    (λ missing. none_is_some task.namespace (cc))
     (found_or_none world.mounts location.mount)) own)) (λ none. ⊎_elim
     (λ e. inl (task.root, among-flat_map locations_of (outsiders world names) task task.root outside (inl refl), e))
     (λ e. inl (

@@ -94,8 +94,7 @@ module _ {world : World ℕ} {names : List TaskName} (apart : IsApart world name
   replaced_is_rewritten number files =
       map_alike (replaced_if_numbered nat_eq (with_files (filesystem_numbered nat_eq world number) files))
       (rewritten number files) world.filesystems (λ x m.
-      ap (λ n. cond (nat_eq n x.number) (with_files (filesystem_numbered nat_eq world number) files) x)
-      (number_of_filesystem world number) ∙ by x m (nat_eq number x.number) refl)
+      cc (number_of_filesystem world number, by x m (nat_eq number x.number) refl))
     where
       by : (x : Filesystem ℕ) → Among x world.filesystems → (b : Bool) → nat_eq number x.number ≡ b
           → cond b (with_files (filesystem_numbered nat_eq world number) files) x ≡ cond b
@@ -143,7 +142,7 @@ module _ {world : World ℕ} {names : List TaskName} (apart : IsApart world name
           → cond b (with_files (filesystem_numbered nat_eq world upper) merge.upper) (remerged number merge x)
           ≡ cond b (record (remerged number merge x) { files = merge.upper }) (remerged number merge x)
       above x m true e =
-          let at : nat_eq upper x.number ≡ true = ap (nat_eq upper) (sym (remerged_number number merge x)) ∙ e in
+          let at : nat_eq upper x.number ≡ true = cc (remerged_number number merge x) in
           ap (λ (f : Filesystem ℕ). record f { files = merge.upper }) (found x m upper at ∙ sym (other_there x at))
       above x m false e = refl
 
@@ -156,7 +155,7 @@ module _ {world : World ℕ} {names : List TaskName} (apart : IsApart world name
   unused_differs : (number : ℕ) → is_used number ≡ false → (x : Filesystem ℕ) → is_used x.number ≡ true
       → nat_eq number x.number ≡ false
   unused_differs number unused x used = false_from_ne_true (nat_eq number x.number) (λ e.
-      true≢false (sym used ∙ ap is_used (sym (eqb-true number x.number e)) ∙ unused))
+      cc (used, eqb-true number x.number e, unused))
 
   -- what the part has of a tree that keeps what lies under their layers
   lowered_stays : (number : ℕ) (files : FileTree ℕ)
@@ -196,7 +195,7 @@ module _ {world : World ℕ} {names : List TaskName} (apart : IsApart world name
 
       by : (x : Filesystem ℕ) → Among x world.filesystems → has_lower x.number ≡ true → (b : Bool)
           → nat_eq number x.number ≡ b → lowered (rewritten number files x) ≡ lowered x
-      by x m lower true e = lowered_stays number files (keeps (ap has_lower (eqb-true number x.number e) ∙ lower)) x m
+      by x m lower true e = lowered_stays number files (keeps (cc (eqb-true number x.number e))) x m
       by x m lower false e = ap lowered (ap (λ b. cond b (record x { files = files }) x) e)
 
   -- and of an overlay, with its upper layer
@@ -208,8 +207,7 @@ module _ {world : World ℕ} {names : List TaskName} (apart : IsApart world name
     number = λ x. above.number (remerged number merge x) ∙ remerged_number number merge x;
     overlay = λ x. above.overlay (remerged number merge x) ∙ remerged_overlay number merge x;
     layers = λ layer x. above.layers layer (remerged number merge x) ∙ remerged_layers layer number merge x;
-    used = λ x m used. ap (rewritten upper merge.upper) (stays x (unused_differs number unused x used))
-        ∙ above.used x m used;
+    used = λ x m used. cc (stays x (unused_differs number unused x used), above.used x m used);
     lower = λ x m lower.
         ap (λ y. lowered (rewritten upper merge.upper y)) (stays x (false_from_ne_true (nat_eq number x.number) (λ e.
         true≢false (sym lower ∙ ap has_lower (sym (eqb-true number x.number e)) ∙ no_lower)))) ∙ above.lower x m lower;

@@ -1,6 +1,6 @@
 -- Filesystems that are replaced one by one, by others of their numbers and layers: what is left for a sealed set.
-use Rattle.std.proofs.Common.{◌≡◌, sym, ap, subst, ◌∙◌, ℕ, nat_eq, true, false, List, [], map}
-use Rattle.vt_spec.proofs.Common.{Among, Filesystem, Layer, TaskName, World, any_pair, has_layer_on, is_among, is_overlay, list_any, own_lowers, used_filesystems}
+use Rattle.std.proofs.Common.{◌≡◌, sym, subst, ◌∙◌, ℕ, nat_eq, true, false, List, [], map}
+use Rattle.vt_spec.proofs.Common.{Among, Filesystem, Layer, TaskName, World, has_layer_on, is_among, is_overlay, list_any, own_lowers, used_filesystems}
 use Rattle.vt_laws_sealed.specs.Part.Seals.{IsApart}
 use Rattle.vt_laws_sealed.proofs.outsiders.FilesystemsStepped.{filesystems_stepped, stepping_keeps_footholds}
 use Rattle.vt_laws_sealed.proofs.outsiders.SeenLater.{lowered_by}
@@ -27,10 +27,9 @@ pub stepping_leaves_apart : (world base left : World ℕ) (names : List TaskName
     → LeavesApart world base names [] → LeavesApart world left names changed
 stepping_leaves_apart world base left names apart step is same left_is changed unraised leaves =
     subst (λ w. LeavesApart world w names changed)
-    (sym (left_is ∙ ap (λ list. record base { filesystems = map step list }) (sym same))) (record {
+    (sym (cc)) (record {
       sees = filesystems_stepped leaves.sees
-          (ap (any_pair (λ (a b : Filesystem ℕ). nat_eq a.number b.number)) same
-          ∙ apart.is.files.one_filesystem) step is.number
+          (cc (apart.is.files.one_filesystem)) step is.number
           (λ x m. is.used x (subst (Among x) same m)) (λ x m. is.lower x (subst (Among x) same m));
       others = record {
         tasks = leaves.others.tasks;

@@ -20,7 +20,7 @@ module _ {world : World ℕ} {names : List TaskName} (apart : IsApart world name
           → is_some ((unwrap_or (find (λ (f : Filesystem ℕ). nat_eq number f.number) list)
           (no_filesystem number)).files.tree.node object) ≡ true
           → is_among nat_eq number (map (λ (f : Filesystem ℕ). f.number) list) ≡ true
-      search [] h = absurd (true≢false (sym h))
+      search [] h = cc
       search (f ∷ rest) h = grind (arith, common_steps, search rest)
 
   -- a mount shows a filesystem that is there, and so does the mount of a location
@@ -44,8 +44,7 @@ module _ {world : World ℕ} {names : List TaskName} (apart : IsApart world name
       (among_from_list_all (is_located_well nat_eq world) (all_locations world) apart.is.tasks.locations_live location.0
       (among-flat_map locations_of world.tasks task.0 location.0
       (among-from_filter (is_member_task names) world.tasks task.0 task.1).0 task.2)) in
-      ap (λ n. is_among nat_eq n numbers) location.2
-      ∙ there_by_node (mount_at nat_eq world location.0).filesystem location.0.node well.1)
+      cc (location.2, there_by_node (mount_at nat_eq world location.0).filesystem location.0.node well.1))
       (among-append (map (λ (x : Mount ℕ). x.filesystem) (own_mounts nat_eq world names)) _ number m)
 
   -- a layer of an overlay is in one
@@ -146,7 +145,7 @@ module _ {world : World ℕ} {names : List TaskName} (apart : IsApart world name
               → unwrap_or (find (λ (f : Filesystem ℕ). nat_eq number f.number) (list ++ added ∷ []))
               (no_filesystem number)
               ≡ unwrap_or (find (λ (f : Filesystem ℕ). nat_eq number f.number) list) (no_filesystem number)
-          search [] h = absurd (true≢false (sym h))
+          search [] h = cc
           search (f ∷ rest) h = grind (arith, common_steps, search rest)
 
       added_unused : is_among nat_eq added.number used ≡ false

@@ -1,7 +1,7 @@
 -- Each filesystem is replaced by another one of its number: what a sealed set uses stays, and so does what its part has
 -- of lower layers.
-use Rattle.std.proofs.Common.{◌≡◌, refl, sym, ap, ◌∙◌, inl, inr, ℕ, nat_eq, Bool, true, false, cond, List, [], ◌∷◌, Some, find, map, not, ◌&&◌, ◌||◌, eqb-true, unwrap_or}
-use Rattle.vt_spec.proofs.Common.{Among, Filesystem, Layer, TaskName, World, among-map, among_from_contains, any_pair, filesystem_numbered, has_layer_on, is_among, is_overlay, list_all, list_any, no_filesystem, no_outsider_on, overlays, own_lowers, pair-map, used_alone, used_directly, used_filesystems, when}
+use Rattle.std.proofs.Common.{◌≡◌, refl, sym, ap, ◌∙◌, inl, inr, ℕ, nat_eq, Bool, true, false, cond, List, [], ◌∷◌, Some, find, map, not, ◌||◌, eqb-true, unwrap_or}
+use Rattle.vt_spec.proofs.Common.{Among, Filesystem, Layer, TaskName, World, among-map, among_from_contains, any_pair, filesystem_numbered, has_layer_on, is_among, is_overlay, list_any, no_filesystem, no_outsider_on, overlays, own_lowers, pair-map, used_alone, used_directly, used_filesystems, when}
 use Rattle.vt_laws_mounts.proofs.letting_go.sweeps.OfWorlds.{found_filesystem}
 use Rattle.vt_laws_sealed.specs.Part.Parts.{SeesTheSame, shown_of}
 use Rattle.vt_laws_sealed.proofs.part.Kept.{filter_map_map, filter_map_same}
@@ -33,16 +33,15 @@ module _ {world before : World ℕ} {names : List TaskName} (sees : SeesTheSame 
       → find (λ (f : Filesystem ℕ). nat_eq number f.number) (map step list)
       ≡ find (λ (f : Filesystem ℕ). nat_eq number f.number) list
   found_stepped number is [] all = refl
-  found_stepped number is (f ∷ rest) all = ap (λ n. cond (nat_eq number n) (Some (step f))
-      (find (λ (x : Filesystem ℕ). nat_eq number x.number) (map step rest))) (step_number f)
-      ∙ by (nat_eq number f.number) refl (found_stepped number is rest (λ x m. all x (inr m)))
+  found_stepped number is (f ∷ rest) all =
+      cc (step_number f, by (nat_eq number f.number) refl (found_stepped number is rest (λ x m. all x (inr m))))
     where
       by : (b : Bool) → nat_eq number f.number ≡ b → find (λ (x : Filesystem ℕ). nat_eq number x.number) (map step rest)
           ≡ find (λ (x : Filesystem ℕ). nat_eq number x.number) rest
           → cond b (Some (step f)) (find (λ (x : Filesystem ℕ). nat_eq number x.number) (map step rest))
           ≡ cond b (Some f) (find (λ (x : Filesystem ℕ). nat_eq number x.number) rest)
       by true e later = ap Some (used_is f (all f (inl refl))
-          (ap (λ n. is_among nat_eq n used) (sym (eqb-true number f.number e)) ∙ is))
+          (cc (eqb-true number f.number e)))
       by false e later = later
 
   -- each filesystem is shown as before
@@ -111,12 +110,13 @@ pub stepping_keeps_footholds : (before : World ℕ) (names : List TaskName) (ste
     → (number : ℕ) → used_alone nat_eq (record before { filesystems = map step before.filesystems }) names number
     ≡ used_alone nat_eq before names number
 stepping_keeps_footholds before names step step_number step_overlay step_layers number =
-    ap (λ list. no_outsider_on nat_eq before names number && list_all free_in list)
-    (filter-map is_overlay step before.filesystems step_overlay)
-    ∙ ap (λ b. no_outsider_on nat_eq before names number && b)
-    (all-map_same free_in free_in step (overlays before) (λ merged.
-    ap (λ b. not b || no_outsider_on nat_eq before names (step merged).number) (step_layers number merged)
-    ∙ ap (λ n. not (has_layer_on nat_eq number merged) || no_outsider_on nat_eq before names n) (step_number merged)))
+    cc (
+      filter-map is_overlay step before.filesystems step_overlay,
+      all-map_same free_in free_in step (overlays before) (λ merged.
+          ap (λ b. not b || no_outsider_on nat_eq before names (step merged).number) (step_layers number merged)
+          ∙ ap (λ n. not (has_layer_on nat_eq number merged) || no_outsider_on nat_eq before names n)
+          (step_number merged)),
+    )
   where
     free_in : Filesystem ℕ → Bool
     free_in merged = not (has_layer_on nat_eq number merged) || no_outsider_on nat_eq before names merged.number

@@ -122,13 +122,12 @@ module _ (world before : World ℕ) (names : List TaskName) (apart : IsApart wor
   dead_not_shown : (x : Filesystem ℕ) → filesystem_lives nat_eq before x ≡ false
       → shown_of before used_there lowers_there x ≡ None
   dead_not_shown x dead =
-      ap (λ b. cond b (Some x) (when (list_any (λ (layer : Layer ℕ). nat_eq x.number layer.filesystem) lowers_there)
-      (lowered_by used_there lowers_there (filesystem_numbered nat_eq before x.number).files x)))
-      (false_from_ne_true (is_among nat_eq x.number used_there) (λ h.
-      true≢false (sym (used_alive x.number (among_numbers used_there x.number h)) ∙ dead)))
-      ∙ ap (λ b. when b (lowered_by used_there lowers_there (filesystem_numbered nat_eq before x.number).files x))
-      (false_from_ne_true (list_any (λ (layer : Layer ℕ). nat_eq x.number layer.filesystem) lowers_there) (λ h.
-      true≢false (sym (lower_alive x.number h) ∙ dead)))
+      cc (
+        false_from_ne_true (is_among nat_eq x.number used_there) (λ h.
+            true≢false (sym (used_alive x.number (among_numbers used_there x.number h)) ∙ dead)),
+        false_from_ne_true (list_any (λ (layer : Layer ℕ). nat_eq x.number layer.filesystem) lowers_there) (λ h.
+            true≢false (sym (lower_alive x.number h) ∙ dead)),
+      )
 
   pub filesystems_swept : SeesTheSame world alive_world names
   filesystems_swept = record {

@@ -1,6 +1,6 @@
 -- Flags of a mount of others that are set.
 use Rattle.std.proofs.Common.{arith, ◌≡◌, refl, sym, ap, subst, ◌∙◌, inl, ℕ, nat_eq, Bool, true, false, cond, List, [], Some, Ok, filter, map, not, ◌||◌, eqb-true}
-use Rattle.vt_spec.proofs.Common.{Among, Call, Fresh, Mount, MountFlags, Propagation, Remount, Task, TaskName, ToSetFlags, World, apply, common_steps, holds_of, is_at, is_own_namespace, judge_in, locations, map_alike, members, mount_numbered, no_mount, number-mount_in, other_mounts, own_mounts, replaced_if_same, roots_and_directories, seen_by_descriptor, settled, share_events, shares_no_events, task_called, when, with_mounts}
+use Rattle.vt_spec.proofs.Common.{Among, Call, Fresh, Mount, MountFlags, Propagation, Remount, Task, TaskName, ToSetFlags, World, apply, common_steps, holds_of, is_at, is_own_namespace, judge_in, locations, map_alike, members, mount_numbered, no_mount, number-mount_in, other_mounts, own_mounts, replaced_if_same, roots_and_directories, seen_by_descriptor, settled, share_events, shares_no_events, when, with_mounts}
 use Rattle.vt_laws_mounts.proofs.letting_go.Lists.{filter-map}
 use Rattle.vt_laws_sealed.proofs.outsiders.OthersCalls.{IsOthersCall, apart_from}
 use Rattle.vt_laws_trees.specs.Trees.Calls.{mounts_overlay}
@@ -60,13 +60,13 @@ module _ {world : World ℕ} {fresh : Fresh ℕ} {names : List TaskName} {name :
 
     placed : old.namespace ≡ Some task.namespace
     placed = (all_permits_fit world fresh task call (ToSetFlags number flags) outsider.is outsider.serves
-        (ap (task_called world) (sym (name_found world name task outsider.called)) ∙ outsider.called)
+        (cc (name_found world name task outsider.called, outsider.called))
         (ap mounts_overlay for_remount.1) judged).names
 
     -- a mount of that number is the one
     is_old : (mount : Mount ℕ) → Among mount world.mounts → nat_eq number mount.number ≡ true → old ≡ mount
-    is_old mount m e = ap (mount_numbered nat_eq world) (eqb-true number mount.number e)
-        ∙ found_itself world.mounts outsider.is.mounts.one_number mount m
+    is_old mount m e =
+        cc (eqb-true number mount.number e, found_itself world.mounts outsider.is.mounts.one_number mount m)
 
     same_set : (mount : Mount ℕ) → Among mount world.mounts
         → replaced_if_same nat_eq (record old { flags = flags }) mount ≡ set world number flags mount
@@ -83,7 +83,7 @@ module _ {world : World ℕ} {fresh : Fresh ℕ} {names : List TaskName} {name :
             ≡ keep world names (members world names) mount
         by true e =
             let at : mount.namespace ≡ Some task.namespace =
-            ap (λ (x : Mount ℕ). x.namespace) (sym (is_old mount m e)) ∙ placed in
+            cc (is_old mount m e, placed) in
             let outside = namespace_outside world names apart_before task
             (caller_outside outsider) in
             let no : (is_own world names (members world names) mount

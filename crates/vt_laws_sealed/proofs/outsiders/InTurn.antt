@@ -1,5 +1,5 @@
 -- Calls of others, one after the other, leave a sealed set sealed and its part as it was.
-use Rattle.std.proofs.Common.{◌≡◌, refl, sym, ap, subst, ◌∙◌, ⊎_elim, ℕ, nat_eq, Bool, true, false, cond, true≢false, List, [], ◌∷◌, Some, find, is_some}
+use Rattle.std.proofs.Common.{◌≡◌, refl, sym, ap, subst, ◌∙◌, ⊎_elim, ℕ, nat_eq, Bool, true, false, cond, List, [], ◌∷◌, Some, find, is_some}
 use Rattle.vt_spec.proofs.Common.{Among, IsWorld, Task, TaskName, World, among-filter, among-from_filter, among_from_list_all, any_from_among, found_among, found_passes, is_among, is_member_task, list_all_from_among, members, part_of, policy, same_name, sealed, some_from_is_some, task_called}
 use Rattle.vt_laws_worlds.proofs.overlay_permits.worlds.EveryCall.{every_call_keeps_worlds}
 use Rattle.vt_laws_worlds.proofs.worlds.CallsKept.{name_found}
@@ -18,7 +18,7 @@ found_called member (first ∷ rest) task m e =
         → is_some (cond b (Some first) (find (λ (t : Task ℕ). same_name member t.name) rest)) ≡ true
     by true f next = refl
     by false f next = ⊎_elim
-        (λ here. absurd (true≢false (sym e ∙ ap (λ (t : Task ℕ). same_name member t.name) here ∙ f))) next m
+        (λ here. absurd cc) next m
 
 -- names of the set stay names of tasks where the set stays
 pub still_called : (world later : World ℕ) (names : List TaskName) → members later names ≡ members world names
@@ -31,7 +31,7 @@ still_called world later names same there =
     let passes = found_passes test world.tasks found.0 found.1 in
     let its_name = name_found world member found.0 found.1 in
     let is_one : is_among same_name found.0.name names ≡ true = any_from_among (same_name found.0.name) names member m
-    (ap (same_name found.0.name) its_name ∙ ap (λ n. same_name n found.0.name) (sym its_name) ∙ passes) in
+    (cc (its_name, passes)) in
     let member_there = among-filter (is_member_task names) world.tasks found.0
     (found_among test world.tasks found.0 found.1) is_one in
     found_called member later.tasks found.0 (among-from_filter (is_member_task names) later.tasks found.0

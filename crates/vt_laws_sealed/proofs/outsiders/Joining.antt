@@ -1,5 +1,5 @@
 -- Others that enter other namespaces: setns(2).
-use Rattle.std.proofs.Common.{arith, ◌≡◌, refl, sym, ap, subst, ◌∙◌, ◌⊎◌, inl, inr, ⊎_elim, ℕ, nat_eq, true, false, true≢false, List, [], Option, Some, None, Ok, filter, is_some, map, not, eqb-true, ok_or, option_map, unwrap_or}
+use Rattle.std.proofs.Common.{arith, ◌≡◌, refl, sym, ap, subst, ◌∙◌, ◌⊎◌, inl, inr, ⊎_elim, ℕ, nat_eq, true, false, List, [], Option, Some, None, Ok, filter, is_some, map, not, eqb-true, ok_or, option_map, unwrap_or}
 use Rattle.vt_spec.proofs.Common.{Among, Call, Fresh, Location, Mount, Permit, Task, TaskName, ToEnterNamespace, World, among-filter, among-flat_map, among-from_filter, among-from_flat_map, among-from_map, apply, common_steps, denial, entered_at, found_among, holds_of, is_among, is_member_task, is_own_namespace, judge_in, locations_of, looks_of, mounts_of, namespace_root, outsiders, overfills, replaced_if_called, root_mount, root_of, same_name, settled, task_called, topmost}
 use Rattle.vt_spec.specs.declared.errors.Rule.TheVariants.{S2}
 use Rattle.vt_laws_mounts.proofs.mounts.MountsReplaced.{found_itself}
@@ -51,8 +51,7 @@ module _ {world : World ℕ} {fresh : Fresh ℕ} {names : List TaskName} {name :
   host_there = (among-from_filter (λ (t : Task ℕ). not (is_member_task names t)) world.tasks host.0 host.1).0
 
   namespace_of_others : is_own_namespace nat_eq world names namespace ≡ false
-  namespace_of_others = ap (is_own_namespace nat_eq world names) (sym host.2)
-      ∙ namespace_outside world names (apart outsider) host.0 host.1
+  namespace_of_others = cc (host.2, namespace_outside world names (apart outsider) host.0 host.1)
 
   -- its root
   root_outside : (o : Option (Mount ℕ)) → root_mount nat_eq world namespace ≡ o → IsOutside world names
@@ -67,7 +66,7 @@ module _ {world : World ℕ} {fresh : Fresh ℕ} {names : List TaskName} {name :
       ∙ placed mount.namespace there.1 ∙ ap Some (sym host.2))))
     where
       placed : (o : Option ℕ) → holds_of (nat_eq namespace) o ≡ true → o ≡ Some namespace
-      placed None h = absurd (true≢false (sym h))
+      placed None h = cc
       placed (Some n) h = ap Some (sym (eqb-true namespace n h))
 
   abbrev joined : Task ℕ

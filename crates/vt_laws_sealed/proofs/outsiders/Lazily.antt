@@ -1,6 +1,6 @@
 -- Trees of mounts of others that are unmounted at once: umount2(2) with MNT_DETACH.
 use Rattle.std.proofs.Common.{◌≡◌, refl, sym, ap, subst, ◌∙◌, ⊎_elim, inl, inr, ℕ, nat_eq, Bool, true, false, cond, List, [], ◌∷◌, Option, Some, None, Ok, is_some, length}
-use Rattle.vt_spec.proofs.Common.{Among, Call, Fresh, Mount, MountInvariants, Task, TaskName, ToUnmountLazily, World, apply, folded, found_or_none, going, is_going, is_own_namespace, judge_in, lazily_unmounted, list_any, mount_numbered, none_is_some, number-mount_in, same_Some, settled, task_called, unmounted, unmounted_if_there}
+use Rattle.vt_spec.proofs.Common.{Among, Call, Fresh, Mount, MountInvariants, Task, TaskName, ToUnmountLazily, World, apply, folded, found_or_none, going, is_going, is_own_namespace, judge_in, lazily_unmounted, mount_numbered, none_is_some, number-mount_in, same_Some, settled, unmounted, unmounted_if_there}
 use Rattle.vt_laws_sealed.proofs.outsiders.OthersCalls.{IsOthersCall, apart_from}
 use Rattle.vt_laws_trees.specs.Trees.Calls.{mounts_overlay}
 use Rattle.vt_laws_rules.proofs.given.GivenPermits.{permits_are_for_their_calls}
@@ -29,11 +29,11 @@ module _ {world : World ℕ} {names : List TaskName} (apart : IsApart world name
       → (mount_numbered nat_eq world mount.number).namespace ≡ Some namespace
   event_placed mount m =
       let is_in = tree_in apart namespace (length world.mounts) (mount_numbered nat_eq world one) (
-        ⊎_elim (λ k. k) (λ none. none_is_some namespace (sym (ap (λ (x : Mount ℕ). x.namespace) none) ∙ placed))
+        ⊎_elim (λ k. k) (λ none. none_is_some namespace (cc))
             (found_or_none world.mounts one),
         placed,
       ) mount (from_tree world one mount m) in
-      ap (λ (x : Mount ℕ). x.namespace) (found_itself world.mounts apart.is.mounts.one_number mount is_in.0) ∙ is_in.1
+      cc (found_itself world.mounts apart.is.mounts.one_number mount is_in.0, is_in.1)
 
   -- a mount that is in a namespace still was in it
   abbrev WasIn : World ℕ → Type 0
@@ -55,7 +55,7 @@ module _ {world : World ℕ} {names : List TaskName} (apart : IsApart world name
     gone = going nat_eq now (mount_numbered nat_eq now number)
 
     outside_now : is_own_namespace nat_eq now names namespace ≡ false
-    outside_now = ap (list_any (λ (t : Task ℕ). nat_eq namespace t.namespace)) gone_so_far.leaves.sees.tasks ∙ outside
+    outside_now = cc (gone_so_far.leaves.sees.tasks)
 
     abbrev rest_now : OthersMove now names now.tasks now.namespaces
     rest_now = others_rest now names gone_so_far.standing
@@ -89,7 +89,7 @@ module _ {world : World ℕ} {names : List TaskName} (apart : IsApart world name
           gone_so_far.was_in k n (ap (λ j. (mount_numbered nat_eq now j).namespace)
           (sym (number-mount_in later.mounts k) ∙ sym old.2) ∙ ap (λ (x : Mount ℕ). x.namespace)
           (found_itself now.mounts gone_so_far.standing.mounts.one_number old.0 old.1) ∙ old.3))
-          (λ none. none_is_some n (sym (ap (λ (x : Mount ℕ). x.namespace) none) ∙ e)) (found_or_none later.mounts k);
+          (λ none. none_is_some n (cc)) (found_or_none later.mounts k);
     }
 
   -- all of them
@@ -112,7 +112,7 @@ module _ {world : World ℕ} {names : List TaskName} (apart : IsApart world name
       by (Some n) e kept =
           let same : n ≡ namespace =
           same_Some n namespace (sym (gone_so_far.was_in mount.number n e) ∙ event_placed mount (of mount (inl refl)))
-          in subst (λ o. HasGone (event (is_some o))) (sym e) (goes_on now gone_so_far mount.number (e ∙ ap Some same)
+          in subst (λ o. HasGone (event (is_some o))) (sym e) (goes_on now gone_so_far mount.number (cc)
           (subst (λ o. MountInvariants nat_eq (event (is_some o))) e kept))
 
   pub lazily_leaves : LeavesApart world world names [] → LeavesApart world (lazily_unmounted nat_eq world one) names []
@@ -134,7 +134,7 @@ module _ {world : World ℕ} {fresh : Fresh ℕ} {names : List TaskName} {name :
       let set_apart = apart_from outsider.it in
       let for = permits_are_for_their_calls fresh world task call (ToUnmountLazily number) judged in
       let placed = (all_permits_fit world fresh task call (ToUnmountLazily number) outsider.is outsider.serves
-      (ap (task_called world) (sym (name_found world name task outsider.called)) ∙ outsider.called)
+      (cc (name_found world name task outsider.called, outsider.called))
       (ap mounts_overlay for.1) judged).names.0 in
       let left = lazily_leaves set_apart task.namespace
       (namespace_outside world names set_apart task (caller_outside outsider))

@@ -80,7 +80,7 @@ module _ (old new : FileTree ℕ) (number : ℕ) (lowers : List (Layer ℕ)) (ke
 
   new_lies_nowhere : (object : ℕ) → Among object keeps.more → lies_in old object ≡ false
   new_lies_nowhere object m = false_from_ne_true (lies_in old object) (λ h.
-      true≢false (sym (lying object h).0 ∙ ap is_some (keeps.none object m)))
+      cc ((lying object h).0, keeps.none object m))
 
   abbrev chosen : List ℕ
   chosen = filter (lies_in old) old.numbers

@@ -1,6 +1,6 @@
 -- Where a set of tasks sees the same, its namespaces have the mounts that they had.
 use Rattle.std.proofs.Common.{arith, ◌≡◌, refl, sym, ap, subst, ◌∙◌, inl, inr, ℕ, nat_eq, Bool, true, false, true≢false, List, [], ◌∷◌, Option, Some, None, filter, eq-eqb, eqb-true}
-use Rattle.vt_spec.proofs.Common.{Among, HasLivingGroups, Lives, Location, Mount, MountFlags, MountInvariants, Propagation, Task, TaskName, World, among-from_filter, among_from_all, and_from, any_from_among, common_steps, false_from_ne_true, has_members, holds_of, is_own_mount, is_own_namespace, list_any, master_above, mounts_of, own_mounts, same_bool, same_flags, same_list, same_location, same_mount, same_mounts_in, same_option, same_propagation, shares_no_events, source_of}
+use Rattle.vt_spec.proofs.Common.{Among, HasLivingGroups, Lives, Location, Mount, MountFlags, MountInvariants, Propagation, TaskName, World, among-from_filter, among_from_all, and_from, any_from_among, common_steps, false_from_ne_true, has_members, holds_of, is_own_mount, is_own_namespace, master_above, mounts_of, own_mounts, same_bool, same_flags, same_list, same_location, same_mount, same_mounts_in, same_option, same_propagation, shares_no_events, source_of}
 use Rattle.vt_laws_mounts.proofs.letting_go.Lists.{filter_less}
 use Rattle.vt_laws_sealed.specs.Part.Parts.{SeesTheSame}
 use Rattle.vt_laws_sealed.proofs.part.groups.ReceiversAlike.{own_member}
@@ -74,7 +74,7 @@ module _ {before later : World ℕ} {names : List TaskName} (sees : SeesTheSame 
       → same_mounts_in nat_eq before later namespace ≡ true
   same_mounts namespace own =
       let in_later : is_own_namespace nat_eq later names namespace ≡ true =
-      ap (list_any (λ (task : Task ℕ). nat_eq namespace task.namespace)) sees.tasks ∙ own in
+      cc (sees.tasks, own) in
       let same : mounts_of nat_eq later namespace ≡ mounts_of nat_eq before namespace =
       sym (of_own later namespace in_later)
       ∙ ap (filter (λ (mount : Mount ℕ). holds_of (nat_eq namespace) mount.namespace))

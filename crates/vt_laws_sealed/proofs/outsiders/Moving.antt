@@ -1,6 +1,6 @@
 -- Mounts of others that move, with what stands on them: mount(2) with MS_MOVE.
-use Rattle.std.proofs.Common.{◌≡◌, refl, sym, ap, ◌∙◌, inl, ⊎_elim, ℕ, nat_eq, true, false, List, [], append-nil, Some, Ok, length}
-use Rattle.vt_spec.proofs.Common.{Among, Call, Fresh, Location, Mount, Task, TaskName, ToMove, World, apply, found_or_none, judge_in, mount_numbered, moved_tree, none_is_some, overlays, settled, task_called}
+use Rattle.std.proofs.Common.{◌≡◌, refl, sym, ap, inl, ⊎_elim, ℕ, nat_eq, true, false, List, [], append-nil, Some, Ok, length}
+use Rattle.vt_spec.proofs.Common.{Among, Call, Fresh, Location, Mount, Task, TaskName, ToMove, World, apply, found_or_none, judge_in, mount_numbered, moved_tree, none_is_some, overlays, settled}
 use Rattle.vt_laws_sealed.proofs.outsiders.OthersCalls.{IsOthersCall, apart_from}
 use Rattle.vt_laws_trees.specs.Trees.Calls.{mounts_overlay}
 use Rattle.vt_laws_rules.proofs.given.GivenPermits.{permits_are_for_their_calls}
@@ -20,7 +20,7 @@ moved_in : (world : World ℕ) (names : List TaskName) → IsApart world names �
     → Among origin (moved_tree nat_eq world number) → IsIn world namespace origin
 moved_in world names apart namespace number placed origin m =
     tree_in apart namespace (length world.mounts) (mount_numbered nat_eq world number) (
-      ⊎_elim (λ there. there) (λ none. none_is_some namespace (sym (ap (λ (x : Mount ℕ). x.namespace) none) ∙ placed))
+      ⊎_elim (λ there. there) (λ none. none_is_some namespace (cc))
           (found_or_none world.mounts number),
       placed,
     ) origin m
@@ -34,7 +34,7 @@ module _ {world : World ℕ} {fresh : Fresh ℕ} {names : List TaskName} {name :
       let for = permits_are_for_their_calls fresh world task call (ToMove number place) judged in
       let no_overlay : mounts_overlay call ≡ false = ap mounts_overlay for.2 in
       let named = (all_permits_fit world fresh task call (ToMove number place) outsider.is outsider.serves
-      (ap (task_called world) (sym (name_found world name task outsider.called)) ∙ outsider.called) no_overlay
+      (cc (name_found world name task outsider.called, outsider.called)) no_overlay
       judged).names in
       let outside = namespace_outside world names set_apart task
       (caller_outside outsider) in

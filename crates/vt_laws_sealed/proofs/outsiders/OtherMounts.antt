@@ -16,12 +16,12 @@ module _ (world : World ℕ) (names : List TaskName) {namespace : ℕ}
     (outside : is_own_namespace nat_eq world names namespace ≡ false) (mount : Mount ℕ)
     (there : Among mount world.mounts) (placed : mount.namespace ≡ Some namespace) where
   pub not_own : is_own world names (members world names) mount ≡ false
-  not_own = ap (holds_of (is_own_namespace nat_eq world names)) placed ∙ outside
+  not_own = cc
 
   pub is_other : Among mount (other_mounts nat_eq world names)
   is_other = among-filter (λ (m : Mount ℕ). holds_of (λ n. not (is_own_namespace nat_eq world names n)) m.namespace)
       world.mounts mount there
-      (ap (holds_of (λ n. not (is_own_namespace nat_eq world names n))) placed ∙ ap not outside)
+      (cc)
 
 -- and no root or working directory of theirs is on it.
 module _ {world : World ℕ} {names : List TaskName} (apart : IsApart world names) {namespace : ℕ}
@@ -68,7 +68,7 @@ child_in {world} {names} apart namespace parent is child m =
     by : (o : Option (Location ℕ)) → child.mount_point ≡ o
         → holds_of (λ (point : Location ℕ). nat_eq parent.number point.mount) o ≡ true → Among child world.mounts
         → child.namespace ≡ Some namespace
-    by None e h there = absurd (true≢false (sym h))
+    by None e h there = cc
     by (Some point) e h there = sym (ap (λ (x : Mount ℕ). x.namespace) (itself child there))
         ∙ namespace_below world child.number point
         (among_from_all (λ (x : Mount ℕ). Stands nat_eq world x.number) world.mounts apart.is.mounts.standing child
@@ -99,7 +99,7 @@ located_there {world} {names} apart location m =
     m) in
     let number = any_among (nat_eq location.mount) (map (λ (x : Mount ℕ). x.number) world.mounts) well.0 in
     let from = among-from_map (λ (x : Mount ℕ). x.number) world.mounts number.0 number.1 in
-    (from.0, from.1, ap (nat_eq location.mount) (sym from.2) ∙ number.2)
+    (from.0, from.1, cc (from.2, number.2))
 
 -- the namespace of one of the others is not theirs
 pub namespace_outside : (world : World ℕ) (names : List TaskName) → IsApart world names → (task : Task ℕ)
@@ -115,8 +115,7 @@ module _ (world : World ℕ) (fresh : Fresh ℕ) (serves : Serves nat_eq world f
   mount_in_use mount number there uses = search (arith, common_steps, is_among_left, is_among_numbers, among-flat_map)
 
   pub number_not_new : (mount : Mount ℕ) (k : ℕ) → Among mount world.mounts → mount.number ≡ fresh k → ⊥
-  number_not_new mount k there e = true≢false (sym (mount_in_use mount mount.number there (inl refl))
-      ∙ ap (λ n. is_among nat_eq n (numbers_in_use world)) e ∙ serves.unused k)
+  number_not_new mount k there e = cc (mount_in_use mount mount.number there (inl refl), serves.unused k)
 
   pub member_not_new : (mount : Mount ℕ) (group k : ℕ) → Among mount world.mounts
       → group_of mount.propagation ≡ Some group → group ≡ fresh k → ⊥
@@ -227,7 +226,7 @@ module _ {world : World ℕ} {names : List TaskName} {New : ℕ → Type 0} (apa
       -- the group of which a mount is a member
       in_group : (o : Option ℕ) (mount : Mount ℕ) → holds_of (λ group. is_member_of nat_eq group mount) o ≡ true
           → (group : ℕ) × (o ≡ Some group) × (group_of mount.propagation ≡ Some group)
-      in_group None mount h = absurd (true≢false (sym h))
+      in_group None mount h = cc
       in_group (Some group) mount h = (group, refl, member_group group mount h)
 
       own_receives : (own : Mount ℕ) → Among own (own_mounts nat_eq world names) → (other : Mount ℕ)

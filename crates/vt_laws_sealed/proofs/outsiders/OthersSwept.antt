@@ -66,8 +66,7 @@ module _ (world before : World ℕ) (names : List TaskName) (others : OthersStay
   any_alike : (p q : Location ℕ → Bool) (list : List (Location ℕ)) → ((x : Location ℕ) → Among x list → p x ≡ q x)
       → list_any p list ≡ list_any q list
   any_alike p q [] same = refl
-  any_alike p q (x ∷ rest) same = ap (λ b. b || list_any p rest) (same x (inl refl))
-      ∙ ap (λ b. q x || b) (any_alike p q rest (λ y m. same y (inr m)))
+  any_alike p q (x ∷ rest) same = cc (same x (inl refl), any_alike p q rest (λ y m. same y (inr m)))
 
   no_outsider_same : (number : ℕ) → no_outsider_on nat_eq last names number ≡ no_outsider_on nat_eq before names number
   no_outsider_same number = search (arith, common_steps, others_stay, any_alike, found_living, of_outsiders)
@@ -83,12 +82,12 @@ module _ (world before : World ℕ) (names : List TaskName) (others : OthersStay
       let alive = among-from_filter (filesystem_lives nat_eq (without_dead_mounts nat_eq before)) before.filesystems
       one.0 one.1 in
       let way : Path (Filesystem ℕ) merged (twice one.0) =
-      second.2 ∙ ap (λ f. only_used nat_eq first (not (is_overlay f)) f) one.2 in (
+      cc (second.2, one.2) in (
         one.0,
         among-filter is_overlay before.filesystems one.0 alive.0
-            (sym (overlay_kept one.0) ∙ ap is_overlay (sym way) ∙ out.1),
-        sym (ap (λ (f : Filesystem ℕ). f.number) way ∙ number_kept one.0),
-        λ number. sym (ap (has_layer_on nat_eq number) way ∙ layers_kept number one.0),
+            (cc (overlay_kept one.0, out.1)),
+        sym (cc (number_kept one.0)),
+        λ number. sym (cc (layers_kept number one.0)),
       )
     where
       living : World ℕ

@@ -1,6 +1,6 @@
 -- Overlays that others mount over their own layers: mount(2) of an overlay.
 use Rattle.std.proofs.Common.{arith, ◌≡◌, refl, sym, ap, subst, ◌∙◌, inl, inr, ⊎_elim, ℕ, nat_eq, false, true≢false, List, [], ◌∷◌, ◌++◌, ◌*◌, ◌+◌, Option, Some, None, Result, Ok, Err, map, eqb-true, eq-eqb, option_map, option_to_list}
-use Rattle.vt_spec.proofs.Common.{Among, Call, Filesystem, Fresh, Gives, Here, Layer, LayerLocations, Location, Mount, MountFlags, Overlay, OverlayWords, Permit, Stop, Task, TaskName, ToMountOverlay, World, among-append, among-append_left, among-append_right, among-from_map, and_parts, any_from_among, apply, common_steps, each_walked, evens, false_from_ne_true, given, has_layer_on, judge_in, layer_at, layer_locations, layers_of, layers_walked, looks_of, mount_at, new_mount, no_outsider_on, none_from_among, not-true, odds, overfills, overlay_at, overlay_filesystem, settled, source_walk, task_called, walk_end, walked_if_given, work_walked}
+use Rattle.vt_spec.proofs.Common.{Among, Call, Filesystem, Fresh, Gives, Here, Layer, LayerLocations, Location, Mount, MountFlags, Overlay, OverlayWords, Permit, Stop, Task, TaskName, ToMountOverlay, World, among-append, among-append_left, among-append_right, among-from_map, and_parts, any_from_among, apply, common_steps, each_walked, evens, false_from_ne_true, given, has_layer_on, judge_in, layer_at, layer_locations, layers_of, layers_walked, looks_of, mount_at, new_mount, no_outsider_on, none_from_among, not-true, odds, overfills, overlay_at, overlay_filesystem, settled, source_walk, walk_end, walked_if_given, work_walked}
 use Rattle.vt_laws_rules.proofs.given.GivenPermits.{permits_are_for_their_calls}
 use Rattle.vt_laws_rules.proofs.given.Inversion.{calls_are_granted}
 use Rattle.vt_laws_rules.specs.Granted.{IsGranted}
@@ -119,7 +119,7 @@ module _ {world : World ℕ} {fresh : Fresh ℕ} {names : List TaskName} {name :
       let same_overlay : overlay_at (looks_of nat_eq world) task places ≡ overlay = cc in (
         subst (λ (l : Location ℕ). (mount_at nat_eq world l).namespace ≡ Some task.namespace) same_place
             (own_if world outsider.is task
-            (ap (task_called world) (sym (name_found world name task outsider.called)) ∙ outsider.called) here.location
+            (cc (name_found world name task outsider.called, outsider.called)) here.location
             passed.0),
         subst (λ (o : Overlay ℕ). (layer : Layer ℕ) → Among layer (layers_of o)
             → no_outsider_on nat_eq world names layer.filesystem ≡ false) same_overlay (λ layer m.

@@ -1,5 +1,5 @@
 -- Calls of others that set something of the task alone, or give it a child.
-use Rattle.std.proofs.Common.{◌≡◌, refl, sym, ap, subst, ◌∙◌, ◌⊎◌, inl, inr, ⊎_elim, ℕ, nat_eq, Bool, true, false, cond, true≢false, List, [], ◌∷◌, ◌++◌, ◌+◌, append-nil, None, Ok, filter, is_some, map, not, arith, filter_map}
+use Rattle.std.proofs.Common.{◌≡◌, refl, sym, ap, subst, ◌∙◌, ◌⊎◌, inl, inr, ⊎_elim, ℕ, nat_eq, Bool, true, false, cond, List, [], ◌∷◌, ◌++◌, ◌+◌, append-nil, None, Ok, filter, is_some, map, not, arith, filter_map}
 use Rattle.vt_spec.proofs.Common.{Among, Call, Credentials, Drop, Fork, Fresh, Location, Mount, Namespace, Outcome, Permit, Task, TaskName, ToFork, ToSetCredentials, ToSetUmask, Umask, World, after, among-append, among-filter, among-flat_map, among-from_filter, among-from_flat_map, among-from_map, among_from_list_all, and_from, and_parts, any_among, apply, call_outcome, child_name, child_of, common_steps, contains_from_among, false_from_ne_true, filter-append, found_among, holds_of, is_among, is_member_task, is_own_mount, judge_in, list_all, list_all_from_among, list_any, locations, locations_of, map_same, members, mount_at, mount_numbered, name-replaced_if_called, no_outsider_on, none_among, none_from_among, not-true, other_mounts, outsiders, replaced_if_called, same_name, same_task_name, settled, share_events, some_from_is_some, task_called}
 use Rattle.vt_laws_mounts.proofs.letting_go.Lists.{filter-map}
 use Rattle.vt_laws_rules.proofs.judged.CallsJudged.{call_is_judged_then_applied}
@@ -140,9 +140,8 @@ module _ {world : World ℕ} {fresh : Fresh ℕ} {names : List TaskName} {name :
   replaced = map (replaced_if_called new) world.tasks
 
   not_member : (other : Task ℕ) → same_name new.name other.name ≡ true → is_member_task names other ≡ false
-  not_member other e = ap (λ n. is_among same_name n names)
-      (sym (same_task_name new.name other.name e) ∙ same_called ∙ sym (name_found world name task outsider.called))
-      ∙ outsider.outside
+  not_member other e =
+      cc (same_task_name new.name other.name e, name_found world name task outsider.called, outsider.outside)
 
   pub replaced_members : filter (is_member_task names) replaced ≡ members world names
   replaced_members = filter-map (is_member_task names) (replaced_if_called new) world.tasks
@@ -153,7 +152,7 @@ module _ {world : World ℕ} {fresh : Fresh ℕ} {names : List TaskName} {name :
     where
       by : (other : Task ℕ) → is_member_task names other ≡ true → (b : Bool) → same_name new.name other.name ≡ b
           → cond b new other ≡ other
-      by other member true e = absurd (true≢false (sym member ∙ not_member other e))
+      by other member true e = cc (not_member other e)
       by other member false e = refl
 
   module _ (same_place : new.namespace ≡ task.namespace)
@@ -170,14 +169,14 @@ module _ {world : World ℕ} {fresh : Fresh ℕ} {names : List TaskName} {name :
             → (was : Task ℕ) × Among was (outsiders world names) × (other.namespace ≡ was.namespace)
             × ((location : Location ℕ) → Among location (locations_of other) → IsOutside world names location)
         by old there e true f =
-            let it : other ≡ new = e ∙ ap (λ b. cond b new old) f in (
+            let it : other ≡ new = cc in (
               task,
               caller_outside outsider,
-              ap (λ (t : Task ℕ). t.namespace) it ∙ same_place,
+              cc (it),
               λ location at. no_more location (subst (λ (t : Task ℕ). Among location (locations_of t)) it at),
             )
         by old there e false f =
-            let it : other ≡ old = e ∙ ap (λ b. cond b new old) f in
+            let it : other ≡ old = cc in
             let among = among-filter (λ (t : Task ℕ). not (is_member_task names t)) world.tasks old there
             (ap not (ap (is_member_task names) (sym it) ∙ outside)) in (
               old,
@@ -204,7 +203,7 @@ module _ {world : World ℕ} {fresh : Fresh ℕ} {names : List TaskName} {name :
       let found = some_from_is_some (task_called world member.0)
       (among_from_list_all (λ n. is_some (task_called world n)) names outsider.there member.0 member.1) in
       let its_name : found.0.name ≡ child_name task =
-      sym (name_found world member.0 found.0 found.1) ∙ sym (same_task_name (child_name task) member.0 member.2) in
+      cc (name_found world member.0 found.0 found.1, same_task_name (child_name task) member.0 member.2) in
       let counted = outsider.is.tasks.forks_counted task found.0 (task.forks + 1) []
       (contains_from_among world.tasks task (found_among (λ (t : Task ℕ). same_name name t.name) world.tasks task
       outsider.called)) (contains_from_among world.tasks found.0
@@ -221,7 +220,7 @@ module _ {world : World ℕ} {fresh : Fresh ℕ} {names : List TaskName} {name :
       forked = map (replaced_if_called parent) world.tasks ++ child ∷ []
 
       child_is_none : is_member_task names child ≡ false
-      child_is_none = ap (λ n. is_among same_name n names) named ∙ child_outside
+      child_is_none = cc (child_outside)
 
       forked_members : filter (is_member_task names) forked ≡ members world names
       forked_members =
@@ -235,7 +234,7 @@ module _ {world : World ℕ} {fresh : Fresh ℕ} {names : List TaskName} {name :
           (λ new. ⊎_elim (λ it. (
             task,
             caller_outside outsider,
-            ap (λ (t : Task ℕ). t.namespace) it ∙ same_place,
+            cc (it),
             λ location at. no_more location (subst (λ (t : Task ℕ). Among location (locations_of t)) it at),
           )) (λ none. absurd none) new)
           (among-append (map (replaced_if_called parent) world.tasks) (child ∷ []) other m)
@@ -249,7 +248,7 @@ module _ {world : World ℕ} {fresh : Fresh ℕ} {names : List TaskName} {name :
       → LeavesApart world (apply nat_eq fresh world task permit).world names []
       → LeavesApart world (settled nat_eq (apply nat_eq fresh world task permit).world) names []
   unswept permit judged asked e only no_type none leaves = subst (λ w. LeavesApart world w names [])
-      (sym (nothing_is_swept outsider permit judged (ap takes_uses e ∙ only) (ap sets_type e ∙ no_type) none)) leaves
+      (sym (nothing_is_swept outsider permit judged (cc) (cc) none)) leaves
 
   pub umask_leaves : (umask : ℕ) → judge_in nat_eq fresh world task call ≡ Ok (ToSetUmask umask)
       → LeavesApart world (settled nat_eq (apply nat_eq fresh world task (ToSetUmask umask)).world) names []

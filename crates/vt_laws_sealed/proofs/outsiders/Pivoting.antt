@@ -1,6 +1,6 @@
 -- Another root mount of a namespace of others: pivot_root(2).
 use Rattle.std.proofs.Common.{arith, ◌≡◌, refl, sym, ap, subst, ◌∙◌, inl, inr, ⊎_elim, ℕ, nat_eq, Bool, true, false, cond, true≢false, List, [], Some, None, Ok, filter, map, not, eqb-true}
-use Rattle.vt_spec.proofs.Common.{Among, Call, Fresh, Location, Mount, PivotRoot, Propagation, Task, TaskName, ToPivot, World, among-filter, among-flat_map, among-from_filter, among-from_flat_map, among-from_map, among_from_list_all, any_from_among, apply, common_steps, found_or_none, is_among, is_member_task, is_own_namespace, judge_in, list_all, list_all_from_among, locations, locations_of, map_same, members, mount_at, mount_numbered, no_mount, none_is_some, number-mount_in, other_mounts, outsiders, own_mounts, pair-map, pivoted_location, pivoted_mount, pivoted_task, root_of, same_location, same_name, settled, share_events, shares_no_events, task_called}
+use Rattle.vt_spec.proofs.Common.{Among, Call, Fresh, Location, Mount, PivotRoot, Propagation, Task, TaskName, ToPivot, World, among-filter, among-flat_map, among-from_filter, among-from_flat_map, among-from_map, among_from_list_all, any_from_among, apply, common_steps, found_or_none, is_among, is_member_task, is_own_namespace, judge_in, list_all, list_all_from_among, locations, locations_of, map_same, members, mount_at, mount_numbered, no_mount, none_is_some, number-mount_in, other_mounts, outsiders, own_mounts, pair-map, pivoted_location, pivoted_mount, pivoted_task, root_of, same_location, same_name, settled, share_events, shares_no_events}
 use Rattle.vt_laws_mounts.proofs.letting_go.Lists.{filter-map}
 use Rattle.vt_laws_sealed.proofs.outsiders.OthersCalls.{IsOthersCall, apart_from}
 use Rattle.vt_laws_trees.specs.Trees.Calls.{mounts_overlay}
@@ -35,7 +35,7 @@ module _ {world : World ℕ} {fresh : Fresh ℕ} {names : List TaskName} {name :
 
   fits : MayPivot world task new put
   fits = (all_permits_fit world fresh task call (ToPivot new put) outsider.is outsider.serves
-      (ap (task_called world) (sym (name_found world name task outsider.called)) ∙ outsider.called)
+      (cc (name_found world name task outsider.called, outsider.called))
       (ap mounts_overlay for_pivot.2) judged).names
 
   outside : is_own_namespace nat_eq world names task.namespace ≡ false
@@ -81,7 +81,7 @@ module _ {world : World ℕ} {fresh : Fresh ℕ} {names : List TaskName} {name :
   own_same own m = grind (arith, common_steps, among-from_filter, stays_elsewhere, true≢false, outside)
 
   nowhere_same : (mount : Mount ℕ) → Among mount world.mounts → mount.namespace ≡ None → change mount ≡ mount
-  nowhere_same mount there none = stays_elsewhere mount there (λ e. none_is_some task.namespace (sym none ∙ e))
+  nowhere_same mount there none = stays_elsewhere mount there (λ e. none_is_some task.namespace (cc))
 
   kept_same : (mount : Mount ℕ) → Among mount world.mounts
       → keep world names (members world names) (change mount) ≡ keep world names (members world names) mount
@@ -112,13 +112,13 @@ module _ {world : World ℕ} {fresh : Fresh ℕ} {names : List TaskName} {name :
       let from = among-from_map move world.tasks t out.0 in (
         from.0,
         among-filter (λ (x : Task ℕ). not (is_member_task names x)) world.tasks from.0 from.1
-            (sym (ap not (ap (is_member_task names) from.2 ∙ member_kept from.0)) ∙ out.1),
+            (cc (from.2, member_kept from.0, out.1)),
         from.2,
       )
 
   new_root_other : Among new_root (other_mounts nat_eq world names)
   new_root_other = is_other world names outside new_root
-      (⊎_elim (λ m. m) (λ none. none_is_some task.namespace (sym (ap (λ (x : Mount ℕ). x.namespace) none) ∙ fits.own))
+      (⊎_elim (λ m. m) (λ none. none_is_some task.namespace (cc (fits.own)))
       (found_or_none world.mounts new)) fits.own
 
   moved_outside : (old : Task ℕ) → Among old (outsiders world names) → (from location : Location ℕ)
@@ -128,11 +128,11 @@ module _ {world : World ℕ} {fresh : Fresh ℕ} {names : List TaskName} {name :
     where
       by : (b : Bool) → same_location nat_eq from (root_of old_root) ≡ b → IsOutside world names location
       by true f =
-          let it : location ≡ root_of new_root = e ∙ ap (λ b. cond b (root_of new_root) from) f in
-          inr (subst (λ x. Among x (other_mounts nat_eq world names)) (sym (ap (mount_at nat_eq world) it
-          ∙ ap (mount_numbered nat_eq world) (number-mount_in world.mounts new))) new_root_other)
+          let it : location ≡ root_of new_root = cc in
+          inr (subst (λ x. Among x (other_mounts nat_eq world names)) (sym (cc (number-mount_in world.mounts new)))
+          new_root_other)
       by false f =
-          let it : location ≡ from = e ∙ ap (λ b. cond b (root_of new_root) from) f in
+          let it : location ≡ from = cc in
           inl (
             from,
             among-flat_map locations_of (outsiders world names) old from m n,
@@ -167,8 +167,7 @@ module _ {world : World ℕ} {fresh : Fresh ℕ} {names : List TaskName} {name :
         ∙ map_same move (members world names) member_stays;
     outside = λ t m.
         let old = was t m in
-        ap (is_own_namespace nat_eq world names) (ap (λ (x : Task ℕ). x.namespace) old.2 ∙ namespace_kept old.0)
-        ∙ namespace_outside world names set_apart old.0 old.1;
+        cc (old.2, namespace_kept old.0, namespace_outside world names set_apart old.0 old.1);
     located = located;
     listed = refl;
   }

@@ -123,7 +123,7 @@ module _ {world : World ℕ} {names : List TaskName} {New : ℕ → Type 0} (apa
   regroup_stays mount e = grind (arith, common_steps)
 
   pub own_stays : (own : Mount ℕ) → Among own (own_mounts nat_eq world names) → all_changed own ≡ own
-  own_stays own m = ap regroup (own_same own m) ∙ regroup_stays own (own_type_stays own m)
+  own_stays own m = cc (own_same own m, regroup_stays own (own_type_stays own m))
 
   nowhere_stays : (mount : Mount ℕ) → Among mount world.mounts → mount.namespace ≡ None → all_changed mount ≡ mount
   nowhere_stays mount there none =
@@ -171,7 +171,7 @@ module _ {world : World ℕ} {names : List TaskName} {New : ℕ → Type 0} (apa
 
     left_above : (number above : ℕ) → IsForeign number → master number ≡ Some above → IsForeign above
     left_above number above foreign e =
-        ⊎_elim (λ same. after_above number above foreign (sym same ∙ e)) (λ none. none_is_some above (sym none ∙ e))
+        ⊎_elim (λ same. after_above number above foreign (cc)) (λ none. none_is_some above (cc))
         (taken number)
 
     heard_foreign : (kind : Propagation ℕ) → IsOfOthers apart kind → (number : ℕ)

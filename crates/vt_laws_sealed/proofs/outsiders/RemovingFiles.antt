@@ -1,7 +1,7 @@
 -- Directories that others remove, and files and directories that they rename: rmdir(2), rename(2). Mounts on what goes
 -- are of others, in whatever namespace.
 use Rattle.std.proofs.Common.{arith, ◌≡◌, refl, sym, ap, subst, ◌∙◌, ⊎_elim, ℕ, nat_eq, true, false, true≢false, List, [], Option, Some, None, Ok, flat_map, length, map, ◌&&◌, eqb-true, option_map}
-use Rattle.vt_spec.proofs.Common.{Among, Call, Change, Filesystem, Fresh, Location, Mount, Move, Permit, Remove, Stands, Task, TaskName, ToRemoveDirectory, ToRename, World, among-append_left, among-filter, among-from_filter, among-from_flat_map, among-from_map, among-map, among_from_all, among_numbers, and_parts, any_among, any_from_among, apply, changed_at, common_steps, entry_at, false_from_ne_true, files_at, filesystem_at, filesystem_numbered, filesystems_changed, found_or_none, holds_of, is_among, is_directory_there, is_going, is_own_mount, is_own_namespace, is_point, judge_in, list_any, looks_of, mount_at, mount_numbered, mount_tree, mounts_on, name_of, none_is_some, object_there, overfills, own_mounts, points_of, same_Some, settled, special_word, used_filesystems, with_change, without_mounts_on}
+use Rattle.vt_spec.proofs.Common.{Among, Call, Change, Filesystem, Fresh, Location, Mount, Move, Permit, Stands, Task, TaskName, ToRemoveDirectory, ToRename, World, among-append_left, among-filter, among-from_filter, among-from_flat_map, among-from_map, among-map, among_from_all, among_numbers, and_parts, any_among, any_from_among, apply, changed_at, common_steps, entry_at, false_from_ne_true, files_at, filesystem_at, filesystem_numbered, filesystems_changed, found_or_none, holds_of, is_among, is_directory_there, is_going, is_own_mount, is_own_namespace, is_point, judge_in, list_any, looks_of, mount_at, mount_numbered, mount_tree, mounts_on, name_of, none_is_some, object_there, overfills, own_mounts, points_of, same_Some, settled, special_word, used_filesystems, with_change, without_mounts_on}
 use Rattle.vt_laws_mounts.proofs.namespaces.Unsharing.{placed_inside}
 use Rattle.vt_laws_rules.proofs.given.Inversion.{calls_are_granted}
 use Rattle.vt_laws_rules.specs.Granted.{IsGranted}
@@ -59,9 +59,9 @@ module _ {world : World ℕ} {names : List TaskName} (apart : IsApart world name
             ∙ ap (λ (x : Mount ℕ). x.namespace) (itself mount m) ∙ e in
             let parent : Among (mount_at nat_eq world point) (own_mounts nat_eq world names) =
             among-filter (is_own_mount nat_eq world names) world.mounts (mount_at nat_eq world point) (⊎_elim (λ k. k)
-            (λ none. none_is_some n (sym (ap (λ (x : Mount ℕ). x.namespace) none) ∙ placed))
+            (λ none. none_is_some n (cc (placed)))
             (found_or_none world.mounts point.mount))
-            (ap (holds_of (is_own_namespace nat_eq world names)) placed ∙ own) in
+            (cc (placed)) in
             true≢false (sym (used_directly_used world names (mount_at nat_eq world point).filesystem
             (among-append_left (map (λ (x : Mount ℕ). x.filesystem) (own_mounts nat_eq world names)) _
             (mount_at nat_eq world point).filesystem
@@ -80,7 +80,7 @@ module _ {world : World ℕ} {names : List TaskName} (apart : IsApart world name
       by : Among mount world.mounts → (at : ℕ × ℕ) → Among at (points_of nat_eq world directory)
           → (o : Option (Location ℕ)) → mount.mount_point ≡ o → holds_of (λ (point : Location ℕ). nat_eq point.node at.1
           && nat_eq (mount_at nat_eq world point).filesystem at.0) o ≡ true → IsOfOthersAt mount
-      by k at among None e h = absurd (true≢false (sym h))
+      by k at among None e h = cc
       by k at among (Some point) e h = parent_not_own mount k point e (unused (mount_at nat_eq world point).filesystem
           (any_from_among (λ (p : ℕ × ℕ). nat_eq (mount_at nat_eq world point).filesystem p.0)
           (points_of nat_eq world directory) at among
@@ -101,8 +101,7 @@ module _ {world : World ℕ} {names : List TaskName} (apart : IsApart world name
       is_point nat_eq world point.0 point.1 x) (points_of nat_eq world directory)) world.mounts top.0 top.1).0 in
       let is_in = tree_in apart other.0 (length world.mounts) top.0 (top_there, other.1) from.0 top.2 in (
         other.0,
-        ap (λ j. (mount_numbered nat_eq world j).namespace) from.2
-            ∙ ap (λ (x : Mount ℕ). x.namespace) (itself from.0 is_in.0) ∙ is_in.1,
+        cc (from.2, itself from.0 is_in.0, is_in.1),
         other.2,
       )
 

@@ -1,6 +1,6 @@
 -- Types of mounts of others that are set: mount(2) with MS_SHARED, MS_SLAVE, MS_PRIVATE or MS_UNBINDABLE.
-use Rattle.std.proofs.Common.{arith, ◌≡◌, refl, sym, ap, subst, ◌∙◌, ◌⊎◌, inl, inr, ⊎_elim, ℕ, nat_eq, Bool, true, false, cond, true≢false, List, [], ◌∷◌, Option, Some, None, Ok, filter, is_some, length, map, eqb-true}
-use Rattle.vt_spec.proofs.Common.{Among, Call, Fresh, Mount, Private, Propagation, Serves, SetType, Shared, Slave, Task, TaskName, ToPrivate, ToSetType, ToShared, ToSlave, ToUnbindable, TypeWord, Unbindable, World, after, among-filter, among-from_filter, among-map, any_among, any_from_among, apply, call_outcome, common_steps, false_from_ne_true, found_or_none, group_of, holds_of, index_of, is_member_of, is_own_mount, is_own_namespace, judge_in, list_any, lost_a_group, master_after, master_of, mount_lives, mount_numbered, named_mounts, none_is_some, numbers_by, or_left, other_mounts, own_mounts, regrouped_by, retyped_mount, same_Some, settled, source_of, task_called, type_after, with_master, with_new_groups}
+use Rattle.std.proofs.Common.{arith, ◌≡◌, refl, sym, ap, subst, ◌∙◌, ◌⊎◌, inl, inr, ⊎_elim, ℕ, nat_eq, Bool, true, false, cond, List, [], ◌∷◌, Option, Some, None, Ok, filter, is_some, length, map, eqb-true}
+use Rattle.vt_spec.proofs.Common.{Among, Call, Fresh, Mount, Private, Propagation, Serves, SetType, Shared, Slave, Task, TaskName, ToPrivate, ToSetType, ToShared, ToSlave, ToUnbindable, TypeWord, Unbindable, World, after, among-filter, among-from_filter, among-map, any_among, any_from_among, apply, call_outcome, common_steps, false_from_ne_true, found_or_none, holds_of, index_of, is_member_of, is_own_mount, is_own_namespace, judge_in, list_any, lost_a_group, master_after, mount_lives, mount_numbered, named_mounts, none_is_some, numbers_by, or_left, other_mounts, own_mounts, regrouped_by, retyped_mount, same_Some, settled, source_of, task_called, type_after, with_master, with_new_groups}
 use Rattle.vt_laws_sealed.proofs.outsiders.OthersCalls.{IsOthersCall, apart_from}
 use Rattle.vt_laws_trees.specs.Trees.Calls.{mounts_overlay}
 use Rattle.vt_laws_mounts.proofs.mounts.MountsReplaced.{found_itself}
@@ -64,7 +64,7 @@ module _ {world : World ℕ} {names : List TaskName} (apart : IsApart world name
   own_not_named : (own : Mount ℕ) → Among own (own_mounts nat_eq world names) → is_named own ≡ false
   own_not_named own m =
       let at = among-from_filter (is_own_mount nat_eq world names) world.mounts own m in
-      not_named own at.0 (λ e. true≢false (sym at.1 ∙ ap (holds_of (is_own_namespace nat_eq world names)) e ∙ outside))
+      not_named own at.0 (λ e. cc (at.1))
 
   stays : (mount : Mount ℕ) → is_named mount ≡ false → retype mount ≡ mount
   stays mount e =
@@ -85,14 +85,14 @@ module _ {world : World ℕ} {names : List TaskName} (apart : IsApart world name
 
   set_above : (number above : ℕ) → IsForeign number → set_master number ≡ Some above → IsForeign above
   set_above number above foreign e = ⊎_elim
-      (λ same. foreign_above so_far number above foreign (sym same ∙ e))
+      (λ same. foreign_above so_far number above foreign (cc))
       (λ made. after made.0 (named_other made.0 made.1) made.0.propagation refl (sym made.3 ∙ e))
       (new_masters group number named world.master)
     where
       after : (mount : Mount ℕ) → Among mount (other_mounts nat_eq world names) → (kind : Propagation ℕ)
           → mount.propagation ≡ kind → master_after kind ≡ Some above → IsForeign above
       after mount m (Shared g) k h = none_is_some above h
-      after mount m (Slave g) k h = old_foreign mount m above (inr (ap (master_of world) k ∙ h))
+      after mount m (Slave g) k h = old_foreign mount m above (inr (cc))
       after mount m Private k h = none_is_some above h
       after mount m Unbindable k h = none_is_some above h
 
@@ -124,7 +124,7 @@ module _ {world : World ℕ} {names : List TaskName} (apart : IsApart world name
       typed ToShared Unbindable k = shared_new
       typed ToSlave (Shared g) k = (
         λ number e. none_is_some number e,
-        λ number e. old_foreign other m number (inl (ap group_of k ∙ ap source_of e)),
+        λ number e. old_foreign other m number (inl (cc)),
       )
       typed ToSlave (Slave g) k = subst Others k old
       typed ToSlave Private k = of_nobody so_far
@@ -156,7 +156,7 @@ module _ {world : World ℕ} {names : List TaskName} (apart : IsApart world name
   own_same own m = stays own (own_not_named own m)
 
   nowhere_same : (mount : Mount ℕ) → Among mount world.mounts → mount.namespace ≡ None → retype mount ≡ mount
-  nowhere_same mount there none = stays mount (not_named mount there (λ e. none_is_some namespace (sym none ∙ e)))
+  nowhere_same mount there none = stays mount (not_named mount there (λ e. none_is_some namespace (cc)))
 
   own_set : (number : ℕ) → list_any (is_member_of nat_eq number) (own_mounts nat_eq world names) ≡ true
       → set_master number ≡ world.master number
@@ -217,7 +217,7 @@ module _ {world : World ℕ} {fresh : Fresh ℕ} {names : List TaskName} {name :
   for_type = permits_are_for_their_calls fresh world task call (ToSetType number word recursive) judged
 
   called_so : task_called world task.name ≡ Some task
-  called_so = ap (task_called world) (sym (name_found world name task outsider.called)) ∙ outsider.called
+  called_so = cc (name_found world name task outsider.called, outsider.called)
 
   placed : (mount_numbered nat_eq world number).namespace ≡ Some task.namespace
   placed =

@@ -1,5 +1,5 @@
 -- What a set of tasks sees is there, where it sees the same: mounts, filesystems and lower layers.
-use Rattle.std.proofs.Common.{arith, ◌≡◌, refl, sym, ap, subst, ◌∙◌, ℕ, nat_eq, Bool, true, false, cond, true≢false, List, [], ◌++◌, Option, Some, None, filter, find, flat_map, map, ◌&&◌, ◌||◌, eqb-true, option_to_list, unwrap_or, filter_map}
+use Rattle.std.proofs.Common.{arith, ◌≡◌, refl, sym, ap, subst, ℕ, nat_eq, Bool, true, false, cond, true≢false, List, [], ◌++◌, Option, Some, None, filter, find, flat_map, map, ◌&&◌, ◌||◌, eqb-true, option_to_list, unwrap_or, filter_map}
 use Rattle.vt_spec.proofs.Common.{Among, FileTree, Filesystem, Layer, Mount, Overlay, Task, TaskName, World, among-append_left, among-append_right, among-filter_map, among-from_filter, among-from_filter_map, among-from_flat_map, among-from_map, change_layers, common_steps, filesystem_numbered, found_among, found_passes, is_among, is_at, is_own_mount, is_under, layers_of, list_any, locations, members, no_filesystem, none_is_some, of_overlay, only_among, overlay_or, own_lowers, own_mounts, part_of, roots_and_directories, same_Some, seen_by_descriptor, used_directly, used_filesystems, when}
 use Rattle.vt_laws_sealed.specs.Part.Parts.{SeesTheSame, shown_of}
 use Rattle.vt_laws_sealed.proofs.part.part.Observed.{own_mounts_same}
@@ -87,7 +87,7 @@ module _ (world later : World ℕ) (names : List TaskName) (sees : SeesTheSame w
       let among : Among shown (part_of nat_eq later names).mounts =
       subst (Among shown) (sym sees.mounts) (among-filter_map (keep world names theirs) world.mounts mount shown m e) in
       let from = among-from_filter_map (keep later names (members later names)) later.mounts shown among in
-      (from.0, from.1, ap (λ tasks. keep world names tasks from.0) (sym sees.tasks) ∙ from.2)
+      (from.0, from.1, cc (sees.tasks, from.2))
 
   shown_number : (mount shown : Mount ℕ) → keep world names theirs mount ≡ Some shown
       → (shown.number ≡ mount.number) × (shown.filesystem ≡ mount.filesystem) × (shown.root ≡ mount.root)

@@ -143,4 +143,4 @@ pub free_from : (world left : World ℕ) (names : List TaskName) → overlays le
     → (number : ℕ) → IsOfTheWorld world names number → used_alone nat_eq world names number ≡ true
     → used_alone nat_eq left names number ≡ true
 free_from world left names same fewer =
-    free_with world left names [] (same ∙ sym (append-nil (overlays world))) fewer (λ merged m number free. absurd m)
+    free_with world left names [] (cc (append-nil (overlays world))) fewer (λ merged m number free. absurd m)

@@ -1,7 +1,7 @@
 -- Steps of a call of others, one after the other: what each leaves of a sealed set is left by all.
-use Rattle.std.proofs.Common.{arith, ◌≡◌, sym, ap, subst, ◌∙◌, ℕ, nat_eq, List, [], Some, map, Contains, filter_map}
-use Rattle.vt_spec.proofs.Common.{Among, Location, Mount, MountInvariants, Namespace, Task, TaskName, World, common_steps, is_among, is_member_of, is_own_namespace, list_any, members, own_lowers, roots_and_directories, used_filesystems}
-use Rattle.vt_laws_sealed.specs.Part.Parts.{SeesTheSame, shown_of}
+use Rattle.std.proofs.Common.{arith, ◌≡◌, sym, ap, subst, ◌∙◌, ℕ, nat_eq, List, [], Some, Contains}
+use Rattle.vt_spec.proofs.Common.{Among, Location, Mount, MountInvariants, Task, TaskName, World, common_steps, is_own_namespace, list_any, members, roots_and_directories}
+use Rattle.vt_laws_sealed.specs.Part.Parts.{SeesTheSame}
 use Rattle.vt_laws_sealed.proofs.part.part.Observed.{directly_same, lowers_same, own_mounts_same, used_same}
 use Rattle.vt_laws_sealed.proofs.outsiders.StandingApart.{NothingNew, StandsApart}
 use Rattle.vt_laws_sealed.proofs.outsiders.Staying.{LeavesApart}
@@ -12,19 +12,13 @@ sees_on world middle later names one two = record {
   tasks = two.tasks ∙ one.tasks;
   mounts = two.mounts ∙ one.mounts;
   masters = λ group h.
-      two.masters group (ap (list_any (is_member_of nat_eq group)) (own_mounts_same world middle names one) ∙ h)
+      two.masters group (cc (own_mounts_same world middle names one))
       ∙ one.masters group h;
   direct = λ number m.
       two.direct number (subst (λ list. Contains list number) (sym (directly_same world middle names one)) m)
       ∙ one.direct number m;
-  filesystems = sym (ap (λ used. filter_map (shown_of later used (own_lowers nat_eq middle names)) later.filesystems)
-      (used_same world middle names one)
-      ∙ ap (λ lowers. filter_map (shown_of later (used_filesystems nat_eq world names) lowers) later.filesystems)
-      (lowers_same world middle names one)) ∙ two.filesystems
-      ∙ ap (λ used. filter_map (shown_of middle used (own_lowers nat_eq middle names)) middle.filesystems)
-      (used_same world middle names one)
-      ∙ ap (λ lowers. filter_map (shown_of middle (used_filesystems nat_eq world names) lowers) middle.filesystems)
-      (lowers_same world middle names one) ∙ one.filesystems;
+  filesystems =
+      cc (used_same world middle names one, lowers_same world middle names one, two.filesystems, one.filesystems);
   namespaces = two.namespaces ∙ one.namespaces;
 }
 
@@ -55,8 +49,7 @@ standing_on world later names standing leaves mounts same from = record {
       (roots_and_directories tasks)) leaves.sees.tasks ∙ ap (λ n. list_any (λ (l : Location ℕ). nat_eq l.mount n)
       (roots_and_directories (members world names))) (sym old.2)
       ∙ standing.not_stood namespace (sym (own_by namespace) ∙ outside) old.0 old.1 old.3;
-  own_listed = λ number own. ap (λ list. is_among nat_eq number (map (λ (n : Namespace ℕ). n.number) list)) same
-      ∙ standing.own_listed number (sym (own_by number) ∙ own);
+  own_listed = λ number own. cc (standing.own_listed number (sym (own_by number) ∙ own));
   new_group = λ mount group m is_in new. new;
   new_master = λ group new. absurd new;
 }

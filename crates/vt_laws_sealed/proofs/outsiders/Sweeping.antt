@@ -68,8 +68,7 @@ module _ {world before : World ℕ} {names : List TaskName} (apart : IsApart wor
               trees.own_parents x m;
         };
         directories = λ layer n e.
-            ap (λ (f : Filesystem ℕ). is_directory_node (f.files.tree.node layer.directory)) (sym (found layer e))
-            ∙ (both layer n).1;
+            cc (found layer e, (both layer n).1);
       }
     where
       found : (layer : Layer ℕ) → nat_eq x.number layer.filesystem ≡ true

@@ -1,6 +1,6 @@
 -- Mounts of others that are taken away: what is left for the set.
-use Rattle.std.proofs.Common.{arith, ◌≡◌, refl, sym, ap, subst, ◌∙◌, ⊎_elim, inl, inr, ℕ, nat_eq, Bool, true, false, cond, true≢false, List, [], Option, Some, None, length, map, option_map}
-use Rattle.vt_spec.proofs.Common.{Among, Location, Mount, Namespace, Private, Stands, Task, TaskName, World, after_going, among-from_filter, among-from_map, among_from_all, common_steps, detached, false_from_ne_true, holds_of, is_going, is_own_mount, is_own_namespace, list_any, lost_a_group, mount_at, mount_numbered, mount_point_left, mount_point_of_parent, none_is_some, other_mounts, own_mounts, pair-map, regrouped_by, same_Some, sealed, settled, taken_away, with_mounts}
+use Rattle.std.proofs.Common.{arith, ◌≡◌, refl, sym, ap, subst, ◌∙◌, ⊎_elim, inl, inr, ℕ, nat_eq, Bool, true, false, cond, List, [], Option, Some, None, length, map, option_map}
+use Rattle.vt_spec.proofs.Common.{Among, Location, Mount, Namespace, Private, Stands, Task, TaskName, World, after_going, among-from_filter, among-from_map, among_from_all, common_steps, detached, false_from_ne_true, holds_of, is_going, is_own_mount, is_own_namespace, list_any, lost_a_group, mount_numbered, mount_point_left, mount_point_of_parent, none_is_some, other_mounts, own_mounts, pair-map, regrouped_by, same_Some, sealed, settled, taken_away, with_mounts}
 use Rattle.vt_laws_mounts.proofs.namespaces.Unsharing.{placed_inside}
 use Rattle.vt_laws_trees.proofs.trees.TreesEntered.{chain_ends_at}
 use Rattle.vt_laws_mounts.specs.Mounts.Invariants.{OneNumberEach}
@@ -42,7 +42,7 @@ module _ {world : World ℕ} {names : List TaskName} {New : ℕ → Type 0} (apa
       → is_own namespace ≡ true → goes number ≡ false
   own_not_going number namespace e own = false_from_ne_true (goes number) (λ h.
       let other = others_go number h in
-      true≢false (sym own ∙ ap is_own (same_Some namespace other.0 (sym e ∙ other.1)) ∙ other.2))
+      cc (own, same_Some namespace other.0 (sym e ∙ other.1), other.2))
 
   nowhere_not_going : (number : ℕ) → (mount_numbered nat_eq world number).namespace ≡ None → goes number ≡ false
   nowhere_not_going number e =
@@ -65,8 +65,7 @@ module _ {world : World ℕ} {names : List TaskName} {New : ℕ → Type 0} (apa
 
   point_stays : (point : Location ℕ) → goes point.mount ≡ false → new_point point ≡ point
   point_stays point on = chain_ends_at (λ (here : Location ℕ). here ≡ point) (mount_point_of_parent nat_eq before gone)
-      (λ here next e h. none_is_some next (sym (ap (λ b. cond b (mount_at nat_eq before point).mount_point None) on)
-      ∙ ap (mount_point_of_parent nat_eq before gone) (sym e) ∙ h)) (length world.mounts) point point refl
+      (λ here next e h. none_is_some next (cc)) (length world.mounts) point point refl
 
   stays : (mount : Mount ℕ) → goes mount.number ≡ false
       → ((point : Location ℕ) → mount.mount_point ≡ Some point → goes point.mount ≡ false) → change mount ≡ mount
@@ -78,10 +77,10 @@ module _ {world : World ℕ} {names : List TaskName} {New : ℕ → Type 0} (apa
       by own.namespace refl is.0 is.1
     where
       by : (o : Option ℕ) → own.namespace ≡ o → Among own world.mounts → holds_of is_own o ≡ true → change own ≡ own
-      by None e at h = absurd (true≢false (sym h))
+      by None e at h = cc
       by (Some namespace) e at h =
           let placed : (mount_numbered nat_eq world own.number).namespace ≡ Some namespace =
-          ap (λ (x : Mount ℕ). x.namespace) (itself own at) ∙ e in
+          cc (itself own at, e) in
           stays own (own_not_going own.number namespace placed h) (λ point p.
           own_not_going point.mount namespace (sym (namespace_below world own.number point
           (among_from_all (λ (x : Mount ℕ). Stands nat_eq world x.number) world.mounts apart.mounts.standing own at)
@@ -89,7 +88,7 @@ module _ {world : World ℕ} {names : List TaskName} {New : ℕ → Type 0} (apa
 
   nowhere_same : (mount : Mount ℕ) → Among mount world.mounts → mount.namespace ≡ None → change mount ≡ mount
   nowhere_same mount at none =
-      stays mount (nowhere_not_going mount.number (ap (λ (x : Mount ℕ). x.namespace) (itself mount at) ∙ none))
+      stays mount (nowhere_not_going mount.number (cc (itself mount at)))
       (λ point p. absurd (placed_inside world apart.mounts mount at point p none))
 
   kinds : (other : Mount ℕ) → Among other (other_mounts nat_eq world names)
@@ -119,13 +118,11 @@ module _ {world : World ℕ} {names : List TaskName} {New : ℕ → Type 0} (apa
   }
 
   world_left : record (taken_away nat_eq before gone) { namespaces = namespaces } ≡ left
-  world_left = by lost ∙ ap (λ ms. record world {
-    mounts = ms;
-    master = regrouped_world.master;
-    namespaces = namespaces;
-    tasks = tasks;
-  }) (mounts_are apart change shape own_same nowhere_same kinds world.master
-      (foreign_above apart) (λ number h. refl) moved lost)
+  world_left = cc (
+    by lost,
+    mounts_are apart change shape own_same nowhere_same kinds world.master
+        (foreign_above apart) (λ number h. refl) moved lost,
+  )
     where
       with_names : World ℕ
       with_names = record halfway { namespaces = namespaces }
@@ -174,9 +171,9 @@ module _ {world : World ℕ} {names : List TaskName} {New : ℕ → Type 0} (apa
       (foreign_above apart) (λ number h. refl) moved lost) in (
         from.0,
         from.1,
-        sym (keeps.number from.0) ∙ sym (ap (λ (x : Mount ℕ). x.number) from.2),
-        ⊎_elim (λ same. sym same ∙ sym (ap (λ (x : Mount ℕ). x.namespace) from.2) ∙ e)
-            (λ none. none_is_some namespace (sym none ∙ sym (ap (λ (x : Mount ℕ). x.namespace) from.2) ∙ e))
+        cc (keeps.number from.0, from.2),
+        ⊎_elim (λ same. cc (from.2))
+            (λ none. none_is_some namespace (cc (from.2)))
             (keeps.namespace from.0),
       )
 

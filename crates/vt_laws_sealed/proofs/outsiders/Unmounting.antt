@@ -1,6 +1,6 @@
 -- Mounts of others that are unmounted, with those that an event takes away: umount(2).
 use Rattle.std.proofs.Common.{arith, ◌≡◌, refl, sym, ap, subst, ◌∙◌, ⊎_elim, ℕ, nat_eq, Bool, true, false, true≢false, List, [], ◌∷◌, Option, Some, None, Ok, map, option_map, unwrap_or, filter_map}
-use Rattle.vt_spec.proofs.Common.{Among, Call, Fresh, Location, Mount, Stands, Task, TaskName, ToUnmount, Umount, World, among-filter, among-from_filter, among-from_filter_map, among-from_map, among_from_all, among_numbers, apply, child_at, common_steps, contains_from_among, false_from_ne_true, found_among, found_or_none, found_passes, goes_at, going, going_at, going_from, group_of, holds_of, is_going, is_own_mount, is_own_namespace, is_shared, judge_in, mount_at, mount_numbered, none_is_some, number-mount_in, other_mounts, own_mounts, receivers, receivers_of, receives, settled, stands_at, task_called}
+use Rattle.vt_spec.proofs.Common.{Among, Call, Fresh, Location, Mount, Stands, Task, TaskName, ToUnmount, Umount, World, among-filter, among-from_filter, among-from_filter_map, among-from_map, among_from_all, among_numbers, apply, child_at, common_steps, contains_from_among, false_from_ne_true, found_among, found_or_none, found_passes, goes_at, going, going_at, going_from, group_of, holds_of, is_going, is_own_mount, is_own_namespace, is_shared, judge_in, mount_at, mount_numbered, none_is_some, number-mount_in, other_mounts, own_mounts, receivers, receivers_of, receives, settled, stands_at}
 use Rattle.vt_laws_mounts.proofs.namespaces.Unsharing.{placed_inside}
 use Rattle.vt_laws_sealed.proofs.outsiders.OthersCalls.{IsOthersCall, apart_from}
 use Rattle.vt_laws_trees.specs.Trees.Calls.{mounts_overlay}
@@ -39,7 +39,7 @@ module _ {world : World ℕ} {names : List TaskName} {New : ℕ → Type 0} (apa
     parent = mount_at nat_eq world point
 
     one_there : Among unmounted_one world.mounts
-    one_there = ⊎_elim (λ m. m) (λ none. none_is_some namespace (sym (ap (λ (x : Mount ℕ). x.namespace) none) ∙ placed))
+    one_there = ⊎_elim (λ m. m) (λ none. none_is_some namespace (cc))
         (found_or_none world.mounts number)
 
     itself : (mount : Mount ℕ) → Among mount world.mounts → mount_numbered nat_eq world mount.number ≡ mount
@@ -53,11 +53,11 @@ module _ {world : World ℕ} {names : List TaskName} {New : ℕ → Type 0} (apa
         (ap (λ (x : Mount ℕ). x.mount_point) (itself mount m) ∙ e)
 
     parent_placed : parent.namespace ≡ Some namespace
-    parent_placed = sym (below unmounted_one one_there point at) ∙ placed
+    parent_placed = cc (below unmounted_one one_there point at)
 
     parent_other : Among parent (other_mounts nat_eq world names)
     parent_other = is_other world names outside parent (⊎_elim (λ m. m)
-        (λ none. none_is_some namespace (sym (ap (λ (x : Mount ℕ). x.namespace) none) ∙ parent_placed))
+        (λ none. none_is_some namespace (cc (parent_placed)))
         (found_or_none world.mounts point.mount)) parent_placed
 
     -- a receiver of its events is none of theirs
@@ -99,9 +99,9 @@ module _ {world : World ℕ} {names : List TaskName} {New : ℕ → Type 0} (apa
         let child_there = found_among (stands_at nat_eq place) world.mounts child.0 found in
         let stands = stands_there place child.0 (found_passes (stands_at nat_eq place) world.mounts child.0 found) in
         let same : child.0.namespace ≡ from.0.namespace =
-        below child.0 child_there place stands ∙ ap (λ (x : Mount ℕ). x.namespace) (itself from.0 receiver.0) in
-        by child.0 child_there place stands child.0.namespace refl (λ n e own. receiver.1 n (sym same ∙ e) own)
-        (ap (mount_numbered nat_eq world) child.2 ∙ itself child.0 child_there)
+        cc (below child.0 child_there place stands, itself from.0 receiver.0) in
+        by child.0 child_there place stands child.0.namespace refl (λ n e own. receiver.1 n (cc) own)
+        (cc (child.2, itself child.0 child_there))
       where
         by : (child : Mount ℕ) → Among child world.mounts → (place : Location ℕ) → child.mount_point ≡ Some place
             → (o : Option ℕ) → child.namespace ≡ o
@@ -110,7 +110,7 @@ module _ {world : World ℕ} {names : List TaskName} {New : ℕ → Type 0} (apa
         by child m place stands None e no_own it = absurd (placed_inside world apart.mounts child m place stands e)
         by child m place stands (Some n) e no_own it = (
           n,
-          ap (λ (x : Mount ℕ). x.namespace) it ∙ e,
+          cc (it, e),
           false_from_ne_true (is_own_namespace nat_eq world names n) (no_own n e),
         )
 
@@ -141,7 +141,7 @@ module _ {world : World ℕ} {fresh : Fresh ℕ} {names : List TaskName} {name :
 
   placed_in : (mount_numbered nat_eq world number).namespace ≡ Some task.namespace
   placed_in = (all_permits_fit world fresh task call (ToUnmount number) outsider.is outsider.serves
-      (ap (task_called world) (sym (name_found world name task outsider.called)) ∙ outsider.called)
+      (cc (name_found world name task outsider.called, outsider.called))
       (ap mounts_overlay for_umount.1) judged).names.0
 
   abbrev gone : List ℕ

@@ -83,10 +83,10 @@ module _ {world : World ℕ} {names : List TaskName} (apart : IsApart world name
     where
       by : (o : Option ℕ) → old.namespace ≡ o → holds_of (nat_eq task.namespace) o ≡ true → Among old world.mounts
           → Among old (other_mounts nat_eq world names)
-      by None e h there = absurd (true≢false (sym h))
+      by None e h there = cc
       by (Some n) e h there =
           is_other world names (namespace_outside world names apart task caller) old there
-          (e ∙ ap Some (sym (eqb-true task.namespace n h)))
+          (cc (eqb-true task.namespace n h))
 
   not_located : (places : List (Location ℕ))
       → ((location : Location ℕ) → Among location places → Among location (all_locations world))
@@ -141,7 +141,7 @@ module _ {world : World ℕ} {names : List TaskName} (apart : IsApart world name
     out_from t m = grind (arith, common_steps, among-from_filter, among-from_map, among-filter)
 
     out_placed : (t : Task ℕ) → Among t (outsiders left names) → is_own t.namespace ≡ false
-    out_placed t m = ⊎_elim (λ it. ap (λ (x : Task ℕ). is_own x.namespace) it ∙ new_namespace)
+    out_placed t m = ⊎_elim (λ it. cc (new_namespace))
         (namespace_outside world names apart t) (out_from t m)
 
     -- a location of others was one, or is on a copy
@@ -165,7 +165,7 @@ module _ {world : World ℕ} {names : List TaskName} (apart : IsApart world name
                   ∙ found_copy world fresh task apart.is serves at.0 at.1,
             )
         by false f = inl (subst (λ l. Among l (locations (outsiders world names)))
-            (sym (e ∙ ap (λ b. cond b (location_on_copy copy location) location) f))
+            (sym (cc))
             (among-flat_map locations_of (outsiders world names) task location caller m))
 
     located_from : (location : Location ℕ) → Among location (locations (outsiders left names))

@@ -181,7 +181,11 @@ closed_within task number is =
     let few = leb-true (length task.descriptors) most_descriptors limits.few in
     limits_of (without_descriptor task number) (record {
       few = le-leb (length (filter (λ descriptor. not (number == descriptor.number)) task.descriptors)) most_descriptors
-          (omega (arith, few, length-filter_le (λ (descriptor : Descriptor ℕ). not (number == descriptor.number)) task.descriptors));
+          (omega (
+            arith,
+            few,
+            length-filter_le (λ (descriptor : Descriptor ℕ). not (number == descriptor.number)) task.descriptors,
+          ));
       ascending = ascending-filter
           (λ descriptor. not (number == descriptor.number)) 0 task.descriptors limits.ascending;
       low = all-filter (λ descriptor. nat_lt descriptor.number most_descriptors)

@@ -1,5 +1,5 @@
 -- What is found by its number, in lists in which each number is there once.
-use Rattle.std.proofs.Common.{arith, ◌≡◌, refl, sym, ap, ◌∙◌, ⊎_elim, ℕ, nat_eq, Bool, true, false, true≢false, cond, List, [], ◌∷◌, Option, Some, find, map, eqb-true, eq-eqb, option_map}
+use Rattle.std.proofs.Common.{arith, ◌≡◌, refl, sym, ◌∙◌, ⊎_elim, ℕ, nat_eq, Bool, true, false, true≢false, cond, List, [], ◌∷◌, Option, Some, find, map, eqb-true, eq-eqb, option_map}
 use Rattle.vt_spec.proofs.Common.{Among, any_pair, common_steps, list_any, or_parts}
 
 module _ {A : Type 0} (number_of : A → ℕ) where
@@ -13,8 +13,7 @@ module _ {A : Type 0} (number_of : A → ℕ) where
   found_one (first ∷ rest) apart a m number e =
       let parts = or_parts (list_any (λ b. nat_eq (number_of first) (number_of b)) rest)
       (any_pair (λ a b. nat_eq (number_of a) (number_of b)) rest) apart in
-      ⊎_elim (λ same. ap (λ b. cond b (Some first) (numbered number rest))
-      (ap (λ b. nat_eq number (number_of b)) (sym same) ∙ e) ∙ ap Some (sym same))
+      ⊎_elim (λ same. cc)
       (λ later. by (nat_eq number (number_of first)) refl parts.0 later (found_one rest parts.1 a later number e)) m
     where
       clash : (xs : List A) → list_any (λ b. nat_eq (number_of first) (number_of b)) xs ≡ false → Among a xs
@@ -23,7 +22,7 @@ module _ {A : Type 0} (number_of : A → ℕ) where
       clash (x ∷ xs) none n =
           let parts = or_parts (nat_eq (number_of first) (number_of x))
           (list_any (λ b. nat_eq (number_of first) (number_of b)) xs) none in
-          ⊎_elim (λ same. ap (λ b. nat_eq (number_of first) (number_of b)) same ∙ parts.0) (λ l. clash xs parts.1 l) n
+          ⊎_elim (λ same. cc (parts.0)) (λ l. clash xs parts.1 l) n
 
       by : (b : Bool) → nat_eq number (number_of first) ≡ b
           → list_any (λ x. nat_eq (number_of first) (number_of x)) rest ≡ false → Among a rest

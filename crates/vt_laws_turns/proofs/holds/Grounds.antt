@@ -29,7 +29,7 @@ module _ (world : World ℕ) (is : IsWorld nat_eq world) (task : Task ℕ)
   shown_seen number (inl own) =
       let mount : Mount ℕ = mount_numbered nat_eq world number in
       let own_one : holds_of (nat_eq task.namespace) mount.namespace ≡ true =
-      ap (holds_of (nat_eq task.namespace)) own ∙ nat_eq_itself task.namespace in
+      cc (own, nat_eq_itself task.namespace) in
       let there : list_any (λ (m : Mount ℕ). nat_eq mount.filesystem m.filesystem)
       (mounts_of nat_eq world task.namespace) ≡ true =
       any_from_among (λ (m : Mount ℕ). nat_eq mount.filesystem m.filesystem) (mounts_of nat_eq world task.namespace)
@@ -40,7 +40,7 @@ module _ (world : World ℕ) (is : IsWorld nat_eq world) (task : Task ℕ)
   shown_seen number (inr (none, inl root)) =
       let f : ℕ = (mount_numbered nat_eq world number).filesystem in
       let same : nat_eq f (mount_at nat_eq world task.root).filesystem ≡ true =
-      ap (λ n. nat_eq f (mount_numbered nat_eq world n).filesystem) (sym root) ∙ nat_eq_itself f in
+      cc (root, nat_eq_itself f) in
       by (list_any (λ (m : Mount ℕ). nat_eq f m.filesystem) (mounts_of nat_eq world task.namespace))
       (nat_eq f (mount_at nat_eq world task.root).filesystem)
       (nat_eq f (mount_at nat_eq world task.directory).filesystem) same
@@ -51,7 +51,7 @@ module _ (world : World ℕ) (is : IsWorld nat_eq world) (task : Task ℕ)
   shown_seen number (inr (none, inr directory)) =
       let f : ℕ = (mount_numbered nat_eq world number).filesystem in
       let same : nat_eq f (mount_at nat_eq world task.directory).filesystem ≡ true =
-      ap (λ n. nat_eq f (mount_numbered nat_eq world n).filesystem) (sym directory) ∙ nat_eq_itself f in
+      cc (directory, nat_eq_itself f) in
       by (list_any (λ (m : Mount ℕ). nat_eq f m.filesystem) (mounts_of nat_eq world task.namespace)
       || nat_eq f (mount_at nat_eq world task.root).filesystem)
       (nat_eq f (mount_at nat_eq world task.directory).filesystem) same

@@ -1,6 +1,6 @@
 -- Turns keep it that calls under way hold what their tasks see.
 use Rattle.std.proofs.Common.{◌≡◌, ◌≢◌, refl, sym, ap, subst, ◌∙◌, ◌⊎◌, inl, inr, ⊎_elim, ℕ, nat_eq, Bool, true, false, true≢false, cond, not, List, [], ◌∷◌, ◌++◌, ◌*◌, Some, map, reverse, is_some, eq-eqb, eqb-true, arith, Contains}
-use Rattle.vt_spec.proofs.Common.{Among, Call, Fresh, IsWorld, Location, Mount, Namespace, Outcome, Progress, Route, Sched, Serves, Task, TaskName, Turned, World, after, among-append, among-append_right, among-flat_map, among-from_filter, among-from_map, among-map, among_from_contains, among_from_list_all, among_numbers, apply, call_outcome, common_steps, contains_from_among, filesystem_change_of, finished_by, folded, found_among, is_among, is_listed, is_stale, list_any, looks_of, mount_at, mount_numbered, namespace_change_of, number-mount_in, one_further, policy, routes, same_name, same_name_itself, some_from_is_some, task_called, turn, without_progress, words_of}
+use Rattle.vt_spec.proofs.Common.{Among, Call, Fresh, IsWorld, Location, Mount, Namespace, Outcome, Progress, Route, Sched, Serves, Task, TaskName, Turned, World, among-append, among-append_right, among-flat_map, among-from_filter, among-from_map, among-map, among_from_contains, among_from_list_all, among_numbers, apply, call_outcome, common_steps, contains_from_among, filesystem_change_of, finished_by, folded, found_among, is_among, is_listed, is_stale, list_any, looks_of, mount_at, mount_numbered, namespace_change_of, number-mount_in, one_further, policy, routes, same_name, same_name_itself, some_from_is_some, task_called, turn, without_progress, words_of}
 use Rattle.std.proofs.lemmas.Grind.{reverse_onto}
 use Rattle.vt_spec.specs.Machine.Turns.{hold_one}
 use Rattle.vt_laws_rules.proofs.judged.CallsJudged.{call_is_judged_then_applied}
@@ -120,8 +120,7 @@ module _ {world : World ℕ} (is : IsWorld nat_eq world) {fresh : Fresh ℕ} (se
       (ap (λ (m : Mount ℕ). m.filesystem) same, ap (λ (m : Mount ℕ). m.root) same))
       (λ task permit changed called judged.
       let outcome : call_outcome nat_eq fresh world task call ≡ apply nat_eq fresh world task permit =
-      call_is_judged_then_applied fresh world task call
-      ∙ ap (λ j. after world j (apply nat_eq fresh world task)) judged in
+      cc (call_is_judged_then_applied fresh world task call, judged) in
       subst (λ (o : Outcome ℕ). ShowAlike world (finished_by nat_eq false world name changed o).world) (sym outcome)
       (swept_show_alike call is serves called judged))
 
@@ -160,7 +159,7 @@ module _ {world : World ℕ} (is : IsWorld nat_eq world) {fresh : Fresh ℕ} (se
       stays = other_tasks_of_unraised_namespaces_stay world fresh name call other old given apart called unraised
 
       itself : (w : World ℕ) → task_called w other ≡ Some old → task_called w old.name ≡ Some old
-      itself w found = ap (task_called w) (sym (name_found w other old found)) ∙ found
+      itself w found = cc (name_found w other old found)
 
       shows : (l : Location ℕ) → is_among nat_eq l.mount (numbers_of world.mounts) ≡ true
           → is_among nat_eq l.mount (numbers_of later.mounts) ≡ true
@@ -186,7 +185,7 @@ module _ (sched : Sched ℕ) (is : IsWorld nat_eq sched.world) (holds : HoldsWha
   -- in the same world, with no other call under way
   fewer : (later : Sched ℕ) → later.world ≡ sched.world → LeftUnderWay later → HoldsWhatIsSeen later
   fewer later same left = record {
-    there = λ progress c. ap (λ w. is_some (task_called w progress.task)) same ∙ holds.there progress (left progress c);
+    there = λ progress c. cc (holds.there progress (left progress c));
     no_more = λ task progress under. subst (λ w. IsNoMore progress.task_change task.change
         × IsNoMore progress.namespace_change (namespace_change_of nat_eq w task.namespace)) (sym same)
         (holds.no_more task progress (before task progress under));
@@ -218,7 +217,7 @@ module _ (sched : Sched ℕ) (is : IsWorld nat_eq sched.world) (holds : HoldsWha
         (among_from_contains (without_progress name sched.under_way) progress
         (subst (λ l. Contains l progress) commits.under_way c)) in (
           contains_from_among sched.under_way progress both.0,
-          λ e. true≢false (sym both.1 ∙ ap (λ n. not (same_name name n)) e ∙ ap not (same_name_itself name)),
+          λ e. cc (both.1, same_name_itself name),
         )
 
     was : (progress : Progress ℕ) → Contains sched.under_way progress
@@ -227,7 +226,7 @@ module _ (sched : Sched ℕ) (is : IsWorld nat_eq sched.world) (holds : HoldsWha
 
     found_now : (task : Task ℕ) (progress : Progress ℕ) → IsUnderWayOf later task progress
         → task_called left progress.task ≡ Some task
-    found_now task progress under = ap (λ w. task_called w progress.task) (sym commits.world) ∙ under.called
+    found_now task progress under = cc (commits.world, under.called)
 
     still_there : (progress : Progress ℕ) → Contains later.under_way progress
         → is_some (task_called left progress.task) ≡ true
@@ -278,13 +277,13 @@ module _ (sched : Sched ℕ) (is : IsWorld nat_eq sched.world) (holds : HoldsWha
         subst (λ t. is_seen_by left t held.0 ≡ true) same
         (sees_the_same is serves name call few progress.task of.1 old.0 old.1 unraised held.0
         ∙ holds.seen old.0 progress (record { under_way = of.0; called = old.1 }) (record {
-          task_change = ap (is_stale progress.task_change) (sym so.change) ∙ current.task_change;
+          task_change = cc (so.change, current.task_change);
           namespace_change = before;
         }) held c)
 
     pub after_call_holds : HoldsWhatIsSeen later
     after_call_holds = record {
-      there = λ progress c. ap (λ w. is_some (task_called w progress.task)) commits.world ∙ still_there progress c;
+      there = λ progress c. cc (commits.world, still_there progress c);
       no_more = λ task progress under. subst (λ w. IsNoMore progress.task_change task.change
           × IsNoMore progress.namespace_change (namespace_change_of nat_eq w task.namespace)) (sym commits.world)
           (still_no_more task progress under);
@@ -337,12 +336,12 @@ module _ (sched : Sched ℕ) (is : IsWorld nat_eq sched.world) (holds : HoldsWha
 
     its_task : (other : Task ℕ) → task_called sched.world next.task ≡ Some other → other ≡ task
     its_task other found =
-        let same : task_called sched.world next.task ≡ Some task = ap (task_called sched.world) of_task ∙ called in cc
+        let same : task_called sched.world next.task ≡ Some task = cc (of_task) in cc
 
     pub word_holds : HoldsWhatIsSeen goes
     word_holds = record {
       there = one_of (λ p. is_some (task_called sched.world p.task) ≡ true)
-          (ap (λ n. is_some (task_called sched.world n)) of_task ∙ ap is_some called) holds.there;
+          (cc (of_task)) holds.there;
       no_more = λ other progress under.
           one_of (λ p. task_called sched.world p.task ≡ Some other → IsNoMore p.task_change other.change
           × IsNoMore p.namespace_change (namespace_change_of nat_eq sched.world other.namespace))

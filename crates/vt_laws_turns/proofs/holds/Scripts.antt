@@ -41,7 +41,7 @@ serves_next n world keeps = record {
   where
     one : {j k : ℕ} (a b : ℕ) → a ≡ spread (suc n) j → b ≡ spread (suc n) k → nat_eq a b ≡ true → j ≡ k
     one {j} {k} a b e f same =
-        sym (col-spread (suc n) j) ∙ ap col (sym e ∙ eqb-true a b same ∙ f) ∙ col-spread (suc n) k
+        cc (col-spread (suc n) j, e, eqb-true a b same, f, col-spread (suc n) k)
 
     two : LeavesOutTwo (is_early n)
     two = (
@@ -88,7 +88,7 @@ first_few queues who few line call e = by (find (λ (q : Queue). same_who who q.
     of_items [] all f = none_is_some _ f
     of_items (first ∷ rest) all f =
         let same : first ≡ record { line = line; item = Calls call } = cc in
-        sym (ap (λ (q : Queued). item_few q.item) same) ∙ all first (inl refl)
+        cc (same, all first (inl refl))
 
     by : (o : Option Queue) → find (λ (q : Queue). same_who who q.who) queues ≡ o
         → first_of_list (unwrap_or (option_map (λ (q : Queue). q.items) o) [])
@@ -101,14 +101,14 @@ first_few queues who few line call e = by (find (λ (q : Queue). same_who who q.
 last_few : (queues : List Queue) (entry : Who × Queued) → QueuesFew queues → item_few entry.1.item ≡ true
     → QueuesFew (with_item_last queues entry)
 last_few [] entry few is queue m = ⊎_elim (λ e. subst (λ (q : Queue). AreFew q.items) (sym e)
-    (λ one n. ⊎_elim (λ f. ap (λ (q : Queued). item_few q.item) f ∙ is) (λ none. absurd none) n))
+    (λ one n. ⊎_elim (λ f. cc) (λ none. absurd none) n))
     (λ none. absurd none) m
 last_few (first ∷ rest) entry few is queue m =
     by (same_who entry.0 first.who) m (last_few rest entry (λ q n. few q (inr n)) is queue)
   where
     added : AreFew (first.items ++ (entry.1 ∷ []))
     added one n = ⊎_elim (few first (inl refl) one)
-        (λ k. ⊎_elim (λ f. ap (λ (q : Queued). item_few q.item) f ∙ is) (λ none. absurd none) k)
+        (λ k. ⊎_elim (λ f. cc) (λ none. absurd none) k)
         (among-append first.items (entry.1 ∷ []) one n)
 
     by : (b : Bool) → Among queue (cond b (record first { items = first.items ++ (entry.1 ∷ []) } ∷ rest)

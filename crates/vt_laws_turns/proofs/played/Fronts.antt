@@ -1,13 +1,13 @@
 -- Commits are fronts of queues.
-use Rattle.std.proofs.Common.{◌≡◌, refl, sym, ap, subst, ◌∙◌, ⊎_elim, ℕ, nat_eq, Bool, true, false, cond, true≢false, List, [], ◌∷◌, ◌++◌, Option, Some, find, map, arith, append_assoc, option_map, option_to_list, unwrap_or}
+use Rattle.std.proofs.Common.{◌≡◌, refl, sym, ap, subst, ◌∙◌, ⊎_elim, ℕ, nat_eq, Bool, true, false, cond, List, [], ◌∷◌, ◌++◌, Option, Some, find, map, arith, append_assoc, option_map, option_to_list, unwrap_or}
 use Rattle.vt_spec.proofs.Common.{Nobody, Queue, Queued, Sched, Someone, Turned, Who, common_steps, first_of_list, queue_of, rest_of, same_name_itself, same_task_name, same_who, shortened, turn}
 use Rattle.vt_laws_turns.specs.Commits.{Commit, CommitsAreFronts, Turn, commit_by, commit_of, commits, items_of, left_by}
 use Rattle.vt_laws_turns.proofs.played.Turning.{Turns, turn_is}
 
 pub same_whos : (a b : Who) → same_who a b ≡ true → a ≡ b
 same_whos (Someone a) (Someone b) e = ap Someone (same_task_name a b e)
-same_whos (Someone a) Nobody e = absurd (true≢false (sym e))
-same_whos Nobody (Someone b) e = absurd (true≢false (sym e))
+same_whos (Someone a) Nobody e = cc
+same_whos Nobody (Someone b) e = cc
 same_whos Nobody Nobody e = refl
 
 pub itself : (who : Who) → same_who who who ≡ true
@@ -40,7 +40,7 @@ shorter who other (queue ∷ queues) =
       where
         differ : (b : Bool) → same_who other who ≡ b → same_who other who ≡ false
         differ true g =
-            absurd (true≢false (sym (subst (λ w. same_who w queue.who ≡ true) (same_whos other who g) f) ∙ e))
+            cc (subst (λ w. same_who w queue.who ≡ true) (same_whos other who g) f, e)
         differ false g = g
     first false e false f later = cc
 
@@ -51,22 +51,16 @@ step : (sched : Sched ℕ) (given : Turn) (other : Who) (list : List Queued) →
     ++ queue_of turned.sched.queues other ≡ queue_of sched.queues other
 step sched given other [] e turned goes = ap (λ q. queue_of q other) goes.queues
 step sched given other (first ∷ rest) e turned is = ⊎_elim (λ goes.
-    ap (λ r. items_of other (option_to_list
-    (commit_by given.0 given.1 (Some first) r)) ++ queue_of turned.sched.queues other) goes.reply
-    ∙ ap (λ q. queue_of q other) goes.queues) (λ done.
-    ap (λ r. items_of other (option_to_list
-    (commit_by given.0 given.1 (Some first) r)) ++ queue_of turned.sched.queues other) done.reply
-    ∙ ap (λ q. cond (same_who other given.0) (first ∷ []) [] ++ queue_of q other) done.queues
-    ∙ ap (λ l. cond (same_who other given.0) (first ∷ []) [] ++ l) (shorter given.0 other sched.queues)
-    ∙ by (same_who other given.0) refl) is
+    cc (goes.reply, goes.queues)) (λ done.
+    cc (done.reply, done.queues, shorter given.0 other sched.queues, by (same_who other given.0) refl)) is
   where
     by : (b : Bool) → same_who other given.0 ≡ b
         → cond b (first ∷ []) [] ++ cond b (rest_of (queue_of sched.queues other)) (queue_of sched.queues other)
         ≡ queue_of sched.queues other
     by true f =
         let here : queue_of sched.queues other ≡ first ∷ rest =
-        ap (queue_of sched.queues) (same_whos other given.0 f) ∙ e in
-        ap (λ l. first ∷ rest_of l) here ∙ sym here
+        cc (same_whos other given.0 f, e) in
+        cc (here)
     by false f = refl
 
 pub more_items : (who : Who) (ones others : List Commit)

@@ -1,9 +1,9 @@
 -- What one turn does.
-use Rattle.std.proofs.Common.{arith, ◌≡◌, refl, sym, ap, subst, ◌∙◌, ◌⊎◌, inl, inr, ⊎_elim, ℕ, nat_eq, Bool, true, false, true≢false, List, [], ◌∷◌, ◌++◌, Option, Some, None, Ok, Result, map, find, ◌+◌, nat_le, option_to_list, slice_get}
+use Rattle.std.proofs.Common.{arith, ◌≡◌, refl, sym, subst, ◌∙◌, ◌⊎◌, inl, inr, ⊎_elim, ℕ, nat_eq, Bool, true, false, true≢false, List, [], ◌∷◌, ◌++◌, Option, Some, None, Ok, Result, map, find, ◌+◌, nat_le, option_to_list, slice_get}
 use Rattle.vt_spec.proofs.Common.{Call, Calls, Fresh, Item, Progress, Queued, Route, Sched, Someone, Task, TaskName, Turned, Who, World, call_turn, call_turn_of, common_steps, entry_rules, first_of_list, first_turn, first_turn_by, found_passes, is_failing, is_overtaken, item_turn, later_turn, looks_of, most_restarts, next_word, none_is_some, queue_of, queue_turn, restarted, routes, same_name, same_task_name, shortened, task_called, turn, turn_under_way, unless, word_walked_by, words_of}
 use Rattle.vt_spec.specs.declared.errors.Deny.{Deny}
 use Rattle.vt_spec.specs.Machine.Turns.{run_whole}
-use Rattle.vt_laws_turns.specs.Commits.{Commit, FailedAllocationsAnswerS5, RepliesAreOfCommits, Turn, UnansweredTurnsChangeNothing, commit_by, commit_of, commits, committed, replies, replies_of, run_item, world_after}
+use Rattle.vt_laws_turns.specs.Commits.{Commit, FailedAllocationsAnswerS5, RepliesAreOfCommits, Turn, UnansweredTurnsChangeNothing, commit_by, commit_of, commits, committed, replies_of, run_item, world_after}
 
 -- a turn goes on: no reply, and the world and the queues as they were
 pub record GoesOn (sched : Sched ℕ) (turned : Turned ℕ) : Type 0 where
@@ -125,11 +125,8 @@ replies_are_of_commits sched (given ∷ rest) =
     let made : List Commit = option_to_list (commit_of sched given) in
     let now = step sched given (queue_of sched.queues given.0) turned (turn_is sched given.0 given.1) in
     let then = replies_are_of_commits turned.sched rest in (
-      ap (λ l. l ++ replies turned.sched rest) now.0 ∙ ap (λ l. replies_of sched.world made ++ l) (then.0
-          ∙ ap (λ w. replies_of w (commits turned.sched rest)) now.1)
-          ∙ sym (more_replies sched.world made (commits turned.sched rest)),
-      then.1 ∙ ap (λ w. world_after w (commits turned.sched rest)) now.1
-          ∙ sym (more_world sched.world made (commits turned.sched rest)),
+      cc (now.0, then.0, now.1, more_replies sched.world made (commits turned.sched rest)),
+      cc (then.1, now.1, more_world sched.world made (commits turned.sched rest)),
     )
 
 -- a turn without a reply

@@ -2,7 +2,7 @@
 use Rattle.std.proofs.Common.{◌≡◌, refl, sym, ap, subst, ◌∙◌, inl, inr, ℕ, nat_eq, Bool, true, false, true≢false, cond, not, List, [], ◌∷◌, ◌++◌, ◌≤◌, ◌<◌, ◌+◌, ◌&&◌, Option, Some, None, arith, is_some, option_map, option_to_list, unwrap_or}
 use Rattle.vt_spec.proofs.Common.{Call, Fresh, Nobody, Progress, Queued, Reply, Sched, Someone, Task, TaskName, Turned, Who, common_steps, contains_from_among, first_of_list, first_progress, found_among, found_passes, holds_of, is_overtaken, most_restarts, none_is_some, one_further, queue_of, same_name, same_name_itself, same_task_name, same_who, task_called, turn, without_progress}
 use Rattle.vt_laws_turns.specs.Commits.{Commit, Turn, commit_by, commit_of, commits, items_of}
-use Rattle.vt_laws_turns.specs.Restarts.{AtMostThreeRestarts, CallsBegin, CallsGoOn, CallsRestart, IsAnsweredOrAt, IsSched, IsUnderWay, ThenCallsAreRunWhole, finds_overtaken, has_call_first, is_call, restarts_in, under_way_of}
+use Rattle.vt_laws_turns.specs.Restarts.{AtMostThreeRestarts, CallsBegin, CallsGoOn, CallsRestart, IsAnsweredOrAt, IsSched, IsUnderWay, ThenCallsAreRunWhole, finds_overtaken, has_call_first, restarts_in, under_way_of}
 use Rattle.vt_laws_turns.proofs.TurnKinds.{IsWalked, TurnKind, turn_of_call}
 use Rattle.vt_laws_turns.proofs.TurnKinds.TurnKind.{Begins, GoesOn, Restarts, Whole}
 use Rattle.vt_laws_turns.proofs.TurnShapes.{Before, Shape, turn_shape}
@@ -32,9 +32,9 @@ module _ (sched : Sched ℕ) (task : Task ℕ) (line : ℕ) (call : Call) (fresh
   begin : under_way_of sched.under_way task.name ≡ None → TurnKind sched task line call fresh turned
       → IsAnsweredOrAt turned task.name 0 1
   begin none (Begins e walked) = walked_at (first_progress nat_eq sched.world task 0) refl walked
-  begin none (GoesOn p found current walked) = none_is_some p (sym none ∙ found)
-  begin none (Restarts p found stale few walked) = none_is_some p (sym none ∙ found)
-  begin none (Whole p found stale many is) = none_is_some p (sym none ∙ found)
+  begin none (GoesOn p found current walked) = none_is_some p (cc)
+  begin none (Restarts p found stale few walked) = none_is_some p (cc)
+  begin none (Whole p found stale many is) = none_is_some p (cc)
 
   -- what is found is one
   one_found : (p q : Progress ℕ) → under_way_of sched.under_way task.name ≡ Some p
@@ -52,17 +52,14 @@ module _ (sched : Sched ℕ) (task : Task ℕ) (line : ℕ) (call : Call) (fresh
       subst (λ (r : Progress ℕ). IsAnsweredOrAt turned task.name r.restarts (r.walked + 1))
       (one_found q p found at.under_way) (walked_at q (is_named q found) walked)
   go_on p at (Restarts q found stale few walked) =
-      absurd (true≢false (sym stale ∙ ap (is_overtaken nat_eq sched.world task) (one_found q p found at.under_way)
-      ∙ at.numbers))
+      cc (stale, one_found q p found at.under_way, at.numbers)
   go_on p at (Whole q found stale many is) =
-      absurd (true≢false (sym stale ∙ ap (is_overtaken nat_eq sched.world task) (one_found q p found at.under_way)
-      ∙ at.numbers))
+      cc (stale, one_found q p found at.under_way, at.numbers)
 
   restart : (p : Progress ℕ) → IsUnderWay sched task p true → p.restarts < most_restarts
       → TurnKind sched task line call fresh turned → IsAnsweredOrAt turned task.name (p.restarts + 1) 1
   restart p at few (Begins e walked) = none_is_some p (sym e ∙ at.under_way)
-  restart p at few (GoesOn q found current walked) = absurd (true≢false (sym at.numbers
-      ∙ ap (is_overtaken nat_eq sched.world task) (one_found p q at.under_way found) ∙ current))
+  restart p at few (GoesOn q found current walked) = cc (at.numbers, one_found p q at.under_way found)
   restart p at few (Restarts q found stale fewer walked) =
       subst (λ (r : Progress ℕ). IsAnsweredOrAt turned task.name (r.restarts + 1) 1) (one_found q p found at.under_way)
       (walked_at (first_progress nat_eq sched.world task (q.restarts + 1)) refl walked)
@@ -146,15 +143,14 @@ module _ (sched : Sched ℕ) (is : IsSched sched) (name : TaskName) where
           (found_passes (λ (q : Progress ℕ). same_name name q.task) sched.under_way p f) in
           let first : has_call_first sched.queues p.task ≡ true = is.first p (contains_from_among sched.under_way p
           (found_among (λ (q : Progress ℕ). same_name name q.task) sched.under_way p f)) in
-          absurd (true≢false (sym (ap (has_call_first sched.queues) same ∙ first)
-          ∙ ap (λ items. holds_of (λ (queued : Queued). is_call queued.item) (first_of_list items)) e))
+          absurd (cc (same, first, e))
   own_turn fresh turned none (OtherDone first f plain outcome e) =
       none_is_some _ (sym none ∙ ap (λ (t : Turned ℕ). t.reply) e)
   own_turn fresh turned none (CallDone other w line call f outcome e) =
       none_is_some _ (sym none ∙ ap (λ (t : Turned ℕ). t.reply) e)
   own_turn fresh turned none (Further task w line call given g next before at further) =
       let same : name ≡ task.name = ap name_in w in
-      let called : task_called sched.world name ≡ Some task = ap (task_called sched.world) same ∙ next.called in
+      let called : task_called sched.world name ≡ Some task = cc (same, next.called) in
       let after : restarts_of (under_way_of turned.sched.under_way name) ≡ before.restarts =
       ap (λ (t : Turned ℕ). restarts_of (under_way_of t.sched.under_way name)) further.is
       ∙ ap restarts_of (found_first name (one_further nat_eq sched.world further.met before)
@@ -187,9 +183,7 @@ module _ (sched : Sched ℕ) (is : IsSched sched) (name : TaskName) where
       unanswered None (Some reply) f e w =
           grind (arith, common_steps, Shape, Idle, OtherDone, none_is_some, CallDone, Further)
       unanswered (Some first) (Some reply) f e w = absurd (not_none
-          (sym (ap (λ o. items_of (Someone name) (option_to_list (commit_by who fresh o turned.reply))) f
-          ∙ ap (λ r. items_of (Someone name) (option_to_list (commit_by who fresh (Some first) r))) e
-          ∙ ap (λ b. cond b (first ∷ []) []) (ap (same_who (Someone name)) w ∙ itself (Someone name))) ∙ none))
+          (cc (itself (Someone name))))
         where
           filled : List Queued → Bool
           filled [] = false
@@ -229,7 +223,7 @@ bounded (given ∷ rest) sched name is none =
     let turned : Turned ℕ = turn nat_eq sched given.0 given.1 in
     let made : List Commit = option_to_list (commit_of sched given) in
     let parts = both_none (items_of (Someone name) made) (items_of (Someone name) (commits turned.sched rest))
-    (sym (more_items (Someone name) made (commits turned.sched rest)) ∙ none) in
+    (cc (more_items (Someone name) made (commits turned.sched rest))) in
     let now = one_turn sched is name given.0 given.1 turned (turn_shape sched given.0 given.1) parts.0 in
     let later = bounded rest turned.sched name (turns_keep_schedulers sched given is) parts.1 in
     sum (restarts_of (under_way_of sched.under_way name)) (cond (finds_overtaken name sched given) 1 0)

@@ -72,9 +72,8 @@ module _ (sched : Sched ℕ) (is : IsSched sched) where
       apart progress c true e =
           let same : Someone progress.task ≡ who = same_whos (Someone progress.task) who e in
           let found : first_of_list (queue_of sched.queues (Someone progress.task)) ≡ Some first =
-          ap (λ w. first_of_list (queue_of sched.queues w)) same ∙ f in
-          absurd (true≢false (sym (is.first progress c) ∙ ap (holds_of (λ (queued : Queued). is_call queued.item)) found
-          ∙ ap (λ w. is_task_call w first.item) same ∙ none))
+          cc (same, f) in
+          absurd (cc (is.first progress c, found, same, none))
 
   -- the number of restarts of what goes on is within the limit
   few : (task : Task ℕ) (before : Progress ℕ) → Before sched task before → before.restarts ≤ most_restarts
@@ -89,8 +88,7 @@ module _ (sched : Sched ℕ) (is : IsSched sched) where
       → IsSched (record sched { under_way = progress ∷ without_progress progress.task sched.under_way })
   goes_on name progress e less h = record {
     one = λ other. by other (same_name other progress.task) refl;
-    first = λ p c. ⊎_elim (λ same. ap (λ (q : Progress ℕ). has_call_first sched.queues q.task) same
-        ∙ ap (has_call_first sched.queues) e ∙ h) (λ m. is.first p (kept_among progress.task p m).0)
+    first = λ p c. ⊎_elim (λ same. cc) (λ m. is.first p (kept_among progress.task p m).0)
         (among_from_contains (progress ∷ without_progress progress.task sched.under_way) p c);
     restarts = λ p c. ⊎_elim (λ same. subst (λ (q : Progress ℕ). q.restarts ≤ most_restarts) (sym same) less)
         (λ m. is.restarts p (kept_among progress.task p m).0)

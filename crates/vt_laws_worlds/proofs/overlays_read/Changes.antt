@@ -128,5 +128,6 @@ opens_copy_nothing world fresh task file access none well given = by (is_copied_
         (sym (overlaid (filesystem_at nat_eq world file).overlay (λ overlay. lies_only_in_lowers overlay file.node)
         (and_true_right (opens_for_writing access) _ e)) ∙ plain_there world file none
         (changes_have_layers world fresh task (ToOpen file access) file (CopyUp file.node) well
-        (given_to_task fresh world task (ToOpen file access) given) (ap (λ copied. when copied (file, CopyUp file.node)) e))))
+        (given_to_task fresh world task (ToOpen file access) given)
+        (ap (λ copied. when copied (file, CopyUp file.node)) e))))
     by false e = refl

@@ -38,10 +38,12 @@ lacks_by_layers (Some overlay) = refl
 
 -- The tasks that a permit leaves have the descriptors that they had, but for one that is opened.
 module _ (fresh : Fresh ℕ) (world later : World ℕ) (task : Task ℕ)
-    (all : (other : Task ℕ) → Among other world.tasks → writes later other ≡ true) (own : writes later task ≡ true) where
+    (all : (other : Task ℕ) → Among other world.tasks → writes later other ≡ true)
+    (own : writes later task ≡ true) where
   -- what is opened, as it is later
   abbrev pub OpensForLayer : Permit ℕ → Type 0
-  OpensForLayer (ToOpen file access) = not (opens_for_writing access && has_no_upper (looks_of nat_eq later) file) ≡ true
+  OpensForLayer (ToOpen file access) =
+      not (opens_for_writing access && has_no_upper (looks_of nat_eq later) file) ≡ true
   OpensForLayer (ToOpenNew directory name node access) = has_no_upper (looks_of nat_eq later) directory ≡ false
   OpensForLayer permit = ⊤
 

@@ -129,7 +129,8 @@ module _ (world : World ℕ) (whole : IsWorld nat_eq world) (task : Task ℕ) wh
           ⊎_elim (λ found. subst (λ n. is_among nat_eq n (numbers_of world.mounts) ≡ true)
               (number-mount_in world.mounts place.mount)
               (is_one_of world.mounts (mount_numbered nat_eq world place.mount) found))
-              (λ none. absurd (placed_inside world whole.mounts mount there place e (below ∙ ap (λ (m : Mount ℕ). m.namespace) none)))
+              (λ none. absurd (placed_inside world whole.mounts mount there place e
+              (below ∙ ap (λ (m : Mount ℕ). m.namespace) none)))
               (found_or_none world.mounts place.mount),
           ap (λ o. list_all (nat_eq task.namespace) (option_to_list o)) (sym below) ∙ on.1,
         ),

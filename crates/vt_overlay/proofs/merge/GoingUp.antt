@@ -164,7 +164,8 @@ module _ (f : ℕ) (tree : TreeValue) where
       pub leads_from_above : (steps next : ℕ) → next ≡ suc steps → LeadsDown lower steps
           → is_some (name_up slots (here lower steps)) ≡ true → LeadsDown lower next
       leads_from_above steps next e so_far named = subst (LeadsDown lower) (sym e)
-          (ap (option_and_then (λ n. led seen n (names_up slots steps lower))) (name_leads (here lower steps) named) ∙ so_far)
+          (ap (option_and_then (λ n. led seen n (names_up slots steps lower))) (name_leads (here lower steps) named)
+          ∙ so_far)
 
       abbrev own : FilesystemEntry
       own = record { count = f; tree = tree; mounts = 0 }
@@ -177,7 +178,8 @@ module _ (f : ℕ) (tree : TreeValue) where
           let counted = numbers_counted own in
           omega (arith, some, counted)
       shorter (name ∷ path) e =
-          let deep = depth_of_led seen conditions (number top) (name ∷ path) (number lower) (not_empty name path) e is in
+          let deep = depth_of_led seen conditions (number top) (name ∷ path) (number lower)
+          (not_empty name path) e is in
           let below = depth_below (files_seen own) conditions (numbers_listed own) (deep.0 + length (name ∷ path))
           (number lower) deep.2 in
           let counted = numbers_counted own in
@@ -198,7 +200,8 @@ module _ (f : ℕ) (tree : TreeValue) where
           (sym (last_name seen (number top) last.0 last.1) ∙ ap (led seen (number top)) last.2 ∙ e) in
           (last.0, last.1, step.0, sym (length_longer last.0 last.1) ∙ ap length last.2, step.1, step.2)
 
-      pub came_from_above : (steps next : ℕ) → next ≡ suc steps → top ≢ here lower steps → ComesFromAbove top lower steps
+      pub came_from_above : (steps next : ℕ) → next ≡ suc steps → top ≢ here lower steps
+          → ComesFromAbove top lower steps
           → ComesFromAbove top lower next
       came_from_above steps next e other so_far = subst (ComesFromAbove top lower) (sym e) (λ path leads.
           let far = so_far path leads in

@@ -22,7 +22,8 @@ module _ (fs : Filesystems) (layers : List LayerRef) (place : ℕ) (default : La
   left_from depth = shown_from depth (map view_of (layers_of fs (drop depth layers))) names
 
   -- the first layer that is left, and those under it
-  step : left_from place ≡ shown_over view place (at_path (layer_of fs here) names) (cuts view names) (left_from (place + 1))
+  step : left_from place ≡ shown_over view place (at_path (layer_of fs here) names) (cuts view names)
+      (left_from (place + 1))
   step = ap (λ l. shown_from place (map view_of (layers_of fs l)) names) (drop_more layers place default within)
 
   module _ (leads : option_map inode_of object ≡ at_path (layer_of fs here) names)

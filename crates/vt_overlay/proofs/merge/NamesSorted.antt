@@ -60,7 +60,8 @@ same_names names entries p q alike = sym (names-marked names) ∙ ap (map (λ e.
 pub name_is_shown : (layers : List (OpenLayer ℕ)) (path : List (List ℕ)) (name : List ℕ)
     → list_any (is_name name) (names_shown layers path) ≡ is_some (shown layers (path ++ name ∷ []))
 name_is_shown layers path name = same_truth _ _ (λ has.
-    let seen = (names_are_those_shown layers path name).0 (Contains-from_any same_name name (names_shown layers path) has)
+    let seen = (names_are_those_shown layers path name).0
+    (Contains-from_any same_name name (names_shown layers path) has)
     in ap is_some ((computed layers (path ++ name ∷ []) seen.0).1 seen.1)) (by (shown layers (path ++ name ∷ [])) refl)
   where
     by : (o : Option (Shown ℕ)) → shown layers (path ++ name ∷ []) ≡ o → is_some o ≡ true
@@ -133,7 +134,8 @@ module _ {A : Type 0} where
     hit name key = is_name name key.items
 
     module _ (kept_shown : (name : List ℕ) → list_any (hit name) kept ≡ shows name)
-        (permuted : IsPermutation kept sorted) (in_order : IsSorted key_cmp sorted) (deduped : once ≡ dedup key_eq sorted)
+        (permuted : IsPermutation kept sorted) (in_order : IsSorted key_cmp sorted)
+        (deduped : once ≡ dedup key_eq sorted)
         (is_merged : (rest : List (List ℕ)) → ¬ (rest ≡ []) → shown_in (placed_views fs merged) rest
         ≡ shown layers (path ++ rest)) where
       -- what is left has the names that are shown

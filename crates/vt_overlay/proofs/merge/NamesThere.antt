@@ -71,12 +71,14 @@ module _ (fs : Filesystems) (merged : List MergedDirectory) (layers : List (Open
       by name [] any = absurd (true≢false (sym any))
       by name (first ∷ names) any = refl
 
-  pub has_none_if : list_any (shows_own fs merged) merged ≡ false → not (is_empty_list (names_shown layers path)) ≡ false
+  pub has_none_if : list_any (shows_own fs merged) merged ≡ false
+      → not (is_empty_list (names_shown layers path)) ≡ false
   has_none_if none = by (names_shown layers path) refl
     where
       by : (names : List (List ℕ)) → names_shown layers path ≡ names → not (is_empty_list names) ≡ false
       by [] e = refl
       by (name ∷ names) e =
           let here : shows name ≡ true = shows_is name ∙ ap (list_any (is_name name)) e ∙ first_there name names in
-          absurd (true≢false (sym (passes_there shows name (names_had fs merged) here (shown_is_had fs merged name here))
+          absurd (true≢false (sym
+          (passes_there shows name (names_had fs merged) here (shown_is_had fs merged name here))
           ∙ any_flat shows (own_names fs) merged ∙ none))

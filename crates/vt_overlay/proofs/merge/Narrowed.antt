@@ -48,7 +48,8 @@ refilled xs ws same = take-append-le (length xs) ws (drop (length ws) xs) (omega
 
 -- what was not moved yet is where it was
 pub same_there : {X : Type 0} (now old : List X) (index : ℕ) (default : X)
-    → ((place : ℕ) → index ≤ place → drop place now ≡ drop place old) → get_or now index default ≡ get_or old index default
+    → ((place : ℕ) → index ≤ place → drop place now ≡ drop place old)
+    → get_or now index default ≡ get_or old index default
 same_there now old index default same = ap (λ n. get_or now n default) (omega arith)
     ∙ sym (get_or-drop index now 0 default) ∙ ap (λ l. get_or l 0 default) (same index (omega arith))
     ∙ get_or-drop index old 0 default ∙ ap (λ n. get_or old n default) (omega arith)

@@ -57,7 +57,8 @@ module _ (fs : Filesystems) (top : MergedDirectory) (name : List ℕ) (lent : Op
       by false h lower = refl
 
       pub object_found : (directory : Option MergedDirectory) (h : Bool)
-          → directory ≡ (if is_directory_node (node_in (tree_seen object.filesystem.count lent)) then Some own else None)
+          → directory ≡ (if is_directory_node (node_in (tree_seen object.filesystem.count lent)) then Some own else
+          None)
           → h ≡ hides (node_in (tree_seen object.filesystem.count lent)) → (lower : List (PlacedLayer ℕ))
           → placed_layers fs (option_to_list directory) ++ (if h then [] else lower)
           ≡ directory_over (placed_of fs top) found lower

@@ -24,7 +24,7 @@ module _ (sched : Sched ℕ) (name : TaskName) {line : ℕ} {call : Call} (fresh
     (first : first_of_list (queue_of sched.queues (Someone name)) ≡ Some (record { line = line; item = Calls call }))
   where
     no_reply : (turned : Turned ℕ) → is_some turned.reply ≡ true → turned.reply ≡ None → ⊥
-    no_reply turned answers none = true≢false (sym answers ∙ ap is_some none)
+    no_reply turned answers none = cc
 
     left_under_way : (turned : Turned ℕ) → is_some turned.reply ≡ true → Shape sched (Someone name) (Some fresh) turned
         → turned.sched.under_way ≡ without_progress name sched.under_way
@@ -65,7 +65,7 @@ sched_of world queues under_way = record { world = world; queues = queues; under
 
 same_sched : (a b : World ℕ) (q r : List Queue) (u v : List (Progress ℕ)) → a ≡ b → q ≡ r → u ≡ v
     → sched_of a q u ≡ sched_of b r v
-same_sched a b q r u v e f g = ap (λ w. sched_of w q u) e ∙ ap (λ l. sched_of b l u) f ∙ ap (λ l. sched_of b r l) g
+same_sched a b q r u v e f g = cc
 
 pub their_answers_are_of_the_grown_part : TheirAnswersAreOfTheGrownPart
 their_answers_are_of_the_grown_part sched names name call fresh turns ends =
@@ -76,12 +76,10 @@ their_answers_are_of_the_grown_part sched names name call fresh turns ends =
     (their_turns_answer_alike sched names name (Some fresh) turns.has turns.theirs ∙ turns.answers) in
     let whole : Sched ℕ = (turn nat_eq sched (Someone name) (Some fresh)).sched in
     let in_part : Sched ℕ = (turn nat_eq part (Someone name) (Some fresh)).sched in record {
-      reply = two.reply ∙ ap (λ (a : Result Answer Deny). Some (reply_of turns.line a)) (sym ends.answer)
-          ∙ sym one.reply;
+      reply = cc (two.reply, ends.answer, one.reply);
       left = same_sched (part_of nat_eq in_part.world set) (part_of nat_eq whole.world set) in_part.queues whole.queues
           (their_calls set in_part.under_way) (their_calls set whole.under_way)
-          (ap (λ (w : World ℕ). part_of nat_eq w set) two.world ∙ sym ends.part
-          ∙ ap (λ (w : World ℕ). part_of nat_eq w set) (sym one.world)) (two.queues ∙ sym one.queues)
+          (cc (two.world, ends.part, one.world)) (two.queues ∙ sym one.queues)
           (ap (their_calls set) two.under_way ∙ calls_left_of names set name sched.under_way (λ p m.
           were_of_the_set names name call fresh turns.has.is p.task
           (turns.has.holds.there p (contains_from_among sched.under_way p m)))

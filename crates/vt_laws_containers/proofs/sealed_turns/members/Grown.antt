@@ -1,5 +1,5 @@
 -- Of the tasks in a world, those of the set that a call leaves were of the set before it.
-use Rattle.std.proofs.Common.{◌≡◌, refl, sym, ◌∙◌, ℕ, nat_eq, Bool, true, false, not, List, [], ◌+◌, ◌||◌, Option, Some, None, Ok, Err, Result, is_ok, is_some, arith}
+use Rattle.std.proofs.Common.{◌≡◌, refl, ℕ, nat_eq, Bool, true, false, not, List, [], ◌+◌, ◌||◌, Option, Some, None, Ok, Err, Result, is_ok, is_some, arith}
 use Rattle.vt_spec.proofs.Common.{Answer, Call, Child, Fresh, IsWorld, Judgement, Outcome, Permit, Task, TaskName, World, after, among-from_filter, any_among, any_from_among, apply, child_name, common_steps, contains_from_among, filesystems_changed_by, finished_by, found_among, is_among, judge_in, only_looks, or_cases, policy, same_name, same_task_name, some_from_is_some, task_called, ⊤}
 use Rattle.vt_spec.specs.declared.errors.Deny.{Deny}
 use Rattle.vt_laws_members.specs.Changes.Changes.{grown, left}
@@ -36,7 +36,7 @@ module _ {world : World ℕ} (names : List TaskName) (name : TaskName) (call : C
       (contains_from_among world.tasks task (found_among (λ (t : Task ℕ). same_name name t.name) world.tasks task e))
       (contains_from_among world.tasks found.0
       (found_among (λ (t : Task ℕ). same_name other t.name) world.tasks found.0 found.1))
-      (sym (name_found world other found.0 found.1) ∙ same) in
+      (cc (name_found world other found.0 found.1)) in
       absurd (omega (arith, less))
 
   by_answer : (task : Task ℕ) → task_called world name ≡ Some task → (answer : Result Answer Deny)

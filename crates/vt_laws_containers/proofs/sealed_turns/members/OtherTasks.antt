@@ -1,9 +1,8 @@
 -- Turns of theirs that answer a fork or an exit are of their part, of the set that is left.
-use Rattle.std.proofs.Common.{◌≡◌, refl, sym, ap, ◌∙◌, ℕ, nat_eq, List, Option, Some, None, Ok, Err, is_ok}
+use Rattle.std.proofs.Common.{◌≡◌, refl, sym, ◌∙◌, ℕ, nat_eq, List, Option, Some, None, Ok, Err}
 use Rattle.vt_spec.proofs.Common.{Exit, Fork, ForkWords, Fresh, Judgement, Permit, Task, TaskName, ToFork, World, child_credentials, fork_permit, fork_rules, judge_in, passing, task_called}
 use Rattle.vt_laws_members.specs.Changes.Changes.{EndsAlike, IsCallOfTheirs}
-use Rattle.vt_laws_members.proofs.changes.looks.Told.{ran}
-use Rattle.vt_laws_members.proofs.changes.tasks.Denied.{denials_end_alike, run_by, unnamed_ends_alike}
+use Rattle.vt_laws_members.proofs.changes.tasks.Denied.{denials_end_alike, unnamed_ends_alike}
 use Rattle.vt_laws_members.proofs.changes.tasks.Forking.{forks_end_alike}
 use Rattle.vt_laws_members.proofs.changes.letting_go.Exiting.{exits_end_alike}
 use Rattle.vt_laws_containers.specs.SealedTurns.MembersTurns.{TheirExitsAreOfTheGrownPart, TheirForksAreOfTheGrownPart}
@@ -31,8 +30,7 @@ each_fork_ends_alike world names name words it fresh other = by (task_called wor
         forks_end_alike world names name words it task e fresh other (child_credentials task.credentials words)
         (granted_fork fresh world task words permit j)
     judged task e (Err deny) j = denials_end_alike world names name (Fork words) it fresh other
-        (ap (λ found. is_ok (ran name (Fork words) world fresh found).answer) e
-        ∙ ap (λ judgement. is_ok (run_by it world fresh task judgement).answer) j)
+        (cc)
 
     by : (found : Option (Task ℕ)) → task_called world name ≡ found
         → EndsAlike world names name (Fork words) fresh other

@@ -15,7 +15,7 @@ their_calls_are_overtaken_alike sched names task progress has under theirs =
     let its : task.name ≡ progress.task = sym (name_found sched.world progress.task task under.called) in
     overtaken_alike sched.world names has.is task
     (among-filter (is_member_task names) sched.world.tasks task (found_among _ sched.world.tasks task under.called)
-    (ap (λ n. is_among same_name n names) its ∙ theirs)) progress
+    (cc)) progress
     (λ current held m. has.holds.seen task progress under current held
     (contains_from_among progress.filesystems held m))
 

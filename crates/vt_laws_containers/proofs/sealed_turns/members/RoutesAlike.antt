@@ -1,6 +1,6 @@
 -- The paths of a call of theirs are walked alike in the world and in the part.
-use Rattle.std.proofs.Common.{arith, ◌≡◌, refl, ap, ◌∙◌, ℕ, nat_eq, List, [], ◌∷◌, ◌++◌, Option, Some, None, Ok, Err, Result, IfOk, option_to_list}
-use Rattle.vt_spec.proofs.Common.{Bind, Call, Chdir, Chmod, Chown, Chroot, Creation, Exclusive, Exec, Here, Lazy, LinkTo, Location, Looks, Ls, Lstat, MakeWhiteout, Mkdir, MountOverlay, MountPlain, MoveMount, NoCreation, Opaque, OpenFile, OrCreate, OverlayWords, PivotRoot, Place, Read, Readlink, Remount, Rename, Rmdir, SetType, Stat, Stop, SymlinkAt, Task, Umount, Unlink, Write, common_steps, destination_walk, directory_walk, file_walk, map_alike, new_leaf_walk, new_walk, object_walk, old_leaf_walk, old_walk, rename_new_walk, routes, source_walk, symlink_walk, work_walked}
+use Rattle.std.proofs.Common.{arith, ◌≡◌, refl, ap, ℕ, nat_eq, List, [], ◌∷◌, ◌++◌, Option, Some, None, Ok, Err, Result, IfOk, option_to_list}
+use Rattle.vt_spec.proofs.Common.{Bind, Call, Chdir, Chmod, Chown, Chroot, Creation, Exclusive, Exec, Here, Lazy, LinkTo, Location, Looks, Ls, Lstat, MakeWhiteout, Mkdir, MountOverlay, MountPlain, MoveMount, NoCreation, Opaque, OpenFile, OrCreate, OverlayWords, PivotRoot, Place, Read, Readlink, Remount, Rename, Rmdir, SetType, Stat, Stop, SymlinkAt, Task, Umount, Unlink, Write, common_steps, destination_walk, directory_walk, file_walk, map_alike, new_leaf_walk, new_walk, object_walk, old_leaf_walk, old_walk, routes, source_walk, symlink_walk, work_walked}
 use Rattle.vt_spec.specs.Machine.Turns.{here_route, layer_routes, open_route, place_route, rename_from_directory}
 use Rattle.vt_laws_sealed.proofs.part.walks.WalksAgree.{Alike}
 use Rattle.vt_laws_members.proofs.judging.WalksLead.{PlaceAt, destination_agrees, directory_agrees, file_agrees, new_agrees, new_leaf_agrees, object_agrees, old_agrees, old_leaf_agrees, rename_new_agrees, same_directory_there, source_agrees, symlink_agrees}
@@ -57,8 +57,7 @@ module _ {one other : Looks ℕ} {task : Task ℕ} {Own : ℕ → Type 0} (alike
   from_directory : (path : List ℕ) → rename_from_directory nat_eq one (old_leaf_walk nat_eq one task path)
       ≡ rename_from_directory nat_eq other (old_leaf_walk nat_eq other task path)
   from_directory path =
-      by (old_leaf_walk nat_eq one task path) (old_leaf_agrees alike directory removed path).1
-      ∙ ap (rename_from_directory nat_eq other) (old_leaf path)
+      cc (by (old_leaf_walk nat_eq one task path) (old_leaf_agrees alike directory removed path).1, old_leaf path)
     where
       by : (a : Result (Place ℕ) (Stop ℕ)) → IfOk a (PlaceAt alike directory removed)
           → rename_from_directory nat_eq one a ≡ rename_from_directory nat_eq other a
@@ -66,13 +65,12 @@ module _ {one other : Looks ℕ} {task : Task ℕ} {Own : ℕ → Type 0} (alike
       by (Err stop) at = refl
 
   renamed : (old new : List ℕ) → routes nat_eq one task (Rename old new) ≡ routes nat_eq other task (Rename old new)
-  renamed old new = ap (λ w. place_route w ∷ place_route (rename_new_walk nat_eq one task new
-      (rename_from_directory nat_eq one (old_leaf_walk nat_eq one task old))) ∷ []) (old_leaf old)
-      ∙ ap (λ b. place_route (old_leaf_walk nat_eq other task old)
-      ∷ place_route (rename_new_walk nat_eq one task new b) ∷ []) (from_directory old)
-      ∙ ap (λ w. place_route (old_leaf_walk nat_eq other task old) ∷ place_route w ∷ [])
-      (rename_new_agrees alike directory removed new
-      (rename_from_directory nat_eq other (old_leaf_walk nat_eq other task old))).0
+  renamed old new = cc (
+    old_leaf old,
+    from_directory old,
+    (rename_new_agrees alike directory removed new
+        (rename_from_directory nat_eq other (old_leaf_walk nat_eq other task old))).0,
+  )
 
   layers : (options : Option OverlayWords)
       → layer_routes nat_eq one task options ≡ layer_routes nat_eq other task options
@@ -94,8 +92,7 @@ module _ {one other : Looks ℕ} {task : Task ℕ} {Own : ℕ → Type 0} (alike
       ≡ (here_route (source_walk nat_eq other task source_path)
       ∷ here_route (destination_walk nat_eq other task path) ∷ [])
   from_to source_path path =
-      ap (λ w. here_route w ∷ here_route (destination_walk nat_eq one task path) ∷ []) (source source_path)
-      ∙ ap (λ l. here_route (source_walk nat_eq other task source_path) ∷ l) (destination path)
+      cc (source source_path, destination path)
 
   pub routes_alike : (call : Call) → routes nat_eq one task call ≡ routes nat_eq other task call
   routes_alike (Ls path) = directories path

@@ -1,6 +1,6 @@
 -- A turn of an outsider changes the world by a call of the outsider, and no queue and no call under way of theirs.
-use Rattle.std.proofs.Common.{◌≡◌, refl, sym, ap, subst, ◌∙◌, ℕ, nat_eq, Bool, true, false, true≢false, cond, not, List, [], ◌∷◌, Some, find, map}
-use Rattle.vt_spec.proofs.Common.{Call, Fresh, IsWorld, Progress, Sched, Someone, Task, TaskName, Turned, World, is_among, members, one_further, policy, queue_of, rest_of, same_name, same_who, shortened, task_called, turn, without_progress}
+use Rattle.std.proofs.Common.{◌≡◌, refl, sym, ap, subst, ◌∙◌, ℕ, nat_eq, Bool, true, false, cond, not, List, [], ◌∷◌, Some, map}
+use Rattle.vt_spec.proofs.Common.{Call, Fresh, IsWorld, Progress, Sched, Someone, TaskName, Turned, World, is_among, members, one_further, policy, queue_of, same_name, same_who, shortened, task_called, turn, without_progress}
 use Rattle.vt_laws_sealed.proofs.outsiders.InTurn.{still_called}
 use Rattle.vt_laws_members.proofs.judging.AllJudged.{called_alike}
 use Rattle.vt_laws_worlds.proofs.overlay_permits.worlds.EveryCall.{every_call_keeps_worlds}
@@ -39,7 +39,7 @@ module _ (sched : Sched ℕ) (names : List TaskName) (given : Turn) (has : HasIt
           is = has.is;
           sealed_off = has.sealed_off;
           there = has.there;
-          outside = sym (ap (is_of_theirs names) who) ∙ outsider.outside;
+          outside = cc (outsider.outside);
           apart = λ member e. outsider.apart member (subst (IsFirst sched given.0) e first);
           serves = serves;
           few_groups = few;
@@ -60,14 +60,12 @@ module _ (sched : Sched ℕ) (names : List TaskName) (given : Turn) (has : HasIt
   -- their queues
   queues_stay : (member : TaskName) → is_among same_name member names ≡ true
       → queue_of (map (shortened given.0) sched.queues) (Someone member) ≡ queue_of sched.queues (Someone member)
-  queues_stay member theirs = shorter given.0 (Someone member) sched.queues
-      ∙ ap (λ b. cond b (rest_of (queue_of sched.queues (Someone member))) (queue_of sched.queues (Someone member)))
-      (other (same_who (Someone member) given.0) refl)
+  queues_stay member theirs =
+      cc (shorter given.0 (Someone member) sched.queues, other (same_who (Someone member) given.0) refl)
     where
       other : (b : Bool) → same_who (Someone member) given.0 ≡ b → b ≡ false
       other false e = refl
-      other true e = absurd (true≢false (sym theirs ∙ ap (is_of_theirs names) (same_whos (Someone member) given.0 e)
-          ∙ outsider.outside))
+      other true e = cc (same_whos (Someone member) given.0 e, outsider.outside)
 
   -- their calls under way
   calls_left : (name : TaskName) → given.0 ≡ Someone name → (under_way : List (Progress ℕ))
@@ -82,12 +80,10 @@ module _ (sched : Sched ℕ) (names : List TaskName) (given : Turn) (has : HasIt
           ≡ cond b (progress ∷ their_calls names rest) (their_calls names rest)
       by true true e f later =
           let same : Someone name ≡ Someone progress.task = same_whos (Someone name) (Someone progress.task) f in
-          absurd (true≢false (sym e ∙ ap (is_of_theirs names) (sym same ∙ sym w) ∙ outsider.outside))
+          absurd (cc (e, same, w, outsider.outside))
       by false true e f later = later
-      by true false e f later = ap (λ b. cond b (progress ∷ their_calls names (without_progress name rest))
-          (their_calls names (without_progress name rest))) e ∙ ap (λ l. progress ∷ l) later
-      by false false e f later = ap (λ b. cond b (progress ∷ their_calls names (without_progress name rest))
-          (their_calls names (without_progress name rest))) e ∙ later
+      by true false e f later = cc
+      by false false e f later = cc
 
   pub record LeavesCalls (later : Sched ℕ) : Type 0 where
     pub calls : their_calls names later.under_way ≡ their_calls names sched.under_way
@@ -103,11 +99,11 @@ module _ (sched : Sched ℕ) (names : List TaskName) (given : Turn) (has : HasIt
       subst (λ (t : Turned ℕ). LeavesCalls t.sched) (sym e) (record {
         calls = calls_left name w sched.under_way;
         queues = λ member among.
-            ap (λ who. queue_of (map (shortened who) sched.queues) (Someone member)) (sym w) ∙ queues_stay member among;
+            cc (w, queues_stay member among);
       })
   by_shape turned (Further task w line call new g next before at further) =
       let its : before.task ≡ task.name = named sched task before at in
-      let who : given.0 ≡ Someone before.task = w ∙ ap Someone (sym its) in
+      let who : given.0 ≡ Someone before.task = cc (its) in
       subst (λ (t : Turned ℕ). LeavesCalls t.sched) (sym further.is) (record {
         calls = ap (λ b. cond b (one_further nat_eq sched.world further.met before
             ∷ their_calls names (without_progress before.task sched.under_way))
@@ -130,8 +126,8 @@ outsiders_turns_leave_a_sealed_set sched names given has outsider =
 -- Names of theirs are those of the tasks that they were
 pub called_so : (world later : World ℕ) (names : List TaskName) → members later names ≡ members world names
     → (member : TaskName) → is_among same_name member names ≡ true → task_called later member ≡ task_called world member
-called_so world later names same member theirs = sym (called_alike names member theirs later.tasks)
-    ∙ ap (find (λ (t : Task ℕ). same_name member t.name)) same ∙ called_alike names member theirs world.tasks
+called_so world later names same member theirs =
+    cc (called_alike names member theirs later.tasks, called_alike names member theirs world.tasks)
 
 in_turn : (schedule : List Turn) (sched : Sched ℕ) (names : List TaskName) → HasItSealed sched names
     → AreOutsidersTurns sched names schedule → LeaveTheirs sched (left_by sched schedule) names

@@ -98,7 +98,8 @@ module _ {world : World ℕ} {names : List TaskName} {name : TaskName} {call : C
         lasts.found,
         changes_so part other (sym alike),
         left_so old
-            files part name (in_use part (part_in_use (sealing_of lasts.it)) (one_in_part world names lasts.is number used)),
+            files part name (in_use part (part_in_use (sealing_of lasts.it))
+            (one_in_part world names lasts.is number used)),
       )
       in
       ended_alike names name call first second (rw lasts.stays (record { answer = refl; part = parts_alike }))

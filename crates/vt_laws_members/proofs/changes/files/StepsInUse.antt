@@ -29,7 +29,8 @@ module _ (w : World ℕ) (in_use : AllInUse w) (step : Filesystem ℕ → Filesy
       (λ x m. let from = among-from_map step w.filesystems x m in cc (
         from.2,
         lives_alike w step
-            (λ g n. ChangesFilesystem.number (changes g n)) (λ g n. ChangesFilesystem.layers (changes g n)) from.0 from.1,
+            (λ g n. ChangesFilesystem.number (changes g n)) (λ g n. ChangesFilesystem.layers (changes g n)) from.0
+            from.1,
         among_from_list_all (filesystem_lives nat_eq w) w.filesystems in_use.filesystems from.0 from.1,
       ))
 

@@ -57,7 +57,8 @@ module _ {world : World ℕ} {names : List TaskName} {name : TaskName} {call : C
       layered overlay overlaid None none =
           idle_end_alike world names name call lasts.it task lasts.found fresh fresh Done lasts.stays
           (one ∙ unwritten_run world name call fresh location change merged overlay lasts.looks refl overlaid none)
-          (two ∙ unwritten_run part name call fresh location change merged overlay lasts.looks (sym alike) overlaid none)
+          (two ∙ unwritten_run part name call fresh location change merged overlay lasts.looks
+          (sym alike) overlaid none)
       layered overlay overlaid (Some upper) has =
           copy_ends lasts (record {
             is = lasts.is;

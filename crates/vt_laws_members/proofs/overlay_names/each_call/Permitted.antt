@@ -1,6 +1,6 @@
 -- Each call of theirs on files, granted or refused, ends in the part as in the world.
 use Rattle.std.proofs.Common.{◌≡◌, refl, ap, ◌∙◌, ℕ, nat_eq, Bool, true, false, List, [], ◌∷◌, Some, Ok}
-use Rattle.vt_spec.proofs.Common.{Call, Chmod, Chown, Fresh, LinkTo, Mkdir, OpenFile, Permit, Pwrite, Serves, SymlinkAt, Task, TaskName, ToChange, ToMake, ToOpen, ToOpenNew, ToWritePart, Unlink, World, Write, filesystem_at, is_copied_up, is_overlay, judge_in, looks_of, only_looks, overfills, task_called, ⊤}
+use Rattle.vt_spec.proofs.Common.{Allowed, Call, Chmod, Chown, Fork, Fresh, LinkTo, Mkdir, OpenFile, Permit, Pwrite, Rename, Rmdir, Serves, SymlinkAt, Task, TaskName, ToChange, ToFork, ToMake, ToOpen, ToOpenNew, ToRemoveDirectory, ToRename, ToWritePart, Unlink, World, Write, filesystem_at, is_copied_up, is_overlay, judge_in, looks_of, only_looks, overfills, task_called, ⊤}
 use Rattle.vt_laws_rules.specs.Granted.{IsGranted}
 use Rattle.vt_laws_rules.specs.Granted.IsGranted.{writes_part}
 use Rattle.vt_laws_rules.proofs.given.Inversion.{calls_are_granted}
@@ -21,7 +21,7 @@ use Rattle.vt_laws_members.proofs.changes.tasks.ByPermit.{by_permit}
 use Rattle.vt_laws_members.proofs.overlay_names.names.OverlayEnding.{overlay_links_end_alike, overlay_mkdirs_end_alike, overlay_new_files_end_alike, overlay_symlinks_end_alike, overlay_unlinks_end_alike}
 use Rattle.vt_laws_members.proofs.overlay_names.names.OverlayNewOpens.{overlay_new_opens_end_alike}
 
--- permits of calls on files
+-- what a call's permit can be
 abbrev Makes : Permit ℕ → Type 0
 Makes (ToMake directory entry node) = ⊤
 Makes permit = ⊥
@@ -44,7 +44,20 @@ abbrev WritesPart : List ℕ → Permit ℕ → Type 0
 WritesPart bytes (ToWritePart file offset written) = written ≡ bytes
 WritesPart bytes permit = ⊥
 
-abbrev Fits : Call → Permit ℕ → Type 0
+abbrev pub Forks : Permit ℕ → Type 0
+Forks (ToFork credentials) = ⊤
+Forks permit = ⊥
+
+abbrev pub Removes : Permit ℕ → Type 0
+Removes (ToRemoveDirectory parent entry directory) = ⊤
+Removes permit = ⊥
+
+abbrev pub Renames : Permit ℕ → Type 0
+Renames Allowed = ⊤
+Renames (ToRename from entry to entry_new object replaced) = ⊤
+Renames permit = ⊥
+
+abbrev pub Fits : Call → Permit ℕ → Type 0
 Fits (Write path bytes) permit = Writes permit
 Fits (Mkdir path mode) permit = Makes permit
 Fits (SymlinkAt text path) permit = Makes permit
@@ -54,12 +67,15 @@ Fits (Chmod path mode) permit = Changes permit
 Fits (Chown path uid gid) permit = Changes permit
 Fits (OpenFile path access how) permit = Opens permit
 Fits (Pwrite descriptor offset bytes) permit = WritesPart bytes permit
+Fits (Fork words) permit = Forks permit
+Fits (Rmdir path) permit = Removes permit
+Fits (Rename old new) permit = Renames permit
 Fits call permit = ⊤
 
-permits_fit : (world : World ℕ) (fresh : Fresh ℕ) (task : Task ℕ) (asked : Call) (permit : Permit ℕ)
+permits_fit_calls : (world : World ℕ) (fresh : Fresh ℕ) (task : Task ℕ) (asked : Call) (permit : Permit ℕ)
     → IsGranted nat_eq (looks_of nat_eq world) (overfills nat_eq fresh world task) task asked permit → Fits asked permit
-permits_fit world fresh task asked permit (writes_part number offset bytes descriptor found passed) = refl
-permits_fit world fresh task asked permit other_way = tt
+permits_fit_calls world fresh task asked permit (writes_part number offset bytes descriptor found passed) = refl
+permits_fit_calls world fresh task asked permit other_way = tt
 
 -- on a plain filesystem, or through an overlay
 pub either : {P : Type 0} (b : Bool) → ((b ≡ false) → P) → ((b ≡ true) → P) → P
@@ -69,11 +85,11 @@ either false plain merged = plain refl
 module _ {world : World ℕ} {names : List TaskName} {name : TaskName} {call : Call}
     (it : IsCallOfTheirs world names name call) (fresh : Fresh ℕ) where
   -- by its permit
-  fit_ends : only_looks call ≡ false → ((task : Task ℕ) → task_called world name ≡ Some task → (permit : Permit ℕ)
+  pub fit_ends : only_looks call ≡ false → ((task : Task ℕ) → task_called world name ≡ Some task → (permit : Permit ℕ)
       → judge_in nat_eq fresh world task call ≡ Ok permit → Fits call permit
       → EndsAlike world names name call fresh fresh) → EndsAlike world names name call fresh fresh
   fit_ends looks ends = by_permit it fresh fresh looks (λ task called permit judged.
-      ends task called permit judged (permits_fit world fresh task call permit
+      ends task called permit judged (permits_fit_calls world fresh task call permit
       (calls_are_granted nat_eq (looks_of nat_eq world) (overfills nat_eq fresh world task) task call permit judged)))
 
   module _ (serves : Serves nat_eq world fresh) (task : Task ℕ) (called : task_called world name ≡ Some task) where

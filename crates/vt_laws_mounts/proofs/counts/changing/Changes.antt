@@ -1,6 +1,6 @@
 -- Each change that fits, with the sweep after it.
-use Rattle.std.proofs.Common.{◌≡◌, ◌≢◌, refl, sym, ap, subst, ◌∙◌, ⊎_elim, ℕ, nat_eq, true, false, cond, List, [], map, Option, Some, None, is_some, arith}
-use Rattle.vt_spec.proofs.Common.{AddName, Change, CopyUp, FileTree, Filesystem, Fits, Fresh, Inodes, Location, Make, MayReplace, Move, Node, Remove, SetAttr, SetBytes, SetMark, World, any_pair, common_steps, entries-node_with_attr, entries-node_with_bytes, entries-node_with_mark, entries_in, entry_named, eqb_tells, filesystem_at, filesystem_numbered, is_among, is_directory_node, is_overlay, list_all, node_in, node_with_attr, node_with_bytes, node_with_entry, node_with_mark, node_with_parent, settled, tree_of, with_change, with_changed, with_files}
+use Rattle.std.proofs.Common.{◌≡◌, ◌≢◌, refl, sym, ap, subst, ⊎_elim, ℕ, nat_eq, true, false, cond, List, [], map, Option, Some, None, is_some, arith}
+use Rattle.vt_spec.proofs.Common.{AddName, Change, CopyUp, FileTree, Filesystem, Fits, Fresh, Inodes, Location, Make, MayReplace, Move, Node, Remove, SetAttr, SetBytes, SetMark, World, any_pair, common_steps, entries-node_with_attr, entries-node_with_bytes, entries-node_with_mark, entries_in, entry_named, eqb_tells, filesystem_at, filesystem_numbered, is_among, is_directory_node, is_overlay, list_all, node_in, node_with_attr, node_with_bytes, node_with_entry, node_with_mark, node_with_parent, tree_of, with_change, with_changed, with_files}
 use Rattle.vt_spec.specs.Language.Changes
 use Rattle.vt_spec.specs.Inodes.{changed, without_replaced}
 use Rattle.vt_laws_mounts.specs.LettingGo.InUse.{AllInUse, IsListedTree, is_inode_used}
@@ -29,14 +29,14 @@ module _ (base : ℕ → ℕ) (files : FileTree ℕ) (inodes : Inodes ℕ) (root
 
   -- what the inodes have there, the tree has
   is_there : (d : ℕ) → is_directory_node (node_in (inodes.inode d)) ≡ true → is_directory_node (node d) ≡ true
-  is_there d is = ap is_directory_node (sym (start.same d)) ∙ is
+  is_there d is = cc (start.same d)
 
   leads_to : (d : ℕ) (name : List ℕ) (o : Option ℕ) → entry_named name (entries_in (node_in (inodes.inode d))) ≡ o
       → entry_named name (entries_in (node d)) ≡ o
-  leads_to d name o is = ap (λ x. entry_named name (entries_in x)) (sym (start.same d)) ∙ is
+  leads_to d name o is = cc (start.same d)
 
   is_bare : (n : ℕ) → entries_in (node_in (inodes.inode n)) ≡ [] → entries_in (node n) ≡ []
-  is_bare n e = ap entries_in (sym (start.same n)) ∙ e
+  is_bare n e = cc (start.same n)
 
   moves : (from : ℕ) (old : List ℕ) (to : ℕ) (new : List ℕ) (object : ℕ)
       → entry_named old (entries_in (node from)) ≡ Some object → is_directory_node (node to) ≡ true
@@ -52,7 +52,7 @@ module _ (base : ℕ → ℕ) (files : FileTree ℕ) (inodes : Inodes ℕ) (root
   moves from old to new object leads is (Some gone) finds may =
       Names.moved base node files.numbers inodes start from old to new object (Some gone) leads is finds
       (other_if object gone (λ e. may.0 (sym e))) (λ n some. ⊎_elim
-      (λ t. ap (λ m. entries_in (node m)) t.1 ∙ is_bare gone may.2)
+      (λ t. cc (t.1, is_bare gone may.2))
       (λ t. absurd (let none : one_if n gone ≡ 0 = ap (λ b. cond b 1 0) t.0 in omega arith)) (eqb_tells n gone))
 
   tallied : (change : Change ℕ) → Fits inodes change → LinksWhatIsThere inodes change
@@ -103,7 +103,7 @@ module _ (base : ℕ → ℕ) (files : FileTree ℕ) (inodes : Inodes ℕ) (root
 
   pub root_is : (change : Change ℕ)
       → (changed nat_eq inodes change).root ≡ (Changes.changed nat_eq files change).tree.root
-  root_is change = root_of_inodes change ∙ root ∙ sym (root_of_files change)
+  root_is change = cc (root_of_inodes change, root_of_files change)
 
 -- The world
 
@@ -152,8 +152,7 @@ module _ (fresh : Fresh ℕ) (world : World ℕ) (location : Location ℕ) (inod
   raw_is = grind (arith, common_steps)
 
   pub after_is : after_change fresh world location change ≡ done
-  after_is = ap (settled nat_eq) raw_is
-      ∙ Swept.settled_is world number files in_use one is.plain filesystem_there new_tallied.once
+  after_is = cc (raw_is, Swept.settled_is world number files in_use one is.plain filesystem_there new_tallied.once)
 
   found : filesystem_numbered nat_eq done number ≡ with_files old left
   found = Swept.found_done world number files in_use one is.plain filesystem_there new_tallied.once

@@ -42,16 +42,16 @@ some_inode (Some inode) e = (inode, refl)
 module _ {uses : ℕ → ℕ} {node : ℕ → Option (Node ℕ)} {inodes : Inodes ℕ} (counted : IsCounted uses node inodes)
     (place : ℕ) {inode : Inode ℕ} (is : inodes.inode place ≡ Some inode) where
   here_uses : inode.uses ≡ uses place
-  here_uses = sym (ap uses_in is) ∙ counted.uses_are place
+  here_uses = cc (counted.uses_are place)
 
   here_in_use : 1 ≤ inode.uses
   here_in_use = subst (λ o. 1 ≤ uses_in o) is (counted.in_use place (ap is_some is))
 
   here_node : node place ≡ Some inode.node
-  here_node = counted.kept place (ap is_some is) ∙ ap node_in is
+  here_node = cc (counted.kept place (ap is_some is))
 
   here_listed : times_in place counted.list ≡ 1
-  here_listed = counted.listed place ∙ ap (λ o. cond (is_some o) 1 0) is
+  here_listed = cc (counted.listed place)
 
   -- one use more
   pub counted_pinned : IsCounted (λ number. one_if number place + uses number) node (pinned nat_eq inodes place)
@@ -83,7 +83,7 @@ pub counted_new : (uses : ℕ → ℕ) (node : ℕ → Option (Node ℕ)) (inode
     (record (with_inode nat_eq inodes number (Some (record { node = new; uses = 1 }))) { count = inodes.count + 1 })
 counted_new uses node inodes counted number new vacant = record {
   uses_are = at_or (λ other o. uses_in o ≡ one_if other number + uses other) inodes.inode number now
-      (let none : 0 ≡ uses number = sym (ap uses_in vacant) ∙ counted.uses_are number in
+      (let none : 0 ≡ uses number = cc (counted.uses_are number) in
       let one : one_if number number ≡ 1 = one_if-itself number in omega arith)
       (λ other apart. let e = counted.uses_are other in let none : one_if other number
       ≡ 0 = other_if other number apart in omega arith);
@@ -92,15 +92,14 @@ counted_new uses node inodes counted number new vacant = record {
   kept = at_or (λ other o. is_some o ≡ true
       → changed_at node number (Some new) other ≡ node_in o) inodes.inode number now
       (λ e. ap (λ b. cond b (Some new) (node number)) (eq-eqb number number refl))
-      (λ other apart e. ap (λ b. cond b (Some new) (node other)) (ne_eqb other number apart) ∙ counted.kept other e);
+      (λ other apart e. cc (ne_eqb other number apart, counted.kept other e));
   emptied = at_or (λ other o. is_some o ≡ false
       → targets_in (changed_at node number (Some new) other) ≡ []) inodes.inode number now (λ e. cc)
-      (λ other apart e. ap (λ b. targets_in (cond b (Some new) (node other))) (ne_eqb other number apart)
-      ∙ counted.emptied other e);
+      (λ other apart e. cc (ne_eqb other number apart, counted.emptied other e));
   list = number ∷ counted.list;
   listed = at_or (λ other o. one_if other number + times_in other counted.list
       ≡ cond (is_some o) 1 0) inodes.inode number now
-      (let none : times_in number counted.list ≡ 0 = counted.listed number ∙ ap (λ o. cond (is_some o) 1 0) vacant in
+      (let none : times_in number counted.list ≡ 0 = cc (counted.listed number) in
       let one : one_if number number ≡ 1 = one_if-itself number in omega arith)
       (λ other apart. (let none : one_if other number ≡ 0 = other_if other number apart in
       let same : one_if other number + times_in other counted.list ≡ times_in other counted.list = omega arith in

@@ -1,5 +1,5 @@
 -- How often the entries of directories lead to an inode, after each change of entries.
-use Rattle.std.proofs.Common.{◌≡◌, ◌≢◌, refl, sym, ap, subst, ◌∙◌, ⊎_elim, inl, inr, ◌⊎◌, ℕ, ◌+◌, ◌≤◌, nat_eq, eq-eqb, ne_eqb, Bool, true, false, true≢false, cond, not, ◌&&◌, List, [], ◌∷◌, map, flat_map, Option, Some, None, arith, is_eq, is_lt, bytes_eq, Ordering, Less, Equal, Greater}
+use Rattle.std.proofs.Common.{◌≡◌, ◌≢◌, refl, sym, ap, subst, ◌∙◌, ⊎_elim, inl, inr, ◌⊎◌, ℕ, ◌+◌, ◌≤◌, nat_eq, eq-eqb, ne_eqb, Bool, true, false, cond, not, ◌&&◌, List, [], ◌∷◌, map, flat_map, Option, Some, None, arith, is_eq, is_lt, bytes_eq, Ordering, Less, Equal, Greater}
 use Rattle.vt_spec.proofs.Common.{Content, Directory, Entries, Node, Regular, Symlink, T_from_true, Whiteout, and_parts, below_all, by_order, bytes_decides, common_steps, entries_in, entries_of, entry_named, entry_named-below, eqb_tells, find-where_key, is_directory, is_sorted, is_sorted-where_key, kind_of, name_cmp, nat_list_cmp_total, new_directory, passes, targets_in, texts_ties, with_entry, without_entry}
 use Rattle.vt_laws_mounts.proofs.counts.counting.Times.{times_append, times_in}
 
@@ -73,10 +73,10 @@ times_without number name (entry ∷ rest) sorted =
         omega arith
     by true e false f later =
         let same : name ≡ entry.0 = sym ((bytes_decides entry.0 name).0 e) in
-        absurd (true≢false (sym (sym (texts_ties name entry.0) ∙ (bytes_decides name entry.0).1 same) ∙ f))
+        absurd (cc (texts_ties name entry.0, (bytes_decides name entry.0).1 same, f))
     by false e true f later =
         let same : name ≡ entry.0 = (bytes_decides name entry.0).0 (texts_ties name entry.0 ∙ f) in
-        absurd (true≢false (sym ((bytes_decides entry.0 name).1 (sym same)) ∙ e))
+        absurd (cc ((bytes_decides entry.0 name).1 (sym same), e))
     by false e false f later = omega arith
 
 pub sorted_without : (name : List ℕ) (entries : Entries ℕ) → is_sorted name_cmp entries ≡ true
@@ -135,7 +135,7 @@ pub part_at : {A : Type 0} (part : Option (Node ℕ) → A) (node : ℕ → Opti
     (change : Option (Node ℕ) → Option (Node ℕ)) → part (change (node place)) ≡ part (node place) → (n : ℕ)
     → part (at_place node place change n) ≡ part (node n)
 part_at part node place change same n = ⊎_elim
-    (λ t. ap (λ b. part (cond b (change (node place)) (node n))) t.0 ∙ same ∙ ap (λ m. part (node m)) (sym t.1))
+    (λ t. cc (t.0, t.1))
     (λ t. ap (λ b. part (cond b (change (node place)) (node n))) t.0) (eqb_tells n place)
 
 pub at_other : (node : ℕ → Option (Node ℕ)) (place : ℕ) (change : Option (Node ℕ) → Option (Node ℕ)) (n : ℕ) → n ≢ place

@@ -109,8 +109,7 @@ all_layers_are_mounted world number is =
             (filter (λ merged. is_mounted nat_eq world merged.number) rest))
             ≡ of_overlay [] layers_of first ++ flat_map (of_overlay [] layers_of) rest
         by true e later = ap (λ l. of_overlay [] layers_of first ++ l) later
-        by false e later = later ∙ ap (λ l. l ++ flat_map (of_overlay [] layers_of) rest)
-            (sym (no_layers first.overlay (plain (is_overlay first) refl e)))
+        by false e later = cc (no_layers first.overlay (plain (is_overlay first) refl e))
 
 -- Layers are of overlays.
 
@@ -134,9 +133,9 @@ among_both number (first ∷ rest) other = grind (arith, common_steps, times_app
 pub overlays_use_filesystems : OverlaysUseFilesystems
 overlays_use_filesystems world after gained lost front back number were are =
     let before : layer_count world number ≡ layers_among number (front ++ (lost ++ back)) =
-    sym (of_overlays number world.filesystems) ∙ ap (layers_among number) were in
+    cc (of_overlays number world.filesystems, were) in
     let then : layer_count after number ≡ layers_among number (front ++ (gained ++ back)) =
-    sym (of_overlays number after.filesystems) ∙ ap (layers_among number) are in
+    cc (of_overlays number after.filesystems, are) in
     let a = among_both number front (lost ++ back) in let b = among_both number lost back in
     let c = among_both number front (gained ++ back) in let d = among_both number gained back in
     omega arith

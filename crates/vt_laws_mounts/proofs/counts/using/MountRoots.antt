@@ -14,7 +14,7 @@ use Rattle.vt_laws_mounts.proofs.counts.using.Places.{mounts_are_uses}
 -- a mount in a namespace is there
 attached_is : (mounts : List (Mount ℕ)) (number : ℕ) → is_some (mount_in nat_eq mounts number).namespace ≡ true
     → is_among nat_eq number (map (λ mount. mount.number) mounts) ≡ true
-attached_is [] number e = absurd (true≢false (sym e))
+attached_is [] number e = cc
 attached_is (first ∷ rest) number e = grind (arith, common_steps, attached_is rest number)
 
 pub places_stand : PlacesStand
@@ -41,7 +41,7 @@ record IsAround (mounts : List (Mount ℕ)) (number : ℕ) : Type 0 where
 
 around : (mounts : List (Mount ℕ)) (number : ℕ) → any_pair (λ (a b : Mount ℕ). nat_eq a.number b.number) mounts ≡ false
     → is_among nat_eq number (map (λ mount. mount.number) mounts) ≡ true → IsAround mounts number
-around [] number one there = absurd (true≢false (sym there))
+around [] number one there = cc
 around (first ∷ rest) number one there = by (nat_eq number first.number) refl there (around rest number parts.1)
   where
     parts : (list_any (λ b. nat_eq first.number b.number) rest ≡ false)
@@ -71,9 +71,7 @@ around (first ∷ rest) number one there = by (nat_eq number first.number) refl 
       mount = inner.mount;
       back = inner.back;
       whole = ap (λ l. first ∷ l) inner.whole;
-      left = ap (λ b. cond (not b) (first ∷ filter (λ other. not (nat_eq other.number number)) rest)
-          (filter (λ other. not (nat_eq other.number number)) rest)) (nat_eq-swapped number first.number false e)
-          ∙ ap (λ l. first ∷ l) inner.left;
+      left = cc (nat_eq-swapped number first.number false e, inner.left);
       numbered = inner.numbered;
     }
 
@@ -92,8 +90,7 @@ module _ (world : World ℕ) (number : ℕ) (stand : MountsStand world)
       (among-append_right split.front (split.mount ∷ split.back) split.mount (inl refl))
 
   itself : mount_numbered nat_eq world number ≡ split.mount
-  itself = ap (mount_numbered nat_eq world) (sym split.numbered)
-      ∙ found_itself world.mounts stand.one_number split.mount in_world
+  itself = cc (split.numbered, found_itself world.mounts stand.one_number split.mount in_world)
 
   not_attached : is_some (mount_numbered nat_eq world number).namespace ≡ false
   not_attached = (or_parts (is_some (mount_numbered nat_eq world number).namespace)
@@ -106,7 +103,7 @@ module _ (world : World ℕ) (number : ℕ) (stand : MountsStand world)
   no_point : is_some split.mount.mount_point ≡ false
   no_point = (nowhere_parts split.mount
       (among_from_list_all is_nowhere_or_attached world.mounts stand.nowhere split.mount in_world)
-      (ap (λ (m : Mount ℕ). is_some m.namespace) (sym itself) ∙ not_attached)).0
+      (cc (itself, not_attached))).0
 
   -- what is on another mount is on one that is left
   on_left : (location : Location ℕ) → is_on world.mounts location ≡ true → nat_eq number location.mount ≡ false

@@ -1,5 +1,5 @@
 -- What goes when tasks leave locations and namespaces at once.
-use Rattle.std.proofs.Common.{arith, ◌≡◌, refl, sym, ap, subst, ◌∙◌, ◌⊎◌, inl, inr, ⊎_elim, ℕ, nat_eq, eqb-true, Bool, true, false, cond, not, List, filter, map, true≢false, flat_map, ◌++◌, Some, is_some}
+use Rattle.std.proofs.Common.{arith, ◌≡◌, refl, sym, ap, subst, ◌∙◌, ◌⊎◌, inl, inr, ⊎_elim, ℕ, nat_eq, eqb-true, Bool, true, false, not, List, filter, map, true≢false, flat_map, ◌++◌, Some, is_some}
 use Rattle.vt_spec.proofs.Common.{Fresh, Location, Mount, Namespace, Task, TaskName, World, all_locations, cases_Bool, common_steps, copied_mount, evens, has_tasks, holds_of, is_among, is_going, is_located, is_member_of, is_nowhere_or_attached, list_any, list_any-append, locations_of, lost_a_group, mount_at, mount_in, mount_lives, mount_numbered, mounts_of, namespace_entered, namespaces_ended, numbers_by, odds, or_cases, or_parts, replaced_if_called, same_name, settled, unshared, without_task}
 use Rattle.vt_laws_mounts.specs.LettingGo.EndingTasks.{EntersLetGo, EntersWithOverlaysLetGo, ExitsLetGo, ExitsWithOverlaysLetGo, LeavingNamespacesLetsGo, LeavingNamespacesWithOverlaysLetsGo, UnsharesLetGo, UnsharesWithOverlaysLetGo, gone_with, locations_of_named, used_by_ended, used_by_ended_with_layers}
 use Rattle.vt_laws_mounts.specs.LettingGo.InUse.{AllInUse, GroupsInUse}
@@ -60,17 +60,17 @@ module _ (world : World ℕ) (all : List (Mount ℕ)) (tasks : List (Task ℕ)) 
   not_ended : (number : ℕ) → is_among nat_eq number gone ≡ false → is_going nat_eq ended number ≡ false
   not_ended number isnt =
       (or_parts (is_among nat_eq number (map (λ location. location.mount) left)) (is_among nat_eq number ended)
-      (sym (list_any-append (nat_eq number) (map (λ location. location.mount) left) ended) ∙ isnt)).1
+      (cc (list_any-append (nat_eq number) (map (λ location. location.mount) left) ended))).1
 
   not_left : (number : ℕ) → is_among nat_eq number gone ≡ false
       → is_among nat_eq number (map (λ location. location.mount) left) ≡ false
   not_left number isnt =
       (or_parts (is_among nat_eq number (map (λ location. location.mount) left)) (is_among nat_eq number ended)
-      (sym (list_any-append (nat_eq number) (map (λ location. location.mount) left) ended) ∙ isnt)).0
+      (cc (list_any-append (nat_eq number) (map (λ location. location.mount) left) ended))).0
 
   attached_still : (mount : Mount ℕ) → is_going nat_eq ended mount.number ≡ false → is_some mount.namespace ≡ true
       → is_some (change mount).namespace ≡ true
-  attached_still mount isnt e = ap is_some (same_namespace base ended lasting b mount isnt) ∙ e
+  attached_still mount isnt e = cc (same_namespace base ended lasting b mount isnt)
 
   old_lives : (mount : Mount ℕ) → Among mount world.mounts → is_among nat_eq mount.number gone ≡ false
       → mount_lives nat_eq last (change mount) ≡ true
@@ -80,7 +80,7 @@ module _ (world : World ℕ) (all : List (Mount ℕ)) (tasks : List (Task ℕ)) 
       (λ at. let t = any_among (λ l. nat_eq mount.number l.mount) (all_locations world) at in
       ⊎_elim (λ there. or_right (is_some (change mount).namespace) (is_located nat_eq last (change mount).number)
       (any_from_among (λ l. nat_eq (change mount).number l.mount) (all_locations last) t.0 there
-      (ap (λ n. nat_eq n t.0.mount) (number_kept mount) ∙ t.2))) (λ gone_from. absurd (true≢false
+      (cc (number_kept mount, t.2)))) (λ gone_from. absurd (true≢false
       (sym (is_among_numbers mount.number (map (λ location. location.mount) left)
       (subst (λ n. Among n (map (λ location. location.mount) left)) (sym (eqb-true mount.number t.0.mount t.2))
       (among-map (λ (location : Location ℕ). location.mount) left t.0 gone_from))) ∙ not_left mount.number isnt)))
@@ -117,7 +117,7 @@ module _ (world : World ℕ) (all : List (Mount ℕ)) (tasks : List (Task ℕ)) 
       (λ isnt. let parts = or_parts (is_going nat_eq ended mount.number)
       (holds_of (λ l. is_going nat_eq ended l.mount) mount.mount_point) isnt in
       let on : is_going nat_eq ended at.mount ≡ false =
-      sym (ap (holds_of (λ l. is_going nat_eq ended l.mount)) p) ∙ parts.1 in
+      cc (p, parts.1) in
       inl (
         change mount,
         (
@@ -153,7 +153,7 @@ module _ (world : World ℕ) (all : List (Mount ℕ)) (tasks : List (Task ℕ)) 
         (λ gone_from. inr (among-append_right (places_lost world ended) left location gone_from)) (stay location m);
     places = place_still;
     nowhere = list_all_from_among is_nowhere_or_attached last.mounts (λ other m.
-        let from = among-from_map change all other m in ap is_nowhere_or_attached from.2 ∙ nowhere from.0 from.1);
+        let from = among-from_map change all other m in cc (from.2, nowhere from.0 from.1));
   }
 
   -- groups without members had none before
@@ -164,7 +164,7 @@ module _ (world : World ℕ) (all : List (Mount ℕ)) (tasks : List (Task ℕ)) 
       by false e = refl
       by true e =
           let t = any_among (is_member_of nat_eq group) world.mounts e in
-          absurd (true≢false (sym (any_from_among (is_member_of nat_eq group) all t.0 (kept t.0 t.1) t.2) ∙ none))
+          absurd (cc (any_from_among (is_member_of nat_eq group) all t.0 (kept t.0 t.1) t.2, none))
 
   pub ends_hearing : GroupsInUseBut (groups_of_mounts base ended) last
   ends_hearing = subst (GroupsInUseBut (groups_of_mounts base ended)) ends_so (event_groups base ended groups_of_base)
@@ -251,7 +251,7 @@ module _ (world : World ℕ) (name : TaskName) where
       ⊎_elim (λ is. inr (of_named from.0 from.1 is location from.2))
       (λ isnt. inl (among-flat_map locations_of (map (replaced_if_called task) world.tasks) from.0 location
       (subst (λ t. Among t (map (replaced_if_called task) world.tasks))
-      (ap (λ n. cond (same_name n from.0.name) task from.0) called ∙ ap (λ c. cond c task from.0) isnt)
+      (cc)
       (among-map (replaced_if_called task) world.tasks from.0 from.1)) from.2))
       (cases_Bool (same_name name from.0.name))
 

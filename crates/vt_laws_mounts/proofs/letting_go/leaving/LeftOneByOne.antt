@@ -1,5 +1,5 @@
 -- Places that are left one by one, each with a sweep, or all at once.
-use Rattle.std.proofs.Common.{◌≡◌, refl, sym, ap, subst, ◌∙◌, ⊎_elim, ℕ, nat_eq, eqb-true, eq-eqb, true, false, cond, List, [], ◌∷◌, filter, map, true≢false, ◌++◌, None, is_some, All, filter_map}
+use Rattle.std.proofs.Common.{◌≡◌, refl, sym, ap, subst, ◌∙◌, ⊎_elim, ℕ, nat_eq, eqb-true, eq-eqb, true, false, cond, List, [], ◌∷◌, filter, map, ◌++◌, None, is_some, All, filter_map}
 use Rattle.vt_spec.proofs.Common.{Location, Mount, Task, World, all_locations, and_parts, has_members, is_located, is_member_of, is_mounted, is_overlay, located_in, mount_at, mount_in, mount_lives, number-mount_in, or_cases, root_of, settled, without_dead_mounts}
 use Rattle.vt_laws_mounts.specs.LettingGo.InUse.{UppersArePlain, has_upper_in}
 use Rattle.vt_laws_mounts.specs.LettingGo.Leaving.{MountsStand, OneSweepForAll, OneSweepForSeveral, comes_nowhere, each_comes_nowhere, with_sweeps, with_tasks}
@@ -72,9 +72,8 @@ module _ (world : World ℕ) (tasks : List (Task ℕ)) (stand : MountsStand worl
   the_only : (mount : Mount ℕ) → Among mount world.mounts → mount_lives nat_eq once mount ≡ true
       → (other : Mount ℕ) → Among other world.mounts → other.number ≡ mount.number
       → mount_lives nat_eq once other ≡ true
-  the_only mount m lives other n e = ap (mount_lives nat_eq once)
-      (sym (found_itself world.mounts stand.one_number other n) ∙ ap (mount_in nat_eq world.mounts) e
-      ∙ found_itself world.mounts stand.one_number mount m) ∙ lives
+  the_only mount m lives other n e =
+      cc (found_itself world.mounts stand.one_number other n, found_itself world.mounts stand.one_number mount m)
 
   abbrev places_in : World ℕ → List (Mount ℕ) → List (Location ℕ)
   places_in other mounts = all_locations other ++ map root_of mounts ++ filter_map (λ mount. mount.mount_point) mounts
@@ -147,7 +146,7 @@ one_sweep_with_overlays world tasks trees uppers reals stand nowhere_new =
 pub plain_uppers : (world : World ℕ) → IsPlain world → UppersArePlain world
 plain_uppers world plain = all_from_among (λ f. is_overlay f ≡ true
     → All (λ g. has_upper_in f.number g ≡ false) world.filesystems) world.filesystems
-    (λ f m is. absurd (true≢false (sym is ∙ none_among is_overlay world.filesystems plain f m)))
+    (λ f m is. absurd (cc (none_among is_overlay world.filesystems plain f m)))
 
 pub plain_reals : (world : World ℕ) → IsPlain world → RealsAreThere world
 plain_reals world plain = all_from_among HasReals world.filesystems

@@ -88,11 +88,11 @@ module _ (world : World ℕ) (tasks : List (Task ℕ)) (left : List (Location �
       (λ at. by_located world tasks left in_use stand only world.filesystems f number
       (among_numbers number (located_in nat_eq world f.number) at))
       (or_cases (is_among nat_eq number names) (is_among nat_eq number (located_in nat_eq world f.number))
-      (sym (list_any-append (nat_eq number) names (located_in nat_eq world f.number)) ∙ first)))
+      (cc (list_any-append (nat_eq number) names (located_in nat_eq world f.number)))))
       (λ layer. used (is_among_left number (names ++ located_in nat_eq swept f.number ++ layers) objects
       (is_among_right number (names ++ located_in nat_eq swept f.number) layers layer)))
       (or_cases (is_among nat_eq number (names ++ located_in nat_eq world f.number)) (is_among nat_eq number layers)
-      (sym (list_any-append (nat_eq number) (names ++ located_in nat_eq world f.number) layers) ∙ front)))
+      (cc (list_any-append (nat_eq number) (names ++ located_in nat_eq world f.number) layers))))
       (λ object. used (is_among_right number (names ++ located_in nat_eq swept f.number ++ layers) objects object))
       (or_cases (is_among nat_eq number (names ++ located_in nat_eq world f.number ++ layers))
       (is_among nat_eq number objects)

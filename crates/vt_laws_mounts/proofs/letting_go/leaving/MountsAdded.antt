@@ -1,5 +1,5 @@
 -- Mounts and filesystems that are added.
-use Rattle.std.proofs.Common.{arith, ◌≡◌, refl, sym, ap, inl, inr, ⊎_elim, ℕ, nat_eq, true, List, [], ◌∷◌, map, true≢false, ◌++◌, Option, is_some}
+use Rattle.std.proofs.Common.{arith, ◌≡◌, refl, ap, inl, inr, ⊎_elim, ℕ, nat_eq, true, List, [], ◌∷◌, map, ◌++◌, Option, is_some}
 use Rattle.vt_spec.proofs.Common.{Filesystem, Mount, World, common_steps, is_among, is_located, is_mounted, is_nowhere_or_attached, list_all, mount_in, mount_lives}
 use Rattle.vt_laws_mounts.specs.LettingGo.InUse.{AllInUse}
 use Rattle.vt_laws_mounts.specs.LettingGo.Keeping.{LocationsStand, NewMountsKeepAll, has_only_named, with_new}
@@ -12,7 +12,7 @@ use Rattle.vt_laws_mounts.proofs.letting_go.Lists.{Among, any_among, list_all_fr
 pub found_before : (mounts added : List (Mount ℕ)) (number : ℕ)
     → is_among nat_eq number (map (λ mount. mount.number) mounts) ≡ true
     → mount_in nat_eq (mounts ++ added) number ≡ mount_in nat_eq mounts number
-found_before [] added number h = absurd (true≢false (sym h))
+found_before [] added number h = cc
 found_before (first ∷ rest) added number h = grind (arith, common_steps, found_before rest added number)
 
 module _ {world : World ℕ} (mounts : List (Mount ℕ)) (filesystems : List (Filesystem ℕ)) (master : ℕ → Option ℕ)

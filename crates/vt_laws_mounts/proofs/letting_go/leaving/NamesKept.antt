@@ -1,5 +1,5 @@
 -- What changes of a tree do to names.
-use Rattle.std.proofs.Common.{arith, ◌≡◌, refl, sym, ap, subst, ◌∙◌, ◌⊎◌, inl, inr, ⊎_elim, ℕ, nat_eq, true, false, cond, not, ◌||◌, List, [], ◌∷◌, true≢false, Option, Some, None, is_some, option_to_list, Ordering, Equal, Greater, Less, is_eq, is_lt, bytes_eq}
+use Rattle.std.proofs.Common.{arith, ◌≡◌, refl, sym, ap, subst, ◌∙◌, ◌⊎◌, inl, inr, ⊎_elim, ℕ, nat_eq, true, false, not, ◌||◌, List, [], ◌∷◌, Option, Some, None, is_some, option_to_list, Ordering, Equal, Greater, Less, is_eq, is_lt, bytes_eq}
 use Rattle.vt_spec.proofs.Common.{AddName, Content, CopyUp, Directory, Entries, FileTree, Make, Move, Node, Regular, Remove, SetAttr, SetBytes, SetMark, Symlink, T_from_true, Whiteout, and_parts, below_all, by_order, bytes_decides, cases_Bool, changed, changed_node, common_steps, directory_used, entries-node_with_attr, entries-node_with_bytes, entries-node_with_mark, entries-node_with_parent, entries_in, entry_at, entry_named, entry_named-without_entry, eq_by_cmp, eqb_tells, false_from_ne_true, is_among, is_directory-node_with_parent, is_directory-node_without_entry, is_directory_node, is_sorted, is_sorted-where_key, list_all, name_cmp, named_in, nat_list_cmp_total, node_other, node_set, node_with_attr, node_with_bytes, node_with_entry, node_with_mark, node_with_parent, node_without_entry, none_is_not, part_kept, passes, root-without_parent, same_Some, targets_in, tied_itself, with_entry, with_inode, with_name, without_entry, without_name, without_parent}
 use Rattle.vt_spec.proofs.Nodes.{same_name}
 use Rattle.vt_laws_mounts.specs.LettingGo.FileChanges.{ChangesKeepNames, IsMade, IsMoved}
@@ -18,7 +18,7 @@ below_each : (name : List ℕ) (entries : Entries ℕ) → below_all name_cmp na
 below_each name [] h e m = absurd m
 below_each name (x ∷ xs) h e m =
     let parts = and_parts (is_lt (name_cmp name x.0)) (below_all name_cmp name xs) h in
-    ⊎_elim (λ same. ap (λ (y : Entry). is_lt (name_cmp name y.0)) same ∙ parts.0) (below_each name xs parts.1 e) m
+    ⊎_elim (λ same. cc (parts.0)) (below_each name xs parts.1 e) m
 
 -- each entry is the one that its name leads to
 pub found_entry : (entries : Entries ℕ) → is_sorted name_cmp entries ≡ true → (e : Entry) → Among e entries
@@ -26,16 +26,12 @@ pub found_entry : (entries : Entries ℕ) → is_sorted name_cmp entries ≡ tru
 found_entry [] sorted e m = absurd m
 found_entry (x ∷ xs) sorted e m =
     let parts = and_parts (below_all name_cmp x.0 xs) (is_sorted name_cmp xs) sorted in
-    ⊎_elim (λ same. ap (λ (y : Entry). entry_named y.0 (x ∷ xs)) same
-    ∙ ap (λ o. cond (is_eq o) (Some x.1) (entry_named x.0 xs)) (tied_itself nat_list_cmp_total x.0)
-    ∙ ap (λ (y : Entry). Some y.1) (sym same))
-    (λ later. ap (λ b. cond b (Some x.1) (entry_named e.0 xs)) (apart (below_each x.0 xs parts.0 e later))
-    ∙ found_entry xs parts.1 e later) m
+    ⊎_elim (λ same. cc (tied_itself nat_list_cmp_total x.0))
+    (λ later. cc (apart (below_each x.0 xs parts.0 e later), found_entry xs parts.1 e later)) m
   where
     apart : is_lt (name_cmp x.0 e.0) ≡ true → eq_by_cmp name_cmp e.0 x.0 ≡ false
     apart below = false_from_ne_true (eq_by_cmp name_cmp e.0 x.0) (λ tie.
-        true≢false (sym below ∙ ap (λ n. is_lt (name_cmp x.0 n)) (same_name e.0 x.0 tie)
-        ∙ ap is_lt (tied_itself nat_list_cmp_total x.0)))
+        cc (below, same_name e.0 x.0 tie, tied_itself nat_list_cmp_total x.0))
 
 -- an entry stays where a name is given, but for the one that had it
 put_keeps : (name : List ℕ) (number : ℕ) (entries : Entries ℕ) (e : Entry) → Among e entries
@@ -48,7 +44,7 @@ put_keeps name number (x ∷ xs) e m = by (name_cmp name x.0) refl m (put_keeps 
         → Among e (by_order o ((name, number) ∷ x ∷ xs) ((x.0, number) ∷ xs) (x ∷ with_entry name number xs))
         ⊎ (e.0 ≡ name)
     by Less tie n later = inl (inr n)
-    by Equal tie (inl same) later = inr (ap (λ (y : Entry). y.0) same ∙ sym (same_name name x.0 (ap is_eq tie)))
+    by Equal tie (inl same) later = inr (cc (same_name name x.0 (ap is_eq tie)))
     by Equal tie (inr n) later = inl (inr n)
     by Greater tie (inl same) later = inl (inl same)
     by Greater tie (inr n) later = ⊎_elim (λ l. inl (inr l)) inr (later n)
@@ -85,16 +81,16 @@ node_keeps_taken name (Some node) e m = grind (arith, common_steps, filter_keeps
 
 node_has : (name : List ℕ) (number : ℕ) (o : Option (Node ℕ)) → is_directory_node o ≡ true
     → (e : Entry) × Among e (entries_in (node_with_entry name number o)) × (e.1 ≡ number)
-node_has name number None is = absurd (true≢false (sym is))
+node_has name number None is = cc
 node_has name number (Some node) is = by node.content is
   where
     by : (content : Content ℕ) → is_directory_node (Some (record { attr = node.attr; content = content })) ≡ true
         → (e : Entry) × Among e (entries_in
         (node_with_entry name number (Some (record { attr = node.attr; content = content })))) × (e.1 ≡ number)
     by (Directory parent entries opaque) n = put_has name number entries
-    by (Regular bytes) n = absurd (true≢false (sym n))
-    by (Symlink text) n = absurd (true≢false (sym n))
-    by Whiteout n = absurd (true≢false (sym n))
+    by (Regular bytes) n = cc
+    by (Symlink text) n = cc
+    by Whiteout n = cc
 
 sorted_without : (name : List ℕ) (o : Option (Node ℕ)) → is_sorted name_cmp (entries_in o) ≡ true
     → is_sorted name_cmp (entries_in (node_without_entry name o)) ≡ true
@@ -147,8 +143,7 @@ one_changed files directory name change keeps sorted d e m = ⊎_elim
     (sym (ap (changed_node nat_eq files directory change).tree.node at.1
     ∙ node_set files.tree directory (change (files.tree.node directory)))) still)) (λ named. inr (
       at.1,
-      ap (λ n. entry_named n (entries_at files directory)) (sym named)
-          ∙ found_entry (entries_at files directory) sorted e here,
+      cc (named, found_entry (entries_at files directory) sorted e here),
     )) (keeps e here)) (λ other. inl (subst (λ o. Among e (entries_in o))
     (sym (node_other files.tree directory (change (files.tree.node directory)) d other.1)) m)) (eqb_tells d directory)
 
@@ -261,7 +256,7 @@ module _ (files : FileTree ℕ) (listed : IsListedTree files) where
 
     others : (d : ℕ) → is_some (files.tree.node d) ≡ true → with_it.tree.node d ≡ files.tree.node d
     others d is = node_other files.tree number (Some node) d (λ same.
-        true≢false (sym is ∙ ap (λ n. is_some (files.tree.node n)) same ∙ ap is_some made.is_new))
+        cc (is, same, made.is_new))
 
     has_some : (o : Option (Node ℕ)) (e : Entry) → Among e (entries_in o) → is_some o ≡ true
     has_some None e m = absurd m
@@ -273,7 +268,7 @@ module _ (files : FileTree ℕ) (listed : IsListedTree files) where
     new_is_named : is_among nat_eq number (named_in named) ≡ true
     new_is_named =
         let has = node_has name number (with_it.tree.node directory)
-        (ap is_directory_node of_directory ∙ made.in_directory) in
+        (cc (of_directory, made.in_directory)) in
         ap (λ n. is_among nat_eq n (named_in named)) (sym has.2)
         ∙ named_by named directory has.0 (inr (there directory made.in_directory))
         (subst (λ o. Among has.0 (entries_in o))
@@ -287,16 +282,16 @@ module _ (files : FileTree ℕ) (listed : IsListedTree files) where
           named.numbers
           (λ k m.
           ⊎_elim (λ new. or_right (is_among nat_eq k files.numbers) (is_among nat_eq k (named_in named))
-          (ap (λ n. is_among nat_eq n (named_in named)) new ∙ new_is_named))
+          (cc (new_is_named)))
           (λ old. or_left (is_among nat_eq k files.numbers) (is_among nat_eq k (named_in named))
           (is_among_numbers k files.numbers old)) m);
       names = all_names files named (option_to_list (entry_at files.tree directory name)) (λ d m e n.
           ⊎_elim (λ still. inl (d, e, inr m, still, refl))
           (λ lost. inr (some_lost (entry_at files.tree directory name) e.1
-          (ap (λ o. entry_named name (entries_in o)) (sym of_directory) ∙ lost.1)))
+          (cc (of_directory, lost.1))))
           (one_changed with_it directory name (node_with_entry name number)
           (node_keeps_given name number (with_it.tree.node directory))
-          (ap (λ o. is_sorted name_cmp (entries_in o)) of_directory ∙ sorted directory) d e
+          (cc (of_directory, sorted directory)) d e
           (subst (λ o. Among e (entries_in o)) (sym (others d (has_some (files.tree.node d) e n))) n)));
     }
 
@@ -379,9 +374,9 @@ module _ (files : FileTree ℕ) (listed : IsListedTree files) where
         (one_changed left to new (node_with_entry new object)
         (node_keeps_given new object (left.tree.node to)) sorted_left d e still))
         (λ gone. object_named e.1 (same_Some e.1 object
-        (sym gone.1 ∙ ap (entry_named old) (same_apart from) ∙ moves.named)))
+        (cc (gone.1, same_apart from, moves.named))))
         (one_changed apart from old (node_without_entry old) (node_keeps_taken old (apart.tree.node from))
-        (ap (is_sorted name_cmp) (same_apart from) ∙ sorted from) d e (subst (Among e) (sym (same_apart d)) n))
+        (cc (same_apart from, sorted from)) d e (subst (Among e) (sym (same_apart d)) n))
 
     moves_so : IsListedTree last → ChangesTree files last (option_to_list replaced)
     moves_so after = record {

@@ -1,5 +1,5 @@
 -- What goes when tasks leave places.
-use Rattle.std.proofs.Common.{arith, ◌≡◌, refl, sym, ap, subst, ◌∙◌, ◌⊎◌, inl, inr, ⊎_elim, ℕ, nat_eq, eqb-true, eq-eqb, Bool, true, false, ◌||◌, ◌&&◌, List, [], ◌∷◌, filter, map, true≢false, flat_map, ◌++◌, Some, is_some, option_to_list, filter_map}
+use Rattle.std.proofs.Common.{arith, ◌≡◌, refl, sym, ap, subst, ◌∙◌, ◌⊎◌, inl, inr, ⊎_elim, ℕ, nat_eq, eqb-true, eq-eqb, Bool, true, false, ◌||◌, ◌&&◌, List, [], ◌∷◌, filter, map, true≢false, flat_map, ◌++◌, Some, is_some, filter_map}
 use Rattle.vt_spec.proofs.Common.{Filesystem, Location, Mount, Task, World, all_locations, and_parts, any_pair, cases_Bool, common_steps, filesystem_lives, has_layer_on, is_among, is_among_left, is_located, is_member_of, is_mounted, is_nowhere_or_attached, is_overlay, is_private, layers_in, list_all, list_any, located_in, mount_at, mount_in, mount_lives, named_in, no_mount, objects_of_overlay, or_cases, or_parts, root_of, same_location, same_location_is, without_dead_filesystems, without_dead_mounts}
 use Rattle.vt_laws_mounts.specs.LettingGo.InUse.{AllInUse, is_inode_used}
 use Rattle.vt_laws_mounts.specs.LettingGo.Leaving.{LeavingLetsGo, MountsStand, StayingKeepsAll, comes_nowhere, inodes_of_location, is_location_among, only_these_are_left, stands_on_attached, used_by_locations, with_tasks}
@@ -18,8 +18,7 @@ found_itself mounts one mount m = found_by (λ (x : Mount ℕ). x.number) (no_mo
 pub place_attached : (world : World ℕ) → MountsStand world → (mount : Mount ℕ) → Among mount world.mounts
     → (place : Location ℕ) → mount.mount_point ≡ Some place → is_some (mount_at nat_eq world place).namespace ≡ true
 place_attached world stand mount m place p = (and_parts (is_some (mount_at nat_eq world place).namespace) true
-    (sym (ap (λ o. list_all (λ l. is_some (mount_at nat_eq world l).namespace) (option_to_list o)) p)
-    ∙ among_from_list_all (stands_on_attached world) world.mounts stand.on_attached mount m)).0
+    (cc (among_from_list_all (stands_on_attached world) world.mounts stand.on_attached mount m))).0
 
 -- a mount of a shorter list, where those of its number stay
 pub found_in_filter : (stays : Mount ℕ → Bool) (mounts : List (Mount ℕ)) (number : ℕ)
@@ -32,7 +31,7 @@ found_in_filter stays (first ∷ rest) number h =
 -- a mount in a namespace that is found is there
 pub found_is_there : (mounts : List (Mount ℕ)) (number : ℕ) → is_some (mount_in nat_eq mounts number).namespace ≡ true
     → Among (mount_in nat_eq mounts number) mounts
-found_is_there [] number e = absurd (true≢false (sym e))
+found_is_there [] number e = cc
 found_is_there (first ∷ rest) number e = grind (arith, common_steps, found_is_there rest number)
 
 -- a mount outside every namespace has no place, and is in no group
@@ -43,7 +42,7 @@ nowhere_parts mount h e = grind (arith, common_steps, true≢false)
 pub placed_is_attached : (mount : Mount ℕ) → is_nowhere_or_attached mount ≡ true → (place : Location ℕ)
     → mount.mount_point ≡ Some place → is_some mount.namespace ≡ true
 placed_is_attached mount h place p =
-    ⊎_elim (λ is. is) (λ out. absurd (true≢false (sym (ap is_some p) ∙ (nowhere_parts mount h out).0)))
+    ⊎_elim (λ is. is) (λ out. absurd (cc ((nowhere_parts mount h out).0)))
     (cases_Bool (is_some mount.namespace))
 
 pub private_is_no_member : (group : ℕ) (mount : Mount ℕ) → is_private mount.propagation ≡ true
@@ -142,9 +141,9 @@ module _ (world : World ℕ) (tasks : List (Task ℕ)) (left : List (Location �
       let parts = or_parts (is_some mount.namespace) (is_located nat_eq after mount.number) dead in
       let lived = among_from_list_all (mount_lives nat_eq world) world.mounts in_use.mounts mount m in
       let t = any_among (λ l. nat_eq mount.number l.mount) (all_locations world)
-      (sym (ap (λ b. b || is_located nat_eq world mount.number) parts.0) ∙ lived) in
+      (cc (parts.0, lived)) in
       let same : mount.number ≡ t.0.mount = eqb-true mount.number t.0.mount t.2 in
-      ⊎_elim (λ stays. absurd (true≢false (sym (located_lives mount t.0 stays same) ∙ dead)))
+      ⊎_elim (λ stays. absurd (cc (located_lives mount t.0 stays same)))
       (λ gone. (t.0, gone, same)) (stays_or_left t.0 t.1)
 
   found_mount : (mount : Mount ℕ) → Among mount world.mounts → mount_in nat_eq world.mounts mount.number ≡ mount
@@ -160,13 +159,12 @@ module _ (world : World ℕ) (tasks : List (Task ℕ)) (left : List (Location �
       → (other : Mount ℕ) → Among other world.mounts → other.number ≡ mount.number
       → mount_lives nat_eq after other ≡ true
   only_one mount m lives other n e =
-      ap (mount_lives nat_eq after) (sym (found_mount other n) ∙ ap (mount_in nat_eq world.mounts) e
-      ∙ found_mount mount m) ∙ lives
+      cc (found_mount other n, e, found_mount mount m, lives)
 
   -- the filesystem of a mount that went was left
   pub filesystem_left : (mount : Mount ℕ) → Among mount world.mounts → (location : Location ℕ) → Among location left
       → mount.number ≡ location.mount → (mount_at nat_eq world location) ≡ mount
-  filesystem_left mount m location n e = ap (mount_in nat_eq world.mounts) (sym e) ∙ found_mount mount m
+  filesystem_left mount m location n e = cc (found_mount mount m)
 
   pub mounts_but : MountsInUseBut losers.mounts after
   mounts_but =
@@ -188,7 +186,7 @@ module _ (world : World ℕ) (tasks : List (Task ℕ)) (left : List (Location �
       let lived = among_from_list_all (filesystem_lives nat_eq world) world.filesystems in_use.filesystems filesystem
       m in
       let was = ⊎_elim (λ e. e) (λ layered.
-      absurd (true≢false (sym layered ∙ no_layers filesystem.number world world.filesystems plain)))
+      absurd (cc (layered, no_layers filesystem.number world world.filesystems plain)))
       (or_cases (is_mounted nat_eq world filesystem.number) _ lived) in
       let t = any_among (λ mount. nat_eq filesystem.number mount.filesystem) world.mounts was in
       ⊎_elim (λ lives. or_right (is_among nat_eq filesystem.number losers.filesystems)
@@ -241,8 +239,7 @@ module _ (world : World ℕ) (tasks : List (Task ℕ)) (left : List (Location �
       where
         both : (a b : ℕ) → a ≡ b → (nat_eq filesystem.number (mount_at nat_eq world location).filesystem && nat_eq a b)
             ≡ true
-        both a b same = ap (λ t. t && nat_eq a b)
-            (eq-eqb filesystem.number (mount_at nat_eq world location).filesystem e) ∙ eq-eqb a b same
+        both a b same = cc (eq-eqb filesystem.number (mount_at nat_eq world location).filesystem e, eq-eqb a b same)
 
     -- each location, root of a mount and place
     by_location : (location : Location ℕ) → Among location (all_locations world)
@@ -253,8 +250,7 @@ module _ (world : World ℕ) (tasks : List (Task ℕ)) (left : List (Location �
         (used_still location (among-append_left (all_locations after ++ map root_of mounted.mounts)
         (filter_map (λ mount. mount.mount_point) mounted.mounts) location
         (among-append_left (all_locations after) (map root_of mounted.mounts) location stays))
-        (e ∙ ap (λ x. x.filesystem) (sym
-        (found_still location.mount (λ mount n same. located_lives mount location stays same))))))
+        (cc (found_still location.mount (λ mount n same. located_lives mount location stays same)))))
         (λ gone. may_go location gone e location.node (inl refl)) (stays_or_left location m)
 
     by_root : (mount : Mount ℕ) → Among mount world.mounts
@@ -265,9 +261,9 @@ module _ (world : World ℕ) (tasks : List (Task ℕ)) (left : List (Location �
         (filter_map (λ x. x.mount_point) mounted.mounts) (root_of mount)
         (among-append_right (all_locations after) (map root_of mounted.mounts) (root_of mount)
         (among-map root_of mounted.mounts mount (among-filter (mount_lives nat_eq after) world.mounts mount m lives))))
-        (e ∙ ap (λ x. x.filesystem) (sym (found_still mount.number (only_one mount m lives))))))
+        (cc (found_still mount.number (only_one mount m lives)))))
         (λ dead. let gone = dead_was_left mount m dead in
-        may_go gone.0 gone.1 (e ∙ ap (λ n. (mount_in nat_eq world.mounts n).filesystem) gone.2) mount.root
+        may_go gone.0 gone.1 (cc (gone.2)) mount.root
         (inr (ap (λ x. x.root) (sym (filesystem_left mount m gone.0 gone.1 gone.2)))))
         (cases_Bool (mount_lives nat_eq after mount))
 

@@ -28,8 +28,8 @@ old_masters group (mount ∷ rest) master one none =
 tree_attached : (world : World ℕ) → MountsStand world → (depth : ℕ) (top : Mount ℕ) → is_some top.namespace ≡ true
     → (mount : Mount ℕ) → Among mount (tree_from nat_eq depth world.mounts top) → is_some mount.namespace ≡ true
 tree_attached world stand zero top is mount m =
-    ⊎_elim (λ e. ap (λ (x : Mount ℕ). is_some x.namespace) e ∙ is) (λ none. absurd none) m
-tree_attached world stand (suc depth) top is mount m = ⊎_elim (λ e. ap (λ (x : Mount ℕ). is_some x.namespace) e ∙ is)
+    ⊎_elim (λ e. cc) (λ none. absurd none) m
+tree_attached world stand (suc depth) top is mount m = ⊎_elim (λ e. cc)
     (λ later.
     let under = among-from_flat_map (tree_from nat_eq depth world.mounts)
     (children nat_eq world.mounts top.number) mount later in
@@ -100,29 +100,28 @@ module _ (fresh : Fresh ℕ) {world : World ℕ} (number : ℕ) (word : TypeWord
       let same : mount ≡ t.0 = sym (found_itself world.mounts stand.one_number mount m)
       ∙ ap (mount_in nat_eq world.mounts) (eqb-true mount.number t.0.number t.2)
       ∙ found_itself world.mounts stand.one_number t.0 other.0 in
-      ap (λ (x : Mount ℕ). is_some x.namespace) same ∙ other.1
+      cc (same, other.1)
 
   nowhere : (b : Bool) (mount : Mount ℕ) → Among mount world.mounts → is_nowhere_or_attached (change b mount) ≡ true
   nowhere b mount m = ⊎_elim (λ in_one. or_left (is_some (change b mount).namespace) _
       (keeps (λ x. is_some x.namespace) (λ x kind. refl) b mount ∙ in_one))
       (λ out. outside b out (false_from_ne_true (is_named mount)
-      (λ is. true≢false (sym (named_attached mount m is) ∙ out)))) (cases_Bool (is_some mount.namespace))
+      (λ is. cc (named_attached mount m is)))) (cases_Bool (is_some mount.namespace))
     where
       was : is_nowhere_or_attached mount ≡ true
       was = among_from_list_all is_nowhere_or_attached world.mounts stand.nowhere mount m
 
       private_stays : (kind : Propagation ℕ) → is_private kind ≡ true → inherited nat_eq base kind ≡ kind
       private_stays (Shared own) e = refl
-      private_stays (Slave up) e = absurd (true≢false (sym e))
+      private_stays (Slave up) e = cc
       private_stays Private e = refl
       private_stays Unbindable e = refl
 
       outside : (c : Bool) → is_some mount.namespace ≡ false → is_named mount ≡ false
           → is_nowhere_or_attached (change c mount) ≡ true
-      outside true out isnt = ap (λ x. is_nowhere_or_attached (inheriting nat_eq base x)) (unnamed_stays mount isnt)
-          ∙ ap (λ kind. is_nowhere_or_attached (record mount { propagation = kind }))
-          (private_stays mount.propagation (nowhere_parts mount was out).1) ∙ was
-      outside false out isnt = ap is_nowhere_or_attached (unnamed_stays mount isnt) ∙ was
+      outside true out isnt =
+          cc (unnamed_stays mount isnt, private_stays mount.propagation (nowhere_parts mount was out).1, was)
+      outside false out isnt = cc (unnamed_stays mount isnt, was)
 
   loses : (b : Bool) → Loses world (last b) [] []
   loses b = record {
@@ -147,7 +146,7 @@ module _ (fresh : Fresh ℕ) {world : World ℕ} (number : ℕ) (word : TypeWord
     );
     nowhere = list_all_from_among is_nowhere_or_attached (last b).mounts (λ x m.
         let from = among-from_map (change b) world.mounts x m in
-        ap is_nowhere_or_attached from.2 ∙ nowhere b from.0 from.1);
+        cc (from.2, nowhere b from.0 from.1));
   }
 
   abbrev numbers : List ℕ
@@ -185,8 +184,7 @@ module _ (fresh : Fresh ℕ) {world : World ℕ} (number : ℕ) (word : TypeWord
   hears b one among none =
       let parts = or_parts (is_among nat_eq one (groups_of_mounts world numbers))
       (is_among nat_eq one (map (λ mount. group mount.number) named))
-      (sym (list_any-append (nat_eq one) (groups_of_mounts world numbers) (map (λ mount. group mount.number) named))
-      ∙ among) in
+      (cc (list_any-append (nat_eq one) (groups_of_mounts world numbers) (map (λ mount. group mount.number) named))) in
       no_master b one parts.1 (no_members world (last b) numbers in_use.groups
       (λ mount m isnt other is. any_from_among (is_member_of nat_eq other) (last b).mounts (change b mount)
       (among-map (change b) world.mounts mount m) (unnamed_member b mount isnt other is)) one parts.0 none)

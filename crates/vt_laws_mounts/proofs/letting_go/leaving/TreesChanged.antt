@@ -1,5 +1,5 @@
 -- What goes when a plain tree changes.
-use Rattle.std.proofs.Common.{arith, ◌≡◌, refl, sym, ap, subst, ◌∙◌, ◌⊎◌, inl, inr, ⊎_elim, ℕ, nat_eq, eqb-true, eq-eqb, true, false, ◌||◌, ◌&&◌, List, [], ◌∷◌, find, map, true≢false, unwrap_or}
+use Rattle.std.proofs.Common.{arith, ◌≡◌, refl, sym, subst, ◌∙◌, ◌⊎◌, inl, inr, ⊎_elim, ℕ, nat_eq, eqb-true, eq-eqb, true, false, ◌||◌, ◌&&◌, List, [], ◌∷◌, find, map, unwrap_or}
 use Rattle.vt_spec.proofs.Common.{FileTree, Filesystem, World, common_steps, filesystem_lives, filesystem_numbered, is_among, is_among_left, is_among_right, is_mounted, is_overlay, list_all, located_in, named_in, no_filesystem, or_cases, replaced_if_numbered, settled, with_files, without_dead_filesystems, without_dead_mounts}
 use Rattle.vt_laws_mounts.specs.LettingGo.InUse.{FilesystemsInUse, HasTrees, IsListedTree, is_inode_used, AllInUse}
 use Rattle.vt_laws_mounts.specs.LettingGo.Leaving.{IsSettledPlain}
@@ -15,7 +15,7 @@ found_filesystem : (filesystems : List (Filesystem ℕ)) (number : ℕ)
     → is_among nat_eq number (map (λ f. f.number) filesystems) ≡ true
     → Among (unwrap_or (find (λ f. nat_eq number f.number) filesystems) (no_filesystem number)) filesystems
     × ((unwrap_or (find (λ f. nat_eq number f.number) filesystems) (no_filesystem number)).number ≡ number)
-found_filesystem [] number h = absurd (true≢false (sym h))
+found_filesystem [] number h = cc
 found_filesystem (first ∷ rest) number h = grind (arith, common_steps, found_filesystem rest number, eqb-true)
 
 -- Another tree in one filesystem of a plain world in which all is in use
@@ -51,8 +51,7 @@ module _ (world : World ℕ) (number : ℕ) (files : FileTree ℕ) (in_use : All
       (λ f m. none_among is_overlay world.filesystems plain f m))
 
   mounted_old : (f : Filesystem ℕ) → Among f world.filesystems → is_mounted nat_eq world f.number ≡ true
-  mounted_old f m = ⊎_elim (λ e. e) (λ layered. absurd
-      (true≢false (sym layered ∙ no_layers f.number world world.filesystems plain)))
+  mounted_old f m = ⊎_elim (λ e. e) (λ layered. absurd (cc (no_layers f.number world world.filesystems plain)))
       (or_cases (is_mounted nat_eq world f.number) _
       (among_from_list_all (filesystem_lives nat_eq world) world.filesystems in_use.filesystems f m))
 
@@ -64,8 +63,7 @@ module _ (world : World ℕ) (number : ℕ) (files : FileTree ℕ) (in_use : All
 
   -- so no mount and no filesystem goes
   pub same_living : without_dead_filesystems nat_eq (without_dead_mounts nat_eq with_new) ≡ with_new
-  same_living = ap (without_dead_filesystems nat_eq) (mounts_stay with_new in_use.mounts)
-      ∙ filesystems_stay with_new filesystems_after
+  same_living = cc (mounts_stay with_new in_use.mounts, filesystems_stay with_new filesystems_after)
 
 module _ {world : World ℕ} (number : ℕ) {files : FileTree ℕ} {unnamed : List ℕ} (settles : IsSettledPlain world)
     (there : is_among nat_eq number (map (λ filesystem. filesystem.number) world.filesystems) ≡ true)
@@ -105,7 +103,7 @@ module _ {world : World ℕ} (number : ℕ) {files : FileTree ℕ} {unnamed : Li
       (λ named. still (inr (inl named))) (λ lost. or_left (is_inode_among new.number inode losers.inodes) _
       (any_from_among (λ loser. nat_eq new.number loser.0 && nat_eq inode loser.1) losers.inodes (number, inode)
       (among-map (λ k. (number, k)) unnamed inode (among_numbers inode unnamed lost))
-      (ap (λ b. b && nat_eq inode inode) (eq-eqb new.number number old_number) ∙ eq-eqb inode inode refl)))
+      (cc (eq-eqb new.number number old_number, eq-eqb inode inode refl))))
       (or_cases (is_among nat_eq inode (named_in files)) (is_among nat_eq inode unnamed)
       (among_from_list_all (λ k. is_among nat_eq k (named_in files) || is_among nat_eq k unnamed)
       (named_in old.files) changes.names inode (among_numbers inode (named_in old.files) name))))

@@ -25,8 +25,7 @@ use Rattle.vt_laws_mounts.proofs.letting_go.sweeps.WithOverlays.{with_overlays_a
 pub any_changed : {A : Type 0} (change : A → A) (p q : A → Bool) (list : List A)
     → ((x : A) → Among x list → p (change x) ≡ q x) → list_any p (map change list) ≡ list_any q list
 any_changed change p q [] same = refl
-any_changed change p q (x ∷ xs) same = ap (λ b. b || list_any p (map change xs)) (same x (inl refl))
-    ∙ ap (λ b. q x || b) (any_changed change p q xs (λ y m. same y (inr m)))
+any_changed change p q (x ∷ xs) same = cc (same x (inl refl), any_changed change p q xs (λ y m. same y (inr m)))
 
 -- Where filesystems keep their numbers and layers, the same are in use
 module _ (world : World ℕ) (change : Filesystem ℕ → Filesystem ℕ)
@@ -36,8 +35,7 @@ module _ (world : World ℕ) (change : Filesystem ℕ → Filesystem ℕ)
   same_layers_on : (number : ℕ) (f : Filesystem ℕ) → Among f world.filesystems
       → has_layer_on nat_eq number (change f) ≡ has_layer_on nat_eq number f
   same_layers_on number f m =
-      layers_on world number (change f) ∙ ap (list_any (λ layer. nat_eq number layer.filesystem)) (layers_kept f m)
-      ∙ sym (layers_on world number f)
+      cc (layers_on world number (change f), layers_kept f m, layers_on world number f)
 
   pub lives_alike : (f : Filesystem ℕ) → Among f world.filesystems
       → filesystem_lives nat_eq (with_filesystems world change) (change f) ≡ filesystem_lives nat_eq world f
@@ -151,14 +149,14 @@ module _ (world : World ℕ) (losers : Losers) (but : AllInUseBut losers world) 
     may_go number h = among_losers number
         (list_any-append (λ (inode : Inode). nat_eq now.number inode.0 && nat_eq number inode.1) losers.inodes lost
         ∙ or_right (is_inode_among now.number number losers.inodes) (is_inode_among now.number number lost)
-        (ap (λ n. is_inode_among n number lost) (ChangesFilesystem.number so) ∙ h))
+        (cc (ChangesFilesystem.number so)))
 
     could_go : (number : ℕ) → is_inode_among f.number number losers.inodes ≡ true
         → is_used_or_among inodes last now number ≡ true
     could_go number h = among_losers number
         (list_any-append (λ (inode : Inode). nat_eq now.number inode.0 && nat_eq number inode.1) losers.inodes lost
         ∙ or_left (is_inode_among now.number number losers.inodes) (is_inode_among now.number number lost)
-        (ap (λ n. is_inode_among n number losers.inodes) (ChangesFilesystem.number so) ∙ h))
+        (cc (ChangesFilesystem.number so)))
 
     by_name : (number : ℕ) → is_among nat_eq number names ≡ true → is_used_or_among inodes last now number ≡ true
     by_name number h = used number (is_among_left number (names ++ located ++ layers) (upper_objects last now.number)
@@ -173,7 +171,7 @@ module _ (world : World ℕ) (losers : Losers) (but : AllInUseBut losers world) 
     use_left : (number : ℕ) → is_inode_used living f number ≡ true → is_used_or_among inodes last now number ≡ true
     use_left number is = ⊎_elim (λ front. ⊎_elim (λ first. ⊎_elim (λ named. ⊎_elim
         (λ root. by_name number (or_left (nat_eq number now.files.tree.root) _
-        (ap (nat_eq number) (ChangesFilesystem.root so) ∙ root))) (λ name. ⊎_elim
+        (cc (ChangesFilesystem.root so)))) (λ name. ⊎_elim
         (λ still. by_name number (or_right (nat_eq number now.files.tree.root)
         (is_among nat_eq number (named_in now.files)) still)) (may_go number)
         (or_cases (is_among nat_eq number (named_in now.files)) (is_inode_among f.number number lost)
@@ -183,9 +181,9 @@ module _ (world : World ℕ) (losers : Losers) (but : AllInUseBut losers world) 
         (or_cases (nat_eq number f.files.tree.root) (is_among nat_eq number (named_in f.files)) named))
         (λ at. used number (is_among_left number (names ++ located ++ layers) (upper_objects last now.number)
         (is_among_left number (names ++ located) layers (is_among_right number names located
-        (ap (λ n. is_among nat_eq number (located_in nat_eq living n)) (ChangesFilesystem.number so) ∙ at)))))
+        (cc (ChangesFilesystem.number so))))))
         (or_cases (is_among nat_eq number old_names) (is_among nat_eq number (located_in nat_eq living f.number))
-        (sym (list_any-append (nat_eq number) old_names (located_in nat_eq living f.number)) ∙ first)))
+        (cc (list_any-append (nat_eq number) old_names (located_in nat_eq living f.number)))))
         (λ layer. used number (is_among_left number (names ++ located ++ layers) (upper_objects last now.number)
         (is_among_right number (names ++ located) layers
         (ap (λ n. is_among nat_eq number (layers_in nat_eq last n)) (ChangesFilesystem.number so)
@@ -195,8 +193,7 @@ module _ (world : World ℕ) (losers : Losers) (but : AllInUseBut losers world) 
         (is_among nat_eq number (layers_in nat_eq living f.number))
         (sym (list_any-append (nat_eq number) (old_names ++ located_in nat_eq living f.number)
         (layers_in nat_eq living f.number)) ∙ front))) (λ object. ⊎_elim (λ still. by_object number
-        (ap (λ n. is_among nat_eq number (upper_objects last n)) (ChangesFilesystem.number so)
-        ∙ is_among_numbers number (upper_objects last f.number) still)) (may_go number)
+        (cc (ChangesFilesystem.number so, is_among_numbers number (upper_objects last f.number) still))) (may_go number)
         (object_left f.number number (among_numbers number (upper_objects living f.number) object)))
         (or_cases (is_among nat_eq number
         (old_names ++ located_in nat_eq living f.number ++ layers_in nat_eq living f.number))
@@ -249,8 +246,7 @@ module _ {world : World ℕ} (change : Filesystem ℕ → Filesystem ℕ) (lost 
   so_changed f m = among_from_all (λ x. ChangesFilesystem changed lost x (change x)) world.filesystems changes f m
 
   stays : without_dead_filesystems nat_eq (without_dead_mounts nat_eq world) ≡ world
-  stays = ap (without_dead_filesystems nat_eq) (mounts_stay world settles.in_use.mounts)
-      ∙ filesystems_stay world settles.in_use.filesystems
+  stays = cc (mounts_stay world settles.in_use.mounts, filesystems_stay world settles.in_use.filesystems)
 
   in_use_before : AllInUseBut none world
   in_use_before = record {
@@ -271,8 +267,7 @@ module _ {world : World ℕ} (change : Filesystem ℕ → Filesystem ℕ) (lost 
       ∙ among_from_list_all (filesystem_lives nat_eq world) world.filesystems settles.in_use.filesystems from.0 from.1)
 
   all_stay : in_use_of changed ≡ changed
-  all_stay = ap (without_dead_filesystems nat_eq) (mounts_stay changed settles.in_use.mounts)
-      ∙ filesystems_stay changed filesystems_after
+  all_stay = cc (mounts_stay changed settles.in_use.mounts, filesystems_stay changed filesystems_after)
 
   trees_change : settled nat_eq changed ≡ let_go_all_inodes changed lost
   trees_change = with_overlays_all_goes changed (with_lost none lost) trees uppers reals
@@ -327,7 +322,7 @@ module _ {world : World ℕ} (number : ℕ) {files : FileTree ℕ} {unnamed : Li
       ∙ found_filesystem world.filesystems one is_there.0 is_there.1
 
   old_number : old.number ≡ number
-  old_number = ap (λ (f : Filesystem ℕ). f.number) old_is ∙ is_there.2
+  old_number = cc (old_is, is_there.2)
 
   old_there : Among old world.filesystems
   old_there = subst (λ f. Among f world.filesystems) (sym old_is) is_there.1
@@ -365,7 +360,7 @@ module _ {world : World ℕ} (number : ℕ) {files : FileTree ℕ} {unnamed : Li
 
   pub uppers_after : UppersArePlain then_
   uppers_after = for_all (λ f. is_overlay f ≡ true → All (λ g. has_upper_in f.number g ≡ false) then_.filesystems)
-      (λ is. absurd (true≢false (sym is ∙ plain))) (λ f m is.
+      (λ is. absurd cc) (λ f m is.
       let was = among_from_all (λ x. is_overlay x ≡ true
       → All (λ g. has_upper_in x.number g ≡ false) world.filesystems) world.filesystems settles.uppers f m is in
       for_all (λ g. has_upper_in f.number g ≡ false)
@@ -376,7 +371,7 @@ module _ {world : World ℕ} (number : ℕ) {files : FileTree ℕ} {unnamed : Li
   lost_name inode is =
       any_from_among (λ loser. nat_eq old.number loser.0 && nat_eq inode loser.1) without_name (number, inode)
       (among-map (λ k. (number, k)) unnamed inode (among_numbers inode unnamed is))
-      (ap (λ b. b && nat_eq inode inode) (eq-eqb old.number number old_number) ∙ eq-eqb inode inode refl)
+      (cc (eq-eqb old.number number old_number, eq-eqb inode inode refl))
 
   of_old : (after : World ℕ) → ChangesFilesystem after without_name old new
   of_old after = grind (

@@ -79,8 +79,7 @@ pub flags_are_of_one : FlagsAreOfOne
 flags_are_of_one world here flags one = ap (with_mounts world)
     (map_alike (replaced_if_same nat_eq (record (mount_at nat_eq world here) { flags = flags }))
     (flags_if here.mount flags) world.mounts
-    (λ mount m. ap (λ n. cond (nat_eq n mount.number) (record (mount_at nat_eq world here) { flags = flags }) mount)
-    (number-mount_in world.mounts here.mount) ∙ by mount m (nat_eq here.mount mount.number) refl))
+    (λ mount m. cc (number-mount_in world.mounts here.mount, by mount m (nat_eq here.mount mount.number) refl)))
   where
     by : (mount : Mount ℕ) → Among mount world.mounts → (b : Bool) → nat_eq here.mount mount.number ≡ b
         → cond b (record (mount_at nat_eq world here) { flags = flags }) mount
@@ -98,7 +97,7 @@ pub flags_keep_all : FlagsKeepAll
 flags_keep_all world here flags one all =
     subst (λ w. settled nat_eq w ≡ w) (sym (flags_are_of_one world here flags one))
     (types_keep_all world (flags_if here.mount flags) world.master all (keeps_flags here.mount flags)
-    (λ group none. all.groups group (sym (same_members here.mount group flags world.mounts) ∙ none)))
+    (λ group none. all.groups group (cc (same_members here.mount group flags world.mounts))))
 
 pub set_flags_keep_all : SetFlagsKeepAll
 set_flags_keep_all fresh world task number flags = flags_keep_all world (record { mount = number; node = 0 }) flags

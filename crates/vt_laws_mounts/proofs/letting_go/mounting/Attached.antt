@@ -12,7 +12,8 @@ use Rattle.vt_laws_mounts.proofs.letting_go.leaving.PlacesLeft.{found_itself, no
 abbrev pub swapped : List (Mount ℕ) → Mount ℕ → Mount ℕ
 swapped copied mount = folded (λ old copy. replaced_if_same nat_eq copy old) mount copied
 
-pub swapped_all : (copied mounts : List (Mount ℕ)) → folded (with_mount nat_eq) mounts copied ≡ map (swapped copied) mounts
+pub swapped_all : (copied mounts : List (Mount ℕ))
+    → folded (with_mount nat_eq) mounts copied ≡ map (swapped copied) mounts
 swapped_all [] mounts = sym (map-id mounts)
 swapped_all (copy ∷ copied) mounts = swapped_all copied (with_mount nat_eq mounts copy)
     ∙ map_twice (swapped copied) (replaced_if_same nat_eq copy) mounts

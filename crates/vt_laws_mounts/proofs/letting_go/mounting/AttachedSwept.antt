@@ -1,5 +1,5 @@
 -- What goes when mounts are attached.
-use Rattle.std.proofs.Common.{◌≡◌, refl, sym, ap, subst, inl, inr, ⊎_elim, ℕ, nat_eq, eq-eqb, true, false, List, [], ◌∷◌, filter, flat_map, length, suc, zero, true≢false, ◌++◌, ◌&&◌, option_to_list, All, Contains}
+use Rattle.std.proofs.Common.{◌≡◌, refl, sym, ap, subst, inl, inr, ⊎_elim, ℕ, nat_eq, eq-eqb, true, false, List, [], ◌∷◌, filter, flat_map, length, suc, zero, ◌++◌, ◌&&◌, option_to_list, All, Contains}
 use Rattle.vt_spec.proofs.Common.{Copies, Filesystem, Location, Mount, World, among_from_contains, attach, attached_by, bind_tree, bindable_children, bindable_tree, bound, children, contains_from_among, copies_from, evens, mount_lives, mount_numbered, new_mount, odds, parts_of, plain_filesystem, settled, stands_under, tree_among, tree_from, with_new_filesystem}
 use Rattle.vt_laws_mounts.specs.LettingGo.Attaching.{BindsKeepAll, CopiesKeepAll, MovedTreesLetGo, MovesLetGo, NewFilesystemsKeepAll, NewMountsOfTreesKeepAll, inodes_of_mount_point, is_attached}
 use Rattle.vt_laws_mounts.specs.LettingGo.Keeping.{LocationsStand}
@@ -29,9 +29,9 @@ copies_with : (world : World ℕ) (filesystems : List (Filesystem ℕ)) (new : C
 copies_with world filesystems new place first rest in_use stand located at_attached come =
     nothing_lost world after.mounts after.master filesystems in_use stand
     (attached_loses world filesystems new place false first rest in_use stand located at_attached
-    (λ e. absurd (true≢false (sym e))))
+    (λ e. absurd cc))
     (attached_groups world filesystems new place false first rest in_use stand located at_attached
-    (λ e. absurd (true≢false (sym e)))) come
+    (λ e. absurd cc)) come
   where
     after : World ℕ
     after = attached_by nat_eq (record world { filesystems = filesystems }) new place false (first ∷ rest)
@@ -79,7 +79,7 @@ new_filesystems_keep_all fresh world place filesystem flags in_use stand located
         × ((mount_lives nat_eq after x ≡ true) × (x.filesystem ≡ filesystem.number)))
     shown = first_shown world (world.filesystems
         ++ (filesystem ∷ [])) new place false mount [] in_use stand located at_attached
-        (λ e. absurd (true≢false (sym e))) refl
+        (λ e. absurd cc) refl
 
 pub new_mounts_of_trees_keep_all : NewMountsOfTreesKeepAll
 new_mounts_of_trees_keep_all fresh world task place flags in_use stand located at_attached =

@@ -1,5 +1,5 @@
 -- Unmount events in a world that was swept before, or that was not.
-use Rattle.std.proofs.Common.{◌≡◌, refl, sym, ap, subst, ◌∙◌, ⊎_elim, ℕ, nat_eq, Bool, true, false, true≢false, cond, List, [], ◌∷◌, filter, find, Option, Some, None, is_some, arith}
+use Rattle.std.proofs.Common.{◌≡◌, refl, sym, ap, subst, ◌∙◌, ⊎_elim, ℕ, nat_eq, Bool, true, false, cond, List, [], ◌∷◌, filter, find, Option, Some, None, is_some, arith}
 use Rattle.vt_spec.proofs.Common.{HasLivingGroups, Location, Mount, MountInvariants, Private, Propagation, Shared, Slave, Unbindable, World, cases_Bool, child_at, children, common_steps, filesystems-taken_away, filter_alike, found_or_none, goes_at, going, going_at, going_from, groups_up, holds_of, is_among, is_located, is_nowhere_or_attached, is_private, length-map, mount_in, mount_lives, mount_numbered, none_from_not_some, number-mount_in, or_parts, receivers, receivers_of, receives, settled, source_of, stands_at, stands_on, taken_away, unmounted, unmounted_if_there}
 use Rattle.vt_laws_mounts.specs.LettingGo.Leaving.{MountsStand}
 use Rattle.vt_laws_mounts.specs.LettingGo.Several.{GoingIsNotSwept, OneSweepForAllEvents, OneSweepForAllEventsWithOverlays, OneSweepForEvents, OneSweepForEventsWithOverlays}
@@ -80,10 +80,10 @@ module _ (world : World ℕ) (kept : MountInvariants nat_eq world) where
     where
       none : (kind : Propagation ℕ) → is_private kind ≡ true
           → holds_of (λ source. is_among nat_eq group (groups_up world source)) (source_of kind) ≡ false
-      none (Shared own) e = absurd (true≢false (sym e))
-      none (Slave master) e = absurd (true≢false (sym e))
+      none (Shared own) e = cc
+      none (Slave master) e = cc
       none Private e = refl
-      none Unbindable e = absurd (true≢false (sym e))
+      none Unbindable e = cc
 
   same_receivers_of : (mount : Mount ℕ) → receivers_of nat_eq swept mount ≡ receivers_of nat_eq world mount
   same_receivers_of mount = grind (arith, common_steps, same_receivers)
@@ -111,9 +111,8 @@ module _ (world : World ℕ) (kept : MountInvariants nat_eq world) where
           let found = mount_in nat_eq mounts_left number in
           let itself = found_itself world.mounts kept.one_number found
           (of_world world kept found (found_is_there mounts_left number is)) in
-          ap (λ (x : Mount ℕ). is_some x.namespace) (sym itself)
-          ∙ ap (λ n. is_some (mount_in nat_eq world.mounts n).namespace) (number-mount_in mounts_left number))
-          (λ isnt. isnt ∙ sym e) (cases_Bool (is_some (mount_in nat_eq mounts_left number).namespace))
+          cc (itself, number-mount_in mounts_left number))
+          (λ isnt. cc) (cases_Bool (is_some (mount_in nat_eq mounts_left number).namespace))
 
   same_going : (number : ℕ) → going nat_eq swept (mount_numbered nat_eq swept number)
       ≡ going nat_eq world (mount_numbered nat_eq world number)

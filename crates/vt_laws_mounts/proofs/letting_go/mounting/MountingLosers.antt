@@ -23,7 +23,7 @@ pub places_stand : (world : World ℕ) → MountsStand world → LocationsStand 
 places_stand world stand located_well location m = ⊎_elim (λ front. ⊎_elim
     (λ at. among_from_list_all (λ l. is_among nat_eq l.mount numbers) (all_locations world) located_well location at)
     (λ root. let t = among-from_map root_of world.mounts location root in
-    ap (λ l. is_among nat_eq l.mount numbers) t.2 ∙ numbered t.0 t.1)
+    cc (t.2, numbered t.0 t.1))
     (among-append (all_locations world) (map root_of world.mounts) location front)) (λ at.
     let t = among-from_filter_map (λ x. x.mount_point) world.mounts location at in
     let on = place_attached world stand t.0 t.1 location t.2 in
@@ -144,10 +144,10 @@ module _ (world : World ℕ) (mounts : List (Mount ℕ)) (master : ℕ → Optio
       ⊎_elim (λ is. inr (
         t.0.number,
         among_numbers t.0.number gone is,
-        eqb-true number t.0.filesystem t.2 ∙ ap (λ x. x.filesystem) (sym (found_mount t.0 t.1)),
+        cc (eqb-true number t.0.filesystem t.2, found_mount t.0 t.1),
       )) (λ isnt. let image = loses.images t.0 t.1 in
       inl (shown_is_mounted number image.0 image.1.0 (image_lives t.0 isnt image)
-      (ap (nat_eq number) image.1.1.1 ∙ t.2))) (cases_Bool (is_among nat_eq t.0.number gone))
+      (cc (image.1.1.1, t.2)))) (cases_Bool (is_among nat_eq t.0.number gone))
 
   pub groups_but : GroupsInUseBut groups mounted
   groups_but group among none = hears group among
@@ -161,12 +161,11 @@ module _ (world : World ℕ) (mounts : List (Mount ℕ)) (master : ℕ → Optio
       → ((mount : Mount ℕ) → Among mount mounts → mount.number ≡ location.mount → mount_lives nat_eq after mount ≡ true)
       → (mount_at nat_eq mounted location).filesystem ≡ (mount_at nat_eq world location).filesystem
   found_still location m stays =
-      ap (λ x. x.filesystem) (found_in_filter (mount_lives nat_eq after) mounts location.mount stays)
-      ∙ loses.shown location m
+      cc (found_in_filter (mount_lives nat_eq after) mounts location.mount stays, loses.shown location m)
 
   stays_there : (number : ℕ) → is_among nat_eq number gone ≡ false → (mount : Mount ℕ) → Among mount mounts
       → mount.number ≡ number → mount_lives nat_eq after mount ≡ true
-  stays_there number isnt mount m e = loses.live mount m (ap (λ n. is_among nat_eq n gone) e ∙ isnt)
+  stays_there number isnt mount m e = loses.live mount m (cc)
 
   module _ (others : List (Filesystem ℕ)) (filesystem : Filesystem ℕ) where
     -- the mounts that are in use, with some filesystems
@@ -185,7 +184,7 @@ module _ (world : World ℕ) (mounts : List (Mount ℕ)) (master : ℕ → Optio
     may_go inode m e number same =
         or_left (is_inode_among filesystem.number number inodes) (is_inode_used swept filesystem number)
         (any_from_among (λ i. nat_eq filesystem.number i.0 && nat_eq number i.1) inodes inode m
-        (ap (λ t. t && nat_eq number inode.1) (eq-eqb filesystem.number inode.0 e) ∙ eq-eqb number inode.1 same))
+        (cc (eq-eqb filesystem.number inode.0 e, eq-eqb number inode.1 same)))
 
     left_may_go : (location : Location ℕ) → Among location left
         → filesystem.number ≡ (mount_at nat_eq world location).filesystem
@@ -222,7 +221,7 @@ module _ (world : World ℕ) (mounts : List (Mount ℕ)) (master : ℕ → Optio
         (subst (λ l. Among l (map root_of mounted.mounts)) is (among-map root_of mounted.mounts mount
         (among-filter (mount_lives nat_eq after) mounts mount n (loses.live mount n isnt))))))
         (e ∙ sym (found_still location (was_a_place location m)
-        (stays_there location.mount (ap (λ (l : Location ℕ). is_among nat_eq l.mount gone) (sym is) ∙ isnt))))
+        (stays_there location.mount (cc))))
 
     by_location : (location : Location ℕ) → Among location (all_locations world)
         → filesystem.number ≡ (mount_at nat_eq world location).filesystem
@@ -272,8 +271,8 @@ module _ (world : World ℕ) (mounts : List (Mount ℕ)) (master : ℕ → Optio
         is_attached : (on : Mount ℕ) → Among on mounts → on.mount_point ≡ Some place → (b : Bool)
             → is_some on.namespace ≡ b → is_some on.namespace ≡ true
         is_attached on n q true f = f
-        is_attached on n q false f = absurd (true≢false (sym (ap is_some q)
-            ∙ (nowhere_parts on (among_from_list_all is_nowhere_or_attached mounts loses.nowhere on n) f).0))
+        is_attached on n q false f =
+            cc ((nowhere_parts on (among_from_list_all is_nowhere_or_attached mounts loses.nowhere on n) f).0)
 
     pub by_located : (inode : ℕ) → Among inode (located_in nat_eq world filesystem.number)
         → is_used_or_among inodes swept filesystem inode ≡ true

@@ -64,8 +64,7 @@ one_loses world number change master in_use moves alone one nowhere = record {
       (not_found-map change moves.number world.mounts location.mount);
   live = λ last m isnt. let from = among-from_map change world.mounts last m in
       let other : nat_eq from.0.number number ≡ false = (or_parts (nat_eq from.0.number number) false
-      (ap (λ n. nat_eq n number || false) (sym (moves.number from.0) ∙ ap (λ (x : Mount ℕ). x.number) (sym from.2))
-      ∙ isnt)).0 in
+      (cc (moves.number from.0, from.2))).0 in
       ap (mount_lives nat_eq world) from.2
       ∙ (λ i. is_some (moves.namespace from.0 other i) || is_located nat_eq world (moves.number from.0 i))
       ∙ among_from_list_all (mount_lives nat_eq world) world.mounts in_use.mounts from.0 from.1;

@@ -48,7 +48,7 @@ module _ (world : World ℕ) (mounts : List (Mount ℕ)) (master : ℕ → Optio
       ⊎_elim (λ lives. or_right (is_among nat_eq f.number losing) (filesystem_lives nat_eq now f)
       (or_right (is_mounted nat_eq now f.number) _ (any_from_among (λ merged. has_layer_on nat_eq f.number merged
       && is_mounted nat_eq now merged.number) filesystems t.0 (come.kept t.0 t.1)
-      (ap (λ b. b && is_mounted nat_eq now t.0.number) parts.0 ∙ lives))))
+      (cc (parts.0)))))
       (λ gone_with. or_left (is_among nat_eq f.number losing) (filesystem_lives nat_eq now f)
       (is_among_numbers f.number losing
       (among-flat_map (filesystems_of_mount world) gone gone_with.0 f.number gone_with.1
@@ -88,7 +88,7 @@ module _ (world : World ℕ) (mounts : List (Mount ℕ)) (master : ℕ → Optio
       (λ at. by_located world mounts master filesystems namespaces tasks gone left groups in_use stand loses hears come
       filesystems f number (among_numbers number (located_in nat_eq world f.number) at))
       (or_cases (is_among nat_eq number names) (is_among nat_eq number (located_in nat_eq world f.number))
-      (sym (list_any-append (nat_eq number) names (located_in nat_eq world f.number)) ∙ first)))
+      (cc (list_any-append (nat_eq number) names (located_in nat_eq world f.number)))))
       (λ layer. used (is_among_left number
       (names ++ located_in nat_eq now f.number ++ layers_in nat_eq now f.number) objects
       (is_among_right number (names ++ located_in nat_eq now f.number) (layers_in nat_eq now f.number)

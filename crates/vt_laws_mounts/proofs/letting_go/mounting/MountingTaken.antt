@@ -1,6 +1,6 @@
 -- What goes when mounts are taken away.
 use Rattle.std.proofs.Common.{arith, ◌≡◌, refl, sym, ap, subst, ◌∙◌, inl, inr, ⊎_elim, ℕ, nat_eq, Bool, true, false, cond, ◌||◌, List, filter, map, Option, Some, is_some, option_map, true≢false}
-use Rattle.vt_spec.proofs.Common.{Location, Mount, Namespace, Private, Propagation, Shared, Slave, Unbindable, World, after_going, cases_Bool, common_steps, detached, has_tasks, heir, holds_of, inherited, inheriting, is_among, is_going, is_located, is_nowhere_or_attached, is_private, list_any, lost_a_group, map_twice, mount_in, mount_lives, mount_point_left, or_parts, regrouped_by, root_of, settled, taken_away, with_mounts}
+use Rattle.vt_spec.proofs.Common.{Location, Mount, Namespace, Private, Propagation, Shared, Slave, Unbindable, World, after_going, cases_Bool, common_steps, detached, has_tasks, heir, holds_of, inherited, inheriting, is_going, is_located, is_nowhere_or_attached, is_private, list_any, lost_a_group, map_twice, mount_in, mount_lives, mount_point_left, or_parts, regrouped_by, root_of, settled, taken_away, with_mounts}
 use Rattle.vt_laws_mounts.specs.LettingGo.InUse.{AllInUse}
 use Rattle.vt_laws_mounts.specs.LettingGo.Leaving.{IsSettledPlain, MountsStand}
 use Rattle.vt_laws_mounts.specs.LettingGo.Mounting.{EndingLetsGo, TakingAwayLetsGo, ended_mounts, loses_its_place, places_lost, used_by_mounts}
@@ -82,7 +82,7 @@ module _ (world : World ℕ) (gone : List ℕ) (namespaces : List (Namespace ℕ
   private_still : (propagation : Propagation ℕ) → is_private propagation ≡ true
       → is_private (inherited nat_eq without propagation) ≡ true
   private_still (Shared group) h = h
-  private_still (Slave master) h = absurd (true≢false (sym h))
+  private_still (Slave master) h = cc
   private_still Private h = h
   private_still Unbindable h = h
 
@@ -99,8 +99,7 @@ module _ (world : World ℕ) (gone : List ℕ) (namespaces : List (Namespace ℕ
       );
       shown = λ location m. shows_the_same b location.mount;
       live = λ last m isnt. let from = among-from_map (change b) world.mounts last m in
-          let other : is_going nat_eq gone from.0.number ≡ false = ap (λ n. is_among nat_eq n gone)
-          (sym (same_number b from.0) ∙ ap (λ x. x.number) (sym from.2)) ∙ isnt in
+          let other : is_going nat_eq gone from.0.number ≡ false = cc (same_number b from.0, from.2) in
           ap (mount_lives nat_eq world) from.2
           ∙ (λ i. is_some (same_namespace b from.0 other i) || is_located nat_eq world (same_number b from.0 i))
           ∙ among_from_list_all (mount_lives nat_eq world) world.mounts in_use.mounts from.0 from.1;
@@ -111,7 +110,7 @@ module _ (world : World ℕ) (gone : List ℕ) (namespaces : List (Namespace ℕ
           (λ isnt. let parts = or_parts (is_going nat_eq gone mount.number)
           (holds_of (λ l. is_going nat_eq gone l.mount) mount.mount_point) isnt in
           let on : is_going nat_eq gone place.mount ≡ false =
-          sym (ap (holds_of (λ l. is_going nat_eq gone l.mount)) p) ∙ parts.1 in
+          cc (p, parts.1) in
           inl (
             change b mount,
             (among-map (change b) world.mounts mount m, (same_place b mount place p parts.0 on, inl on)),

@@ -52,8 +52,7 @@ module _ (world : World ℕ) (kept : MountInvariants nat_eq world) where
 
   pub the_one : (number : ℕ) → IsAttached number → (mount : Mount ℕ) → Among mount world.mounts → mount.number ≡ number
       → is_some mount.namespace ≡ true
-  the_one number attached mount m same = ap (λ (x : Mount ℕ). is_some x.namespace)
-      (sym (found_itself world.mounts kept.one_number mount m) ∙ ap (mount_in nat_eq world.mounts) same) ∙ attached
+  the_one number attached mount m same = cc (found_itself world.mounts kept.one_number mount m)
 
   pub same_found : (number : ℕ) → IsAttached number
       → mount_in nat_eq first_mounts number ≡ mount_in nat_eq world.mounts number

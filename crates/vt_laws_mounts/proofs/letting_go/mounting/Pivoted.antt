@@ -104,10 +104,9 @@ module _ (world : World ℕ) (namespace old new : ℕ) (put : Location ℕ) (in_
           (keeps (λ x. is_some x.namespace) (λ x at. refl) mount ∙ e)
 
       by : Is mount → is_nowhere_or_attached (change mount) ≡ true
-      by (is_target e) = in_one (ap (λ (x : Mount ℕ). is_some x.namespace) e ∙ new_attached)
-      by (is_root e) = in_one (ap (λ (x : Mount ℕ). is_some x.namespace) e ∙ old_attached)
-      by (is_other e) = ap is_nowhere_or_attached e ∙ among_from_list_all is_nowhere_or_attached world.mounts
-          stand.nowhere mount m
+      by (is_target e) = in_one (cc)
+      by (is_root e) = in_one (cc)
+      by (is_other e) = cc (among_from_list_all is_nowhere_or_attached world.mounts stand.nowhere mount m)
 
   place_still : (mount : Mount ℕ) → Among mount world.mounts → (place : Location ℕ) → mount.mount_point ≡ Some place
       → StillAPlace after.mounts [] place ⊎ Among place (option_to_list target.mount_point)
@@ -129,13 +128,12 @@ module _ (world : World ℕ) (namespace old new : ℕ) (put : Location ℕ) (in_
         (found-map change number_kept world.mounts location.mount found.0 found.1 found.2 found.3)
         ∙ keeps (λ x. x.filesystem) (λ x at. refl) (mount_in nat_eq world.mounts location.mount))
         (not_found-map change number_kept world.mounts location.mount);
-    live = λ last m isnt. let from = among-from_map change world.mounts last m in ap (mount_lives nat_eq after) from.2
-        ∙ lives from.0 from.1;
+    live = λ last m isnt. let from = among-from_map change world.mounts last m in cc (from.2, lives from.0 from.1);
     locations = λ location m. inl (still_used location m);
     places = place_still;
     nowhere = list_all_from_among is_nowhere_or_attached after.mounts (λ last m.
         let from = among-from_map change world.mounts last m in
-        ap is_nowhere_or_attached from.2 ∙ nowhere from.0 from.1);
+        cc (from.2, nowhere from.0 from.1));
   }
 
   pub groups : GroupsInUse after

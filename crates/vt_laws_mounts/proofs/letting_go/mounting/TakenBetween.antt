@@ -1,7 +1,7 @@
 -- Mounts are taken away from a world that was swept before, or that was not: after the sweep that follows the two
 -- worlds are one.
 use Rattle.std.proofs.Common.{◌≡◌, refl, sym, ap, subst, ◌∙◌, ⊎_elim, ℕ, zero, suc, nat_eq, eqb-true, eq-eqb, Bool, true, false, cond, not, ◌||◌, List, ◌++◌, filter, length, map, true≢false, Option, Some, None, is_some, option_map, arith, filter_map}
-use Rattle.vt_spec.proofs.Common.{HasLivingGroups, Location, Mount, MountInvariants, Namespace, Private, Propagation, Shared, Slave, Stands, Task, Unbindable, World, after_going, all_locations, at_root, chain, chain_ends, chain_goes_on, common_steps, cond-None, detached, has_master, has_members, has_no_master, heir, inherited, inheriting, is_going, is_located, is_lost_group, is_member_of, is_mounted, is_nowhere_or_attached, is_private, last_of_chain, last_or, length-map, list_any, located_in, lost_a_group, map_alike, mount_in, mount_lives, mount_point_left, mount_point_of_parent, on_parent, or_cases, root_of, settled, slave_of_heir, source_of, taken_away, then_some, without_dead_mounts}
+use Rattle.vt_spec.proofs.Common.{HasLivingGroups, Location, Mount, MountInvariants, Namespace, Private, Propagation, Shared, Slave, Stands, Task, Unbindable, World, after_going, all_locations, at_root, chain, chain_ends, chain_goes_on, common_steps, cond-None, detached, has_master, has_members, has_no_master, heir, inherited, is_going, is_located, is_lost_group, is_member_of, is_mounted, is_nowhere_or_attached, is_private, last_of_chain, last_or, length-map, list_any, located_in, lost_a_group, map_alike, mount_in, mount_lives, mount_point_left, mount_point_of_parent, on_parent, or_cases, root_of, settled, slave_of_heir, source_of, taken_away, then_some, without_dead_mounts}
 use Rattle.vt_laws_mounts.specs.LettingGo.InUse.{HasTrees, UppersArePlain}
 use Rattle.vt_laws_mounts.specs.LettingGo.Leaving.{MountsStand, comes_nowhere, with_tasks}
 use Rattle.vt_laws_mounts.specs.LettingGo.Overlays.{RealsAreThere}
@@ -111,8 +111,7 @@ module _ (world : World ℕ) (tasks : List (Task ℕ)) (namespaces : List (Names
       ∙ sym (any-map test {q = λ mount. test (going mount)} going world.mounts (λ mount. refl))
 
   members_before : (group : ℕ) → has_members nat_eq before_swept.mounts group ≡ has_members nat_eq before.mounts group
-  members_before group = ap (λ mounts. has_members nat_eq mounts group) swept_mounts
-      ∙ tested (is_member_of nat_eq group) (private_is_no_member group)
+  members_before group = cc (swept_mounts, tested (is_member_of nat_eq group) (private_is_no_member group))
 
   heir_alike : (group : ℕ) → LivesIn group → heir nat_eq before_swept (Some group) ≡ heir nat_eq before (Some group)
   heir_alike group lives =
@@ -139,14 +138,13 @@ module _ (world : World ℕ) (tasks : List (Task ℕ)) (namespaces : List (Names
       by : (b : Bool) → HasLivingSource (cond b (detached mount) (record mount {
         mount_point = option_map (mount_point_left nat_eq not_swept gone) mount.mount_point;
       })).propagation
-      by true group e = absurd (true≢false (sym (ap is_some e)))
+      by true group e = cc
       by false group e = among_from_all (HasLivingGroups nat_eq world) world.mounts kept.groups mount m group e
 
   change_alike : (b : Bool) (mount : Mount ℕ) → Among mount world.mounts
       → MountingTaken.change swept gone namespaces b mount ≡ MountingTaken.change not_swept gone namespaces b mount
-  change_alike true mount m = ap (inheriting nat_eq before_swept) (going_alike mount m)
-      ∙ ap (λ kind. record (going mount) { propagation = kind })
-      (inherited_alike (going mount).propagation (source_then mount m))
+  change_alike true mount m =
+      cc (going_alike mount m, inherited_alike (going mount).propagation (source_then mount m))
   change_alike false mount m = going_alike mount m
 
   lost_alike : (mount : Mount ℕ) → Among mount world.mounts
@@ -179,10 +177,10 @@ module _ (world : World ℕ) (tasks : List (Task ℕ)) (namespaces : List (Names
     where
       none : (kind : Propagation ℕ) → is_private kind ≡ true → (is_lost_group nat_eq before (source_of kind)
           || is_lost_group nat_eq before (then_some (source_of kind) world.master)) ≡ false
-      none (Shared group) e = absurd (true≢false (sym e))
-      none (Slave master) e = absurd (true≢false (sym e))
+      none (Shared group) e = cc
+      none (Slave master) e = cc
       none Private e = refl
-      none Unbindable e = absurd (true≢false (sym e))
+      none Unbindable e = cc
 
   -- The two worlds
   abbrev change : Mount ℕ → Mount ℕ
@@ -213,15 +211,15 @@ module _ (world : World ℕ) (tasks : List (Task ℕ)) (namespaces : List (Names
   number-change mount = same_number not_swept gone namespaces hands_on mount
 
   was_attached : (mount : Mount ℕ) → is_some (change mount).namespace ≡ true → is_some mount.namespace ≡ true
-  was_attached mount e = ap is_some (sym (same_namespace not_swept gone namespaces hands_on mount
-      (does_not_go not_swept gone hands_on mount e))) ∙ e
+  was_attached mount e =
+      cc (same_namespace not_swept gone namespaces hands_on mount (does_not_go not_swept gone hands_on mount e))
 
   lived : (mount : Mount ℕ) → mount_lives nat_eq once (change mount) ≡ true → mount_lives nat_eq world mount ≡ true
   lived mount lives = ⊎_elim (λ attached. attached_lives world kept mount (was_attached mount attached)) (λ located.
       let t = any_among (λ (l : Location ℕ). nat_eq (change mount).number l.mount) (all_locations once) located in
       or_right (is_some mount.namespace) (is_located nat_eq world mount.number)
       (any_from_among (λ (l : Location ℕ). nat_eq mount.number l.mount) (all_locations world) t.0
-      (was_located world tasks nowhere_new t.0 t.1) (ap (λ n. nat_eq n t.0.mount) (sym (number-change mount)) ∙ t.2)))
+      (was_located world tasks nowhere_new t.0 t.1) (cc (number-change mount, t.2))))
       (or_cases (is_some (change mount).namespace) (is_located nat_eq once (change mount).number) lives)
 
   same_mounts : filter (mount_lives nat_eq again) again_mounts ≡ last_mounts
@@ -243,7 +241,7 @@ module _ (world : World ℕ) (tasks : List (Task ℕ)) (namespaces : List (Names
   was mount m =
       let here = among-from_filter (mount_lives nat_eq once) once_mounts mount m in
       let from = among-from_map change world.mounts mount here.0 in
-      (from.0, from.1, from.2, ap (mount_lives nat_eq once) (sym from.2) ∙ here.1)
+      (from.0, from.1, from.2, cc (from.2, here.1))
 
   was_first : (old : Mount ℕ) → Among old world.mounts → mount_lives nat_eq once (change old) ≡ true
       → Among old first_mounts
@@ -303,7 +301,7 @@ module _ (world : World ℕ) (tasks : List (Task ℕ)) (namespaces : List (Names
           → (other : Mount ℕ) × Among other world.mounts × (other.mount_point ≡ Some (last_or at (chain n falls at))))
           → (other : Mount ℕ) × Among other world.mounts
           × (other.mount_point ≡ Some (last_or place (chain (suc n) falls place)))
-      by None e later = (mount, m, p ∙ ap (λ l. Some (last_or place l)) (sym (chain_ends falls n place e)))
+      by None e later = (mount, m, cc (p, chain_ends falls n place e))
       by (Some below) e later =
           let parent = mount_in nat_eq world.mounts place.mount in
           let t = later parent (found_is_there world.mounts place.mount
@@ -311,14 +309,13 @@ module _ (world : World ℕ) (tasks : List (Task ℕ)) (namespaces : List (Names
           below (goes (is_going nat_eq gone place.mount) e) in (
             t.0,
             t.1,
-            t.2 ∙ ap Some (sym (ap (last_or place) (chain_goes_on falls n place below e)
-                ∙ last_of_chain falls n below place)),
+            cc (t.2, chain_goes_on falls n place below e, last_of_chain falls n below place),
           )
         where
           goes : (b : Bool) → cond b (mount_in nat_eq world.mounts place.mount).mount_point None ≡ Some below
               → (mount_in nat_eq world.mounts place.mount).mount_point ≡ Some below
           goes true f = f
-          goes false f = absurd (true≢false (sym (ap is_some f)))
+          goes false f = cc
 
   point_was : (mount : Mount ℕ) → Among mount world.mounts → (place : Location ℕ)
       → (change mount).mount_point ≡ Some place
@@ -333,8 +330,8 @@ module _ (world : World ℕ) (tasks : List (Task ℕ)) (namespaces : List (Names
       by : (b : Bool) (o : Option (Location ℕ)) → mount.mount_point ≡ o → (cond b (detached mount) (record mount {
         mount_point = option_map (mount_point_left nat_eq not_swept gone) o;
       })).mount_point ≡ Some place → (other : Mount ℕ) × Among other world.mounts × (other.mount_point ≡ Some place)
-      by true o e f = absurd (true≢false (sym (ap is_some f)))
-      by false None e f = absurd (true≢false (sym (ap is_some f)))
+      by true o e f = cc
+      by false None e f = cc
       by false (Some at) e f =
           let t = came_from (length world.mounts) mount m at e in (t.0, t.1, t.2 ∙ f)
 
@@ -345,9 +342,8 @@ module _ (world : World ℕ) (tasks : List (Task ℕ)) (namespaces : List (Names
     the_last : (mount : Mount ℕ) → Among mount world.mounts → mount_lives nat_eq once (change mount) ≡ true
         → (other : Mount ℕ) → Among other world.mounts → other.number ≡ mount.number
         → mount_lives nat_eq once (change other) ≡ true
-    the_last mount m lives other n e = ap (λ x. mount_lives nat_eq once (change x))
-        (sym (found_itself world.mounts kept.one_number other n) ∙ ap (mount_in nat_eq world.mounts) e
-        ∙ found_itself world.mounts kept.one_number mount m) ∙ lives
+    the_last mount m lives other n e =
+        cc (found_itself world.mounts kept.one_number other n, found_itself world.mounts kept.one_number mount m)
 
     was_at : (f : ℕ) (location : Location ℕ) → Among location (places_in world first_mounts)
         → f ≡ (mount_in nat_eq first_mounts location.mount).filesystem
@@ -377,14 +373,14 @@ module _ (world : World ℕ) (tasks : List (Task ℕ)) (namespaces : List (Names
         let from = among-from_map root_of last_mounts location at in
         let old = was from.0 from.1 in
         let here : location ≡ root_of old.0 =
-        from.2 ∙ ap root_of old.2 ∙ same_root not_swept gone namespaces hands_on old.0 in
+        cc (from.2, old.2, same_root not_swept gone namespaces hands_on old.0) in
         was_at f location (among-append_left (all_locations world ++ map root_of first_mounts)
         (filter_map (λ mount. mount.mount_point) first_mounts) location
         (among-append_right (all_locations world) (map root_of first_mounts) location
         (subst (λ l. Among l (map root_of first_mounts)) (sym here)
         (among-map root_of first_mounts old.0 (was_first old.0 old.1 old.3)))))
         (e ∙ shows_alike location.mount (λ mount m same.
-        the_last old.0 old.1 old.3 mount m (same ∙ ap (λ (l : Location ℕ). l.mount) here)))
+        the_last old.0 old.1 old.3 mount m (cc)))
 
     point_located : (f : ℕ) (location : Location ℕ)
         → Among location (filter_map (λ mount. mount.mount_point) last_mounts)
@@ -395,7 +391,7 @@ module _ (world : World ℕ) (tasks : List (Task ℕ)) (namespaces : List (Names
         let here = among-from_filter (mount_lives nat_eq once) once_mounts from.0 from.1 in
         let on = place_attached once afterwards from.0 here.0 location from.2 in
         let old = was from.0 from.1 in
-        let other = point_was old.0 old.1 location (ap (λ (x : Mount ℕ). x.mount_point) (sym old.2) ∙ from.2) in
+        let other = point_was old.0 old.1 location (cc (old.2, from.2)) in
         let in_one = placed_is_attached other.0
         (among_from_list_all is_nowhere_or_attached world.mounts kept.nowhere other.0 other.1) location other.2 in
         was_at f location (among-append_right (all_locations world ++ map root_of first_mounts)

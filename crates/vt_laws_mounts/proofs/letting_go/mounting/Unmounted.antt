@@ -28,7 +28,7 @@ no_members world after gone in_use stay group among none = in_use group
     (filter (λ x. is_among nat_eq x.number gone) world.mounts) mount group
     (among-filter (λ x. is_among nat_eq x.number gone) world.mounts mount m went)
     (held_number group (group_of mount.propagation) is))) ∙ among))
-    (λ kept. true≢false (sym (stay mount m kept group is) ∙ none)) (cases_Bool (is_among nat_eq mount.number gone)))))
+    (λ kept. cc (stay mount m kept group is)) (cases_Bool (is_among nat_eq mount.number gone)))))
 
 -- So all other groups have members or no master
 groups_but : (world after : World ℕ) (gone : List ℕ) → GroupsInUse world
@@ -66,7 +66,7 @@ module _ (world : World ℕ) (gone : List ℕ) where
   pub does_not_go : (b : Bool) (mount : Mount ℕ) → is_some (change b mount).namespace ≡ true
       → is_going nat_eq gone mount.number ≡ false
   does_not_go b mount e = false_from_ne_true (is_going nat_eq gone mount.number)
-      (λ is. true≢false (sym e ∙ outside b mount is))
+      (λ is. cc (outside b mount is))
 
   -- a mount that does not go stays in its group
   stays_member : (b : Bool) (mount : Mount ℕ) → is_going nat_eq gone mount.number ≡ false → (group : ℕ)
@@ -74,7 +74,7 @@ module _ (world : World ℕ) (gone : List ℕ) where
   stays_member true mount isnt group is =
       grind (arith, common_steps, stays_there world gone world.namespaces mount isnt, true≢false)
   stays_member false mount isnt group is =
-      ap (is_member_of nat_eq group) (stays_there world gone world.namespaces mount isnt) ∙ is
+      cc (stays_there world gone world.namespaces mount isnt, is)
 
   masters_end : (b : Bool) (group : ℕ) → world.master group ≡ None → masters b group ≡ None
   masters_end true group e = ap (heir nat_eq without) e
@@ -251,7 +251,7 @@ module _ (world now : World ℕ) (in_use : AllInUse world) (stand : MountsStand 
       (λ keeps. let parts = or_parts (is_going nat_eq lost mount.number)
       (holds_of (λ l. is_going nat_eq lost l.mount) mount.mount_point) keeps in
       let on : is_going nat_eq lost at.mount ≡ false =
-      sym (ap (holds_of (λ l. is_going nat_eq lost l.mount)) p) ∙ parts.1 in
+      cc (p, parts.1) in
       let parent = stands_in_one mount m at p in
       inl (
         faded.change mount,
@@ -260,7 +260,7 @@ module _ (world now : World ℕ) (in_use : AllInUse world) (stand : MountsStand 
           (
             faded.place mount at p (in_one_still mount m (placed_in_one mount m at p) parts.0)
                 (in_one_still (mount_at nat_eq world at) (found_is_there world.mounts at.mount parent) parent
-                (ap (λ n. is_among nat_eq n lost) (number-mount_in world.mounts at.mount) ∙ on)),
+                (cc (number-mount_in world.mounts at.mount, on))),
             inl on,
           ),
         ),
@@ -283,7 +283,7 @@ module _ (world now : World ℕ) (in_use : AllInUse world) (stand : MountsStand 
     places = place_still;
     nowhere = list_all_from_among is_nowhere_or_attached last.mounts (λ x m.
         let from = among-from_map faded.change world.mounts x m in
-        ap is_nowhere_or_attached from.2 ∙ faded.nowhere from.0 from.1);
+        cc (from.2, faded.nowhere from.0 from.1));
   }
 
   pub groups : GroupsInUseBut (groups_of_mounts world lost) last

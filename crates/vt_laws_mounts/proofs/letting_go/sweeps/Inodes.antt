@@ -74,15 +74,12 @@ two_steps world inode rest filesystem used same = λ i. record filesystem {
 
     here_or_later : (number : ℕ) → goes_of used (inode ∷ rest) filesystem number
         ≡ (here number || goes_of used rest filesystem number)
-    here_or_later number = goes_on used inode rest filesystem number
-        ∙ ap (λ u. ((nat_eq filesystem.number inode.0 && not (is_among nat_eq inode.1 u)) && nat_eq number inode.1)
-        || goes_of used rest filesystem number) same
+    here_or_later number = cc (goes_on used inode rest filesystem number, same)
 
     node : (number : ℕ) → cond (goes_of used rest filesystem number) None
         (cond (here number) None (filesystem.files.tree.node number))
         ≡ cond (goes_of used (inode ∷ rest) filesystem number) None (filesystem.files.tree.node number)
-    node number = by (here number) (goes_of used rest filesystem number)
-        ∙ ap (λ b. cond b None (filesystem.files.tree.node number)) (sym (here_or_later number))
+    node number = cc (by (here number) (goes_of used rest filesystem number), here_or_later number)
       where
         by : (a b : Bool) → cond b None (cond a None (filesystem.files.tree.node number))
             ≡ cond (a || b) None (filesystem.files.tree.node number)
@@ -119,8 +116,7 @@ module _ (world : World ℕ) (inode : Inode) (plain : IsPlain world) where
   pub plain-step : IsPlain next
   plain-step = none_from_among is_overlay next.filesystems (λ filesystem m.
       let from = among-from_map step world.filesystems filesystem m in
-      ap is_overlay from.2 ∙ ap is_some (overlay-step from.0) ∙ none_among is_overlay world.filesystems plain from.0
-      from.1)
+      cc (from.2, overlay-step from.0, none_among is_overlay world.filesystems plain from.0 from.1))
 
   named-step : (filesystem : Filesystem ℕ) → UnusedAreEmpty (used_in nat_eq world filesystem) filesystem
       → named_in (step filesystem).files ≡ named_in filesystem.files

@@ -1,5 +1,5 @@
 -- Inodes of one kind of filesystem go one by one, overlays among them.
-use Rattle.std.proofs.Common.{arith, ◌≡◌, refl, sym, ap, subst, ◌∙◌, ⊎_elim, ℕ, nat_eq, eqb-true, Bool, true, false, cond, not, ◌||◌, ◌&&◌, List, [], ◌∷◌, filter, map, true≢false, flat_map, None}
+use Rattle.std.proofs.Common.{arith, ◌≡◌, refl, sym, ap, subst, ◌∙◌, ⊎_elim, ℕ, nat_eq, eqb-true, Bool, true, false, cond, not, ◌||◌, ◌&&◌, List, [], ◌∷◌, filter, map, flat_map, None}
 use Rattle.vt_spec.proofs.Common.{Filesystem, World, and_parts, cases_Bool, common_steps, folded, is_among, layers_in, layers_of, list_all, map_alike, map_twice, not-true, objects_of_overlay, of_overlay, only_used, targets_in, used_in, without_dead_in}
 use Rattle.vt_laws_mounts.specs.LettingGo.InUse.{IsListedTree, is_inode_used}
 use Rattle.vt_laws_mounts.specs.LettingGo.OneByOne.{Inode, is_inode_among, is_used_or_among}
@@ -63,7 +63,7 @@ module _ (chosen : Filesystem ℕ → Bool)
     number_step filesystem = ap (λ f. f.number) (one_step filesystem)
 
     chosen_step : (filesystem : Filesystem ℕ) → chosen (step filesystem) ≡ chosen filesystem
-    chosen_step filesystem = ap chosen (one_step filesystem) ∙ keeps (here filesystem) filesystem
+    chosen_step filesystem = cc (one_step filesystem, keeps (here filesystem) filesystem)
 
     other_stays : (filesystem : Filesystem ℕ) → chosen filesystem ≡ false → step filesystem ≡ filesystem
     other_stays filesystem e =
@@ -79,8 +79,7 @@ module _ (chosen : Filesystem ℕ → Bool)
     layers_step number =
         ap (λ layers. map (λ layer. layer.directory) (filter (λ layer. nat_eq number layer.filesystem) layers))
         (flat_map-step step (of_overlay [] layers_of) world.filesystems
-        (λ filesystem m. ap (of_overlay [] layers_of) (one_step filesystem)
-        ∙ layers_without (here filesystem) filesystem))
+        (λ filesystem m. cc (one_step filesystem, layers_without (here filesystem) filesystem)))
 
     objects_step : Apart world → (filesystem : Filesystem ℕ) → Among filesystem world.filesystems
         → chosen filesystem ≡ true → flat_map (objects_of_overlay nat_eq filesystem.number) next.filesystems
@@ -88,8 +87,7 @@ module _ (chosen : Filesystem ℕ → Bool)
     unfolding Apart
     objects_step apart filesystem m is =
         flat_map-step step (objects_of_overlay nat_eq filesystem.number) world.filesystems (λ other n. ⊎_elim
-        (λ e. ap (objects_of_overlay nat_eq filesystem.number) (one_step other)
-        ∙ apart filesystem other m is n e (here other))
+        (λ e. cc (one_step other, apart filesystem other m is n e (here other)))
         (λ e. ap (objects_of_overlay nat_eq filesystem.number) (other_stays other e)) (cases_Bool (chosen other)))
 
     used_step : Apart world → (filesystem : Filesystem ℕ) → Among filesystem world.filesystems
@@ -112,7 +110,7 @@ module _ (chosen : Filesystem ℕ → Bool)
     unfolding ChosenAreEmpty
     empty_step apart empty filesystem m is =
         let from = among-from_map step world.filesystems filesystem m in
-        let was : chosen from.0 ≡ true = sym (chosen_step from.0) ∙ ap chosen (sym from.2) ∙ is in
+        let was : chosen from.0 ≡ true = cc (chosen_step from.0, from.2) in
         subst (λ f. UnusedAreEmpty (used_in nat_eq next f) f) (sym from.2) (each from.0 from.1 was)
       where
         by : (f : Filesystem ℕ) (number : ℕ) (b : Bool) → targets_in (f.files.tree.node number) ≡ []
@@ -132,9 +130,9 @@ module _ (chosen : Filesystem ℕ → Bool)
     apart_step apart f g m is n are gone =
         let one = among-from_map step world.filesystems f m in
         let two = among-from_map step world.filesystems g n in
-        let one_is : chosen one.0 ≡ true = sym (chosen_step one.0) ∙ ap chosen (sym one.2) ∙ is in
-        let two_is : chosen two.0 ≡ true = sym (chosen_step two.0) ∙ ap chosen (sym two.2) ∙ are in
-        let number : f.number ≡ one.0.number = ap (λ x. x.number) one.2 ∙ number_step one.0 in
+        let one_is : chosen one.0 ≡ true = cc (chosen_step one.0, one.2) in
+        let two_is : chosen two.0 ≡ true = cc (chosen_step two.0, two.2) in
+        let number : f.number ≡ one.0.number = cc (one.2, number_step one.0) in
         let itself : g ≡ without_all (here two.0) two.0 = two.2 ∙ one_step two.0 in
         ap (λ k. objects_of_overlay nat_eq k (without_all gone g)) number
         ∙ ap (λ x. objects_of_overlay nat_eq one.0.number (without_all gone x)) itself
@@ -207,7 +205,7 @@ module _ (chosen : Filesystem ℕ → Bool)
       same : (a u : Bool) → (a || u) ≡ true → not u ≡ (a && not u)
       same true u e = refl
       same false true e = refl
-      same false false e = absurd (true≢false (sym e))
+      same false false e = cc
 
       by : (f : Filesystem ℕ) → Among f world.filesystems → (kind : Bool) → chosen f ≡ kind
           → only_used nat_eq world kind f ≡ without_all (goes_in kind (used_in nat_eq world f) losers f) f

@@ -1,5 +1,5 @@
 -- The sweep, one thing at a time.
-use Rattle.std.proofs.Common.{arith, ◌≡◌, refl, sym, ap, ◌∙◌, ℕ, nat_eq, Bool, true, false, cond, not, ◌||◌, ◌&&◌, List, [], ◌∷◌, filter, true≢false, None}
+use Rattle.std.proofs.Common.{arith, ◌≡◌, refl, sym, ap, ◌∙◌, ℕ, nat_eq, Bool, true, false, cond, not, ◌||◌, ◌&&◌, List, [], ◌∷◌, filter, None}
 use Rattle.vt_spec.proofs.Common.{Filesystem, World, and-false, common_steps, filesystem_lives, filter_alike, filter_all, has_members, is_among, mount_lives, or_parts, with_mounts}
 use Rattle.vt_laws_mounts.specs.LettingGo.OneByOne.{FilesystemsGoOneByOne, GroupsGoOneByOne, MountsGoOneByOne, let_go_filesystem, let_go_filesystems, let_go_group, let_go_groups, let_go_mount, let_go_mounts}
 use Rattle.vt_laws_mounts.proofs.letting_go.Lists.{among_from_list_all, any-filter, filter_twice}
@@ -14,7 +14,7 @@ pub kept_alike : (among lives : Bool) → (among || lives) ≡ true → lives �
 kept_alike true true e = refl
 kept_alike true false e = refl
 kept_alike false true e = refl
-kept_alike false false e = absurd (true≢false (sym e))
+kept_alike false false e = cc
 
 -- Mounts
 mounts_folded : (world : World ℕ) (losers : List ℕ) → let_go_mounts world losers

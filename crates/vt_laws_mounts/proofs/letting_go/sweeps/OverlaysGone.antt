@@ -30,7 +30,7 @@ module _ (world : World ℕ) (losers : List ℕ) (others : FilesystemsInUseBut l
       (among-flat_map (used_by_numbered world) losers t.0 (target, number) t.1
       (among-flat_map (λ x. cond (nat_eq x.number t.0) (used_by_filesystem x) []) world.filesystems g (target, number) m
       (subst (λ b. Among (target, number) (cond b (used_by_filesystem g) [])) (sym t.2) used)))
-      (ap (λ b. b && nat_eq number number) same ∙ eq-eqb number number refl)
+      (cc (eq-eqb number number refl))
 
   abbrev is_on : ℕ → Layer ℕ → Bool
   is_on filesystem layer = nat_eq filesystem layer.filesystem
@@ -88,7 +88,7 @@ module _ (world : World ℕ) (losers : List ℕ) (others : FilesystemsInUseBut l
       (is_among_numbers number (layers_in nat_eq living f.number) there))))
       inr (layer_left f.number number (among_numbers number (layers_in nat_eq world f.number) a)))
       (or_cases (is_among nat_eq number front) (is_among nat_eq number (layers_in nat_eq world f.number))
-      (sym (list_any-append (nat_eq number) front (layers_in nat_eq world f.number)) ∙ before))) (λ a. ⊎_elim
+      (cc (list_any-append (nat_eq number) front (layers_in nat_eq world f.number))))) (λ a. ⊎_elim
       (λ there. inl (is_among_right number (front ++ layers_in nat_eq living f.number) objects
       (is_among_numbers number objects there))) inr (object_left f.number number
       (among_numbers number (flat_map (objects_of_overlay nat_eq f.number) world.filesystems) a)))

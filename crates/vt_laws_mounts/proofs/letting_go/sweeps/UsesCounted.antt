@@ -1,7 +1,7 @@
 -- Uses are counted.
-use Rattle.std.proofs.Common.{sym, ap, ◌∙◌, ℕ, nat_eq, cond, ◌+◌, List}
-use Rattle.vt_spec.proofs.Common.{Location, Mount, all_locations, is_member_of, used_in}
-use Rattle.vt_laws_mounts.specs.LettingGo.Counts.{LocatedWhileCounted, MembersWhileCounted, MountedWhileCounted, OneMountLess, OneUseLess, UsedWhileCounted, times}
+use Rattle.std.proofs.Common.{nat_eq}
+use Rattle.vt_spec.proofs.Common.{all_locations, is_member_of, used_in}
+use Rattle.vt_laws_mounts.specs.LettingGo.Counts.{LocatedWhileCounted, MembersWhileCounted, MountedWhileCounted, OneMountLess, OneUseLess, UsedWhileCounted}
 use Rattle.vt_laws_mounts.proofs.letting_go.Lists.{any_counted, times_around}
 
 pub located_while_counted : LocatedWhileCounted
@@ -17,13 +17,9 @@ pub members_while_counted : MembersWhileCounted
 members_while_counted world group = any_counted (is_member_of nat_eq group) world.mounts
 
 pub one_use_less : OneUseLess
-one_use_less world after front back location e f number = ap (times (λ (l : Location ℕ). nat_eq number l.mount)) e
-    ∙ times_around (λ l. nat_eq number l.mount) front back location
-    ∙ ap (λ (list : List (Location ℕ)). times (λ l. nat_eq number l.mount) list + cond
-    (nat_eq number location.mount) 1 0) (sym f)
+one_use_less world after front back location e f number =
+    cc (times_around (λ l. nat_eq number l.mount) front back location)
 
 pub one_mount_less : OneMountLess
-one_mount_less world after front back mount e f number = ap (times (λ (m : Mount ℕ). nat_eq number m.filesystem)) e
-    ∙ times_around (λ m. nat_eq number m.filesystem) front back mount
-    ∙ ap (λ (list : List (Mount ℕ)). times (λ m. nat_eq number m.filesystem) list + cond
-    (nat_eq number mount.filesystem) 1 0) (sym f)
+one_mount_less world after front back mount e f number =
+    cc (times_around (λ m. nat_eq number m.filesystem) front back mount)

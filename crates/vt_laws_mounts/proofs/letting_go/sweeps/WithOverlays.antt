@@ -1,5 +1,5 @@
 -- The sweep in worlds with overlays: inodes of overlays go one by one, then those of plain trees.
-use Rattle.std.proofs.Common.{arith, ◌≡◌, refl, sym, ap, subst, ◌∙◌, ◌⊎◌, inl, inr, ℕ, nat_eq, eqb-true, eq-eqb, Bool, true, false, cond, not, ◌||◌, ◌&&◌, List, [], ◌∷◌, filter, map, true≢false, flat_map, ◌++◌, Option, Some, None, is_some, option_map, option_to_list, All, filter_map}
+use Rattle.std.proofs.Common.{arith, ◌≡◌, refl, sym, ap, subst, ◌∙◌, ◌⊎◌, inl, inr, ℕ, nat_eq, eqb-true, eq-eqb, Bool, true, false, cond, not, ◌||◌, ◌&&◌, List, [], ◌∷◌, filter, map, flat_map, ◌++◌, Option, Some, is_some, option_map, option_to_list, All, filter_map}
 use Rattle.vt_spec.proofs.Common.{All-filter, Filesystem, Layer, Overlay, World, and_parts, common_steps, filesystem_lives, is_among, is_among_left, is_among_right, is_overlay, layers_in, layers_of, list_all, list_any-append, not-true, objects_of_overlay, of_overlay, only_used, overlay_or, upper_object, used_in, without_dead_filesystems, without_dead_in, without_dead_inodes, without_dead_mounts}
 use Rattle.vt_laws_mounts.specs.LettingGo.InUse.{HasTrees, IsListedTree, UppersArePlain, has_upper_in, is_inode_used}
 use Rattle.vt_laws_mounts.specs.LettingGo.OneByOne.{Inode, InodesInUseBut, is_inode_among, is_used_or_among}
@@ -83,7 +83,7 @@ upper_looked_at world losers number object k g overlay layer m e d c r among =
     (layer.filesystem, object) (among-flat_map (uppers_of_inode world) losers t.0 (layer.filesystem, object) t.1
     (among-flat_map (uppers_of_inode_in t.0) world.filesystems g (layer.filesystem, object) m
     (subst (λ l. Among (layer.filesystem, object) l) (sym (there t.0 parts.0 parts.1)) (inl refl))))
-    (ap (λ b. b && nat_eq object object) c ∙ eq-eqb object object refl)
+    (cc (eq-eqb object object refl))
   where
     listed : Option (Layer ℕ) → Option ℕ → List Inode
     listed u o = flat_map (λ l. map (λ x. (l.filesystem, x)) (option_to_list o)) (option_to_list u)
@@ -139,7 +139,7 @@ module _ (world : World ℕ) (losers : List Inode) (trees : HasTrees world) (rea
           (object_there number object (without_all gone g) (reals_without gone overlay) layer
           (ap (option_map (reals_without gone)) e) d c k
           (among-filter (λ x. not (gone x)) g.files.numbers k l (ap (λ b. not (not b)) used))
-          (ap (λ b. upper_object (cond (not b) None (overlay.real k))) used ∙ r))))
+          (cc))))
         where
           gone : ℕ → Bool
           gone = λ x. not (is_among nat_eq x (used_in nat_eq world g))
@@ -157,7 +157,7 @@ module _ (world : World ℕ) (losers : List Inode) (trees : HasTrees world) (rea
         where
           looked : (a b : Bool) → (a || b) ≡ true → b ≡ false → a ≡ true
           looked true b h f = refl
-          looked false b h f = absurd (true≢false (sym h ∙ f))
+          looked false b h f = cc
 
   -- so what was used is used still, or is looked at
   still_used : (f : Filesystem ℕ) (number : ℕ) → is_used_or_among losers world f number ≡ true

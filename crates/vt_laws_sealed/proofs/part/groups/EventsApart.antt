@@ -1,5 +1,5 @@
 -- Events of groups of others reach no mount of a sealed set.
-use Rattle.std.proofs.Common.{◌≡◌, refl, sym, ap, subst, ◌∙◌, ◌⊎◌, inr, ⊎_elim, ℕ, nat_eq, true, true≢false, List, Option, Some, None, length, eq-eqb, arith}
+use Rattle.std.proofs.Common.{◌≡◌, refl, sym, subst, ◌∙◌, ◌⊎◌, inr, ⊎_elim, ℕ, nat_eq, true, true≢false, List, Option, Some, None, length, eq-eqb, arith}
 use Rattle.vt_spec.proofs.Common.{Among, HasLivingGroups, Lives, Mount, MountInvariants, Propagation, TaskName, World, among-filter, among-from_filter, among_from_all, among_from_contains, among_from_list_all, and_parts, any_among, common_steps, false_from_ne_true, group_of, groups_up, has_master, has_members, has_no_master, holds_of, is_among, is_member_of, is_own_mount, master_of, none_is_some, not-true, or_left, or_right, other_mounts, own_mounts, receives, receives_events_of, same_Some, shares_no_events, source_of}
 use Rattle.vt_laws_mounts.proofs.mounts.Receivers.{along_chain}
 use Rattle.vt_laws_sealed.specs.Part.Groups.{NoEventOfOthersReachesThem}
@@ -73,7 +73,7 @@ module _ (world : World ℕ) (names : List TaskName) (is : MountInvariants nat_e
     where
       by : (o : Option ℕ) → source_of own.propagation ≡ o
           → holds_of (λ source. is_among nat_eq group (groups_up world source)) o ≡ true → HeardAndLives group
-      by None e h = absurd (true≢false (sym h))
+      by None e h = cc
       by (Some source) e h = along_chain world.master HeardAndLives heard_above (length world.mounts) source group (
         (own, m, start_hears world source own.propagation e),
         among_from_all (HasLivingGroups nat_eq world) world.mounts is.groups own
@@ -84,4 +84,4 @@ pub no_event_of_others_reaches_them : NoEventOfOthersReachesThem
 no_event_of_others_reaches_them world names own other group alone own_there other_there e = false_from_ne_true _ (λ h.
     none_hears world names alone.mounts alone.apart group other
     (heard_by world names alone.mounts alone.apart group own (among_from_contains _ own own_there) h).0
-    (among_from_contains _ other other_there) (ap (holds_of (nat_eq group)) e ∙ eq-eqb group group refl))
+    (among_from_contains _ other other_there) (cc (eq-eqb group group refl)))

@@ -64,7 +64,7 @@ module _ (world : World ℕ) (names : List TaskName) (is : MountInvariants nat_e
     where
       by : (o : Option ℕ) → source_of other.propagation ≡ o
           → holds_of (λ source. is_among nat_eq group (groups_up world source)) o ≡ true → ⊥
-      by None e h = true≢false (sym h)
+      by None e h = cc
       by (Some source) e h =
           let reached = along_chain world.master OtherLives other_above (length world.mounts) source group (
             (other, there, start_hears world source other.propagation e),
@@ -146,7 +146,7 @@ module _ (world : World ℕ) (names : List TaskName) (is : MountInvariants nat_e
 
       by : (o : Option ℕ) → source_of other.propagation ≡ o
           → holds_of (λ source. is_among nat_eq group (groups_up part source)) o ≡ true → ⊥
-      by None e h = true≢false (sym h)
+      by None e h = cc
       by (Some source) e h =
           let own = own_member group heard lives in
           none_other group own.0 (along_chain part.master OtherHears up (length part.mounts) source group

@@ -48,7 +48,7 @@ module _ (world : World ℕ) (names : List TaskName) (one : OneNumberEach world)
       → ((x : Mount ℕ) → Among x list → Among x world.mounts) → map f (map set list) ≡ map f list
   all_of f e [] h = refl
   all_of f e (x ∷ rest) h = cc (
-    ⊎_elim (λ t. ap f t.1 ∙ e ∙ ap f (sym t.0)) (λ t. ap f (apart x t)) (which x (h x (inl refl))),
+    ⊎_elim (λ t. cc (t.1, t.0)) (λ t. ap f (apart x t)) (which x (h x (inl refl))),
     all_of f e rest (λ y m. h y (inr m)),
   )
 
@@ -72,8 +72,7 @@ module _ (world : World ℕ) (names : List TaskName) (one : OneNumberEach world)
   mounts_set : (list : List (Mount ℕ)) → ((x : Mount ℕ) → Among x list → Among x world.mounts)
       → filter_map kept (map set list) ≡ map set (filter_map kept list)
   mounts_set [] h = refl
-  mounts_set (x ∷ rest) h = ap (λ o. cons_option o (filter_map kept (map set rest))) (kept_set x (h x (inl refl)))
-      ∙ by (kept x) (mounts_set rest (λ y m. h y (inr m)))
+  mounts_set (x ∷ rest) h = cc (kept_set x (h x (inl refl)), by (kept x) (mounts_set rest (λ y m. h y (inr m))))
     where
       by : (o : Option (Mount ℕ)) → filter_map kept (map set rest) ≡ map set (filter_map kept rest)
           → cons_option (option_map set o) (filter_map kept (map set rest))

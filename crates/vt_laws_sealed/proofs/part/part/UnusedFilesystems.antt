@@ -51,7 +51,7 @@ module _ (world : World ℕ) (names : List TaskName) (new : Filesystem ℕ)
       by true e = none_of_it (filesystem_numbered nat_eq later new.number) new refl
           ∙ sym (none_of_it (filesystem_numbered nat_eq world x.number) x (sym (eqb-true new.number x.number e)))
       by false e = ap (λ f. part_by f x) (filesystem_elsewhere world new x.number
-          (λ same. true≢false (sym (eq-eqb new.number x.number (sym same)) ∙ e)))
+          (λ same. cc (eq-eqb new.number x.number (sym same))))
 
   pub sees_the_same : SeesTheSame world later names
   sees_the_same = grind (arith, common_steps, found, among_from_contains, filter_map_map, filter_map_same, each)

@@ -1,5 +1,5 @@
 -- The part and the footholds of others decide whether a set of tasks is sealed off.
-use Rattle.std.proofs.Common.{◌≡◌, refl, sym, ap, subst, ◌∙◌, ◌⊎◌, inl, inr, ⊎_elim, ℕ, nat_eq, Bool, true, false, cond, true≢false, List, [], ◌∷◌, Option, Some, None, map, find, not, is_some, ◌||◌, ◌&&◌, eq-eqb, eqb-true, arith, unwrap_or}
+use Rattle.std.proofs.Common.{◌≡◌, refl, sym, ap, subst, ◌∙◌, ◌⊎◌, inl, inr, ⊎_elim, ℕ, nat_eq, Bool, true, false, cond, true≢false, List, [], ◌∷◌, Option, Some, None, map, find, not, ◌||◌, ◌&&◌, eq-eqb, eqb-true, arith, unwrap_or}
 use Rattle.vt_spec.proofs.Common.{Among, Filesystem, IsWorld, Layer, Location, Mount, Overlay, Task, TaskName, World, all_locations, all_named, among-append_left, among-append_right, among-filter, among-filter_map, among-flat_map, among-from_filter, among-from_filter_map, among-from_flat_map, among-map, among_from_contains, among_from_list_all, among_numbers, and_from, and_parts, any_among, any_from_among, common_steps, contains_from_among, filesystem_lives, filesystem_numbered, found_among, has_layer_on, is_among, is_among_numbers, is_directory_node, is_located, is_lower_root, is_member_task, is_mounted, is_overlay, is_own_namespace, layers_of, list_all, list_all_from_among, list_any, locations, locations_of, members, mount_at, mount_lives, mount_numbered, no_filesystem, no_outsider_on, not-true, of_overlay, or_cases, or_left, or_right, other_mounts, outsiders, overlay_or, overlays, own_lowers, own_mounts, part_of, part_of_filesystem, part_of_lower, same_truth, sealed, used_alone, used_directly, used_filesystems, when, wholly_locked}
 use Rattle.vt_laws_mounts.proofs.mounts.MountsReplaced.{found_itself}
 use Rattle.vt_laws_mounts.proofs.letting_go.sweeps.OfWorlds.{all_in_use, found_filesystem}
@@ -45,8 +45,7 @@ module _ (world : World ℕ) (names : List TaskName) (is : IsWorld nat_eq world)
       by : (o : Option ℕ) → mount.namespace ≡ o → Among filesystem (used_directly nat_eq world names)
       by None none = located_by mount.number filesystem mount
           (found_itself world.mounts is.mounts.one_number mount there) shows alone
-          (ap (λ o. is_some o || is_located nat_eq world mount.number) (sym none)
-          ∙ among_from_list_all (mount_lives nat_eq world) world.mounts (all_in_use world is).mounts mount there)
+          (cc (among_from_list_all (mount_lives nat_eq world) world.mounts (all_in_use world is).mounts mount there))
       by (Some namespace) at = which (is_own_namespace nat_eq world names namespace) refl
         where
           which : (b : Bool) → is_own_namespace nat_eq world names namespace ≡ b
@@ -73,13 +72,10 @@ module _ (world : World ℕ) (names : List TaskName) (is : IsWorld nat_eq world)
   no_layer merged other there other_there overlaid has = by other.overlay refl
     where
       by : (o : Option (Overlay ℕ)) → other.overlay ≡ o → ⊥
-      by None e = true≢false (sym has ∙ ap
-          (overlay_or false (λ overlay. list_any (λ layer. nat_eq merged.number layer.filesystem)
-          (layers_of overlay))) e)
+      by None e = cc
       by (Some overlay) e =
           let at = any_among (λ (layer : Layer ℕ). nat_eq merged.number layer.filesystem) (layers_of overlay)
-          (sym (ap (overlay_or false (λ overlay. list_any (λ layer. nat_eq merged.number layer.filesystem)
-          (layers_of overlay))) e) ∙ has) in
+          (cc) in
           true≢false
           (sym overlaid ∙ ap is_overlay (sym (found_filesystem world.filesystems is.files.one_filesystem merged there))
           ∙ ap (λ n. is_overlay (filesystem_numbered nat_eq world n)) (eqb-true merged.number at.0.filesystem at.2)

@@ -1,5 +1,5 @@
 -- A step is the same in two worlds that show the same where it meets filesystems.
-use Rattle.std.proofs.Common.{arith, append-nil, ◌≡◌, refl, sym, ap, subst, ◌∙◌, inl, inr, ℕ, nat_eq, Bool, true, false, cond, List, [], ◌∷◌, ◌++◌, Option, Ok, Err, Result, flat_map, ◌&&◌, ◌||◌, IfOk, ok_or, option_map, option_to_list}
+use Rattle.std.proofs.Common.{arith, append-nil, ◌≡◌, refl, sym, ap, subst, inl, inr, ℕ, nat_eq, Bool, true, false, cond, List, [], ◌∷◌, ◌++◌, Option, Ok, Err, Result, flat_map, ◌&&◌, ◌||◌, IfOk, ok_or, option_map, option_to_list}
 use Rattle.vt_spec.proofs.Common.{Among, Dot, DotDot, LastWord, Location, Looks, Mount, Named, NoWord, Task, among-append_left, among-append_right, among-map, among_from_contains, and_from, common_steps, contains_from_among, denial, entered_upward, entries_in, entry_named, filesystems_of, hops, last_or, map-append, met_by, parent_in, same_location, stepped, unless, up_from}
 use Rattle.vt_spec.specs.declared.errors.Deny.{Deny}
 use Rattle.vt_spec.specs.declared.errors.Rule.TheVariants.{W6, W8}
@@ -106,12 +106,10 @@ module _ {one other : Looks ℕ} {task : Task ℕ} {Own : ℕ → Type 0} {Seen 
       let up = up_agrees top good (λ f m. seen f (subst (Among f) (sym split)
       (among-append_right (filesystems_of nat_eq one way)
       (filesystems_of nat_eq one (entered_upward nat_eq one task top)) f m))) in
-      (up.0 ∙ ap (λ h. up_from nat_eq other task (last_or here h)) (alike.hops_alike here own), up.1)
+      (cc (up.0, alike.hops_alike here own), up.1)
   stepped_agrees here own (Named name) seen =
       let by = named_by here own (entry_named name (entries_in (one.node here))) (λ f m. seen f (inr m)) in (
-        by.0 ∙ ap (λ n. ok_or
-            (option_map (topmost other) (option_map (λ object. record { mount = here.mount; node = object })
-            (entry_named name (entries_in n)))) (denial W6)) (alike.node here own (head_seen here _ seen)),
+        cc (by.0, alike.node here own (head_seen here _ seen)),
         by.1,
       )
 

@@ -1,8 +1,8 @@
 -- Two worlds that show the same through some mounts are walked alike from them.
-use Rattle.std.proofs.Common.{◌≡◌, refl, sym, ap, subst, ◌∙◌, inl, inr, ⊎_elim, ℕ, zero, suc, nat_eq, Bool, true, false, cond, List, [], ◌∷◌, ◌++◌, Option, Some, None, Ok, Err, Result, map, flat_map, not, ◌||◌, reverse, arith, IfOk, length, nat_lt, ok_or, option_map, option_to_list, ◌==◌}
-use Rattle.vt_spec.proofs.Common.{Among, Dot, DotDot, Follow, Here, LastWord, Location, Looks, Mount, Named, NoWord, Rules, Stop, Task, among-append, and_then, common_steps, contains_from_among, denial, ends_in_slash, entered_upward, entries_in, entry_location, entry_named, filesystems_of, follow_rules, hops, if_symlink, is_directory_node, last_or, last_word, list_any, longest_name, met_by, parent_in, same_location, search_rules, slash_rules, start_of, stepped, steps_with, stopped_by, symlink_start, symlink_text, symlink_walked, then_walk, unless, up_from, walk_unless, word_walked, words, words_walked}
+use Rattle.std.proofs.Common.{◌≡◌, refl, sym, ap, subst, ◌∙◌, inl, inr, ⊎_elim, ℕ, zero, suc, nat_eq, Bool, true, false, cond, List, [], ◌∷◌, ◌++◌, Option, Some, None, Ok, Err, Result, map, flat_map, not, ◌||◌, reverse, arith, IfOk, ok_or, option_map, option_to_list}
+use Rattle.vt_spec.proofs.Common.{Among, Dot, DotDot, Follow, Here, LastWord, Location, Looks, Mount, Named, NoWord, Rules, Stop, Task, among-append, and_then, common_steps, contains_from_among, denial, ends_in_slash, entered_upward, entries_in, entry_location, entry_named, filesystems_of, follow_rules, hops, if_symlink, is_directory_node, last_or, last_word, met_by, parent_in, same_location, search_rules, slash_rules, start_of, stepped, steps_with, stopped_by, symlink_start, symlink_text, symlink_walked, then_walk, unless, up_from, walk_unless, word_walked, words, words_walked}
 use Rattle.vt_spec.specs.declared.errors.Deny.{Deny}
-use Rattle.vt_spec.specs.declared.errors.Rule.TheVariants.{W2, W3, W6, W7, W8, W9}
+use Rattle.vt_spec.specs.declared.errors.Rule.TheVariants.{W3, W6, W8}
 use Rattle.vt_spec.specs.Machine.Looks.{mount_at, topmost}
 use Rattle.vt_laws_sealed.specs.Part.Walks.{AreOn, ShowAlike, TextsAgree, WordsAgree}
 use Rattle.vt_spec.specs.Machine.Walking.{is_lost, is_top, parent_location}
@@ -15,7 +15,7 @@ pub then_agree : {A B : Type 0} (Q : A → Type 0) (R : B → Type 0) (a b : Res
     (f g : A → Result B (Stop ℕ)) → Agree Q a b → ((x : A) → Q x → Agree R (f x) (g x))
     → Agree R (then_walk a f) (then_walk b g)
 then_agree Q R (Ok x) b f g (e, q) next =
-    let n = next x q in (n.0 ∙ ap (λ r. then_walk r g) e, n.1)
+    let n = next x q in (cc (n.0), n.1)
 then_agree Q R (Err stop) b f g (e, q) next = (ap (λ r. then_walk r g) e, tt)
 
 pub unless_agree : {A : Type 0} (Q : A → Type 0) (steps : List (List ℕ)) (rules : Rules) (a : A) → Q a
@@ -104,12 +104,10 @@ module _ (one other : Looks ℕ) (task : Task ℕ) (Own : ℕ → Type 0) (alike
   stepped_agrees here own DotDot =
       let top : Location ℕ = last_or here (hops nat_eq one task here) in
       let up = up_agrees top (last_each OnOwn (hops nat_eq one task here) here own (alike.hopped here own)) in
-      (up.0 ∙ ap (λ h. up_from nat_eq other task (last_or here h)) (alike.hops_alike here own), up.1)
+      (cc (up.0, alike.hops_alike here own), up.1)
   stepped_agrees here own (Named name) =
       let by = named_by here own (entry_named name (entries_in (one.node here))) in (
-        by.0 ∙ ap (λ n. ok_or
-            (option_map (topmost other) (option_map (λ object. record { mount = here.mount; node = object })
-            (entry_named name (entries_in n)))) (denial W6)) (alike.node here own),
+        cc (by.0, alike.node here own),
         by.1,
       )
 
@@ -169,7 +167,7 @@ module _ (one other : Looks ℕ) (task : Task ℕ) (Own : ℕ → Type 0) (alike
       let by = over_by here own (entry_named name (entries_in (one.node here))) in
       same_filesystems (here ∷ flat_map one.mounts_over (option_to_list (entry_location nat_eq one here name)))
       (one_each here own _ by.1) ∙ ap (λ l. filesystems_of nat_eq other (here ∷ l))
-      (by.0 ∙ ap (λ o. flat_map other.mounts_over (option_to_list o)) (same_entry here name own))
+      (cc (by.0, same_entry here name own))
 
   abbrev word_by : ℕ → List (List ℕ) → Rules → Result (Location ℕ) Deny → Result (Here ℕ) (Stop ℕ)
   word_by left steps rules found = stopped_by steps (and_then (unless rules found)
@@ -224,7 +222,7 @@ module _ (one other : Looks ℕ) (task : Task ℕ) (Own : ℕ → Type 0) (alike
       (λ next. if_symlink next (symlink_text (other.node next.location)) (g reached.location next))
       (word_agrees reached there (last_word word)) (λ next after.
       let by = symlink_by f g agree reached.location there next after (symlink_text (one.node next.location)) in (
-        by.0 ∙ ap (λ n. if_symlink next (symlink_text n) (g reached.location next)) (alike.node next.location after),
+        cc (by.0, alike.node next.location after),
         by.1,
       )))
 
@@ -243,10 +241,7 @@ module _ (one other : Looks ℕ) (task : Task ℕ) (Own : ℕ → Type 0) (alike
       (λ start. then_walk (words_walked nat_eq other task (symlink_walked nat_eq depth other task) start
       (reverse (words text)))
       (λ reached. walk_unless reached.steps (slash_rules nat_eq other text reached.location) reached)) (
-        ap (λ (m : Mount ℕ). walk_unless symlink.steps ((m.flags.nosymfollow, W9) ∷ (symlink.left == 0, W7)
-            ∷ (list_any (λ word. nat_lt longest_name (length word)) (words text), W2) ∷ [])
-            (symlink_start nat_eq one task directory symlink text)) (alike.mount symlink.location own)
-            ∙ ap (walk_unless symlink.steps (follow_rules nat_eq other symlink text)) same_start,
+        cc (alike.mount symlink.location own, same_start),
         unless_agree HereOwn symlink.steps (follow_rules nat_eq one symlink text)
             (symlink_start nat_eq one task directory symlink text) start_own,
       ) (λ start there. then_agree HereOwn HereOwn

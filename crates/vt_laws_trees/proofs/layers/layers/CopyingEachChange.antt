@@ -147,7 +147,8 @@ module _ (fresh : Fresh ℕ) (stack : Stack ℕ) (before : Merge ℕ) (fit : IsF
       let seen_to = object_there ready.soundly.real to
       (ready.all to (among_second to object to (in_own_line to)) there.1) in
       record {
-        tree = ap (λ m. (merge_with_moved nat_eq (odds (odds fresh)) stack m from old to name object).files) ready.soundly.is;
+        tree = ap (λ m. (merge_with_moved nat_eq (odds (odds fresh)) stack m from old to name object).files)
+            ready.soundly.is;
         reaches = subst (λ m. ReachesUpper m (merge_with_moved nat_eq
             (odds (odds fresh)) stack m from old to name object) (Move from old to name object)) (sym ready.soundly.is)
             (λ reached another. moved_named before.files before.real

@@ -113,7 +113,8 @@ show_alike (layer ∷ layers) (other ∷ others) as_others are_open others_open 
     cut_alike : cuts other path ≡ cuts layer path
     cut_alike = λ i. list_any (λ front. hides_alike _ _ (as_others.0 front) i) (prefixes path)
 
-    alive : (one : OpenLayer ℕ) → IsTree one.tree × (Rattle.vt_spec.specs.TreeInvariant.IsDirectory one.tree one.directory)
+    alive : (one : OpenLayer ℕ)
+        → IsTree one.tree × (Rattle.vt_spec.specs.TreeInvariant.IsDirectory one.tree one.directory)
         → (object : ℕ) → at_path one path ≡ Some object → is_some (node_at_path one path) ≡ true
     alive one is object e = ap (λ o. is_some (then_some o one.tree.node)) e
         ∙ led_alive one.tree is.0 path one.directory object (directory_used one.tree one.directory is.1) e

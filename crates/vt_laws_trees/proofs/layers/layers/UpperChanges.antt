@@ -79,7 +79,8 @@ module _ (files : FileTree ℕ) (tree : IsTree files.tree) (numbers : ListsNumbe
 
     moved_keeps : (from : ℕ) (old : List ℕ) (to : ℕ) (name : List ℕ) (object : ℕ) → HasUpper real from
         → HasUpper real to → HasUpper real object
-        → IsKept node ((merge_with_moved nat_eq fresh stack (With real upper) from old to name object).upper.tree.node inode)
+        → IsKept node ((merge_with_moved nat_eq fresh stack (With real upper) from old to name object).upper.tree.node
+        inode)
     moved_keeps from old to name object f t o =
         let freed = without_contents nat_eq upper (upper_directory_named (With real upper) to name) in
         let from_differs = upper_differs files tree numbers inode node real upper fine from f in

@@ -1,33 +1,31 @@
 -- The directories from the root down to one.
 use Rattle.std.proofs.Common.{arith, ◌≡◌, ◌≢◌, refl, sym, ap, subst, ◌∙◌, true≢false, ℕ, zero, suc, nat_eq, Bool, true, false, List, [], ◌∷◌, Option, Some, None, option_and_then, ⊎_elim, find, filter_map, option_map}
 use Rattle.vt_spec.proofs.Common.{FileTree, HasName, IsDirectory, IsTree, Tree, a_name, common_steps, entries_in, entry_at, entry_from, entry_named, entry_to, eqb_tells, first_of_list, found_is_named, has_entry_to, led, name_in, none_is_some, parent_in, same_Some}
+use Rattle.vt_spec.proofs.Trees.{found}
 
 -- a name of an object leads to it
 pub named_so : (files : FileTree ℕ) → IsTree files.tree → (object : ℕ) (name : ℕ × List ℕ)
     → a_name nat_eq files object ≡ Some name → entry_at files.tree name.0 name.1 ≡ Some object
-named_so files tree object name e = searched files.numbers e
+named_so files tree object name e = leads_among files.numbers e
   where
-    here : (directory : ℕ) (found : Option (List ℕ × ℕ))
+    -- the name that one directory has for it
+    leads_in : (directory : ℕ) (found : Option (List ℕ × ℕ))
         → find (λ entry. nat_eq object entry.1) (entries_in (files.tree.node directory)) ≡ found
         → option_map (λ entry. (directory, entry.0)) found ≡ Some name → entry_at files.tree name.0 name.1 ≡ Some object
-    here directory None f e = none_is_some name e
-    here directory (Some entry) f e =
+    leads_in directory None f e = cc
+    leads_in directory (Some entry) f e =
         let named = found_is_named object (entries_in (files.tree.node directory)) entry (tree.in_order directory) f in
-        subst (λ n. entry_at files.tree n.0 n.1 ≡ Some object) (same_Some (directory, entry.0) name e)
-        (named.0 ∙ ap Some named.1)
+        cc (same_Some (directory, entry.0) name e, named.0, named.1)
 
-    searched : (numbers : List ℕ) → first_of_list (filter_map (name_in nat_eq files object) numbers) ≡ Some name
+    -- the first name that some of the directories have
+    leads_among : (directories : List ℕ)
+        → first_of_list (filter_map (name_in nat_eq files object) directories) ≡ Some name
         → entry_at files.tree name.0 name.1 ≡ Some object
-    searched [] e = none_is_some name e
-    searched (directory ∷ numbers) e = by (name_in nat_eq files object directory) refl e (searched numbers)
-      where
-        by : (o : Option (ℕ × List ℕ)) → name_in nat_eq files object directory ≡ o
-            → first_of_list (Rattle.std.specs.List.cons_option o (filter_map (name_in nat_eq files object) numbers))
-            ≡ Some name → (first_of_list (filter_map (name_in nat_eq files object) numbers) ≡ Some name
-            → entry_at files.tree name.0 name.1 ≡ Some object) → entry_at files.tree name.0 name.1 ≡ Some object
-        by None o e rest = rest e
-        by (Some found) o e rest = here directory
-            (find (λ entry. nat_eq object entry.1) (entries_in (files.tree.node directory))) refl (o ∙ e)
+    leads_among [] e = cc
+    leads_among (directory ∷ rest) e =
+        let here = leads_in directory (find (λ entry. nat_eq object entry.1) (entries_in (files.tree.node directory)))
+        refl
+        in grind (arith, here, leads_among rest)
 
 -- what has an entry is a directory
 pub has_entries : (tree : Tree ℕ) (directory : ℕ) (name : List ℕ) (object : ℕ)
@@ -47,34 +45,27 @@ module _ (files : FileTree ℕ) (tree : IsTree files.tree) where
   reached_directory zero directory e = subst (IsDirectory files.tree) (sym e) tree.root_directory
   reached_directory (suc steps) directory r = r.4
 
-  reached_on : (names : List (List ℕ)) (steps from to : ℕ) → ReachedIn files.tree steps from
+  -- from where names lead to a directory, there is one
+  from_directory : (names : List (List ℕ)) (from to : ℕ) → led files.tree from names ≡ Some to
+      → IsDirectory files.tree to → IsDirectory files.tree from
+  from_directory [] from to e d = subst (IsDirectory files.tree) (sym (same_Some from to e)) d
+  from_directory (name ∷ names) from to e d =
+      let next = found (λ next. led files.tree next names) (entry_at files.tree from name) to e in
+      has_entries files.tree from name next.0 next.1
+
+  -- names that lead on from a directory that is reached lead to one that is reached
+  pub reached_on : (names : List (List ℕ)) (steps from to : ℕ) → ReachedIn files.tree steps from
       → led files.tree from names ≡ Some to → IsDirectory files.tree to → (more : ℕ) × ReachedIn files.tree more to
   reached_on [] steps from to r e d = (steps, subst (ReachedIn files.tree steps) (same_Some from to e) r)
   reached_on (name ∷ names) steps from to r e d =
-      by names (entry_at files.tree from name) refl e (λ next. reached_on names (suc steps) next to)
-    where
-      is_there : (names : List (List ℕ)) (next : ℕ) → led files.tree next names ≡ Some to → IsDirectory files.tree next
-      is_there [] next e = subst (IsDirectory files.tree) (sym (same_Some next to e)) d
-      is_there (name ∷ names) next e = step (entry_at files.tree next name) refl e
-        where
-          step : (o : Option ℕ) → entry_at files.tree next name ≡ o
-              → option_and_then (λ n. led files.tree n names) o ≡ Some to → IsDirectory files.tree next
-          step None o e = none_is_some to e
-          step (Some n) o e = has_entries files.tree next name n o
-
-      by : (names : List (List ℕ)) (o : Option ℕ) → entry_at files.tree from name ≡ o
-          → option_and_then (λ next. led files.tree next names) o ≡ Some to
-          → ((next : ℕ) → ReachedIn files.tree (suc steps) next → led files.tree next names ≡ Some to
-          → IsDirectory files.tree to → (more : ℕ) × ReachedIn files.tree more to)
-          → (more : ℕ) × ReachedIn files.tree more to
-      by names None o e on = none_is_some to e
-      by names (Some next) o e on = on next (from, name, r, o, is_there names next e) e d
+      let next = found (λ next. led files.tree next names) (entry_at files.tree from name) to e in
+      reached_on names (suc steps) next.0 to (from, name, r, next.1, from_directory names next.0 to next.2 d) next.2 d
 
   -- a directory that has a name, or an entry, is reached
   pub is_reached_in : (directory : ℕ) (name : List ℕ) (object : ℕ) → entry_at files.tree directory name ≡ Some object
       → (steps : ℕ) × ReachedIn files.tree steps directory
-  is_reached_in directory name object e = ⊎_elim (λ t. (0, t.1))
-      (λ t. by t.1 (has_entry_to nat_eq files.tree (parent_in directory (files.tree.node directory)) directory) refl)
+  is_reached_in directory name object e = ⊎_elim (λ same. (0, same.1)) (λ other. below other.1 (has_entry_to nat_eq
+      files.tree (parent_in directory (files.tree.node directory)) directory) refl)
       (eqb_tells directory files.tree.root)
     where
       is : IsDirectory files.tree directory
@@ -85,13 +76,17 @@ module _ (files : FileTree ℕ) (tree : IsTree files.tree) where
           let way = tree.reached directory is named in
           reached_on way.0 0 files.tree.root directory refl way.1 is
 
-      by : directory ≢ files.tree.root → (b : Bool)
-          → has_entry_to nat_eq files.tree (parent_in directory (files.tree.node directory)) directory ≡ b
+      -- other than the root: its parent has a name for it, as without one it would be empty
+      below : directory ≢ files.tree.root → (named : Bool)
+          → has_entry_to nat_eq files.tree (parent_in directory (files.tree.node directory)) directory ≡ named
           → (steps : ℕ) × ReachedIn files.tree steps directory
-      by other true h =
+      below other true h =
           let named = entry_from files.tree tree (parent_in directory (files.tree.node directory)) directory h in
           from_root (parent_in directory (files.tree.node directory), named.0, named.1)
-      by other false h = none_is_some object (sym (ap (entry_named name) (tree.unnamed_empty directory is other
-          (λ named. true≢false (sym (ap (λ p. has_entry_to nat_eq files.tree p directory)
-          (tree.one_parent named.0 named.1 directory named.2 is)
-          ∙ entry_to files.tree named.0 named.1 directory named.2) ∙ h)))) ∙ e)
+      below other false h =
+          let empty = tree.unnamed_empty directory is other (λ named.
+          cc (
+            tree.one_parent named.0 named.1 directory named.2 is,
+            entry_to files.tree named.0 named.1 directory named.2,
+          ))
+          in none_is_some object (cc (empty))

@@ -142,7 +142,8 @@ module _ {fresh : Fresh ℕ} {world : World ℕ} {location : Location ℕ} {chan
           (inode_in (with_change nat_eq fresh world location change) n inode)) (sym same)
           (upper_filesystem_keeps fresh world location change overlay upper inode it.conditions it.is it.has
           (spoken (stack_of nat_eq world overlay upper) before change
-          (Rattle.vt_laws_trees.proofs.layers.layers.UpperWorld.overlay_tree world it.conditions number overlay it.is) it.asked)
+          (Rattle.vt_laws_trees.proofs.layers.layers.UpperWorld.overlay_tree world it.conditions number overlay it.is)
+          it.asked)
           (no_new fresh world upper.filesystem inode (it.none upper.filesystem)
           (subst (λ n. is_some (inode_in world n inode) ≡ true) same there))
           (λ object. no_lower world it.conditions number overlay it.is upper it.has inode object lower
@@ -150,7 +151,8 @@ module _ {fresh : Fresh ℕ} {world : World ℕ} {location : Location ℕ} {chan
           (subst (λ n. lies_or_counts_under nat_eq world n inode lower ≡ true) same lies)))
       by inode lies there false e = kept_same (inode_in world lower.filesystem inode) _
           (ap (λ f. f.files.tree.node inode) (others_elsewhere fresh world location change lower.filesystem
-          (λ s. none_is_some overlay (sym no_overlay ∙ ap (λ n. (filesystem_numbered nat_eq world n).overlay) s ∙ it.is))
+          (λ s. none_is_some overlay (sym no_overlay ∙ ap (λ n. (filesystem_numbered nat_eq world n).overlay) s
+          ∙ it.is))
           (λ o u f g s. true≢false (sym (eq-eqb lower.filesystem upper.filesystem
           (s ∙ ap (λ l. l.filesystem) (same_Some u upper
           (sym g ∙ ap (λ v. v.upper) (same_Some o overlay (sym f ∙ it.is)) ∙ it.has)))) ∙ e))))
@@ -161,7 +163,8 @@ module _ {fresh : Fresh ℕ} {world : World ℕ} {location : Location ℕ} {chan
       (λ lower m. subst (λ w. LeadsAsBefore world w lower) later_is
       (lower_leads lower (in_list overlay.lowers lower m))) upper.directory overlay.mounter merge
       (changes_keep_shown fresh (stack_of nat_eq world overlay upper) before change
-      (overlays_are_whole world number overlay upper it.conditions it.is it.has) it.distinct (λ k. it.none upper.filesystem k) it.asked)
+      (overlays_are_whole world number overlay upper it.conditions it.is it.has) it.distinct
+      (λ k. it.none upper.filesystem k) it.asked)
 
   merge_is : merge_of nat_eq later (filesystem_numbered nat_eq later number) changed_overlay upper ≡ merge
   merge_is = λ i. record { files = (overlay_later i).files; real = merge.real; upper = (upper_later i).files }

@@ -549,7 +549,12 @@ module _ (fresh : Fresh ℕ) (stack : Stack ℕ) (merge : Merge ℕ) (whole : Is
   -- All paths
   can : CanMove merge.files.tree f old t new o
   can =
-      record { named = may.named; in_directory = may.in_directory; not_under = may.not_under; replaced_empty = may.replaced_empty }
+      record {
+        named = may.named;
+        in_directory = may.in_directory;
+        not_under = may.not_under;
+        replaced_empty = may.replaced_empty;
+      }
 
   number_is : (path : List (List ℕ)) → number_at_path files path ≡ led files.tree merge.files.tree.root path
   number_is path = grind (arith, common_steps)

@@ -259,7 +259,8 @@ module _ (fresh : Fresh ℕ) {stack : Stack ℕ} {merge : Merge ℕ} (whole : Is
         at : (to rest : List (List ℕ)) × (to ++ new ∷ rest ≡ path) × (led between.tree start to ≡ Some ut) → ⊥
         at parts = true≢false (sym (prefix_passes (names_entry (view_in merge.upper start) ut new) path
             (parts.0 ++ new ∷ []) parts.1
-            (Rattle.vt_laws_trees.proofs.layers.layers.ShownDirectories.append_assoc parts.0 (new ∷ []) parts.1 ∙ parts.2)
+            (Rattle.vt_laws_trees.proofs.layers.layers.ShownDirectories.append_assoc parts.0 (new ∷ []) parts.1
+            ∙ parts.2)
             (Rattle.vt_laws_trees.proofs.layers.layers.ShownDirectories.longer_is_not_empty parts.0 new)
             (Rattle.vt_laws_trees.proofs.overlays.steps.WholeNames.entry_named_so merge.upper start ut new parts.0
             (to_before parts.0 start parts.3))) ∙ none)
@@ -368,7 +369,8 @@ module _ (fresh : Fresh ℕ) {stack : Stack ℕ} {merge : Merge ℕ} (whole : Is
             not_under last.0 (sym (led_behind last.0) ∙ ap (led merge.upper.tree stack.directory)
             (sym (Rattle.vt_laws_trees.proofs.layers.layers.UpperShown.without_last_of_longer (from_way ++ old
             ∷ last.0) last.1) ∙ ap Rattle.vt_spec.specs.Lists.without_last
-            (Rattle.vt_laws_trees.proofs.layers.layers.ShownDirectories.append_assoc from_way (old ∷ last.0) (last.1 ∷ [])
+            (Rattle.vt_laws_trees.proofs.layers.layers.ShownDirectories.append_assoc from_way (old ∷ last.0)
+            (last.1 ∷ [])
             ∙ ap (λ q. from_way ++ old ∷ q) last.2 ∙ sym named.1)
             ∙ Rattle.vt_laws_trees.proofs.layers.layers.UpperShown.without_last_of_longer named.0 new) ∙ named.2)
 

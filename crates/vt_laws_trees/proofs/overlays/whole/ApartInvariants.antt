@@ -90,7 +90,8 @@ module _ {fresh : Fresh ℕ} {world : World ℕ} {location : Location ℕ} {chan
     where
       here : (nat_eq n number ≡ true) × (n ≡ number) → IsMerged nat_eq later (filesystem_numbered nat_eq later n) other
       here t = subst (λ k. IsMerged nat_eq later (filesystem_numbered nat_eq later k) other) (sym t.1)
-          (changed_overlay_is_merged fresh world location change overlay other upper it.conditions it.is it.has it.distinct it.none it.asked (ap (λ k. (filesystem_numbered nat_eq later k).overlay) (sym t.1) ∙ e))
+          (changed_overlay_is_merged fresh world location change overlay other upper it.conditions it.is it.has
+          it.distinct it.none it.asked (ap (λ k. (filesystem_numbered nat_eq later k).overlay) (sym t.1) ∙ e))
 
       at_upper : n ≢ number → (nat_eq n upper.filesystem ≡ true) × (n ≡ upper.filesystem)
           → IsMerged nat_eq later (filesystem_numbered nat_eq later n) other
@@ -103,7 +104,8 @@ module _ {fresh : Fresh ℕ} {world : World ℕ} {location : Location ℕ} {chan
           let same =
           ApartLater.stays it n differ t.1 in
           subst (λ f. IsMerged nat_eq later f other) (sym same)
-          (other_overlays_stay_merged fresh world location change overlay other upper n it.conditions it.is it.has it.none
+          (other_overlays_stay_merged fresh world location change overlay other upper n it.conditions it.is it.has
+          it.none
           (WholeLater.spoken (stack_of nat_eq world overlay upper)
           (merge_of nat_eq world (filesystem_at nat_eq world location) overlay upper) change
           (ApartLater.whole it).tree it.asked) differ (sym (ap (λ f. f.overlay) same) ∙ e)).1

@@ -68,7 +68,8 @@ module _ {fresh : Fresh ℕ} {world : World ℕ} {location : Location ℕ} {chan
 
   pub numbers_in : (n : ℕ) → ListsNumbers nat_eq (filesystem_numbered nat_eq world n).files
   numbers_in n =
-      numbered_anyhow (λ (f : Filesystem ℕ). ListsNumbers nat_eq f.files) n world.filesystems it.conditions.files.numbers
+      numbered_anyhow (λ (f : Filesystem ℕ). ListsNumbers nat_eq f.files) n world.filesystems
+      it.conditions.files.numbers
       (λ k. refl)
 
   -- the layers that are not the upper one
@@ -141,7 +142,8 @@ module _ {fresh : Fresh ℕ} {world : World ℕ} {location : Location ℕ} {chan
 
   -- paths from the others lead where they led
   pub other_leads : (layer : Layer ℕ) → IsOther layer → LeadsAsBefore world later layer
-  other_leads layer other = leads_as_before world it.conditions layer (other_plain layer other) later (λ inode lies there.
+  other_leads layer other =
+      leads_as_before world it.conditions layer (other_plain layer other) later (λ inode lies there.
       inode_kept fresh world location change overlay upper it.conditions it.is it.has it.none
       (WholeLater.spoken stack before change whole.tree it.asked) layer (other_plain layer other) inode there
       (λ same object.
@@ -233,7 +235,8 @@ module _ {fresh : Fresh ℕ} {world : World ℕ} {location : Location ℕ} {chan
       (λ fresh_one. has_no_entry object name next (ap (λ n. is_directory_node (before.upper.tree.node n)) fresh_one.1
       ∙ ap is_directory_node (it.none upper.filesystem fresh_one.0)) old) leaf)) placed) (⊎_elim
       (λ own. ⊎_elim (λ file. inr (inl ((own.0, own.1), file))) (λ way. inl way) own.2)
-      (λ fresh_one. inr (inr fresh_one))) (UpperOwn.told fresh stack before whole new change it.asked object name next e)
+      (λ fresh_one. inr (inr fresh_one)))
+      (UpperOwn.told fresh stack before whole new change it.asked object name next e)
 
   placed_along : (path : List (List ℕ)) (from object : ℕ) → IsPlaced from → led merge.upper.tree from path ≡ Some object
       → IsPlaced object

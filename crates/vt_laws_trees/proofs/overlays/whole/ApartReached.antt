@@ -153,11 +153,16 @@ module _ {fresh : Fresh ℕ} {world : World ℕ} {location : Location ℕ} {chan
     inode_stays = changes_keep_so before.files (overlay_tree world it.conditions number overlay it.is)
         (overlay_numbers world it.conditions number overlay it.is)
         inode (before.upper.tree.node inode) fresh new stack overlay.real before.upper
-        (record { here = refl; apart = apart; root = root_is_upper world it.conditions number overlay it.is upper it.has })
+        (record {
+          here = refl;
+          apart = apart;
+          root = root_is_upper world it.conditions number overlay it.is upper it.has;
+        })
         (λ x. x ≡ before.upper.tree.node inode) (λ x e. e) change
         (λ f old t to o moves moved_real moved_upper copied fine from_up to_up object_up.
         moved_leaves before.files (overlay_tree world it.conditions number overlay it.is)
-        (overlay_numbers world it.conditions number overlay it.is) inode (before.upper.tree.node inode) (odds (odds fresh))
+        (overlay_numbers world it.conditions number overlay it.is) inode (before.upper.tree.node inode)
+        (odds (odds fresh))
         (λ k. new (2 * (2 * k + 1) + 1)) stack moved_real moved_upper fine f old t to o from_up to_up object_up
         (spared f old t to o moves (record { files = before.files; real = moved_real; upper = moved_upper }) copied))
         (WholeLater.spoken stack before change (overlay_tree world it.conditions number overlay it.is) it.asked)

@@ -59,7 +59,8 @@ module _ (fresh : Fresh ℕ) {one other : World ℕ} (same : Alike one other) (c
   }
   apply_alike (ToChange location change) = done _ _ (change_alike one other same copies fresh location change)
   apply_alike (ToMake directory name node) =
-      done _ _ (change_alike one other same copies (odds fresh) directory (Make directory.node name (evens fresh 0) node))
+      done _ _ (change_alike one other same copies (odds fresh) directory
+      (Make directory.node name (evens fresh 0) node))
   apply_alike (ToRemoveDirectory parent name directory) =
       done _ _ (change_alike (without_mounts_on nat_eq one directory) (without_mounts_on nat_eq other directory)
       (without_mounts_on_alike directory one other same)

@@ -22,9 +22,11 @@ same_plain world after same plain = subst (All (λ f. is_overlay f ≡ false)) (
 change_plain : (fresh : Fresh ℕ) (world : World ℕ) → IsPlain world → (location : Location ℕ) (change : Change ℕ)
     → IsPlain (with_change nat_eq fresh world location change)
 change_plain fresh world plain location change =
-    subst (λ overlay. IsPlain (filesystem_changed nat_eq fresh world (filesystem_at nat_eq world location) overlay change))
+    subst (λ overlay. IsPlain
+    (filesystem_changed nat_eq fresh world (filesystem_at nat_eq world location) overlay change))
     (sym none) (replaced_all (λ f. is_overlay f ≡ false)
-    (with_files (filesystem_at nat_eq world location) (changed nat_eq (filesystem_at nat_eq world location).files change))
+    (with_files (filesystem_at nat_eq world location)
+    (changed nat_eq (filesystem_at nat_eq world location).files change))
     world.filesystems plain (inl (ap (λ o. elim o [ None ↦ false | Some f ↦ true ]) none)))
   where
     none : (filesystem_at nat_eq world location).overlay ≡ None

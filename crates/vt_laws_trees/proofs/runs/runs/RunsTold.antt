@@ -61,10 +61,12 @@ module _ (grammar : Grammar) (in_hand : ℕ → Bool) (Asks : List ℕ → Type 
   told_alike [] refused m number renaming world other mine alike is early keeps mine_early asks text tells = tells
   told_alike (line ∷ lines) [] m number renaming world other mine alike is early keeps mine_early asks text tells =
       absurd tells
-  told_alike (line ∷ lines) (true ∷ refused) m number renaming world other mine alike is early keeps mine_early asks text
+  told_alike (line ∷ lines) (true ∷ refused) m number renaming world other mine alike is early keeps mine_early asks
+      text
       tells =
       let here : World ℕ = renamed renaming.there renaming.back world in
-      let steps = line_step_alike other here alike (over.named other is) (over.copies other here alike is) grammar line None in
+      let steps = line_step_alike other here alike (over.named other is)
+      (over.copies other here alike is) grammar line None in
       let written = refused_alike renaming grammar world here refl line number ∙ sym (steps.text number) in (
         tells.2,
         tells.3 ∙ ap (λ first. first ++ tells.2) written,
@@ -75,7 +77,8 @@ module _ (grammar : Grammar) (in_hand : ℕ → Bool) (Asks : List ℕ → Type 
             (λ k is. let low = early k is in omega arith) (refused_keeps grammar mine other line keeps)
             (λ k is. let low = mine_early k is in omega arith) (All-tail Asks line lines asks) tells.2 tells.4,
       )
-  told_alike (line ∷ lines) (false ∷ refused) m number renaming world other mine alike is early keeps mine_early asks text
+  told_alike (line ∷ lines) (false ∷ refused) m number renaming world other mine alike is early keeps mine_early asks
+      text
       tells =
       let allotment = tells.0 in
       let joint = joined_with_row grammar m renaming in_hand world (renamed renaming.there renaming.back world) refl
@@ -144,7 +147,8 @@ line_plain false false grammar world line fresh other plain =
 
 pub runs_have_one_text : RunsHaveOneText
 runs_have_one_text grammar refused script text in_hand fresh leaves opens asks tells =
-    kept_runs_have_one_text grammar in_hand (λ line. asks_for_overlay (request_of grammar line) ≡ false) IsPlain (record {
+    kept_runs_have_one_text grammar in_hand (λ line. asks_for_overlay (request_of grammar line) ≡ false) IsPlain
+    (record {
       first = All-cons (λ (filesystem : Filesystem ℕ). is_overlay filesystem ≡ false) (new_plain nat_eq 2 3) [] refl
           (λ k d below. absurd (omega arith));
       named = plain_has_one_name;

@@ -1,6 +1,6 @@
 -- No call gives a detached mount other flags, a mount point or a namespace.
 use Rattle.std.proofs.Common.{◌≡◌, refl, sym, ap, subst, ◌∙◌, ⊎_elim, ℕ, suc, nat_eq, Bool, true, false, true≢false, List, [], ◌∷◌, ◌&&◌, Option, Some, None, Ok, filter, map, eqb-true, arith, option_to_list}
-use Rattle.vt_spec.proofs.Common.{Among, Call, Filesystem, Fresh, IsWorld, Location, Make, Mount, MountFlags, MountInvariants, MountOverlay, Move, Outcome, Permit, Private, Remove, Serves, Task, ToBind, ToChange, ToEnterNamespace, ToExit, ToMake, ToMountOverlay, ToMountPlain, ToMove, ToOpen, ToOpenNew, ToPivot, ToRemoveDirectory, ToRename, ToSetFlags, ToSetType, ToUnmount, ToUnmountLazily, ToUnshare, ToWritePart, World, after, among-from_filter, among_from_list_all, and_parts, apply, bind_tree, call_outcome, common_steps, copied_mount, evens, finished_by, going, is_copied_up, is_in_ended, judge_in, list_all, looks_of, mount_at, mount_in, mount_lives, mount_numbered, mounted, mounts_of, namespace_entered, new_mount, none_is_some, number-mount_in, number-pivoted_mount, numbers_by, odds, overfills, overlay_at, overlay_filesystem, pivoted_mount, plain_filesystem, settled, taken_away, task_called, unshared, with_new_filesystem, without_mounts_on, without_replaced, without_task}
+use Rattle.vt_spec.proofs.Common.{Among, Call, Filesystem, Fresh, IsWorld, Location, Make, Mount, MountFlags, MountInvariants, MountOverlay, Move, Outcome, Permit, Private, Remove, Serves, Task, ToBind, ToChange, ToEnterNamespace, ToExit, ToMake, ToMountOverlay, ToMountPlain, ToMove, ToOpen, ToOpenNew, ToPivot, ToRemoveDirectory, ToRename, ToSetFlags, ToSetType, ToUnmount, ToUnmountLazily, ToUnshare, ToWritePart, World, among-from_filter, among_from_list_all, and_parts, apply, bind_tree, call_outcome, common_steps, copied_mount, evens, finished_by, going, is_copied_up, is_in_ended, judge_in, list_all, looks_of, mount_at, mount_in, mount_lives, mount_numbered, mounted, mounts_of, namespace_entered, new_mount, none_is_some, number-mount_in, number-pivoted_mount, numbers_by, odds, overfills, overlay_at, overlay_filesystem, pivoted_mount, plain_filesystem, settled, taken_away, task_called, unshared, with_new_filesystem, without_mounts_on, without_replaced, without_task}
 use Rattle.vt_laws_rules.specs.Granted.{IsGranted}
 use Rattle.vt_laws_rules.specs.Granted.IsGranted.{mounts_overlayfs}
 use Rattle.vt_laws_rules.proofs.given.Inversion.{calls_are_granted}
@@ -112,8 +112,7 @@ module _ (world : World ℕ) (fresh : Fresh ℕ) (task : Task ℕ) (is : IsWorld
   flags_stay (ToSetFlags mount flags) names number there none = by (nat_eq mount number) refl
     where
       by : (b : Bool) → nat_eq mount number ≡ b → HasFlags (left (ToSetFlags mount flags)) number
-      by true e = none_is_some task.namespace (sym none
-          ∙ ap (λ n. (mount_numbered nat_eq world n).namespace) (sym (eqb-true mount number e)) ∙ names)
+      by true e = none_is_some task.namespace (cc (eqb-true mount number e))
       by false e = cc (flags_are_of_one world (record { mount = mount; node = 0 }) flags number e)
   flags_stay (ToSetType mount word recursive) names number there none =
       (type_is_all_that_changes world fresh mount word recursive number).flags
@@ -163,7 +162,7 @@ module _ {world : World ℕ} {fresh : Fresh ℕ} {task : Task ℕ} (call : Call)
       → IsWorld nat_eq (call_outcome nat_eq fresh world task asked).world
   mounted_world (MountOverlay path options flags) e =
       mounting_leaves_a_world fresh world task path options flags is serves called
-  mounted_world asked e = absurd (true≢false (sym e))
+  mounted_world asked e = cc
 
   mounting : (asked : Call) (given : Permit ℕ)
       → IsGranted nat_eq (looks_of nat_eq world) (overfills nat_eq fresh world task) task asked given
@@ -174,7 +173,7 @@ module _ {world : World ℕ} {fresh : Fresh ℕ} {task : Task ℕ} (call : Call)
       attached_flags world fresh task is
       (overlay_filesystem nat_eq (evens fresh) world (overlay_at (looks_of nat_eq world) task places)) (odds fresh)
       here.location wanted number there
-  mounting asked given other e number there = absurd (true≢false (sym e))
+  mounting asked given other e number there = cc
 
   leaves_detached : LeavesDetached permit
   leaves_detached = by (mounts_overlay call) refl
@@ -202,7 +201,7 @@ module _ {world : World ℕ} {fresh : Fresh ℕ} {task : Task ℕ} (call : Call)
       (found_there (settled nat_eq applied).mounts number left)).0 in
       let numbered : now.number ≡ number = number-mount_in (settled nat_eq applied).mounts number in
       let same : mount_numbered nat_eq applied number ≡ now =
-      ap (mount_numbered nat_eq applied) (sym numbered) ∙ found_itself applied.mounts its.mounts.one_number now m in
+      cc (numbered, found_itself applied.mounts its.mounts.one_number now m) in
       let view : KeepsView (mount_numbered nat_eq world number) now =
       subst (KeepsView (mount_numbered nat_eq world number)) same
       ((permit_shown call is serves called granted).1.views number there) in
@@ -217,8 +216,7 @@ detached_mounts_stay world fresh name call number given there none = policy_lead
     → mount_numbered nat_eq later number ≡ mount_numbered nat_eq world number) world fresh name call (λ left. refl)
     (λ task permit changed called granted.
     let outcome : call_outcome nat_eq fresh world task call ≡ apply nat_eq fresh world task permit =
-    call_is_judged_then_applied fresh world task call
-    ∙ ap (λ j. after world j (apply nat_eq fresh world task)) granted in
+    cc (call_is_judged_then_applied fresh world task call) in
     subst (λ (o : Outcome ℕ). is_mount (finished_by nat_eq false world name changed o).world number ≡ true
     → mount_numbered nat_eq (finished_by nat_eq false world name changed o).world number
     ≡ mount_numbered nat_eq world number) (sym outcome)

@@ -32,7 +32,7 @@ has_before new list number (was, m, e) =
     let from = among-from_map (replaced_if_numbered nat_eq new) list was m in (
       from.0,
       from.1,
-      by from.0 (nat_eq new.number from.0.number) refl ∙ ap (λ (g : Filesystem ℕ). g.number) (sym from.2) ∙ e,
+      cc (by from.0 (nat_eq new.number from.0.number) refl, from.2, e),
     )
   where
     by : (old : Filesystem ℕ) (b : Bool) → nat_eq new.number old.number ≡ b → old.number ≡ (cond b new old).number
@@ -82,7 +82,7 @@ module _ (world : World ℕ) (fresh : Fresh ℕ) (task : Task ℕ) where
   more : (changed : List ℕ) (added : Filesystem ℕ) → added.number ≡ fresh (2 * 0) → (f : Filesystem ℕ)
       → Among f (world.filesystems ++ (added ∷ [])) → GoesOn world changed (fresh (2 * 0)) f
   more changed added number f m = ⊎_elim Old
-      (λ last. ⊎_elim (λ e. New (ap (λ (g : Filesystem ℕ). g.number) e ∙ number)) (λ none. absurd none) last)
+      (λ last. ⊎_elim (λ e. New (cc)) (λ none. absurd none) last)
       (among-append world.filesystems (added ∷ []) f m)
 
   pub filesystems_go_on : (permit : Permit ℕ) → AllGoOn permit

@@ -95,7 +95,7 @@ module _ {world : World ℕ} {fresh : Fresh ℕ} (given : IsCallIn world fresh) 
           ∙ found_by (λ (f : Filesystem ℕ). f.number) (no_filesystem before.number) world.filesystems
           given.is.files.one_filesystem before m))
       keeps (Changed raises was_in same) = absurd (rises left.change (λ most. held_below (sym left_is ∙ most))
-          (sym raised_now ∙ sym change_now ∙ sym same_now.0 ∙ sym left_is))
+          (cc (raised_now, change_now, same_now.0, left_is)))
         where
           left_is : left.change ≡ held
           left_is = grind (arith, common_steps, number_is, numbered)

@@ -1,6 +1,6 @@
 -- A pivot raises the change number of its namespace, so other tasks of a namespace whose number is what it was are what
 -- they were.
-use Rattle.std.proofs.Common.{◌≡◌, refl, sym, ap, subst, ◌∙◌, ⊎_elim, ℕ, nat_eq, Bool, true, false, true≢false, cond, ◌||◌, List, [], ◌∷◌, Some, None, Ok, eqb-true, eq-eqb, is_some, arith}
+use Rattle.std.proofs.Common.{◌≡◌, refl, sym, ap, subst, ⊎_elim, ℕ, nat_eq, Bool, true, false, true≢false, cond, ◌||◌, List, [], ◌∷◌, Some, None, Ok, eqb-true, eq-eqb, is_some, arith}
 use Rattle.vt_spec.proofs.Common.{Among, Call, Fresh, Location, Mount, PivotRoot, Task, TaskName, ToPivot, World, among-filter, among-from_filter, among-map, child_at, common_steps, filesystems_changed_by, holds_of, is_located, judge_in, mount_at, mount_lives, mount_numbered, mounts_of, nat_eq_itself, none_is_some, number-mount_in, numbers_raised, pivoted, pivoted_mount, policy, settled, stands_at, task_called}
 use Rattle.vt_laws_rules.proofs.judged.CallsJudged.{call_is_judged_then_applied}
 use Rattle.vt_laws_trees.specs.Calls.Tasks.{Pivots}
@@ -24,7 +24,7 @@ nothing_stands (first ∷ rest) place mount m stands none =
     by : (b : Bool) → stands_at nat_eq place first ≡ b → cond b (Some first) (child_at nat_eq rest place) ≡ None
         → (Among mount rest → child_at nat_eq rest place ≡ None → ⊥) → ⊥
     by true e h later = none_is_some first (sym h)
-    by false e h later = ⊎_elim (λ same. true≢false (sym (ap (stands_at nat_eq place) (sym same) ∙ stands) ∙ e))
+    by false e h later = ⊎_elim (λ same. cc)
         (λ n. later n h) m
 
 module _ {world : World ℕ} {fresh : Fresh ℕ} (given : IsCallIn world fresh) (name : TaskName) {caller : Task ℕ}
@@ -40,7 +40,7 @@ module _ {world : World ℕ} {fresh : Fresh ℕ} (given : IsCallIn world fresh) 
   new_mount = mount_numbered nat_eq world mount
 
   called : task_called world caller.name ≡ Some caller
-  called = ap (task_called world) (sym (name_found world name caller found)) ∙ found
+  called = cc (name_found world name caller found)
 
   may : MayPivot world caller mount put
   may = (all_permits_fit world fresh caller call (ToPivot mount put) given.is given.serves called refl judged).names
@@ -65,7 +65,7 @@ module _ {world : World ℕ} {fresh : Fresh ℕ} (given : IsCallIn world fresh) 
   moved_is = grind (arith, common_steps, nat_eq_itself, number-mount_in, eqb-true, number_is, true≢false, eq-eqb, may)
 
   in_namespace : (m : Mount ℕ) → m ≡ record root_mount { mount_point = Some put } → m.namespace ≡ Some caller.namespace
-  in_namespace m e = ap (λ (x : Mount ℕ). x.namespace) e ∙ may.own_root
+  in_namespace m e = cc (may.own_root)
 
   among_later : Among moved (mounts_of nat_eq (settled nat_eq left) caller.namespace)
   among_later =
@@ -74,14 +74,14 @@ module _ {world : World ℕ} {fresh : Fresh ℕ} (given : IsCallIn world fresh) 
       (among-map (pivoted_mount nat_eq root_mount new_mount put) world.mounts root_mount
       (found_there world.mounts caller.root.mount (own_there world caller caller.root.mount may.own_root)))
       (ap (λ o. is_some o || is_located nat_eq left moved.number) (in_namespace moved moved_is)))
-      (ap (holds_of (nat_eq caller.namespace)) (in_namespace moved moved_is) ∙ nat_eq_itself caller.namespace)
+      (cc (in_namespace moved moved_is, nat_eq_itself caller.namespace))
 
   -- so the namespace has not the mounts that it had
   pub pivots_raise : mounts_of nat_eq (policy nat_eq fresh world name call).world caller.namespace
       ≡ mounts_of nat_eq world caller.namespace → ⊥
   pivots_raise same =
       let here : mounts_of nat_eq (settled nat_eq left) caller.namespace ≡ mounts_of nat_eq world caller.namespace =
-      sym (ap (λ w. mounts_of nat_eq w caller.namespace) leaves) ∙ same in
+      cc (leaves, same) in
       let was : Among moved world.mounts =
       (among-from_filter (λ (m : Mount ℕ). holds_of (nat_eq caller.namespace) m.namespace) world.mounts moved
       (subst (Among moved) here among_later)).0 in

@@ -8,7 +8,7 @@ rises n h e = grind (arith, common_steps, eqb-true)
 
 same_truths : (a b : Bool) → same_bool a b ≡ true → a ≡ b
 same_truths true b e = sym e
-same_truths false true e = absurd (true≢false (sym e))
+same_truths false true e = cc
 same_truths false false e = refl
 
 flags_same : (a b : MountFlags) → same_flags a b ≡ true → a ≡ b
@@ -39,8 +39,8 @@ module _ (before later : World ℕ) (alike : ShowAlike before later) (number : �
       → ((y : Mount ℕ) → Among y ys → Among y later.mounts × (holds_of (nat_eq number) y.namespace ≡ true))
       → same_list (same_mount nat_eq before later) xs ys ≡ true → ys ≡ xs
   lists_same [] [] h k e = refl
-  lists_same [] (y ∷ ys) h k e = absurd (true≢false (sym e))
-  lists_same (x ∷ xs) [] h k e = absurd (true≢false (sym e))
+  lists_same [] (y ∷ ys) h k e = cc
+  lists_same (x ∷ xs) [] h k e = cc
   lists_same (x ∷ xs) (y ∷ ys) h k e =
       let both = and_parts (same_mount nat_eq before later x y) _ e in
       let numbers : Bool = nat_eq x.number y.number in

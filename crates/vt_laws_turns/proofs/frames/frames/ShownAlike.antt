@@ -1,5 +1,5 @@
 -- Mounts that a granted call leaves show what they showed.
-use Rattle.std.proofs.Common.{◌≡◌, refl, sym, ap, subst, ◌∙◌, ℕ, nat_eq, Bool, true, false, true≢false, Some, Ok, map}
+use Rattle.std.proofs.Common.{◌≡◌, refl, ap, subst, ◌∙◌, ℕ, nat_eq, Bool, true, false, Some, Ok, map}
 use Rattle.vt_spec.proofs.Common.{Among, Call, Fresh, IsWorld, Mount, MountOverlay, Outcome, Permit, Serves, Task, World, among-from_filter, among-map, among_from_contains, apply, call_outcome, evens, is_among_numbers, judge_in, looks_of, mount_lives, mount_numbered, odds, overfills, overlay_at, overlay_filesystem, settled, task_called}
 use Rattle.vt_laws_rules.proofs.given.Inversion.{calls_are_granted}
 use Rattle.vt_laws_rules.specs.Granted.{IsGranted}
@@ -30,8 +30,8 @@ show_alike world middle later one_before one_after seen left one other c d e =
     let after : mount_numbered nat_eq middle one.number ≡ other = ap (mount_numbered nat_eq middle) e
     ∙ found_itself middle.mounts one_after other (left other (among_from_contains later.mounts other d)) in
     let view = seen.views one.number is_there in (
-      sym (ap (λ (m : Mount ℕ). m.filesystem) before) ∙ sym view.filesystem ∙ ap (λ (m : Mount ℕ). m.filesystem) after,
-      sym (ap (λ (m : Mount ℕ). m.root) before) ∙ sym view.root ∙ ap (λ (m : Mount ℕ). m.root) after,
+      cc (before, view.filesystem, after),
+      cc (before, view.root, after),
     )
 
 module _ {world : World ℕ} {fresh : Fresh ℕ} {task : Task ℕ} (call : Call) {permit : Permit ℕ}
@@ -56,7 +56,7 @@ module _ {world : World ℕ} {fresh : Fresh ℕ} {task : Task ℕ} (call : Call)
       → IsWorld nat_eq (call_outcome nat_eq fresh world task asked).world
   mounted_world (MountOverlay path options flags) e =
       mounting_leaves_a_world fresh world task path options flags is serves called
-  mounted_world asked e = absurd (true≢false (sym e))
+  mounted_world asked e = cc
 
   outcome : call_outcome nat_eq fresh world task call ≡ apply nat_eq fresh world task permit
   outcome = cc (call_is_judged_then_applied fresh world task call, granted)
@@ -67,7 +67,7 @@ module _ {world : World ℕ} {fresh : Fresh ℕ} {task : Task ℕ} (call : Call)
   mounting asked given (mounts_overlayfs path words wanted here places admin end walked layered passed) e =
       mounted_seen world (odds fresh) here.location
       (overlay_filesystem nat_eq (evens fresh) world (overlay_at (looks_of nat_eq world) task places)) wanted
-  mounting asked given other e = absurd (true≢false (sym e))
+  mounting asked given other e = cc
 
   pub permit_shown : Shown permit
   permit_shown = by (mounts_overlay call) refl

@@ -17,7 +17,7 @@ pub same_kept : (f : Filesystem ℕ) → KeepsFilesystem f f
 same_kept f = record { root = refl; overlay = same_overlay f.overlay; inodes = λ inode. inr refl }
 
 left_on : {A : Type 0} (a b c : Option A) → IsLeftOrGone a b → IsLeftOrGone b c → IsLeftOrGone a c
-left_on a b c r s = ⊎_elim inl (λ same. ⊎_elim (λ gone. inl (same ∙ gone)) (λ e. inr (same ∙ e)) r) s
+left_on a b c r s = ⊎_elim inl (λ same. ⊎_elim (λ gone. inl (cc)) (λ e. inr (same ∙ e)) r) s
 
 overlay_on : (a b c : Option (Overlay ℕ)) → KeepsOverlay a b → KeepsOverlay b c → KeepsOverlay a c
 overlay_on a b c r s = grind (arith, common_steps, left_on)

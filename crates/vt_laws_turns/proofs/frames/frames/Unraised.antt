@@ -80,8 +80,8 @@ module _ (world : World ℕ) (fresh : Fresh ℕ) (given : IsCallIn world fresh) 
               → (b : Bool) → same_mounts_in nat_eq world (settled nat_eq applied) n.number ≡ b
               → namespace_change_of nat_eq later number ≡ (cond b n (record n { change = raised n.change })).change
               → mounts_of nat_eq later number ≡ mounts_of nat_eq world number
-          kept n at old false e now = absurd (rises n.change (λ most. same_now.1 (sym same_now.0 ∙ old ∙ most))
-              (sym now ∙ sym same_now.0 ∙ old))
+          kept n at old false e now = absurd (rises n.change (λ most. same_now.1 (cc (same_now.0)))
+              (cc (same_now.0)))
           kept n at old true e now =
               let same : n.number ≡ number = sym (eqb-true number n.number at) in
               lists_same world (settled nat_eq applied)
@@ -90,7 +90,7 @@ module _ (world : World ℕ) (fresh : Fresh ℕ) (given : IsCallIn world fresh) 
               (λ x m. among-from_filter (λ (mount : Mount ℕ). holds_of (nat_eq number) mount.namespace) world.mounts x m)
               (λ y m. among-from_filter (λ (mount : Mount ℕ). holds_of (nat_eq number) mount.namespace)
               (settled nat_eq applied).mounts y m)
-              (ap (same_mounts_in nat_eq world (settled nat_eq applied)) (sym same) ∙ e)
+              (cc)
 
           by : (o : Option (Namespace ℕ)) → found_in applied.namespaces ≡ o
               → mounts_of nat_eq later number ≡ mounts_of nat_eq world number

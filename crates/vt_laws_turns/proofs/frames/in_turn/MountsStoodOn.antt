@@ -50,7 +50,7 @@ module _ {world : World ℕ} (one : CallBetween) (task : Task ℕ) (is : IsWorld
       by (Some n) e h = mount_stays world later task.namespace (next_is task.namespace world one is beside)
           (unraised_namespaces_keep_mounts world one.fresh one.name one.call task.namespace
           (given_in task.namespace world one is beside) unraised)
-          l (e ∙ ap Some (sym (eqb-true task.namespace n (and_parts (nat_eq task.namespace n) true h).0)))
+          l (cc (eqb-true task.namespace n (and_parts (nat_eq task.namespace n) true h).0))
 
   pub stands_after_one : (other : TaskName) → task_called world other ≡ Some task → task_called later other ≡ Some task
       → StandsWhereItStood world later task

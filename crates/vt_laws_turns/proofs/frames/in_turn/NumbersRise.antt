@@ -29,11 +29,11 @@ rises_first was next now (inr (inr gone)) (inr on) = absurd (on.1 gone)
 rises_first was next now (inr (inl more)) (inr on) = by (was == last_number) refl
   where
     by : (b : Bool) → (was == last_number) ≡ b → RisesOn was now
-    by true e = absurd (on.1 (more ∙ ap (λ b. cond b was (was + 1)) e ∙ eqb-true was last_number e))
+    by true e = absurd (on.1 (cc (eqb-true was last_number e)))
     by false e =
-        let next_is : next ≡ was + 1 = more ∙ ap (λ b. cond b was (was + 1)) e in
+        let next_is : next ≡ was + 1 = cc in
         let above : was + 1 ≤ now = subst (λ n. n ≤ now) next_is on.0 in
-        inr (omega (arith, above), λ same. true≢false (sym (eq-eqb was last_number same) ∙ e))
+        inr (omega (arith, above), λ same. cc (eq-eqb was last_number same))
 
 rises_none : (was : ℕ) → RisesOn was was
 rises_none was = grind (arith, common_steps, eqb-true, true≢false, eq-eqb)
@@ -52,7 +52,7 @@ between was next now (inr (inl more)) (inr on) fresh = by (was == last_number) r
     by : (b : Bool) → (was == last_number) ≡ b → (is_stale was next ≡ false) × (is_stale next now ≡ false)
     by true e = absurd ((not_stale was now fresh).1 (sym (not_stale was now fresh).0 ∙ eqb-true was last_number e))
     by false e =
-        let next_is : next ≡ was + 1 = more ∙ ap (λ b. cond b was (was + 1)) e in
+        let next_is : next ≡ was + 1 = cc in
         let above : was + 1 ≤ now = subst (λ n. n ≤ now) next_is on.0 in
         let same : was ≡ now = (not_stale was now fresh).0 in
         absurd (omega (arith, above, same))
@@ -78,7 +78,7 @@ module _ {world : World ℕ} {fresh : Fresh ℕ} (given : IsCallIn world fresh) 
   raised_or_same : (n : Namespace ℕ) (was now : ℕ) → was ≡ n.change → (b : Bool)
       → now ≡ (cond b n (record n { change = raised n.change })).change → Rises was now
   raised_or_same n was now e true f = inl (f ∙ sym e)
-  raised_or_same n was now e false f = inr (inl (f ∙ ap raised (sym e)))
+  raised_or_same n was now e false f = inr (inl (cc))
 
   now_is : namespace_change_of nat_eq later number ≡ change_in (option_map raise (found_in applied.namespaces))
   now_is = ap change_in (found_map (λ (n : Namespace ℕ). n.number) raise number applied.namespaces raise_number)
@@ -89,7 +89,7 @@ module _ {world : World ℕ} {fresh : Fresh ℕ} (given : IsCallIn world fresh) 
       let at : nat_eq number n.number ≡ true =
       found_passes (λ (m : Namespace ℕ). nat_eq number m.number) applied.namespaces n e in
       ⊎_elim (λ old. ap change_in (namespace_found world.namespaces given.is.namespaces.one_namespace n old number at))
-      (λ new. absurd (other (sym new ∙ sym (eqb-true number n.number at)))) (namespaces_go_on world fresh task permit n
+      (λ new. absurd (other (cc (eqb-true number n.number at)))) (namespaces_go_on world fresh task permit n
       (found_among (λ (m : Namespace ℕ). nat_eq number m.number) applied.namespaces n e))
 
   granted_rises : Rises (namespace_change_of nat_eq world number) (namespace_change_of nat_eq later number)

@@ -48,7 +48,7 @@ module _ {world later : World ℕ} (is : MountInvariants nat_eq world) (are : Mo
       × ((mount.namespace ≡ Some namespace) ⊎ (mount.namespace ≡ None))
 
   is_within : (mount : Mount ℕ) → mount.namespace ≡ Some namespace → within mount ≡ true
-  is_within mount e = ap (holds_of (nat_eq namespace)) e ∙ nat_eq_itself namespace
+  is_within mount e = cc (nat_eq_itself namespace)
 
   pub later_too : (mount : Mount ℕ) → Among mount world.mounts → mount.namespace ≡ Some namespace
       → Among mount later.mounts
@@ -83,7 +83,7 @@ module _ {world later : World ℕ} (is : MountInvariants nat_eq world) (are : Mo
       ⊎_elim (λ f. (
         (child, there, later_too child there (below ∙ f), refl, inl (below ∙ f)),
         among-filter within world.mounts child there (is_within child (below ∙ f)),
-      )) (λ none. absurd (placed_inside world is child there here (stands_there here child at) (below ∙ none))) kind
+      )) (λ none. absurd (placed_inside world is child there here (stands_there here child at) (cc))) kind
 
   abbrev up : World ℕ → Location ℕ → Option (Location ℕ)
   up in_world here = option_map root_of (child_at nat_eq in_world.mounts here)
@@ -119,7 +119,7 @@ module _ {world later : World ℕ} (is : MountInvariants nat_eq world) (are : Mo
 
   way : (n : ℕ) (a : Location ℕ) → IsOwn a.mount → up world (last_or a (chain n (up world) a)) ≡ None
       → Way (up world) (up later) key there a
-  way zero a own e = ends a e (ap (option_map root_of) (same_child a own) ∙ e)
+  way zero a own e = ends a e (cc (same_child a own))
   way (suc n) a own e = by (child_at nat_eq world.mounts a) refl (λ b o f. way n b o f)
     where
       by : (o : Option (Mount ℕ)) → child_at nat_eq world.mounts a ≡ o
@@ -127,11 +127,11 @@ module _ {world later : World ℕ} (is : MountInvariants nat_eq world) (are : Mo
           → Way (up world) (up later) key there b) → Way (up world) (up later) key there a
       by None f rest =
           let none : up world a ≡ None = ap (option_map root_of) f in
-          ends a none (ap (option_map root_of) (same_child a own) ∙ none)
+          ends a none (cc (same_child a own))
       by (Some c) f rest =
           let goes : up world a ≡ Some (root_of c) = ap (option_map root_of) f in
           let child = child_own a c own f in
-          goes_on a (root_of c) goes (ap (option_map root_of) (same_child a own) ∙ goes)
+          goes_on a (root_of c) goes (cc (same_child a own, goes))
           (subst (λ k. Among k there) (sym (ap key_of f))
           (among-map (λ (mount : Mount ℕ). suc mount.number) (mounts_of nat_eq world namespace) c child.1))
           (rest (root_of c) child.0 (sym (ap (up world) (ap (last_or a) (chain_goes_on (up world) n a (root_of c) goes)
@@ -160,8 +160,8 @@ module _ {world later : World ℕ} (is : MountInvariants nat_eq world) (are : Mo
       → (mount_numbered nat_eq world number).mount_point ≡ Some point → IsOwn point.mount × Among (suc number) there
   parent_own number point (mount, m, n, at, kind) e =
       let its : mount_numbered nat_eq world number ≡ mount =
-      ap (mount_numbered nat_eq world) (sym at) ∙ itself world is mount m in
-      let placed : mount.mount_point ≡ Some point = sym (ap (λ (x : Mount ℕ). x.mount_point) its) ∙ e in
+      cc (at, itself world is mount m) in
+      let placed : mount.mount_point ≡ Some point = cc (its) in
       ⊎_elim (λ f.
       let above : (mount_numbered nat_eq world point.mount).namespace ≡ Some namespace =
       sym (sym (ap (λ (x : Mount ℕ). x.namespace) (itself world is mount m))
@@ -173,7 +173,7 @@ module _ {world later : World ℕ} (is : MountInvariants nat_eq world) (are : Mo
           later_too (mount_numbered nat_eq world point.mount) found above,
           number-mount_in world.mounts point.mount,
           inl above,
-        )) (λ none. none_is_some namespace (sym (ap (λ (x : Mount ℕ). x.namespace) none) ∙ above))
+        )) (λ none. none_is_some namespace (cc))
             (found_or_none world.mounts point.mount),
         subst (λ k. Among (suc k) there) at
             (among-map (λ (x : Mount ℕ). suc x.number) (mounts_of nat_eq world namespace) mount
@@ -210,7 +210,7 @@ module _ {world later : World ℕ} (is : MountInvariants nat_eq world) (are : Mo
         by : (o : Option (Location ℕ)) → hop_in world a ≡ o → Way (hop_in world) (hop_in later) hop_key there a
         by None f = ends a f (hop_same a own ∙ f)
         by (Some b) f =
-            none_is_some b (sym (ap (λ n. (mount_numbered nat_eq world n).mount_point) at ∙ e) ∙ hop_point a b f)
+            none_is_some b (cc (hop_point a b f))
     hop_way number (on_parent it point e below up_stands) a at own =
         by (hop_in world a) refl (λ b same_point own_b. hop_way point.mount up_stands b same_point own_b)
       where
@@ -221,7 +221,7 @@ module _ {world later : World ℕ} (is : MountInvariants nat_eq world) (are : Mo
             let placed = hop_point a b f in
             let parent = parent_own a.mount b own placed in
             let point_is : point ≡ b =
-            same_Some point b (sym (ap (λ n. (mount_numbered nat_eq world n).mount_point) at ∙ e) ∙ placed) in
+            same_Some point b (cc (placed)) in
             goes_on a b f (hop_same a own ∙ f)
             (subst (λ k. Among k there) (sym (ap (λ o. hop_key_of o a.mount) f)) parent.1)
             (rest b (ap (λ (l : Location ℕ). l.mount) (sym point_is)) parent.0)

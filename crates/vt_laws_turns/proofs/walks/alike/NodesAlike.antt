@@ -46,7 +46,7 @@ module _ {world later : World ℕ} (trees : TreeInvariants nat_eq world) (later_
 
   pub node_same : (inode : ℕ) → is_some (after.tree.node inode) ≡ true → after.tree.node inode ≡ before.tree.node inode
   node_same inode there =
-      ⊎_elim (λ gone. absurd (true≢false (sym there ∙ ap is_some gone))) (λ same. same) (kept.inodes inode)
+      ⊎_elim (λ gone. absurd cc) (λ same. same) (kept.inodes inode)
 
   there_by : (directory : ℕ) → IsDirectory after.tree directory → is_some (after.tree.node directory) ≡ true
   there_by directory is = directory_used after.tree directory is
@@ -90,5 +90,5 @@ module _ {world later : World ℕ} (trees : TreeInvariants nat_eq world) (later_
       (length before.numbers) d
       (way_up after tree (named_parent nat_eq before.tree) before.numbers (λ x directory. sym (parent_same x directory))
       (λ x directory. listed_in world trees x
-      (ap is_some (sym (node_same x (there_by x directory))) ∙ there_by x directory)) d is reached)
+      (cc (node_same x (there_by x directory), there_by x directory))) d is reached)
       (omega arith) (omega arith))

@@ -1,6 +1,6 @@
 -- One step of a walk leads where it led, if the filesystems that it meets are what they were.
-use Rattle.std.proofs.Common.{append-nil, ◌≡◌, refl, sym, ap, subst, ◌∙◌, inl, inr, ⊎_elim, ℕ, nat_eq, Bool, true, false, cond, List, [], ◌∷◌, ◌++◌, Option, Some, None, Ok, Err, Result, flat_map, length, not, ◌||◌, is_some, arith, IfOk, ok_or, option_map, option_to_list}
-use Rattle.vt_spec.proofs.Common.{Among, Dot, DotDot, Here, IsWorld, LastWord, Location, Looks, Mount, Named, NoWord, Node, Overlay, Rules, Stop, Task, World, among-append, among-append_left, among-append_right, among-map, and_then, chain, common_steps, denial, entered_upward, entries_in, entry_location, entry_named, execute_right, filesystem_numbered, filesystems_of, hops, is_directory_node, is_directory_under, is_removed, last_or, looks_of, map-append, map_alike, met_by, mount_numbered, mounter_allows, mounts_of, node_allows, parent_in, same_location, search_rules, stepped, steps_with, stopped_by, unless, up_from, word_walked}
+use Rattle.std.proofs.Common.{append-nil, ◌≡◌, refl, sym, ap, subst, ◌∙◌, inl, inr, ⊎_elim, ℕ, nat_eq, Bool, true, false, cond, List, [], ◌∷◌, ◌++◌, Option, Some, None, Ok, Err, Result, flat_map, length, not, ◌||◌, arith, IfOk, ok_or, option_map, option_to_list}
+use Rattle.vt_spec.proofs.Common.{Among, Dot, DotDot, Here, IsWorld, LastWord, Location, Looks, Mount, Named, NoWord, Node, Overlay, Rules, Stop, Task, World, among-append, among-append_left, among-append_right, among-map, and_then, chain, common_steps, denial, entered_upward, entries_in, entry_location, entry_named, execute_right, filesystem_numbered, filesystems_of, hops, is_directory_node, is_directory_under, is_removed, last_or, looks_of, map-append, map_alike, met_by, mount_numbered, mounter_allows, mounts_of, node_allows, parent_in, same_location, search_rules, stepped, steps_with, stopped_by, unless, word_walked}
 use Rattle.vt_spec.specs.declared.errors.Deny.{Deny}
 use Rattle.vt_spec.specs.declared.errors.Rule.TheVariants.{W3, W4, W5, W6, W8}
 use Rattle.vt_spec.specs.Machine.Looks.{is_directory_at, mount_at, topmost}
@@ -78,7 +78,7 @@ module _ {world later : World ℕ} (isw : IsWorld nat_eq world) (isl : IsWorld n
 
   pub node_is : (l : Location ℕ) → IsThere l → Kept (shown_at l) → other.node l ≡ one.node l
   node_is l is kept = first
-      ∙ node_same isw.files isl.files (shown_at l) kept l.node (sym (ap is_some first) ∙ is.after.1)
+      ∙ node_same isw.files isl.files (shown_at l) kept l.node (cc (first, is.after.1))
     where
       first : other.node l ≡ (filesystem_numbered nat_eq later (shown_at l)).files.tree.node l.node
       first = ap (λ (m : Mount ℕ). (filesystem_numbered nat_eq later m.filesystem).files.tree.node l.node)
@@ -90,13 +90,12 @@ module _ {world later : World ℕ} (isw : IsWorld nat_eq world) (isl : IsWorld n
   pub search_is : (l : Location ℕ) → IsThere l → Kept (shown_at l)
       → search_rules nat_eq other task l ≡ search_rules nat_eq one task l
   search_is l is kept =
-      ap (λ n. (not (is_directory_node n), W3) ∷ (not (node_allows task.credentials execute_right n), W4)
-      ∷ (not (mounter_allows (other.overlay l) execute_right n), W5) ∷ []) (node_is l is kept)
-      ∙ ap (λ b. (not (is_directory_node (one.node l)), W3)
-      ∷ (not (node_allows task.credentials execute_right (one.node l)), W4) ∷ (not b, W5) ∷ [])
-      (ap (λ (m : Mount ℕ). mounter_allows (filesystem_numbered nat_eq later m.filesystem).overlay execute_right
-      (one.node l)) (mount_same l.mount is.own) ∙ mounter_by (filesystem_numbered nat_eq world (shown_at l)).overlay
-      (filesystem_numbered nat_eq later (shown_at l)).overlay kept.overlay execute_right (one.node l))
+      cc (
+        node_is l is kept,
+        mount_same l.mount is.own,
+        mounter_by (filesystem_numbered nat_eq world (shown_at l)).overlay
+            (filesystem_numbered nat_eq later (shown_at l)).overlay kept.overlay execute_right (one.node l),
+      )
 
   -- whether a directory has left the root of its mount
   abbrev lost_by : World ℕ → Mount ℕ → ℕ → Bool
@@ -128,7 +127,7 @@ module _ {world later : World ℕ} (isw : IsWorld nat_eq world) (isl : IsWorld n
       let point = hop_point isw.mounts isl.mounts task.namespace same task a b e in
       let before = place_found world isw task a.mount b is.before.0 point in
       let after = place_found later isl task a.mount b is.after.0
-      (ap (λ (m : Mount ℕ). m.mount_point) (mount_same a.mount is.own) ∙ point) in (
+      (cc (mount_same a.mount is.own, point)) in (
         record {
           own = (parent_own isw.mounts isl.mounts task.namespace same a.mount b is.own point).0;
           before = directory_found world isw task b before;
@@ -240,8 +239,7 @@ module _ {world later : World ℕ} (isw : IsWorld nat_eq world) (isl : IsWorld n
       ∙ ap (λ b. filesystems_of nat_eq other (way here ++ cond b []
       (other.mounts_over (parent_location nat_eq other top)))) (top_is top there.own)
       ∙ ap (λ l. filesystems_of nat_eq other (way here ++ cond (is_top nat_eq one task top) [] l))
-      (ap other.mounts_over (parent_is top there (top_kept here kept))
-      ∙ over_same (parent_location nat_eq one top) there.own)
+      (cc (parent_is top there (top_kept here kept), over_same (parent_location nat_eq one top) there.own))
       ∙ shown_same (way here ++ entered_upward nat_eq one task top)
       (λ l m. ⊎_elim (λ n. (way_there here is l n).own) (λ n. entered_own top there.own l n)
       (among-append (way here) (entered_upward nat_eq one task top) l m))
@@ -289,8 +287,7 @@ module _ {world later : World ℕ} (isw : IsWorld nat_eq world) (isl : IsWorld n
   stepped_is here Dot is directory kept = (refl, (is.own, kept (shown_at here) (inl refl)))
   stepped_is here (Named name) is directory kept =
       let by = named_by here is.own (entry_named name (entries_in (one.node here))) (λ f m. kept f (inr m)) in (
-        ap (λ o. ok_or (option_map (topmost other) o) (denial W6))
-            (entry_is here name is (kept (shown_at here) (inl refl))) ∙ by.0,
+        cc (entry_is here name is (kept (shown_at here) (inl refl)), by.0),
         by.1,
       )
   stepped_is here DotDot is directory kept =
@@ -298,13 +295,13 @@ module _ {world later : World ℕ} (isw : IsWorld nat_eq world) (isl : IsWorld n
       let there = way_directories here is directory top (top_among here) in
       let its = top_kept here kept in
       let parent = parent_location nat_eq one top in (
-        ap (λ h. up_from nat_eq other task (last_or here h)) (way_same here is)
-            ∙ ap (λ t. cond t (Ok top) (unless ((is_lost nat_eq other top, W8) ∷ [])
-            (Ok (topmost other (parent_location nat_eq other top))))) (top_is top there.0.own)
-            ∙ ap (λ b. cond (is_top nat_eq one task top) (Ok top) (unless ((b, W8) ∷ [])
-            (Ok (topmost other (parent_location nat_eq other top))))) (lost_is top there.0 its there.1)
-            ∙ ap (λ l. cond (is_top nat_eq one task top) (Ok top) (unless ((is_lost nat_eq one top, W8) ∷ []) (Ok l)))
-            (ap (topmost other) (parent_is top there.0 its) ∙ topmost_same parent there.0.own),
+        cc (
+          way_same here is,
+          top_is top there.0.own,
+          lost_is top there.0 its there.1,
+          parent_is top there.0 its,
+          topmost_same parent there.0.own,
+        ),
         up_by top (there.0.own, its) (is_top nat_eq one task top) (is_lost nat_eq one top)
             (λ e. over_kept parent there.0.own (λ f m. kept f
             (subst (Among f) (sym (map-append shown_at (way here) (entered_upward nat_eq one task top)))

@@ -155,7 +155,7 @@ module _ {world later : World ℕ} (isw : IsWorld nat_eq world) (isl : IsWorld n
     slash = false;
     steps = all_met [] here.steps;
   }))) (topmost_same isw isl task stands.mounts here.location there.own)
-  end_is here last there true e = absurd (true≢false (sym e))
+  end_is here last there true e = cc
 
   end_fine : (here : Here ℕ) (last : Last) → There here.location → (b : Bool)
       → Fine (cond b (ended nat_eq before task here last)
@@ -191,13 +191,13 @@ module _ {world later : World ℕ} (isw : IsWorld nat_eq world) (isl : IsWorld n
   followed_is directory is symlink own text pending last =
       let start : Here ℕ = symlink_start nat_eq before task directory symlink text in
       let rest = gone_on_is pending start last (start_standing directory is text) in (
-        ap (λ r. then_walk (walk_unless symlink.steps r (symlink_start nat_eq after task directory symlink text))
-            (λ begin. gone_on nat_eq after task begin pending last)) (follow_is symlink text own)
-            ∙ ap (λ s. then_walk (walk_unless symlink.steps (follow_rules nat_eq before symlink text) s)
-            (λ begin. gone_on nat_eq after task begin pending last)) (start_is directory symlink text)
-            ∙ unless_at symlink.steps (follow_rules nat_eq before symlink text) start
-            (λ begin. gone_on nat_eq after task begin pending last)
-            (λ begin. gone_on nat_eq before task begin pending last) rest.0,
+        cc (
+          follow_is symlink text own,
+          start_is directory symlink text,
+          unless_at symlink.steps (follow_rules nat_eq before symlink text) start
+              (λ begin. gone_on nat_eq after task begin pending last)
+              (λ begin. gone_on nat_eq before task begin pending last) rest.0,
+        ),
         fine_unless symlink.steps (follow_rules nat_eq before symlink text) start
             (λ begin. gone_on nat_eq before task begin pending last) rest.1,
       )
@@ -324,11 +324,11 @@ module _ {world later : World ℕ} (isw : IsWorld nat_eq world) (isl : IsWorld n
       × IfOk (placed_to here word slash (steps_at nat_eq before task here word)
       (search_rules nat_eq before task here.location) (object_named nat_eq before task here.location word)) PlaceFine
   named_is here word slash there kept met same = (
-    ap (λ m. placed_to here word slash (m ∷ here.steps) (search_rules nat_eq after task here.location)
-        (object_named nat_eq after task here.location word)) same
-        ∙ ap (λ r. placed_to here word slash steps r (object_named nat_eq after task here.location word))
-        (search_is isw isl task stands.mounts here.location there kept)
-        ∙ found_same (is_directory_at before here.location) refl,
+    cc (
+      same,
+      search_is isw isl task stands.mounts here.location there kept,
+      found_same (is_directory_at before here.location) refl,
+    ),
     found_fine (is_directory_at before here.location) refl,
   )
     where
@@ -495,7 +495,7 @@ module _ {world later : World ℕ} (isw : IsWorld nat_eq world) (isl : IsWorld n
           → (text_word nat_eq after task here list text.slash others last
           ≡ text_word nat_eq before task here list text.slash others last)
           × Fine (text_word nat_eq before task here list text.slash others last)
-      by [] none k = absurd (true≢false (sym none))
+      by [] none k = cc
       by (word ∷ list) more k = text_word_is here there word list text.slash others last k
 
   -- all filesystems that a walk met are what they were

@@ -1,5 +1,5 @@
 -- One word is one step, so after as many words as a walk has steps nothing is left of it.
-use Rattle.std.proofs.Common.{◌≡◌, refl, sym, ap, ◌∙◌, cond, ℕ, suc, nat_eq, Bool, true, false, true≢false, not, List, [], ◌∷◌, ◌-◌, ◌≤◌, length, Option, Some, None, Ok, Err, Result, arith}
+use Rattle.std.proofs.Common.{◌≡◌, refl, ap, ◌∙◌, cond, ℕ, suc, nat_eq, Bool, true, false, true≢false, not, List, [], ◌∷◌, ◌-◌, ◌≤◌, length, Option, Some, None, Ok, Err, Result, arith}
 use Rattle.vt_spec.proofs.Common.{Dot, DotDot, Here, LastWord, Location, Looks, Named, NoWord, Place, Rules, Stop, Task, and_then, common_steps, entered, entered_mounts, filesystems_of, follow_rules, is_empty_list, is_no_word, last_word, most_symlinks, object_named, placed, search_rules, stepped, steps_at, steps_with, stopped_by, symlink_start, symlink_there, then_walk, unless, walk_unless, word_walked}
 use Rattle.vt_spec.specs.declared.errors.Deny.{Deny}
 use Rattle.vt_laws_turns.specs.Walks.Walkers.{Last, Pending, Walk, Walker, all_words, arrived, ended, first_words, gone_on, has_no_word, last_of, last_step, one_word, opened}
@@ -83,7 +83,7 @@ module _ (looks : Looks ℕ) (task : Task ℕ) where
   named_steps : {A : Type 0} (count : ℕ) (steps : List (List ℕ)) (rules : Rules) (found : Result A Deny)
       (place : A → Place ℕ) → length steps ≡ count → ((a : A) → (place a).steps ≡ steps)
       → PlaceHasSteps count (stopped_by steps (and_then (unless rules found) (λ a. Ok (place a))))
-  named_steps count steps [] (Ok a) place same is = ap length (is a) ∙ same
+  named_steps count steps [] (Ok a) place same is = cc (is a)
   named_steps count steps [] (Err deny) place same is = same
   named_steps count steps ((true, rule) ∷ rules) found place same is = same
   named_steps count steps ((false, rule) ∷ rules) found place same is =
@@ -173,7 +173,7 @@ module _ (looks : Looks ℕ) (task : Task ℕ) where
       search (arith, common_steps, here, entered_steps, unless_then, first_words_steps, start_steps, one_less)
 
   turned : (b : Bool) → not b ≡ true → b ≡ false
-  turned true e = absurd (true≢false (sym e))
+  turned true e = cc
   turned false e = refl
 
   last_steps : (here : Here ℕ) (last : Last) (count : ℕ) → length here.steps ≡ count → here.left ≤ most_symlinks

@@ -1,6 +1,6 @@
 -- How deep symlinks may stand in one another's texts does not matter, where fewer are left to follow; and a walk has
 -- each step that it had.
-use Rattle.std.proofs.Common.{◌≡◌, refl, ap, subst, ◌∙◌, ℕ, zero, suc, pred, nat_eq, Bool, true, false, List, [], ◌∷◌, ◌-◌, ◌≤◌, length, reverse, Option, Some, None, Ok, Err, Result, arith, nat_lt, ◌==◌}
+use Rattle.std.proofs.Common.{◌≡◌, refl, ap, subst, ℕ, zero, suc, pred, nat_eq, Bool, true, false, List, [], ◌∷◌, ◌-◌, ◌≤◌, length, reverse, Option, Some, None, Ok, Err, Result, arith, nat_lt, ◌==◌}
 use Rattle.vt_spec.proofs.Common.{Follow, Here, LastWord, Location, Looks, Rules, Stop, Task, also_met, and_then, common_steps, follow_rules, if_symlink, last_word, list_any, longest_name, search_rules, slash_rules, stepped, steps_with, stopped_by, symlink_start, symlink_text, symlink_walked, then_walk, unless, walk_unless, word_walked, words, words_walked}
 use Rattle.vt_spec.specs.declared.errors.Deny.{Deny}
 use Rattle.vt_spec.specs.declared.errors.Rule.TheVariants.{W2, W7, W9}
@@ -41,7 +41,7 @@ pub same_then : (most least : ℕ) (a b : Result (Here ℕ) (Stop ℕ)) (f g : H
     → ((here : Here ℕ) → here.left ≤ most → least ≤ length here.steps → Same most least (f here) (g here))
     → Same most least (then_walk a f) (then_walk b g)
 same_then most least (Ok here) b f g (e, w) next =
-    let n = next here w.0 w.1 in (n.0 ∙ ap (λ r. then_walk r g) e, n.1)
+    let n = next here w.0 w.1 in (cc (n.0), n.1)
 same_then most least (Err stop) b f g (e, w) next = (ap (λ r. then_walk r g) e, w)
 
 -- what comes after a walk within these bounds

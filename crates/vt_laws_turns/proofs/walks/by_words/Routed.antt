@@ -63,10 +63,10 @@ module _ (looks : Looks ℕ) (task : Task ℕ) where
   source_kept path = grind (arith, common_steps, here_kept, directory_kept)
 
   directory_met : (path : List ℕ) → (here_route (directory_walk nat_eq looks task path)).steps ≡ met_for Words path
-  directory_met path = here_route_steps (directory_walk nat_eq looks task path) ∙ ap reverse (directory_kept path)
+  directory_met path = cc (here_route_steps (directory_walk nat_eq looks task path), directory_kept path)
 
   source_met : (path : List ℕ) → (here_route (source_walk nat_eq looks task path)).steps ≡ met_for Words path
-  source_met path = here_route_steps (source_walk nat_eq looks task path) ∙ ap reverse (source_kept path)
+  source_met path = cc (here_route_steps (source_walk nat_eq looks task path), source_kept path)
 
   destination_met : (path : List ℕ) → (here_route (destination_walk nat_eq looks task path)).steps ≡ met_for Words path
   destination_met path = grind (arith, common_steps, here_route_steps, here_kept, source_kept)
@@ -80,10 +80,10 @@ module _ (looks : Looks ℕ) (task : Task ℕ) where
   old_kept path = place_kept (place_walk nat_eq looks task path) (λ place. (not (is_some place.object), W6) ∷ [])
 
   new_met : (path : List ℕ) → (place_route (new_walk nat_eq looks task path)).steps ≡ met_for InDirectory path
-  new_met path = place_route_steps (new_walk nat_eq looks task path) ∙ ap reverse (new_kept path)
+  new_met path = cc (place_route_steps (new_walk nat_eq looks task path), new_kept path)
 
   old_met : (path : List ℕ) → (place_route (old_walk nat_eq looks task path)).steps ≡ met_for InDirectory path
-  old_met path = place_route_steps (old_walk nat_eq looks task path) ∙ ap reverse (old_kept path)
+  old_met path = cc (place_route_steps (old_walk nat_eq looks task path), old_kept path)
 
   new_leaf_met : (path : List ℕ) → (place_route (new_leaf_walk nat_eq looks task path)).steps ≡ met_for InDirectory path
   new_leaf_met path = place_route_steps (new_leaf_walk nat_eq looks task path)
@@ -121,7 +121,7 @@ module _ (looks : Looks ℕ) (task : Task ℕ) where
   single e = ap (λ s. s ∷ []) e
 
   both : {a b c d : List (List ℕ)} → a ≡ b → c ≡ d → a ∷ c ∷ [] ≡ b ∷ d ∷ []
-  both {b = b} {c = c} e f = ap (λ s. s ∷ c ∷ []) e ∙ ap (λ s. b ∷ s ∷ []) f
+  both {b = b} {c = c} e f = cc (e, f)
 
   open_met : (path : List ℕ) (creation : Creation) → (open_route nat_eq looks task path creation).steps
       ≡ met_for (Rattle.vt_laws_turns.specs.Walks.Routes.open_aim creation) path

@@ -162,5 +162,6 @@ upper_layers_after_calls fresh numbers world task permit location change at over
     after_call fresh task location at conditions is has numbers permit change does new asks
 
 pub upper_layers_after_whole_calls : UpperLayersAfterWholeCalls
-upper_layers_after_whole_calls fresh numbers world task call permit location change at overlay upper conditions judged does is has new asks =
+upper_layers_after_whole_calls fresh numbers world task call permit location change at overlay upper conditions judged
+    does is has new asks =
     grind (arith, common_steps, call_is_judged_then_applied, upper_layers_after_calls)

@@ -26,7 +26,8 @@ module _ (one second : World ℕ) (same : Alike one (with_mounts_of one second))
         || list_any (λ (location : Location ℕ). nat_eq mount.number location.mount)
         (sym (locations_same one other same) i)) one.mounts) ∙ is.mounts;
     filesystems =
-        sym (each_all SameFilesystem (filesystem_lives nat_eq one) (filesystem_lives nat_eq other) (lives_same one other same)
+        sym (each_all SameFilesystem (filesystem_lives nat_eq one) (filesystem_lives nat_eq other)
+        (lives_same one other same)
         one.filesystems other.filesystems same.filesystems) ∙ is.filesystems;
     inodes = each_holds SameFilesystem (λ f. list_all (is_inode_used one f) f.files.numbers ≡ true)
         (λ f. list_all (is_inode_used other f) f.files.numbers ≡ true)

@@ -118,7 +118,8 @@ rising_filtered stays (first ∷ rest) rising =
     by false before later = later
 
 -- filters by two tests, in whatever order
-pub filters_swapped : {A : Type 0} (p q : A → Bool) (list : List A) → filter p (filter q list) ≡ filter q (filter p list)
+pub filters_swapped : {A : Type 0} (p q : A → Bool) (list : List A)
+    → filter p (filter q list) ≡ filter q (filter p list)
 filters_swapped p q [] = refl
 filters_swapped {A} p q (first ∷ rest) = grind (arith, common_steps, filters_swapped p q rest)
 

@@ -1,6 +1,6 @@
 -- Each change of a tree that a permit asks for is proper, and fits whoever keeps that tree alone.
 use Rattle.std.proofs.Common.{arith, eq-eqb, le-leb, leb-true, ltb-false, ne_eqb, ◌≡◌, ◌≢◌, refl, sym, ap, subst, ◌∙◌, ⊎_elim, true≢false, ℕ, zero, suc, ◌+◌, ◌*◌, nat_eq, nat_le, nat_lt, Bool, true, false, not, cond, List, [], ◌∷◌, ◌&&◌, ◌||◌, length, Option, Some, None, option_map, option_and_then}
-use Rattle.vt_spec.proofs.Common.{AddName, Allowed, Change, CopyUp, FileTree, Filesystem, Fits, Fresh, HasName, Inode, Inodes, IsDirectory, IsReached, IsTree, IsWorld, ListsNumbers, Location, Make, MayReplace, Move, Node, Permit, Remove, SetAttr, SetBytes, SetMark, Task, ToChange, ToList, ToMake, ToOpen, ToOpenNew, ToRead, ToReadPart, ToRemoveDirectory, ToRename, ToStat, ToWritePart, Tree, World, and_true_first, bytes_in, chain, chain_ends, chain_goes_on, common_steps, entry_at, evens, file_is_there, files_at, has_fit_names, has_fit_text, is_among, is_directory_node, is_empty, is_fit_filesystem, is_kind_in, is_no_larger, largest_file, led, mount_at, node_at, overwritten, parent_above, parent_in, reached_named, tree_of, ⊤}
+use Rattle.vt_spec.proofs.Common.{AddName, Allowed, Change, CopyUp, FileTree, Filesystem, Fits, Fresh, HasName, Inode, Inodes, IsDirectory, IsReached, IsTree, IsWorld, ListsNumbers, Location, Make, MayReplace, Move, Node, Permit, Remove, SetAttr, SetBytes, SetMark, Task, ToChange, ToList, ToMake, ToOpen, ToOpenNew, ToRead, ToReadPart, ToRemoveDirectory, ToRename, ToStat, ToWritePart, Tree, World, and_true_first, bytes_in, chain, chain_ends, chain_goes_on, common_steps, entry_at, evens, file_is_there, files_at, filesystem_at, has_fit_names, has_fit_text, is_among, is_directory_node, is_empty, is_fit_filesystem, is_kind_in, is_no_larger, largest_file, led, mount_at, node_at, overwritten, parent_above, parent_in, reached_named, tree_of, ⊤}
 use Rattle.vt_laws_trees.specs.Calls.Inodes.{change_of, written_if_some}
 use Rattle.vt_laws_mounts.proofs.letting_go.Lists.{all_from_among, among_from_all, among_from_list_all, among_numbers}
 use Rattle.vt_laws_worlds.proofs.permits.sees.SeesNames.{tree_here}
@@ -39,7 +39,7 @@ module _ (inodes : Inodes ℕ) where
   abbrev tree : Tree ℕ
   tree = tree_of inodes
 
-  -- nothing above a directory is what does not lead to it
+  -- a move keeps a directory from being put below itself: what does not lead to the new parent is not above it
   module _ (is : IsTree tree) (object to : ℕ)
       (not_under : (names : List (List ℕ)) → led tree object names ≢ Some to) where
     apart : (directory : ℕ) (names : List (List ℕ)) → led tree directory names ≡ Some to
@@ -50,30 +50,29 @@ module _ (inodes : Inodes ℕ) where
     abbrev parent : ℕ → ℕ
     parent directory = parent_in directory (tree.node directory)
 
-    above : (most directory : ℕ) → IsDirectory tree directory → IsReached tree directory → (names : List (List ℕ))
+    not_above : (most directory : ℕ) → IsDirectory tree directory → IsReached tree directory → (names : List (List ℕ))
         → led tree directory names ≡ Some to
         → is_among nat_eq object (chain most (parent_above nat_eq inodes) directory) ≡ false
-    above zero directory there reached names leads = ap (λ b. b || false) (apart directory names leads)
-    above (suc most) directory there reached names leads =
-        by (nat_eq directory inodes.root) refl (λ (named : HasName tree directory).
-        above most (parent directory) (is.parent_directory directory there)
-        (parent_reached tree is directory there reached) (named.1 ∷ names)
-        (ap (option_and_then (λ next. led tree next names))
-        (ap (λ d. entry_at tree d named.1) (is.one_parent named.0 named.1 directory named.2 there) ∙ named.2) ∙ leads))
+    not_above zero directory there reached names leads = cc (apart directory names leads)
+    not_above (suc most) directory there reached names leads = ⊎_elim at_root (λ named.
+        let leads_above : led tree (parent directory) (named.1 ∷ names) ≡ Some to =
+        ap (option_and_then (λ next. led tree next names))
+        (ap (λ d. entry_at tree d named.1) (is.one_parent named.0 named.1 directory named.2 there) ∙ named.2) ∙ leads in
+        below (not_above most (parent directory) (is.parent_directory directory there)
+        (parent_reached tree is directory there reached) (named.1 ∷ names) leads_above))
+        (reached_named tree directory reached)
       where
-        by : (b : Bool) → nat_eq directory inodes.root ≡ b → (HasName tree directory → is_among nat_eq object
-            (chain most (parent_above nat_eq inodes) (parent directory)) ≡ false)
+        -- nothing is above the root
+        at_root : tree.root ≡ directory
             → is_among nat_eq object (chain (suc most) (parent_above nat_eq inodes) directory) ≡ false
-        by true e goes_on = ap (is_among nat_eq object)
-            (chain_ends (parent_above nat_eq inodes) most directory (ap (λ b. cond b None (Some (parent directory))) e))
-            ∙ ap (λ b. b || false) (apart directory names leads)
-        by false e goes_on = ap (is_among nat_eq object)
-            (chain_goes_on (parent_above nat_eq inodes) most directory (parent directory)
-            (ap (λ b. cond b None (Some (parent directory))) e))
-            ∙ ap (λ b. b || is_among nat_eq object (chain most (parent_above nat_eq inodes) (parent directory)))
-            (apart directory names leads)
-            ∙ ⊎_elim (λ same. absurd (true≢false (sym (eq-eqb directory inodes.root (sym same)) ∙ e))) goes_on
-            (reached_named tree directory reached)
+        at_root same =
+            let root = eq-eqb directory inodes.root (sym same) in
+            grind (arith, common_steps, chain_ends, apart directory names leads)
+
+        -- above another directory are its parent and what is above that
+        below : is_among nat_eq object (chain most (parent_above nat_eq inodes) (parent directory)) ≡ false
+            → is_among nat_eq object (chain (suc most) (parent_above nat_eq inodes) directory) ≡ false
+        below rest = grind (arith, common_steps, chain_ends, chain_goes_on, apart directory names leads)
 
   fits : (change : Change ℕ) → Facts tree change → Fits inodes change
   fits (Make directory name number node) facts = (
@@ -89,7 +88,7 @@ module _ (inodes : Inodes ℕ) where
     facts.0.named,
     facts.0.in_directory,
     replaces (entry_at tree to new) refl,
-    λ is. above facts.1.0 object to facts.0.not_under inodes.count to facts.0.in_directory facts.0.reached [] refl,
+    λ is. not_above facts.1.0 object to facts.0.not_under inodes.count to facts.0.in_directory facts.0.reached [] refl,
   )
     where
       replaces : (o : Option ℕ) → entry_at tree to new ≡ o → MayReplace tree object o
@@ -113,15 +112,10 @@ module _ (world : World ℕ) (fresh : Fresh ℕ) (task : Task ℕ) (permit : Per
   -- the bytes of a file are within the limit
   bytes_small : (file : Location ℕ) → is_kind_in File (node_at nat_eq world file) ≡ true
       → nat_le (length (bytes_in (node_at nat_eq world file))) largest_file ≡ true
-  bytes_small file kind = ⊎_elim (λ good.
-      limit (is_kind_in File (node_at nat_eq world file))
-      (nat_le (length (bytes_in (node_at nat_eq world file))) largest_file) (and_true_first _ _ _
-      (among_from_list_all (fit_in (files_at nat_eq world file)) (files_at nat_eq world file).numbers good.0 file.node
-      (among_numbers file.node (files_at nat_eq world file).numbers
-      (good.1 file.node ∙ file_is_there (node_at nat_eq world file) kind)))) kind) (λ missing. absurd (true≢false
+  bytes_small file kind = ⊎_elim in_limit (λ missing. absurd (true≢false
       (sym kind ∙ ap (λ (f : Filesystem ℕ). is_kind_in File (f.files.tree.node file.node)) missing.0)))
-      (numbered_all Good (mount_at nat_eq world file).filesystem world.filesystems
-      (all_from_among Good world.filesystems (λ f m. (
+      (numbered_all Good
+      (mount_at nat_eq world file).filesystem world.filesystems (all_from_among Good world.filesystems (λ f m. (
         among_from_list_all is_fit_filesystem world.filesystems whole.files.fit_filesystems f m,
         among_from_all (λ (g : Filesystem ℕ). ListsNumbers nat_eq g.files) world.filesystems whole.files.numbers f m,
       ))))
@@ -132,9 +126,14 @@ module _ (world : World ℕ) (fresh : Fresh ℕ) (task : Task ℕ) (permit : Per
       fit_in : FileTree ℕ → ℕ → Bool
       fit_in files number = is_no_larger files number && has_fit_names files number && has_fit_text files number
 
-      limit : (a b : Bool) → (not a || b) ≡ true → a ≡ true → b ≡ true
-      limit true b e f = e
-      limit false b e f = absurd (true≢false (sym f))
+      in_limit : Good (filesystem_at nat_eq world file)
+          → nat_le (length (bytes_in (node_at nat_eq world file))) largest_file ≡ true
+      in_limit good =
+          let files = files_at nat_eq world file in
+          let listed = among_numbers file.node files.numbers
+          (good.1 file.node ∙ file_is_there (node_at nat_eq world file) kind) in
+          let fit = among_from_list_all (fit_in files) files.numbers good.0 file.node listed in
+          grind (arith, common_steps, and_true_first)
 
   -- what is known of the change that is asked for
   abbrev FactsOf : Option (Location ℕ × Change ℕ) → Type 0

@@ -16,7 +16,8 @@ module _ (world : World ℕ) (number : ℕ) (overlay : Overlay ℕ)
   none : (layers : List (Layer ℕ)) → list_all (is_plain_layer nat_eq world) layers ≡ true → filter here layers ≡ []
   none [] plain = refl
   none (layer ∷ layers) plain = ap (λ b. if b then layer ∷ filter here layers else filter here layers)
-      (elsewhere layer (and_true_left _ _ plain)) ∙ none layers (and_true_right (is_plain_layer nat_eq world layer) _ plain)
+      (elsewhere layer (and_true_left _ _ plain))
+      ∙ none layers (and_true_right (is_plain_layer nat_eq world layer) _ plain)
 
   abbrev plain_overlay : Filesystem ℕ → Bool
   plain_overlay = of_overlay true (λ o. list_all (is_plain_layer nat_eq world) (layers_of o))

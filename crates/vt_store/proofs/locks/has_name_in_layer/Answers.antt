@@ -21,10 +21,12 @@ returns-in-Some-directory_of c =
     let small : directory < 18446744073709551616 =
     let h = c.index-slot.type_inv in let e = c.index-slot.ensures in omega (arith, h, e) in
     c.have_layer_over.ensures
-    ∙ ap (λ slot. list_any (directory_lies_in_overlay plain count (inode_number count slot)) overlays) c.index-slot.ensures
+    ∙ ap (λ slot. list_any (directory_lies_in_overlay plain count (inode_number count slot)) overlays)
+    c.index-slot.ensures
     ∙ ap (λ n. list_any (directory_lies_in_overlay plain count n) overlays) (sym (exchanged_slot count directory small))
     ∙ alone_decides plain overlays count tree is c.node.result file directory alone
-    ∙ ap (λ slot. list_any (names_in_layer plain overlays count (inode_number count slot)) (files_at plain count).numbers)
+    ∙ ap (λ slot. list_any (names_in_layer plain overlays count (inode_number count slot))
+    (files_at plain count).numbers)
     c.node.ensures
 
 pub have_layer_over-requires : goal.have_layer_over-requires

@@ -22,7 +22,8 @@ by_kind plain count number overlays b kind =
     ap (λ b. list_any (λ (entry : OverlayEntry). list_any (λ (layer : LayerRef).
     nat_eq count layer.directory.filesystem.count
     && cond b (is_directory_under nat_eq (files_at plain count) (inode_of layer.directory) number)
-    (is_file_under nat_eq (files_at plain count) (inode_of layer.directory) number)) entry.overlay.lowers) overlays) kind
+    (is_file_under nat_eq (files_at plain count) (inode_of layer.directory) number)) entry.overlay.lowers) overlays)
+    kind
 
 pub returns-then-not-have_layer_in : goal.returns-then-not-have_layer_in
 returns-then-not-have_layer_in c =
@@ -52,7 +53,8 @@ returns-in_default c =
     let other : is_directory_node ((files_at plain count).tree.node (inode_of c.args.inode)) ≡ false =
     elim c.in_default.branch [
       | in_default-via-in-Some+else-is_directory w ↦
-          let there : Some (node_seen count w.in-Some.node.now) ≡ (files_at plain count).tree.node (inode_of c.args.inode) =
+          let there : Some (node_seen count w.in-Some.node.now) ≡ (files_at plain count).tree.node
+          (inode_of c.args.inode) =
           (λ i. Some (node_seen (sym own i).count w.in-Some.node.now))
           ∙ sym (ap (λ o. option_map (node_seen c.node_ref.result.filesystem.count) (option_copied o)) w.in-Some.is)
           ∙ found in

@@ -20,7 +20,8 @@ returns-then-is_some c =
     let plain = c.args.plain.now in
     let count = c.args.file.filesystem.count in
     let in_one = ap (λ (n : NodeRef). n.filesystem) c.node_ref.ensures.value ∙ c.requires.one_filesystem in
-    let there : Some (node_seen count c.in-Some.node.now) ≡ (files_at plain count).tree.node (inode_of c.args.directory) =
+    let there : Some (node_seen count c.in-Some.node.now) ≡ (files_at plain count).tree.node
+    (inode_of c.args.directory) =
     (λ i. Some (node_seen (sym in_one i).count c.in-Some.node.now))
     ∙ sym (ap (λ o. option_map (node_seen c.node_ref.result.filesystem.count) (option_copied o)) c.in-Some.is)
     ∙ c.node.ensures ∙ (λ i. (files_at plain (in_one i).count).tree.node (c.node_ref.ensures.number i)) in
@@ -40,11 +41,13 @@ returns-else-is_some c =
     let plain = c.args.plain.now in
     let count = c.args.file.filesystem.count in
     let in_one = ap (λ (n : NodeRef). n.filesystem) c.node_ref.ensures.value ∙ c.requires.one_filesystem in
-    let there : Some (node_seen count c.in-Some.node.now) ≡ (files_at plain count).tree.node (inode_of c.args.directory) =
+    let there : Some (node_seen count c.in-Some.node.now) ≡ (files_at plain count).tree.node
+    (inode_of c.args.directory) =
     (λ i. Some (node_seen (sym in_one i).count c.in-Some.node.now))
     ∙ sym (ap (λ o. option_map (node_seen c.node_ref.result.filesystem.count) (option_copied o)) c.in-Some.is)
     ∙ c.node.ensures ∙ (λ i. (files_at plain (in_one i).count).tree.node (c.node_ref.ensures.number i)) in
-    let some : is_some (name_ranked (entries_of c.in-Some.node.now.content) c.args.file.slot 0) ≡ false = search rules in
+    let some : is_some (name_ranked (entries_of c.in-Some.node.now.content) c.args.file.slot 0) ≡ false =
+    search rules in
     let small : c.args.file.slot < 18446744073709551616 =
     let h = c.node-in-Some.type_inv in let e = c.node-in-Some.ensures in omega (arith, h, e) in
     let named = sym (has_name count (files_at plain count).tree (inode_of c.args.directory) c.in-Some.node.now

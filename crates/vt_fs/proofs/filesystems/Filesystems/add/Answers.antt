@@ -16,6 +16,7 @@ returns-clause-ok c =
     ap (by_numbers f) c.in_ok-tree.ensures.ok ∙ sym (one_by_numbers f 0 c.args.attr)
     ∙ ap (λ root. one_directory nat_eq root c.args.attr) (exchanged_slot f 0 (omega arith)) in (
       entry,
-      added c.self.inside.by_number.entries _ c.args.self.now c.args.filesystem _ c.self.view_is c.requires c.in_ok-insert.ensures.updates.0,
+      added c.self.inside.by_number.entries _ c.args.self.now c.args.filesystem _ c.self.view_is c.requires
+          c.in_ok-insert.ensures.updates.0,
       record { counts = refl; seen = new_seen entry f c.args.attr refl inodes; inodes = inodes; unmounted = refl },
     )

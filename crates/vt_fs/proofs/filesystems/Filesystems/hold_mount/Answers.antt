@@ -7,14 +7,16 @@ use Rattle.vt_fs.proofs.filesystems.Filesystems.hold_mount.Goals as goal
 
 pub overflow_add-found : goal.overflow_add-found
 overflow_add-found c =
-    let mounts = mounts_of-held c.args.filesystem.count c.self.inside.by_number.entries c.args.self.now c.in-Some.found.now c.self.view_is
+    let mounts = mounts_of-held c.args.filesystem.count c.self.inside.by_number.entries c.args.self.now
+    c.in-Some.found.now c.self.view_is
     (sym c.get_mut.ensures.value ∙ ap option_copied_mut c.in-Some.is) in
     omega (arith, mounts, c.mounts.ensures, c.if-mounts.false, c.mounts.type_inv)
 
 pub returns-clause-ok : goal.returns-clause-ok
 returns-clause-ok c = elim c.match-get_mut.branch [
   | in-Some w ↦ ap (λ inside. held inside.by_number.entries) w.self-inside-is
-      ∙ writes c.args.filesystem.count (λ one. record one { mounts = one.mounts + 1 }) _ c.self.inside.by_number _ c.args.self.now w.in-Some.found.now _ c.self.view_is
+      ∙ writes c.args.filesystem.count (λ one. record one { mounts = one.mounts + 1 }) _ c.self.inside.by_number _
+      c.args.self.now w.in-Some.found.now _ c.self.view_is
       (sym c.get_mut.ensures.value ∙ ap option_copied_mut w.in-Some.is) refl (λ k one. refl) (c.get_mut.follows.holds _)
   | in_default w ↦ ap (λ inside. held inside.by_number.entries) w.self-inside-is
       ∙ writes_none c.args.filesystem.count _ c.self.inside.by_number.entries _ c.args.self.now c.self.view_is

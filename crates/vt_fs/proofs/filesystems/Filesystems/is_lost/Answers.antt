@@ -19,7 +19,8 @@ returns-in-Some c =
     let f = c.args.root.filesystem.count in
     let stays = ap (λ (id : FilesystemId). is_removed nat_eq (files_at c.args.self.now id.count).tree
     (number_of c.args.directory)) (sym c.requires.one_filesystem) ∙ sym c.is_removed.ensures ∙ c.if-is_removed.false in
-    let same = ap (λ n. nat_eq n (number_of c.args.root)) (root_is c.args.self.now f c.in-Some.top c.in-Some.ensures.number)
+    let same = ap (λ n. nat_eq n (number_of c.args.root))
+    (root_is c.args.self.now f c.in-Some.top c.in-Some.ensures.number)
     ∙ sym c.is_same.ensures ∙ c.if-is_same.true in
     sym (not_lost_at_root (files_at c.args.self.now f) (number_of c.args.root) (number_of c.args.directory)
     c.requires.rooted stays same)

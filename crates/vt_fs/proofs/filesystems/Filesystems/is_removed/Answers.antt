@@ -11,7 +11,8 @@ pub returns-then-is_same : goal.returns-then-is_same
 returns-then-is_same c =
     let f = c.args.directory.filesystem.count in
     let number = number_of c.args.directory in
-    let root = at_look c.args.self.now f c.in-Some.tree.now (sym c.in-Some.ensures) (λ count tree. exchanged count tree.root)
+    let root = at_look c.args.self.now f c.in-Some.tree.now (sym c.in-Some.ensures)
+    (λ count tree. exchanged count tree.root)
     ∙ ap (exchanged f) (sym c.root.ensures.value) ∙ sym c.in_slot.ensures.number in
     let same : nat_eq number (files_at c.args.self.now f).tree.root ≡ true =
     ap (nat_eq number) root ∙ sym c.is_same.ensures ∙ c.if-is_same.true in
@@ -27,7 +28,8 @@ returns-in-Some-slot_in c =
     let apart : nat_eq number (files_at c.args.self.now f).tree.root ≡ false =
     ap (nat_eq number) root ∙ sym c.is_same.ensures ∙ c.if-is_same.false in
     c.eq.ensures ∙ ap (nat_eq c.in-Some-slot_in.slot) c.parent.ensures
-    ∙ sym (own_there c.args.self.now f c.in-Some.tree.now found c.in-Some-slot_in.slot _ c.in-Some-slot_in.ensures.number)
+    ∙ sym (own_there c.args.self.now f c.in-Some.tree.now found c.in-Some-slot_in.slot _
+    c.in-Some-slot_in.ensures.number)
     ∙ sym (removed_by_parent (inodes_at c.args.self.now f) c.requires.named number apart)
 
 pub returns-in-None : goal.returns-in-None

@@ -27,7 +27,8 @@ returns-in_default c =
 
 pub returns-in_default-slot_of : goal.returns-in_default-slot_of
 returns-in_default-slot_of c =
-    let nowhere = subst (λ (id : FilesystemId). (inodes_at c.args.self.now id.count).inode (number_of c.args.directory) ≡ None)
+    let nowhere = subst (λ (id : FilesystemId). (inodes_at c.args.self.now id.count).inode
+    (number_of c.args.directory) ≡ None)
     c.requires.one_filesystem (c.slot_of-2.ensures.nowhere c.in_default-slot_of.is) in
     c.is_same-in_default-slot_of.ensures
     ∙ sym (under_none c.args.self.now c.args.top.filesystem.count (number_of c.args.directory) nowhere

@@ -84,4 +84,5 @@ returns-clause-err c =
     c.unwrap-tree.ensures in
     let parent = slot_there f (number_of c.args.directory) c.slot_of.result c.unwrap-parent.result
     c.slot_of.ensures.number c.unwrap-parent.ensures in
-    on_err_weaker c.link.result (kept c.args.self.now f c.link.new.self c.unwrap-tree.result.now standing) c.link.ensures.err
+    on_err_weaker c.link.result (kept c.args.self.now f c.link.new.self c.unwrap-tree.result.now standing)
+    c.link.ensures.err

@@ -6,7 +6,8 @@ use Rattle.vt_fs.proofs.filesystems.Filesystems.list.Goals as goal
 pub returns-in-Some-get-clause-ok : goal.returns-in-Some-get-clause-ok
 returns-in-Some-get-clause-ok c =
     subst (λ (found : List (List ℕ)). IfOk c.list.result (λ names. map (λ name. name.items) names.items ≡ found))
-    (sym (plain_there c.args.self.now c.args.directory.filesystem.count c.in-Some-get.tree.now (sym c.in-Some-get.ensures)
+    (sym (plain_there c.args.self.now c.args.directory.filesystem.count c.in-Some-get.tree.now
+    (sym c.in-Some-get.ensures)
     (List (List ℕ)) (λ A node. names_in node) c.in-Some.slot _ c.in-Some.ensures.number)) c.list.ensures.ok
 
 pub returns-in-Some-get-clause-empty : goal.returns-in-Some-get-clause-empty

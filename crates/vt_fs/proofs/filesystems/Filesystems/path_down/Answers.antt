@@ -15,7 +15,8 @@ returns-in-Some-slot_in-2 c = record {
       subst (λ (found : Option (List (List ℕ))). IfOk c.path_down.result
       (λ path. option_map (λ names. map (λ name. name.items) names.items) path ≡ found))
       (path_is c.args.self.now f c.in-Some.tree.now (sym c.in-Some.ensures) c.in-Some-slot_in.upper _
-      c.in-Some-slot_in-2.lower _ c.in-Some-slot_in.ensures.number c.in-Some-slot_in-2.ensures.number) c.path_down.ensures;
+      c.in-Some-slot_in-2.lower _ c.in-Some-slot_in.ensures.number c.in-Some-slot_in-2.ensures.number)
+      c.path_down.ensures;
 }
 
 pub returns-in_default-slot_in : goal.returns-in_default-slot_in
@@ -26,7 +27,8 @@ returns-in_default-slot_in c = record {
       let none = no_inode_there c.args.self.now f c.in-Some.tree.now (sym c.in-Some.ensures) top
       (c.slot_in.ensures.nowhere c.in_default-slot_in.is) in
       c.path_to_itself-in_default-slot_in.ensures
-      ∙ sym (path_to_itself (files_at c.args.self.now f) top directory (over_none c.args.self.now f top none directory));
+      ∙ sym (path_to_itself (files_at c.args.self.now f) top directory
+      (over_none c.args.self.now f top none directory));
 }
 
 pub returns-in-None : goal.returns-in-None
@@ -37,5 +39,6 @@ returns-in-None c = record {
       let none = no_inode_there c.args.self.now f c.in-Some.tree.now (sym c.in-Some.ensures) directory
       (c.slot_in-2.ensures.nowhere c.in-None.is) in
       c.path_to_itself-in-None.ensures
-      ∙ sym (path_to_itself (files_at c.args.self.now f) top directory (under_none c.args.self.now f directory none top));
+      ∙ sym (path_to_itself (files_at c.args.self.now f) top directory
+      (under_none c.args.self.now f directory none top));
 }

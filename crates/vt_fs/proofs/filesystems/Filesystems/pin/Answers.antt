@@ -9,20 +9,26 @@ use Rattle.vt_fs.proofs.filesystems.Filesystems.pin.Goals as goal
 pub returns-in-Some-slot_in-clause-ok : goal.returns-in-Some-slot_in-clause-ok
 returns-in-Some-slot_in-clause-ok c =
     let f = c.args.object.filesystem.count in
-    let standing = standing_of c.args.self.now f c.get_mut.result c.in-Some.tree c.get_mut.ensures.value c.get_mut.ensures.apart c.in-Some.is in
-    on_ok_weaker c.pin.result (pins c.args.self.now f c.pin.new.self c.in-Some.tree.now standing c.in-Some-slot_in.slot _ c.in-Some-slot_in.ensures.number) c.pin.ensures.ok
+    let standing = standing_of c.args.self.now f c.get_mut.result c.in-Some.tree c.get_mut.ensures.value
+    c.get_mut.ensures.apart c.in-Some.is in
+    on_ok_weaker c.pin.result
+    (pins c.args.self.now f c.pin.new.self c.in-Some.tree.now standing c.in-Some-slot_in.slot _
+    c.in-Some-slot_in.ensures.number) c.pin.ensures.ok
 
 pub returns-in-Some-slot_in-clause-limit : goal.returns-in-Some-slot_in-clause-limit
 returns-in-Some-slot_in-clause-limit c =
     let f = c.args.object.filesystem.count in
-    let standing = standing_of c.args.self.now f c.get_mut.result c.in-Some.tree c.get_mut.ensures.value c.get_mut.ensures.apart c.in-Some.is in
+    let standing = standing_of c.args.self.now f c.get_mut.result c.in-Some.tree c.get_mut.ensures.value
+    c.get_mut.ensures.apart c.in-Some.is in
     subst (λ (uses : ℕ). IsErr c.pin.result ↔ (uses ≡ most_uses))
-    (sym (uses_there c.args.self.now f c.in-Some.tree.now standing.found c.in-Some-slot_in.slot _ c.in-Some-slot_in.ensures.number)) c.pin.ensures.limit
+    (sym (uses_there c.args.self.now f c.in-Some.tree.now standing.found c.in-Some-slot_in.slot _
+    c.in-Some-slot_in.ensures.number)) c.pin.ensures.limit
 
 pub returns-in-Some-slot_in-clause-err : goal.returns-in-Some-slot_in-clause-err
 returns-in-Some-slot_in-clause-err c =
     let f = c.args.object.filesystem.count in
-    let standing = standing_of c.args.self.now f c.get_mut.result c.in-Some.tree c.get_mut.ensures.value c.get_mut.ensures.apart c.in-Some.is in
+    let standing = standing_of c.args.self.now f c.get_mut.result c.in-Some.tree c.get_mut.ensures.value
+    c.get_mut.ensures.apart c.in-Some.is in
     on_err_weaker c.pin.result (kept c.args.self.now f c.pin.new.self c.in-Some.tree.now standing) c.pin.ensures.err
 
 pub returns-in_default-clause-ok : goal.returns-in_default-clause-ok
@@ -44,5 +50,7 @@ returns-in-None-clause-limit c =
     let standing = standing_of c.args.self.now f c.get_mut.result c.in-Some.tree c.get_mut.ensures.value
     c.get_mut.ensures.apart c.in-Some.is in
     let none = ap uses_in (no_inode_there c.args.self.now f c.in-Some.tree.now standing.found (number_of c.args.object)
-    (c.slot_in.ensures.nowhere c.in-None.is)) in
-    (λ failed. absurd (true≢false (sym failed)), λ full. absurd (let no : 0 ≡ most_uses = sym none ∙ full in omega (arith, no)))
+    (c.slot_in.ensures.nowhere c.in-None.is)) in (
+      λ failed. absurd (true≢false (sym failed)),
+      λ full. absurd (let no : 0 ≡ most_uses = sym none ∙ full in omega (arith, no)),
+    )

@@ -8,7 +8,8 @@ use Rattle.vt_fs.proofs.filesystems.Filesystems.release_mount.Goals as goal
 pub returns : goal.returns
 returns c = elim c.match-get_mut.branch [
   | in-Some w ↦ ap (λ inside. held inside.by_number.entries) w.self-inside-is
-      ∙ writes c.args.filesystem.count (λ one. record one { mounts = one.mounts - 1 }) _ c.self.inside.by_number _ c.args.self.now w.in-Some.found.now _ c.self.view_is
+      ∙ writes c.args.filesystem.count (λ one. record one { mounts = one.mounts - 1 }) _ c.self.inside.by_number _
+      c.args.self.now w.in-Some.found.now _ c.self.view_is
       (sym c.get_mut.ensures.value ∙ ap option_copied_mut w.in-Some.is)
       (λ i. record { tree = w.in-Some.found.now.tree; mounts = w.saturating_sub-found.ensures i })
       (λ k one. refl) (c.get_mut.follows.holds _)

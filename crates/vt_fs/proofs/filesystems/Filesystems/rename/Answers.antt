@@ -116,7 +116,8 @@ returns-clause-new_name c =
     c.unwrap-goes_to.result c.slot_of-2.ensures.number c.unwrap-goes_to.ensures in
     let to = ap (λ id. exchanged id.count c.unwrap-goes_to.result) (sym c.requires.one_filesystem) ∙ goes_to in
     on_err_weaker c.rename.result
-    (λ free. entry_there c.args.self.now f c.unwrap-tree.result.now standing.found c.unwrap-goes_to.result _ c.args.new.items to
+    (λ free. entry_there c.args.self.now f c.unwrap-tree.result.now standing.found c.unwrap-goes_to.result _
+    c.args.new.items to
     ∙ ap (option_map (exchanged f)) free) c.rename.ensures.new_name
 
 pub returns-clause-err : goal.returns-clause-err
@@ -125,4 +126,5 @@ returns-clause-err c =
     let standing =
     standing_of c.args.self.now f c.get_mut.result c.unwrap-tree.result c.get_mut.ensures.value c.get_mut.ensures.apart
     c.unwrap-tree.ensures in
-    on_err_weaker c.rename.result (kept c.args.self.now f c.rename.new.self c.unwrap-tree.result.now standing) c.rename.ensures.err
+    on_err_weaker c.rename.result (kept c.args.self.now f c.rename.new.self c.unwrap-tree.result.now standing)
+    c.rename.ensures.err

@@ -8,9 +8,11 @@ use Rattle.vt_fs.proofs.filesystems.Filesystems.set_attr.Goals as goal
 pub returns-in-Some-slot_in : goal.returns-in-Some-slot_in
 returns-in-Some-slot_in c =
     let f = c.args.object.filesystem.count in
-    let standing = standing_of c.args.self.now f c.get_mut.result c.in-Some.tree c.get_mut.ensures.value c.get_mut.ensures.apart c.in-Some.is in
+    let standing = standing_of c.args.self.now f c.get_mut.result c.in-Some.tree c.get_mut.ensures.value
+    c.get_mut.ensures.apart c.in-Some.is in
     changes c.args.self.now f c.set_attr.new.self c.in-Some.tree.now standing
-    (SetAttr c.in-Some-slot_in.slot c.args.attr) _ (ap (λ n. SetAttr n c.args.attr) c.in-Some-slot_in.ensures.number) c.set_attr.ensures
+    (SetAttr c.in-Some-slot_in.slot c.args.attr) _ (ap (λ n. SetAttr n c.args.attr) c.in-Some-slot_in.ensures.number)
+    c.set_attr.ensures
 
 pub returns-in_default : goal.returns-in_default
 returns-in_default c = nothing_changes c.args.object.filesystem.count _ c.args.self.now _ refl

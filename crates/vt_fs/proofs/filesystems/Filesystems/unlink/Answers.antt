@@ -50,7 +50,8 @@ unlink-requires-clause-empty c =
     let named_slot = slot_there c.args.object.filesystem.count (number_of c.args.object) c.slot_of-2.result
     c.unwrap-named.result c.slot_of-2.ensures.number c.unwrap-named.ensures in
     let object = ap (λ id. exchanged id.count c.unwrap-named.result) (sym c.requires.one_filesystem) ∙ named_slot in
-    empty_there c.args.self.now f c.unwrap-tree.result.now standing.found c.unwrap-named.result _ object c.requires.empty
+    empty_there c.args.self.now f c.unwrap-tree.result.now standing.found c.unwrap-named.result _ object
+    c.requires.empty
 
 pub returns : goal.returns
 returns c =

@@ -8,8 +8,10 @@ use Rattle.vt_fs.proofs.filesystems.Filesystems.unpin.Goals as goal
 pub returns-in-Some-slot_in : goal.returns-in-Some-slot_in
 returns-in-Some-slot_in c =
     let f = c.args.object.filesystem.count in
-    let standing = standing_of c.args.self.now f c.get_mut.result c.in-Some.tree c.get_mut.ensures.value c.get_mut.ensures.apart c.in-Some.is in
-    unpins c.args.self.now f c.unpin.new.self c.in-Some.tree.now standing c.in-Some-slot_in.slot _ c.in-Some-slot_in.ensures.number c.unpin.ensures
+    let standing = standing_of c.args.self.now f c.get_mut.result c.in-Some.tree c.get_mut.ensures.value
+    c.get_mut.ensures.apart c.in-Some.is in
+    unpins c.args.self.now f c.unpin.new.self c.in-Some.tree.now standing c.in-Some-slot_in.slot _
+    c.in-Some-slot_in.ensures.number c.unpin.ensures
 
 pub returns-in_default : goal.returns-in_default
 returns-in_default c = nothing_changes c.args.object.filesystem.count _ c.args.self.now _ refl

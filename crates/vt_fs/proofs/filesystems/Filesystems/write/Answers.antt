@@ -8,16 +8,20 @@ use Rattle.vt_fs.proofs.filesystems.Filesystems.write.Goals as goal
 pub write-requires-clause-file : goal.write-requires-clause-file
 write-requires-clause-file c =
     let f = c.args.file.filesystem.count in
-    let standing = standing_of c.args.self.now f c.get_mut.result c.in-Some.tree c.get_mut.ensures.value c.get_mut.ensures.apart c.in-Some.is in
-    sym (directory_there c.args.self.now f c.in-Some.tree.now standing.found c.in-Some-slot_in.slot _ c.in-Some-slot_in.ensures.number)
+    let standing = standing_of c.args.self.now f c.get_mut.result c.in-Some.tree c.get_mut.ensures.value
+    c.get_mut.ensures.apart c.in-Some.is in
+    sym (directory_there c.args.self.now f c.in-Some.tree.now standing.found c.in-Some-slot_in.slot _
+    c.in-Some-slot_in.ensures.number)
     ∙ c.requires.file
 
 pub returns-in-Some-slot_in : goal.returns-in-Some-slot_in
 returns-in-Some-slot_in c =
     let f = c.args.file.filesystem.count in
-    let standing = standing_of c.args.self.now f c.get_mut.result c.in-Some.tree c.get_mut.ensures.value c.get_mut.ensures.apart c.in-Some.is in
+    let standing = standing_of c.args.self.now f c.get_mut.result c.in-Some.tree c.get_mut.ensures.value
+    c.get_mut.ensures.apart c.in-Some.is in
     changes c.args.self.now f c.write.new.self c.in-Some.tree.now standing
-    (SetBytes c.in-Some-slot_in.slot c.args.bytes.items) _ (λ i. SetBytes (c.in-Some-slot_in.ensures.number i) c.args.bytes.items)
+    (SetBytes c.in-Some-slot_in.slot c.args.bytes.items) _
+    (λ i. SetBytes (c.in-Some-slot_in.ensures.number i) c.args.bytes.items)
     c.write.ensures
 
 pub returns-in_default : goal.returns-in_default

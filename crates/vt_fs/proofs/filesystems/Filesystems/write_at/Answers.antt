@@ -10,14 +10,17 @@ use Rattle.vt_fs.proofs.filesystems.Filesystems.write_at.Goals as goal
 pub write_at-requires-clause-file : goal.write_at-requires-clause-file
 write_at-requires-clause-file c =
     let f = c.args.file.filesystem.count in
-    let standing = standing_of c.args.self.now f c.get_mut.result c.in-Some.tree c.get_mut.ensures.value c.get_mut.ensures.apart c.in-Some.is in
-    sym (directory_there c.args.self.now f c.in-Some.tree.now standing.found c.in-Some-slot_in.slot _ c.in-Some-slot_in.ensures.number)
+    let standing = standing_of c.args.self.now f c.get_mut.result c.in-Some.tree c.get_mut.ensures.value
+    c.get_mut.ensures.apart c.in-Some.is in
+    sym (directory_there c.args.self.now f c.in-Some.tree.now standing.found c.in-Some-slot_in.slot _
+    c.in-Some-slot_in.ensures.number)
     ∙ c.requires.file
 
 pub returns-in-Some-slot_in-clause-ok : goal.returns-in-Some-slot_in-clause-ok
 returns-in-Some-slot_in-clause-ok c =
     let f = c.args.file.filesystem.count in
-    let standing = standing_of c.args.self.now f c.get_mut.result c.in-Some.tree c.get_mut.ensures.value c.get_mut.ensures.apart c.in-Some.is in
+    let standing = standing_of c.args.self.now f c.get_mut.result c.in-Some.tree c.get_mut.ensures.value
+    c.get_mut.ensures.apart c.in-Some.is in
     let bytes = plain_there c.args.self.now f c.in-Some.tree.now standing.found (List ℕ)
     (λ A node. bytes_in node) c.in-Some-slot_in.slot _ c.in-Some-slot_in.ensures.number in
     on_ok_weaker c.write_at.result (changes c.args.self.now f c.write_at.new.self c.in-Some.tree.now standing
@@ -29,15 +32,18 @@ returns-in-Some-slot_in-clause-ok c =
 pub returns-in-Some-slot_in-clause-file : goal.returns-in-Some-slot_in-clause-file
 returns-in-Some-slot_in-clause-file c =
     let f = c.args.file.filesystem.count in
-    let standing = standing_of c.args.self.now f c.get_mut.result c.in-Some.tree c.get_mut.ensures.value c.get_mut.ensures.apart c.in-Some.is in
+    let standing = standing_of c.args.self.now f c.get_mut.result c.in-Some.tree c.get_mut.ensures.value
+    c.get_mut.ensures.apart c.in-Some.is in
     on_err_weaker c.write_at.result (subst (λ (is : Bool). IsTrue is)
     (sym (plain_there c.args.self.now f c.in-Some.tree.now standing.found Bool
-    (λ A node. is_kind_in File node) c.in-Some-slot_in.slot _ c.in-Some-slot_in.ensures.number))) c.write_at.ensures.file
+    (λ A node. is_kind_in File node) c.in-Some-slot_in.slot _ c.in-Some-slot_in.ensures.number)))
+    c.write_at.ensures.file
 
 pub returns-in-Some-slot_in-clause-longer : goal.returns-in-Some-slot_in-clause-longer
 returns-in-Some-slot_in-clause-longer c =
     let f = c.args.file.filesystem.count in
-    let standing = standing_of c.args.self.now f c.get_mut.result c.in-Some.tree c.get_mut.ensures.value c.get_mut.ensures.apart c.in-Some.is in
+    let standing = standing_of c.args.self.now f c.get_mut.result c.in-Some.tree c.get_mut.ensures.value
+    c.get_mut.ensures.apart c.in-Some.is in
     on_err_weaker c.write_at.result (subst (λ (bytes : List ℕ). length bytes < c.args.offset + length c.args.bytes.now)
     (sym (plain_there c.args.self.now f c.in-Some.tree.now standing.found (List ℕ)
     (λ A node. bytes_in node) c.in-Some-slot_in.slot _ c.in-Some-slot_in.ensures.number))) c.write_at.ensures.longer
@@ -45,7 +51,8 @@ returns-in-Some-slot_in-clause-longer c =
 pub returns-in-Some-slot_in-clause-err : goal.returns-in-Some-slot_in-clause-err
 returns-in-Some-slot_in-clause-err c =
     let f = c.args.file.filesystem.count in
-    let standing = standing_of c.args.self.now f c.get_mut.result c.in-Some.tree c.get_mut.ensures.value c.get_mut.ensures.apart c.in-Some.is in
+    let standing = standing_of c.args.self.now f c.get_mut.result c.in-Some.tree c.get_mut.ensures.value
+    c.get_mut.ensures.apart c.in-Some.is in
     on_err_weaker c.write_at.result
     (kept c.args.self.now f c.write_at.new.self c.in-Some.tree.now standing) c.write_at.ensures.err
 

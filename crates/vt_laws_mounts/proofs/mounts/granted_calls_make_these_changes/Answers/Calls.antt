@@ -1,8 +1,7 @@
 -- What a granted call makes of the mounts.
-use Rattle.std.proofs.Common.{arith, ◌≡◌, refl, sym, ap, ◌∙◌, false, Bool, List, Ok, Some, nat_eq, ok_or, ℕ, option_map, true≢false, true}
-use Rattle.vt_spec.proofs.Common.{Bind, Call, Done, Exit, Fresh, Here, LayerLocations, Lazy, Looks, Mount, MountFlags, MountOverlay, MountPlain, MoveMount, OverlayWords, Permit, PivotRoot, Place, Remount, Rename, Rmdir, SetType, Setns, Task, TaskName, ToBind, ToEnterNamespace, ToMountOverlay, ToMountPlain, ToMove, ToPivot, ToSetFlags, ToSetType, ToUnmountLazily, TypeWord, Unshare, World, apply, bound_at, common_steps, denial, destination_walk, directory_walk, is_directory_there, is_one_object, layers_walked, lazily_unmounted, looks_of, mount_at, mounted, moved_to, moving, namespace_entered, namespaces_ended, object_there, odds, old_leaf_walk, old_walk, overfills, overlay_at, overlay_mounted, pivoted, plain_filesystem, removing, rename_new_walk, same_ok, source_walk, task_called, unshared, walk_end, with_flags, with_type, without_mounts_on, without_replaced, without_task}
+use Rattle.std.proofs.Common.{arith, ◌≡◌, refl, sym, ap, ◌∙◌, false, Bool, List, Ok, Some, nat_eq, ℕ, true≢false, true}
+use Rattle.vt_spec.proofs.Common.{Bind, Call, Done, Exit, Fresh, Here, LayerLocations, Lazy, Looks, Mount, MountFlags, MountOverlay, MountPlain, MoveMount, OverlayWords, Permit, PivotRoot, Place, Remount, Rename, Rmdir, SetType, Setns, Task, TaskName, ToBind, ToEnterNamespace, ToMountOverlay, ToMountPlain, ToMove, ToPivot, ToSetFlags, ToSetType, ToUnmountLazily, TypeWord, Unshare, World, apply, bound_at, common_steps, destination_walk, directory_walk, is_directory_there, is_one_object, layers_walked, lazily_unmounted, looks_of, mount_at, mounted, moved_to, moving, namespace_entered, namespaces_ended, object_there, odds, old_leaf_walk, old_walk, overfills, overlay_at, overlay_mounted, pivoted, plain_filesystem, removing, rename_new_walk, same_ok, source_walk, task_called, unshared, walk_end, with_flags, with_type, without_mounts_on, without_replaced, without_task}
 use Rattle.vt_laws_mounts.specs.Mounts.Granted.{BindBinds, ExitEnds, LazyUnmounts, MountMounts, MoveMoves, OverlayMounts, PivotPivots, RemountSetsFlags, RmdirTakesMounts, SetnsEnters, TypeIsSet, UnshareCopies, RenameOfOneObject, RenameReplaces}
-use Rattle.vt_spec.specs.declared.errors.Rule.TheVariants.{S2}
 use Rattle.vt_laws_mounts.proofs.mounts.MountsLeft.{mounts-with_change}
 use Rattle.vt_laws_rules.specs.Granted.{AreNames, IsGranted}
 use Rattle.vt_laws_rules.specs.Granted.IsGranted.{binds, changes_flags, changes_type, enters_namespace, exits, keeps_names, mounts_overlayfs, mounts_tmpfs, moves_mount, pivots_root, removes_directory, renames, unmounts_lazily, unshares}
@@ -107,7 +106,7 @@ module _ (fresh : Fresh ℕ) (world : World ℕ) (task : Task ℕ) where
       (namespaces_ended nat_eq (namespace_entered nat_eq world task other.namespace)).mounts permit
   setns_made target other e permit (enters_namespace _ namespace found passed) =
       ap (λ namespace. mounts_by (ToEnterNamespace namespace)) (same_ok namespace other.namespace
-      (sym found ∙ ap (λ o. ok_or (option_map (λ (t : Task ℕ). t.namespace) o) (denial S2)) e))
+      (cc))
 
   -- the names of a rename are at the ends of its walks
   same_names : (old new : List ℕ) (from to one two : Place ℕ) → walk_end (old_leaf_walk nat_eq looks task old) ≡ Ok from

@@ -1,6 +1,6 @@
 -- The list of mounts after an unshare.
 use Rattle.std.proofs.Common.{arith, ◌≡◌, refl, sym, ap, subst, ◌∙◌, List, [], None, eq-eqb, eqb-true, true≢false, Option, Some, flat_map, map, nat_eq, option_map, true, unwrap_or, ℕ, ◌+◌, ◌∷◌, inl, inr}
-use Rattle.vt_spec.proofs.Common.{Among, Fresh, Location, Mount, MountInvariants, Serves, Spot, Task, World, among-append_left, among-append_right, among-filter, among-from_filter, among-map, common_steps, copied_mount, each_once, evens, filesystem_numbered, groups_shown, holds_of, index_from, is_overlay, location_on_copy, mount_line, mount_numbered, mount_point_spot, mounts_of, number_among, numbers_by, odds, odds-distinct, path_down, served-distinct, spot_of, type_line, unshared}
+use Rattle.vt_spec.proofs.Common.{Among, Fresh, Location, Mount, MountInvariants, Serves, Spot, Task, World, among-append_left, among-append_right, among-filter, among-from_filter, among-map, common_steps, copied_mount, each_once, evens, filesystem_numbered, groups_shown, index_from, is_overlay, location_on_copy, mount_line, mount_numbered, mount_point_spot, mounts_of, number_among, numbers_by, odds, odds-distinct, path_down, served-distinct, spot_of, type_line, unshared}
 use Rattle.std.proofs.lemmas.List.Folds.{flat_map-map}
 use Rattle.vt_spec.specs.Machine.Listing.{root_spot}
 use Rattle.vt_laws_mounts.specs.Mounts.Propagation.{UnshareListsOthersTheSame, UnshareListsTheSame}
@@ -14,13 +14,12 @@ use Rattle.vt_laws_mounts.specs.Mounts.Ending.{is_in}
 pub map_alike : {A B C : Type 0} (f : A → C) (g : B → C) (h : A → B) (xs : List A)
     → ((x : A) → Among x xs → g (h x) ≡ f x) → map g (map h xs) ≡ map f xs
 map_alike f g h [] same = refl
-map_alike f g h (y ∷ ys) same = ap (λ x. x ∷ map g (map h ys)) (same y (inl refl))
-    ∙ ap (λ l. f y ∷ l) (map_alike f g h ys (λ x m. same x (inr m)))
+map_alike f g h (y ∷ ys) same = cc (same y (inl refl), map_alike f g h ys (λ x m. same x (inr m)))
 
 pub map_both : {A C : Type 0} (f g : A → C) (xs : List A) → ((x : A) → Among x xs → g x ≡ f x) → map g xs ≡ map f xs
 map_both f g [] same = refl
 map_both f g (y ∷ ys) same =
-    ap (λ x. x ∷ map g ys) (same y (inl refl)) ∙ ap (λ l. f y ∷ l) (map_both f g ys (λ x m. same x (inr m)))
+    cc (same y (inl refl), map_both f g ys (λ x m. same x (inr m)))
 
 -- the place of a new number among new numbers
 new_place : (new : ℕ → ℕ) (copy : Mount ℕ → Mount ℕ) → ((mount : Mount ℕ) → (copy mount).number ≡ new mount.number)
@@ -61,7 +60,7 @@ module _ (world : World ℕ) (fresh : Fresh ℕ) (task : Task ℕ) (serves : Ser
       let parent = parent_of world mounts mount from.0 place e in (
         parent.parent,
         among-filter (is_in namespace) world.mounts parent.parent parent.there
-            (ap (holds_of (nat_eq namespace)) (sym parent.namespace) ∙ from.1),
+            (cc (parent.namespace, from.1)),
         parent.number,
         parent.there,
       )
@@ -71,8 +70,10 @@ module _ (world : World ℕ) (fresh : Fresh ℕ) (task : Task ℕ) (serves : Ser
       spot_of (path_down nat_eq (filesystem_numbered nat_eq world parent.filesystem).files parent.root place.node)
 
   abbrev place_cell : World ℕ → List (Mount ℕ) → Location ℕ → ℕ × Spot
-  place_cell those list place =
-      (number_among nat_eq (map (λ (other : Mount ℕ). other.number) list) place.mount, mount_point_spot nat_eq those place)
+  place_cell those list place = (
+    number_among nat_eq (map (λ (other : Mount ℕ). other.number) list) place.mount,
+    mount_point_spot nat_eq those place,
+  )
 
   copied_cell : (parent : Mount ℕ) → Among parent copied → Among parent world.mounts → (place : Location ℕ)
       → parent.number ≡ place.mount

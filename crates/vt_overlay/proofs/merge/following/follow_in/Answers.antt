@@ -13,7 +13,8 @@ returns-in_default-clause-object g c =
     let tree = tree_seen c.args.directory.filesystem.count lent in
     let here = c.loop-index.here in
     let names = g.W.Way.names c.args.path.now in
-    let none : None ≡ entry_at (tree_seen here.filesystem.count lent) (inode_of here) c.name.result.now = search rules in
+    let none : None ≡ entry_at (tree_seen here.filesystem.count lent) (inode_of here) c.name.result.now =
+    search rules in
     let same = ap (λ (id : FilesystemId). tree_seen id.count lent) c.loop-index.invariant.filesystem in
     stops tree (inode_of here) names c.loop-index.index c.name.result.now c.name.ensures
     (none ∙ ap (λ t. entry_at t (inode_of here) c.name.result.now) same) ∙ sym c.loop-index.invariant.leads
@@ -24,7 +25,8 @@ returns-in_default-clause-cut g c =
     let tree = tree_seen c.args.directory.filesystem.count lent in
     let here = c.loop-index.here in
     let names = g.W.Way.names c.args.path.now in
-    let none : None ≡ entry_at (tree_seen here.filesystem.count lent) (inode_of here) c.name.result.now = search rules in
+    let none : None ≡ entry_at (tree_seen here.filesystem.count lent) (inode_of here) c.name.result.now =
+    search rules in
     let same = ap (λ (id : FilesystemId). tree_seen id.count lent) c.loop-index.invariant.filesystem in
     sym (c.loop-index.invariant.cuts ∙ ap (λ b. c.loop-index.cut || b)
     (stops_cut tree (inode_of here) names c.loop-index.index c.name.result.now c.name.ensures

@@ -11,6 +11,7 @@ invariant-loop-index g l =
     let names = g.W.Way.names l.path in
     record {
       leads : led tree (inode_of l.fn.directory) names ≡ led tree (inode_of l.here) (drop l.index names);
-      cuts : cut_on tree names (inode_of l.fn.directory) ≡ (l.cut || cut_on tree (drop l.index names) (inode_of l.here));
+      cuts : cut_on tree names (inode_of l.fn.directory) ≡
+          (l.cut || cut_on tree (drop l.index names) (inode_of l.here));
       filesystem : l.here.filesystem ≡ l.fn.directory.filesystem;
     }

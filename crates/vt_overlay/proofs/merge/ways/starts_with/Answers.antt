@@ -48,6 +48,7 @@ returns-clause-yes g c = λ yes.
     let front = g.V.Way.names c.args.front.now in
     let enough : length front ≤ c.loop-index.index = omega arith in (
       drop c.loop-index.index path,
-      ap (λ l. l ++ drop c.loop-index.index path) (sym (take_all c.loop-index.index front enough) ∙ c.loop-index.invariant.same)
+      ap (λ l. l ++ drop c.loop-index.index path) (sym (take_all c.loop-index.index front enough)
+          ∙ c.loop-index.invariant.same)
           ∙ take-append-drop c.loop-index.index path,
     )

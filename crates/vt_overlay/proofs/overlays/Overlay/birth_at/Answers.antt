@@ -76,5 +76,6 @@ returns g c = λ lower layer.
     else rank_among (entries_in ((files_at trees (beside i).count).tree.node (inode_of directory))) name
     (inode_of real.inode)) in
     ap Some c.born_in.ensures.is
-    ∙ below_birth trees c.args.self.now c.requires.layers names real.layer (inode_of real.inode) lower c.requires.is layer
+    ∙ below_birth trees c.args.self.now c.requires.layers names real.layer
+    (inode_of real.inode) lower c.requires.is layer
     some (inode_of directory) directory.slot c.rank_in-rank.result name up slot last ranked

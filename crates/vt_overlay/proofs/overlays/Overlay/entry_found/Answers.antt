@@ -41,7 +41,8 @@ returns-clause-node c = λ path first.
       birth = c.born_in-birth.ensures.is i;
     })) in
     ap Some number
-    ∙ is_numbered c.args.trees.now c.args.self.now c.requires.layers c.requires.few path c.args.name.now found first white
+    ∙ is_numbered c.args.trees.now c.args.self.now c.requires.layers c.requires.few path c.args.name.now found first
+    white
     c.rank_to-rank.result c.rank_to-rank.ensures c.node_of.ensures.slot c.born_in-birth.ensures.slot
 
 pub returns-clause-object : goal.returns-clause-object

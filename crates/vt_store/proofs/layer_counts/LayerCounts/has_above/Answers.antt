@@ -13,7 +13,8 @@ loop-left-preserved c =
     let fails : test c.loop-left.here ≡ false = sym c.has_at.ensures ∙ c.if-has_at.false in
     let below : nat_eq c.loop-left.here inodes.root ≡ false =
     ap (nat_eq c.loop-left.here) (sym c.root.ensures.value) ∙ sym c.eq.ensures ∙ c.if-eq.false in
-    ap (λ parent. list_any test (chain (c.loop-left.left - 1) (parent_above nat_eq inodes) parent)) c.parent-here.ensures
+    ap (λ parent. list_any test (chain (c.loop-left.left - 1) (parent_above nat_eq inodes) parent))
+    c.parent-here.ensures
     ∙ sym (passes_above inodes test c.loop-left.here c.loop-left.left some below fails) ∙ c.loop-left.invariant
 
 pub returns-then-has_at : goal.returns-then-has_at

@@ -18,7 +18,11 @@ invariant_of-self c = record {
 pub invariant_of-self-in_err-reserve-2 : goal.invariant_of-self-in_err-reserve-2
 invariant_of-self-in_err-reserve-2 c =
     subst (λ entries. AreKept entries c.reserve.new.self c.self.inside.oldest) (sym c.reserve-2.ensures.entries)
-    (record { own = c.self.invariant.own; older = c.self.invariant.older; layers = c.reserve.ensures.same _ c.self.invariant.layers })
+    (record {
+      own = c.self.invariant.own;
+      older = c.self.invariant.older;
+      layers = c.reserve.ensures.same _ c.self.invariant.layers;
+    })
 
 -- what holds where it is put in, once there is room
 where_ok : {T E P : Type 0} (r : Result T E) → IsOk r → OnOk r P → P
@@ -33,7 +37,11 @@ invariant_of-self-2 c =
     (kept_added c.reserve-2.new.self.entries c.insert.new.self.entries c.args.id _ c.args.lowers.items
     c.reserve.new.self c.add.new.self c.self.inside.oldest
     (subst (λ entries. AreKept entries c.reserve.new.self c.self.inside.oldest) (sym c.reserve-2.ensures.entries)
-    (record { own = c.self.invariant.own; older = c.self.invariant.older; layers = c.reserve.ensures.same _ c.self.invariant.layers }))
+    (record {
+      own = c.self.invariant.own;
+      older = c.self.invariant.older;
+      layers = c.reserve.ensures.same _ c.self.invariant.layers;
+    }))
     (ap (λ (overlay : OverlayValue). overlay.number) c.new-overlay.ensures)
     (ap (λ (overlay : OverlayValue). overlay.lowers) c.new-overlay.ensures)
     (ap (λ all. list_all (λ (entry : OverlayEntry). nat_lt entry.count c.args.id.count) all)

@@ -11,8 +11,10 @@ invariant_of-self c = elim c.match-get_mut.branch [
   | in-Some w ↦
       subst (λ inside. AreKept inside.by_number.entries inside.layers inside.oldest) (sym w.self-inside-is)
       (kept_written c.args.id.count (λ mounts. mounts - 1) c.self.inside.by_number _ w.in-Some.found.now _
-      c.self.inside.layers c.self.inside.oldest c.self.invariant (sym c.get_mut.ensures.value ∙ ap option_copied_mut w.in-Some.is)
-      (λ i. record { overlay = w.in-Some.found.now.overlay; mounts = w.saturating_sub-found.ensures i }) (c.get_mut.follows.holds _))
+      c.self.inside.layers c.self.inside.oldest c.self.invariant (sym c.get_mut.ensures.value
+      ∙ ap option_copied_mut w.in-Some.is)
+      (λ i. record { overlay = w.in-Some.found.now.overlay; mounts = w.saturating_sub-found.ensures i })
+      (c.get_mut.follows.holds _))
   | in_default w ↦
       subst (λ inside. AreKept inside.by_number.entries inside.layers inside.oldest) (sym w.self-inside-is)
       (subst (λ entries. AreKept entries c.self.inside.layers c.self.inside.oldest)

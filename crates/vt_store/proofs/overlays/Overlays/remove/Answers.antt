@@ -17,7 +17,8 @@ returns-in_err-overlay-clause-removed c =
 
 pub invariant_of-self : goal.invariant_of-self
 invariant_of-self c =
-    subst (λ entries. AreKept entries c.self.inside.layers c.self.inside.oldest) (sym c.in_err-overlay.ensures.unchanged) c.self.invariant
+    subst (λ entries. AreKept entries c.self.inside.layers c.self.inside.oldest)
+    (sym c.in_err-overlay.ensures.unchanged) c.self.invariant
 
 pub invariant_of-self-2 : goal.invariant_of-self-2
 invariant_of-self-2 c =

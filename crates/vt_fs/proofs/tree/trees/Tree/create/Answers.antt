@@ -17,8 +17,10 @@ returns-clause-ok c =
     let entry = c.in_ok-insert_entry.ensures.ok c.self.inside.root
     ∙ ap (λ inodes. with_changed nat_eq inodes c.args.directory
     (node_with_entry c.args.name.items c.next-id.result)) room in
-    inodes-created before c.insert_entry.new.slots c.insert_reserved.new.self c.args.directory c.next-id.result c.insert_reserved.result
-    c.args.name.items c.args.node entry (rw c.into_node.ensures at c.insert_reserved.ensures.inserted) c.insert_reserved.ensures.len number
+    inodes-created before c.insert_entry.new.slots c.insert_reserved.new.self c.args.directory c.next-id.result
+    c.insert_reserved.result
+    c.args.name.items c.args.node entry (rw c.into_node.ensures at c.insert_reserved.ensures.inserted)
+    c.insert_reserved.ensures.len number
     ∙ ap (λ value. with_new nat_eq
     (inodes_of value) c.args.directory c.args.name.items c.insert_reserved.result c.args.node) c.self.view_is
 

@@ -20,7 +20,8 @@ count_use-requires c =
 
 pub returns-clause-ok : goal.returns-clause-ok
 returns-clause-ok c =
-    inodes-acquired c.self.inside.root c.insert_entry.new.slots c.count_use.new.self c.args.object c.count_use.ensures.acquired c.count_use.ensures.len
+    inodes-acquired c.self.inside.root c.insert_entry.new.slots c.count_use.new.self c.args.object
+    c.count_use.ensures.acquired c.count_use.ensures.len
     ∙ ap (λ inodes. pinned nat_eq inodes c.args.object) (c.in_ok-insert_entry.ensures.ok c.self.inside.root)
     ∙ ap (λ value. with_name nat_eq (inodes_of value) c.args.directory c.args.name.items c.args.object) c.self.view_is
 

@@ -14,8 +14,10 @@ returns c =
     ∙ ap (λ (slots : Slots). record slots { room = c.reserve.new.self.room }) c.new-slots.ensures in
     let first : c.next-root.result ≡ 0 = c.next-root.ensures.value ∙ ap (λ (slots : Slots). slots.next) empty in
     record {
-      ok = inodes-root c.reserve.new.self c.insert_reserved.new.self c.next-root.result c.insert_reserved.result c.args.attr c.new_directory.result
-          (ap slot_at empty) (ap slots_len empty) c.new_directory.ensures c.insert_reserved.ensures.inserted c.insert_reserved.ensures.len number
+      ok = inodes-root c.reserve.new.self c.insert_reserved.new.self c.next-root.result c.insert_reserved.result
+          c.args.attr c.new_directory.result
+          (ap slot_at empty) (ap slots_len empty) c.new_directory.ensures c.insert_reserved.ensures.inserted
+          c.insert_reserved.ensures.len number
           ∙ ap (λ root. one_directory nat_eq root c.args.attr) first;
     }
 

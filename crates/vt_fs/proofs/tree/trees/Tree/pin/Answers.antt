@@ -8,7 +8,8 @@ use Rattle.vt_fs.proofs.tree.trees.Tree.pin.Goals as goal
 
 pub returns-clause-ok : goal.returns-clause-ok
 returns-clause-ok c = on_ok_weaker c.acquire.result
-    (λ acquired. inodes-acquired c.self.inside.root c.self.inside.slots c.acquire.new.self c.args.object acquired c.acquire.ensures.len
+    (λ acquired. inodes-acquired c.self.inside.root c.self.inside.slots c.acquire.new.self c.args.object acquired
+    c.acquire.ensures.len
     ∙ ap (λ value. pinned nat_eq (inodes_of value) c.args.object) c.self.view_is) c.acquire.ensures.acquired
 
 -- it is pinned, or stays as it is

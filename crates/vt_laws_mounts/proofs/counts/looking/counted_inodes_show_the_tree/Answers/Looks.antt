@@ -38,8 +38,7 @@ module _ (tree : Tree ℕ) (is : IsTree tree) (own : HasOwnParents tree) (top : 
 
   repeats : (d : ℕ) → above d ≡ Some d → (most : ℕ) → among (chain most above d) ≡ nat_eq top d
   repeats d self zero = or-false (nat_eq top d)
-  repeats d self (suc most) = ap (λ o. among (next_of (chain most above) d o)) self
-      ∙ ap (λ b. nat_eq top d || b) (repeats d self most) ∙ twice (nat_eq top d)
+  repeats d self (suc most) = cc (repeats d self most, twice (nat_eq top d))
 
   alike : (most d : ℕ) → among (chain most above d) ≡ among (chain most named d)
   alike zero d = refl

@@ -224,17 +224,7 @@ module _ (number : ℕ) where
 
   only_used_keeps : (world : World ℕ) (chosen : Filesystem ℕ → Bool)
       → Keeps (λ filesystem. only_used nat_eq world (chosen filesystem) filesystem)
-  only_used_keeps world chosen filesystem = by (chosen filesystem)
-    where
-      whole : (b : Bool) (used : List ℕ) → ((only_used_by nat_eq b used filesystem).number ≡ filesystem.number)
-          × ((only_used_by nat_eq b used filesystem).files.tree.root ≡ filesystem.files.tree.root)
-      whole true used = (refl, refl)
-      whole false used = (refl, refl)
-
-      by : (b : Bool) → ((only_used nat_eq world b filesystem).number ≡ filesystem.number)
-          × ((only_used nat_eq world b filesystem).files.tree.root ≡ filesystem.files.tree.root)
-      by true = whole _ (used_in nat_eq world filesystem)
-      by false = (refl, refl)
+  only_used_keeps world chosen filesystem = grind (arith, common_steps)
 
   -- filesystems that go: whether one does goes by its number
   filtered : (lives : ℕ → Bool) (list : List (Filesystem ℕ))
@@ -251,14 +241,7 @@ module _ (number : ℕ) where
 
       goes : lives number ≡ false → (list : List (Filesystem ℕ)) → root_of (filter passing list) ≡ None
       goes dead [] = refl
-      goes dead (first ∷ rest) = by (lives first.number) refl (nat_eq number first.number) refl (goes dead rest)
-        where
-          by : (b : Bool) → lives first.number ≡ b → (c : Bool) → nat_eq number first.number ≡ c
-              → root_of (filter passing rest) ≡ None
-              → root_of (cond b (first ∷ filter passing rest) (filter passing rest)) ≡ None
-          by true e true f later = absurd (true≢false (sym e ∙ ap lives (sym (eqb-true number first.number f)) ∙ dead))
-          by true e false f later = ap (λ c. root_at (found c first (filter passing rest))) f ∙ later
-          by false e c f later = later
+      goes dead (first ∷ rest) = grind (arith, common_steps, true≢false, eqb-true, goes dead rest)
 
       by_number : (b : Bool) → lives number ≡ b
           → (root_of (filter passing list) ≡ root_of list) ⊎ (root_of (filter passing list) ≡ None)
@@ -291,8 +274,9 @@ roots_stay fresh world name call filesystem root is =
     Stays : World ℕ → Type 0
     Stays left = (root_in left filesystem ≡ Some root) ⊎ (root_in left filesystem ≡ None)
 
-    finished_stays : (b : Bool) (changes : List ℕ) (outcome : Outcome ℕ)
-        → root_in outcome.world filesystem ≡ Some root → Stays (finished_by nat_eq b world name changes outcome).world
+    finished_stays : (looks : Bool) (changes : List ℕ) (outcome : Outcome ℕ)
+        → root_in outcome.world filesystem ≡ Some root
+        → Stays (finished_by nat_eq looks world name changes outcome).world
     finished_stays true changes outcome h = inl h
     finished_stays false changes outcome h = grind (arith, common_steps, settled_root, mapped, raises)
 
