@@ -2,8 +2,7 @@
 
 use crate::diagnose::diagnosis;
 use crate::draft::Draft;
-use crate::report::{Level, Report, report_of};
-use crate::text::Place;
+use crate::report::{Finding, Report, report_of};
 use crate::{json, text};
 use std::alloc::{AllocError, Global};
 use std::io::{self, Write};
@@ -26,29 +25,6 @@ pub struct Options {
     pub strict: bool,
 }
 
-// Appends a report as text.
-fn push_text(text: &mut Draft, name: &str, strict: bool, report: &Report<'_>) {
-    for finding in &report.findings {
-        let place = Place {
-            name,
-            number: finding.line,
-            line: finding.text,
-            level: finding.level,
-            strict,
-        };
-        text::push_found(text, place, &finding.diagnosis);
-    }
-    text::push_summary(text, name, report);
-}
-
-// Appends a report as JSON.
-fn push_json(text: &mut Draft, alloc: Global, name: &str, strict: bool, report: &Report<'_>) {
-    for finding in &report.findings {
-        json::push_found(text, alloc, name, strict, finding);
-    }
-    json::push_summary(text, alloc, name, report);
-}
-
 // A report as it is written.
 fn written(
     alloc: Global,
@@ -56,10 +32,20 @@ fn written(
     options: Options,
     report: &Report<'_>,
 ) -> Result<String, AllocError> {
-    let mut text = Draft::new(alloc);
+    let (mut text, strict) = (Draft::new(alloc), options.strict);
     match options.format {
-        Format::Text => push_text(&mut text, name, options.strict, report),
-        Format::Json => push_json(&mut text, alloc, name, options.strict, report),
+        Format::Text => {
+            for finding in &report.findings {
+                text::push_found(&mut text, name, strict, finding);
+            }
+            text::push_summary(&mut text, name, report);
+        }
+        Format::Json => {
+            for finding in &report.findings {
+                json::push_found(&mut text, alloc, name, strict, finding);
+            }
+            json::push_summary(&mut text, alloc, name, report);
+        }
     }
     text.end()
 }
@@ -94,14 +80,11 @@ pub fn push_explained(
     number: u64,
     line: &[u8],
 ) {
-    let found = diagnosis(version, alloc, line);
-    let place = Place {
-        name,
-        number,
-        line,
-        level: Level::Error,
-        strict: false,
+    let finding = Finding {
+        line: number,
+        text: line,
+        is_error: true,
+        diagnosis: diagnosis(version, alloc, line),
     };
-    text::push_found(text, place, &found);
-    drop(found);
+    text::push_found(text, name, false, &finding);
 }

@@ -110,11 +110,23 @@ impl Draft {
         }
     }
 
-    /// Appends a part between backquotes.
-    pub fn push_quoted(&mut self, part: &str) {
-        self.push("`");
-        self.push(part);
-        self.push("`");
+    /// Appends a form, with the parts in the places of its `{}`, one after the other.
+    pub fn fill(&mut self, form: &str, parts: &[&str]) {
+        for (place, text) in form.split("{}").enumerate() {
+            if place > 0 {
+                let part = parts.get(place.saturating_sub(1)).copied();
+                self.push(part.unwrap_or_default());
+            }
+            self.push(text);
+        }
+    }
+
+    /// Appends what a line without a number begins with: a space for each digit of the number of the line above, and a
+    /// mark.
+    pub fn push_margin(&mut self, number: u64, mark: &str) {
+        let log = number.checked_ilog10().unwrap_or_default();
+        self.push_times(' ', (log as usize).saturating_add(1));
+        self.push(mark);
     }
 
     /// Appends a part, behind this mark if there is text before it.

@@ -1,20 +1,10 @@
 //! What is wrong with the words of a refused line: the first of them that no line could have there.
-use crate::draft::Draft;
-use crate::finding::Helper;
-use crate::grammar::{Argument, CallWords, Kind, MOUNT_OVERLAY, call_named};
+use crate::finding::Diagnosis;
+use crate::grammar::{Argument, CallWords, Kind, MOUNT_OVERLAY, PEERS, call_named};
 use crate::unmodelled::unmodelled_in;
-use crate::words::{Given, Word};
-use std::alloc::{AllocError, Global};
+use crate::words::{Given, Word, parts_of};
 use vt_line::version::Version;
 use vt_lines::reading::is_taken;
-
-/// The directive of `!`, written as a call.
-pub static PEERS: CallWords = CallWords {
-    name: "peers",
-    usage: "`! peers`",
-    needed: &[],
-    optional: &[],
-};
 
 /// The directive of a later version.
 const SEALED: &str = "sealed";
@@ -50,104 +40,91 @@ pub enum Wrong {
 #[derive(Clone, Copy)]
 pub struct Fault<'a> {
     pub wrong: Wrong,
-    /// The word at fault, or the place behind the last word where one is missing.
+    /// The place among the line's words of the one at fault, or behind the last where one is missing.
+    pub place: usize,
+    /// That word, or the place behind the last, as a word of one column.
     pub word: Word<'a>,
     /// What of the word is at fault: all of it, or one of the texts between its commas.
     pub part: Word<'a>,
 }
 
 impl<'a> Fault<'a> {
-    // A fault of a whole word.
-    fn of(wrong: Wrong, word: Word<'a>) -> Self {
+    // A fault of the whole word at this place of a line.
+    fn at(line: Given<'a>, place: usize, wrong: Wrong) -> Self {
+        let word = match line.words.get(place) {
+            Some(word) => *word,
+            None => Word {
+                column: line.text.trim_end().len(),
+                text: " ",
+            },
+        };
         Fault {
             wrong,
+            place,
             word,
             part: word,
         }
     }
 
-    /// Writes it in one sentence.
-    pub fn write(self, version: Version, text: &mut Draft) {
-        let word = self.part.text;
-        match self.wrong {
-            Wrong::NoTask => write_unknown(text, "no task", word),
-            Wrong::NoCall => write_unknown(text, "no call", word),
-            Wrong::NoDirective => write_unknown(text, "no directive", word),
-            Wrong::LacksCall => text.push("the line ends before its call"),
-            Wrong::Later(what) => write_unknown(text, what, word),
-            Wrong::OfSecond(what) => write_of_second(text, what, word),
-            Wrong::Unmodelled(_) => write_about(text, word, " is not modelled"),
-            Wrong::NoOption(call) => write_no_option(text, call.name, word),
-            Wrong::Bad(argument) => self.write_bad(version, argument, text),
-            Wrong::Further(call) => write_further(text, call.usage, word),
-            Wrong::Lacks(call, argument) => write_lacking(text, call.usage, argument.name),
-            Wrong::Other => text.push("not a line of the grammar"),
-        }
-    }
-
-    // Writes that a word is not of its kind.
-    fn write_bad(self, version: Version, argument: Argument, text: &mut Draft) {
-        let is_part = self.part.text.len() < self.word.text.len();
-        let name = if is_part {
+    // What a bad word is to be: one of several between commas, where one of these is at fault.
+    fn meant(self, version: Version, argument: Argument) -> &'static str {
+        if self.part.text.len() < self.word.text.len() {
             argument.kind.words(version).part
         } else {
             argument.name
+        }
+    }
+
+    /// Writes it in one sentence as the message, and what else is to be known of it.
+    pub fn write(self, found: &mut Diagnosis) {
+        let word = self.part.text;
+        let (form, first, second) = match self.wrong {
+            Wrong::NoTask => ("no task `{}`", word, ""),
+            Wrong::NoCall => ("no call `{}`", word, ""),
+            Wrong::NoDirective => ("no directive `{}`", word, ""),
+            Wrong::LacksCall => ("the line ends before its call", "", ""),
+            Wrong::Later(what) => {
+                found.note = "not in this version";
+                ("{} `{}`", what, word)
+            }
+            Wrong::OfSecond(what) => ("`{}` is a {} of script version 2", word, what),
+            Wrong::Unmodelled(_) => ("`{}` is not modelled", word, ""),
+            Wrong::NoOption(call) => ("`{}` has no option `{}`", call.name, word),
+            Wrong::Bad(argument) => {
+                let meant = self.meant(found.version, argument);
+                if meant.starts_with('`') {
+                    ("`{}` is not {}", word, meant)
+                } else {
+                    ("`{}` is no {}", word, meant)
+                }
+            }
+            Wrong::Further(call) => ("`{}` is a word too many for {}", word, call.usage),
+            Wrong::Lacks(call, argument) => {
+                ("the line ends before {} of {}", argument.name, call.usage)
+            }
+            Wrong::Other => ("not a line of the grammar", "", ""),
         };
-        let is_not = if name.starts_with('`') {
-            " is not "
-        } else {
-            " is no "
-        };
-        write_about(text, self.part.text, is_not);
-        text.push(name);
+        found.message.fill(form, &[first, second]);
     }
 }
 
-fn write_unknown(text: &mut Draft, what: &str, word: &str) {
-    text.push(what);
-    text.push(" ");
-    text.push_quoted(word);
-}
-
-fn write_about(text: &mut Draft, word: &str, said: &str) {
-    text.push_quoted(word);
-    text.push(said);
-}
-
-fn write_of_second(text: &mut Draft, what: &str, word: &str) {
-    write_about(text, word, " is a ");
-    text.push(what);
-    text.push(" of script version 2");
-}
-
-fn write_no_option(text: &mut Draft, call: &str, word: &str) {
-    write_about(text, call, " has no option ");
-    text.push_quoted(word);
-}
-
-fn write_further(text: &mut Draft, usage: &str, word: &str) {
-    write_about(text, word, " is a word too many for ");
-    text.push(usage);
-}
-
-fn write_lacking(text: &mut Draft, usage: &str, name: &str) {
-    text.push("the line ends before ");
-    text.push(name);
-    text.push(" of ");
-    text.push(usage);
-}
-
 // Whether a word is of a kind: whether a run takes it in the line of that kind.
-fn fits(version: Version, alloc: Global, kind: Kind, text: &str) -> Result<bool, AllocError> {
-    let words = kind.words(version);
-    let mut line = Draft::new(alloc);
+fn fits(found: &mut Diagnosis, kind: Kind, text: &str) -> bool {
+    let words = kind.words(found.version);
+    let mut line = found.draft();
     line.push(words.before);
     line.push(text);
     line.push(words.after);
-    let line = line.end()?;
-    let taken = is_taken(version, alloc, line.as_bytes());
-    drop(line);
-    taken
+    let Some(line) = found.ended(line) else {
+        return true;
+    };
+    match is_taken(found.version, found.alloc, line.as_bytes()) {
+        Ok(is_taken) => is_taken,
+        Err(_) => {
+            found.fail();
+            true
+        }
+    }
 }
 
 // Whether a word is written as an option where none stands.
@@ -157,222 +134,136 @@ fn is_option(kind: Kind, text: &str) -> bool {
         && text.starts_with('-')
 }
 
-// The search for the first fault of a line. An allocation that fails is noted, and told at the end.
-#[derive(Drop)]
-struct Search<'a> {
-    alloc: Global,
-    line: Given<'a>,
-    failed: bool,
+// The part of a bad word that is at fault: the word itself, or the first between commas that is bad alone.
+fn bad_part<'a>(found: &mut Diagnosis, kind: Kind, word: Word<'a>) -> Word<'a> {
+    if kind.words(found.version).part.is_empty() {
+        return word;
+    }
+    let parts = parts_of(found, word, [',', ',']);
+    for part in &parts {
+        if !fits(found, kind, part.text) {
+            return *part;
+        }
+    }
+    word
 }
 
-impl<'a> Search<'a> {
-    // Whether a word is of a kind.
-    fn fits(&mut self, kind: Kind, text: &str) -> bool {
-        match fits(self.line.version, self.alloc, kind, text) {
-            Ok(fits) => fits,
-            Err(_) => {
-                self.failed = true;
-                true
-            }
-        }
-    }
-
-    // A fault behind the last word.
-    fn at_end(&self, wrong: Wrong) -> Fault<'a> {
-        Fault::of(wrong, self.line.end())
-    }
-
-    // The part of a bad word that is at fault: the word itself, or the first between commas that is bad alone.
-    fn bad_part(&mut self, kind: Kind, word: Word<'a>) -> Word<'a> {
-        if kind.words(self.line.version).part.is_empty() {
-            return word;
-        }
-        let mut column = word.column;
-        for text in word.text.split(',') {
-            if !self.fits(kind, text) {
-                return Word { column, text };
-            }
-            column = column.saturating_add(text.len()).saturating_add(1);
-        }
-        word
-    }
-
-    // What is wrong with a word, which is to be this one of a call.
-    fn of_word(
-        &mut self,
-        call: &'static CallWords,
-        argument: Argument,
-        word: Word<'a>,
-    ) -> Option<Fault<'a>> {
-        if is_option(argument.kind, word.text) {
-            return Some(Fault::of(Wrong::NoOption(call), word));
-        }
-        if self.fits(argument.kind, word.text) {
-            return None;
-        }
-        Some(Fault {
-            wrong: Wrong::Bad(argument),
-            word,
-            part: self.bad_part(argument.kind, word),
-        })
-    }
-
-    // The first of these arguments that has no good word.
-    fn among(
-        &mut self,
-        call: &'static CallWords,
-        arguments: &'static [Argument],
-        words: &[Word<'a>],
-    ) -> Option<Fault<'a>> {
-        for (place, argument) in arguments.iter().enumerate() {
-            let fault = match words.get(place) {
-                Some(word) => self.of_word(call, *argument, *word),
-                None => Some(self.at_end(Wrong::Lacks(call, *argument))),
+// What is wrong with the words of a call.
+fn of_call<'a>(found: &mut Diagnosis, line: Given<'a>, call: &'static CallWords) -> Fault<'a> {
+    let mut place: usize = 2;
+    for (before, argument) in call.words.iter().enumerate() {
+        let Some(word) = line.words.get(place) else {
+            let is_whole = before == call.needed;
+            let wrong = if is_whole {
+                Wrong::Other
+            } else {
+                Wrong::Lacks(call, *argument)
             };
-            if fault.is_some() {
-                return fault;
-            }
-        }
-        None
-    }
-
-    // What is wrong behind the words that a call needs.
-    fn of_optional(&mut self, call: &'static CallWords, words: &[Word<'a>]) -> Fault<'a> {
-        let Some(first) = words.first() else {
-            return self.at_end(Wrong::Other);
+            return Fault::at(line, place, wrong);
         };
-        if call.optional.is_empty() {
-            return Fault::of(Wrong::Further(call), *first);
+        if is_option(argument.kind, word.text) {
+            return Fault::at(line, place, Wrong::NoOption(call));
         }
-        if let Some(fault) = self.among(call, call.optional, words) {
-            return fault;
+        if !fits(found, argument.kind, word.text) {
+            return Fault {
+                wrong: Wrong::Bad(*argument),
+                place,
+                word: *word,
+                part: bad_part(found, argument.kind, *word),
+            };
         }
-        match words.get(call.optional.len()) {
-            Some(word) => Fault::of(Wrong::Further(call), *word),
-            None => self.at_end(Wrong::Other),
-        }
+        place = place.saturating_add(1);
     }
-
-    // What is wrong with the words of a call.
-    fn of_call(&mut self, call: &'static CallWords) -> Fault<'a> {
-        let words = self.line.arguments();
-        match self.among(call, call.needed, words) {
-            Some(fault) => fault,
-            None => {
-                let further = words.get(call.needed.len()..).unwrap_or_default();
-                self.of_optional(call, further)
-            }
-        }
-    }
-
-    // What is wrong with a line of nobody.
-    fn of_directive(&self, name: Word<'a>) -> Fault<'a> {
-        if name.text == SEALED {
-            return Fault::of(Wrong::Later("no directive"), name);
-        }
-        if name.text != PEERS.name {
-            return Fault::of(Wrong::NoDirective, name);
-        }
-        match self.line.arguments().first() {
-            Some(word) => Fault::of(Wrong::Further(&PEERS), *word),
-            None => self.at_end(Wrong::Other),
-        }
-    }
-
-    // What is wrong with the words of a task's line, whose call is of this version.
-    fn of_words(&mut self, name: Word<'a>) -> Fault<'a> {
-        let version = self.line.version;
-        let fault = match call_of(version, name, self.line.arguments()) {
-            Some(call) => self.of_call(call),
-            None => Fault::of(Wrong::NoCall, name),
-        };
-        if let Some(word) = second_flag_of(version, fault) {
-            return Fault::of(Wrong::OfSecond("flag"), word);
-        }
-        match unmodelled_in(self.line.arguments()) {
-            Some(word) => Fault::of(Wrong::Unmodelled(said_of(version, fault.wrong)), word),
-            None => fault,
-        }
-    }
-
-    // What is wrong with a task's line.
-    fn of_task(&mut self, name: Word<'a>) -> Fault<'a> {
-        if name.text == SEALED {
-            return Fault::of(Wrong::Later("no call"), name);
-        }
-        if is_second_call(self.line.version, name.text) {
-            return Fault::of(Wrong::OfSecond("call"), name);
-        }
-        self.of_words(name)
-    }
-
-    // The first fault of the line.
-    fn first(&mut self) -> Fault<'a> {
-        let Some(who) = self.line.words.first() else {
-            return self.at_end(Wrong::Other);
-        };
-        let is_directive = who.text == "!";
-        if !is_directive && !self.fits(Kind::Task, who.text) {
-            return Fault::of(Wrong::NoTask, *who);
-        }
-        match self.line.words.get(1) {
-            Some(name) if is_directive => self.of_directive(*name),
-            Some(name) => self.of_task(*name),
-            None => self.at_end(Wrong::LacksCall),
-        }
-    }
+    let is_whole = line.words.len() <= place;
+    Fault::at(
+        line,
+        place,
+        if is_whole {
+            Wrong::Other
+        } else {
+            Wrong::Further(call)
+        },
+    )
 }
 
 // The call of this name, in a version of the language, as its first word says which it is.
-fn call_of(version: Version, name: Word<'_>, words: &[Word<'_>]) -> Option<&'static CallWords> {
-    let call = call_named(version, name.text)?;
-    match words.first() {
-        Some(word) if word.text == "overlay" && name.text == "mount" => Some(&MOUNT_OVERLAY),
+fn call_of(line: Given<'_>, name: &str) -> Option<&'static CallWords> {
+    let call = call_named(line.version, name)?;
+    match line.words.get(2) {
+        Some(word) if word.text == "overlay" && name == "mount" => Some(&MOUNT_OVERLAY),
         _ => Some(call),
     }
 }
 
 // The flag among the flags of a line of version 1 that only version 2 knows.
-fn second_flag_of(version: Version, fault: Fault<'_>) -> Option<Word<'_>> {
+fn second_flag_of<'a>(found: &mut Diagnosis, fault: Fault<'a>) -> Option<Word<'a>> {
     let Wrong::Bad(argument) = fault.wrong else {
         return None;
     };
-    if version == Version::Two || argument.kind != Kind::Flags {
+    if !matches!(argument.kind, Kind::Flags) || matches!(found.version, Version::Two) {
         return None;
     }
-    let mut column = fault.word.column;
-    for text in fault.word.text.split(',') {
-        if text == "nosymfollow" {
-            return Some(Word { column, text });
+    let parts = parts_of(found, fault.word, [',', ',']);
+    for part in &parts {
+        if part.text == "nosymfollow" {
+            return Some(*part);
         }
-        column = column.saturating_add(text.len()).saturating_add(1);
     }
     None
 }
 
-// Whether version 2 has the call of this name, and the version of the line has not.
-fn is_second_call(version: Version, name: &str) -> bool {
-    call_named(version, name).is_none() && call_named(Version::Two, name).is_some()
-}
-
-// What is said of the kind of a bad word.
-fn said_of(version: Version, wrong: Wrong) -> &'static str {
-    match wrong {
-        Wrong::Bad(argument) => argument.kind.words(version).said,
-        _ => "",
-    }
-}
-
-/// The first fault of a refused line whose bytes are all good. An allocation that fails is noted with the help.
-pub fn first_fault<'a>(help: &mut Helper, line: Given<'a>) -> Fault<'a> {
-    let mut search = Search {
-        alloc: help.alloc,
-        line,
-        failed: false,
+// What is wrong with a task's line that has a call.
+fn of_task<'a>(found: &mut Diagnosis, line: Given<'a>, name: &str) -> Fault<'a> {
+    let fault = match call_of(line, name) {
+        Some(call) => of_call(found, line, call),
+        None if call_named(Version::Two, name).is_some() => {
+            return Fault::at(line, 1, Wrong::OfSecond("call"));
+        }
+        None => Fault::at(line, 1, Wrong::NoCall),
     };
-    let fault = search.first();
-    if search.failed {
-        help.fail();
+    let (wrong, word) = if let Some(flag) = second_flag_of(found, fault) {
+        (Wrong::OfSecond("flag"), flag)
+    } else if let Some(word) = unmodelled_in(found, line.arguments()) {
+        let said = match fault.wrong {
+            Wrong::Bad(argument) => argument.kind.words(line.version).said,
+            _ => "",
+        };
+        (Wrong::Unmodelled(said), word)
+    } else {
+        return fault;
+    };
+    Fault {
+        wrong,
+        place: fault.place,
+        word,
+        part: word,
     }
-    fault
+}
+
+/// The first fault of a refused line whose bytes are all good. An allocation that fails is noted with the diagnosis.
+pub fn first_fault<'a>(found: &mut Diagnosis, line: Given<'a>) -> Fault<'a> {
+    let Some(who) = line.words.first() else {
+        return Fault::at(line, 0, Wrong::Other);
+    };
+    let is_directive = who.text == "!";
+    if !is_directive && !fits(found, Kind::Task, who.text) {
+        return Fault::at(line, 0, Wrong::NoTask);
+    }
+    let Some(name) = line.words.get(1) else {
+        return Fault::at(line, 1, Wrong::LacksCall);
+    };
+    if name.text == SEALED {
+        let what = if is_directive {
+            "no directive"
+        } else {
+            "no call"
+        };
+        Fault::at(line, 1, Wrong::Later(what))
+    } else if !is_directive {
+        of_task(found, line, name.text)
+    } else if name.text == PEERS.name {
+        of_call(found, line, &PEERS)
+    } else {
+        Fault::at(line, 1, Wrong::NoDirective)
+    }
 }

@@ -6,7 +6,7 @@
 use vt_line::version::Version;
 
 /// What a word of a call may be.
-#[derive(Clone, Copy, PartialEq, Eq)]
+#[derive(Clone, Copy)]
 pub enum Kind {
     Access,
     Bytes,
@@ -52,13 +52,14 @@ pub struct Argument {
     pub kind: Kind,
 }
 
-/// A call and its words. Those that may be left out are given all or none.
+/// A call and its words. Those that may be left out stand behind those that it needs, and are given all or none.
 #[derive(Clone, Copy)]
 pub struct CallWords {
     pub name: &'static str,
     pub usage: &'static str,
-    pub needed: &'static [Argument],
-    pub optional: &'static [Argument],
+    pub words: &'static [Argument],
+    /// How many of the words it needs.
+    pub needed: usize,
 }
 
 /// The capabilities that are modelled.
@@ -208,44 +209,44 @@ static OBJECT_CALLS: [CallWords; 7] = [
     CallWords {
         name: "ls",
         usage: "`ls PATH`",
-        needed: &[PATH],
-        optional: &[],
+        words: &[PATH],
+        needed: 1,
     },
     CallWords {
         name: "stat",
         usage: "`stat PATH`",
-        needed: &[PATH],
-        optional: &[],
+        words: &[PATH],
+        needed: 1,
     },
     CallWords {
         name: "lstat",
         usage: "`lstat PATH`",
-        needed: &[PATH],
-        optional: &[],
+        words: &[PATH],
+        needed: 1,
     },
     CallWords {
         name: "readlink",
         usage: "`readlink PATH`",
-        needed: &[PATH],
-        optional: &[],
+        words: &[PATH],
+        needed: 1,
     },
     CallWords {
         name: "read",
         usage: "`read PATH`",
-        needed: &[PATH],
-        optional: &[],
+        words: &[PATH],
+        needed: 1,
     },
     CallWords {
         name: "write",
         usage: "`write PATH BYTES`",
-        needed: &[PATH, BYTES],
-        optional: &[],
+        words: &[PATH, BYTES],
+        needed: 2,
     },
     CallWords {
         name: "exec",
         usage: "`exec PATH`",
-        needed: &[PATH],
-        optional: &[],
+        words: &[PATH],
+        needed: 1,
     },
 ];
 
@@ -254,62 +255,62 @@ static NAME_CALLS: [CallWords; 10] = [
     CallWords {
         name: "mkdir",
         usage: "`mkdir PATH [MODE]`",
-        needed: &[PATH],
-        optional: &[MODE],
+        words: &[PATH, MODE],
+        needed: 1,
     },
     CallWords {
         name: "symlink",
         usage: "`symlink TEXT PATH`",
-        needed: &[TEXT, PATH],
-        optional: &[],
+        words: &[TEXT, PATH],
+        needed: 2,
     },
     CallWords {
         name: "whiteout",
         usage: "`whiteout PATH`",
-        needed: &[PATH],
-        optional: &[],
+        words: &[PATH],
+        needed: 1,
     },
     CallWords {
         name: "link",
         usage: "`link OLD NEW`",
-        needed: &[OLD, NEW],
-        optional: &[],
+        words: &[OLD, NEW],
+        needed: 2,
     },
     CallWords {
         name: "unlink",
         usage: "`unlink PATH`",
-        needed: &[PATH],
-        optional: &[],
+        words: &[PATH],
+        needed: 1,
     },
     CallWords {
         name: "rmdir",
         usage: "`rmdir PATH`",
-        needed: &[PATH],
-        optional: &[],
+        words: &[PATH],
+        needed: 1,
     },
     CallWords {
         name: "rename",
         usage: "`rename OLD NEW`",
-        needed: &[OLD, NEW],
-        optional: &[],
+        words: &[OLD, NEW],
+        needed: 2,
     },
     CallWords {
         name: "chmod",
         usage: "`chmod PATH MODE`",
-        needed: &[PATH, MODE],
-        optional: &[],
+        words: &[PATH, MODE],
+        needed: 2,
     },
     CallWords {
         name: "chown",
         usage: "`chown PATH UID GID`",
-        needed: &[PATH, NEW_UID, NEW_GID],
-        optional: &[],
+        words: &[PATH, NEW_UID, NEW_GID],
+        needed: 3,
     },
     CallWords {
         name: "opaque",
         usage: "`opaque PATH yes|no`",
-        needed: &[PATH, YES_OR_NO],
-        optional: &[],
+        words: &[PATH, YES_OR_NO],
+        needed: 2,
     },
 ];
 
@@ -318,74 +319,74 @@ static TASK_CALLS: [CallWords; 12] = [
     CallWords {
         name: "open",
         usage: "`open PATH r|w|rw [create MODE | excl MODE]`",
-        needed: &[PATH, ACCESS],
-        optional: &[CREATION, MODE],
+        words: &[PATH, ACCESS, CREATION, MODE],
+        needed: 2,
     },
     CallWords {
         name: "pread",
         usage: "`pread FD OFFSET SIZE`",
-        needed: &[FD, OFFSET, SIZE],
-        optional: &[],
+        words: &[FD, OFFSET, SIZE],
+        needed: 3,
     },
     CallWords {
         name: "pwrite",
         usage: "`pwrite FD OFFSET BYTES`",
-        needed: &[FD, OFFSET, BYTES],
-        optional: &[],
+        words: &[FD, OFFSET, BYTES],
+        needed: 3,
     },
     CallWords {
         name: "close",
         usage: "`close FD`",
-        needed: &[FD],
-        optional: &[],
+        words: &[FD],
+        needed: 1,
     },
     CallWords {
         name: "chdir",
         usage: "`chdir PATH`",
-        needed: &[PATH],
-        optional: &[],
+        words: &[PATH],
+        needed: 1,
     },
     CallWords {
         name: "chroot",
         usage: "`chroot PATH`",
-        needed: &[PATH],
-        optional: &[],
+        words: &[PATH],
+        needed: 1,
     },
     CallWords {
         name: "umask",
         usage: "`umask MODE`",
-        needed: &[MODE],
-        optional: &[],
+        words: &[MODE],
+        needed: 1,
     },
     CallWords {
         name: "drop",
         usage: "`drop CAPS`",
-        needed: &[CAPS],
-        optional: &[],
+        words: &[CAPS],
+        needed: 1,
     },
     CallWords {
         name: "fork",
         usage: "`fork [UID GID GROUPS CAPS]`",
-        needed: &[],
-        optional: &[UID, GID, GROUPS, CAPS],
+        words: &[UID, GID, GROUPS, CAPS],
+        needed: 0,
     },
     CallWords {
         name: "exit",
         usage: "`exit`",
-        needed: &[],
-        optional: &[],
+        words: &[],
+        needed: 0,
     },
     CallWords {
         name: "unshare",
         usage: "`unshare`",
-        needed: &[],
-        optional: &[],
+        words: &[],
+        needed: 0,
     },
     CallWords {
         name: "setns",
         usage: "`setns TASK`",
-        needed: &[TASK],
-        optional: &[],
+        words: &[TASK],
+        needed: 1,
     },
 ];
 
@@ -393,8 +394,8 @@ static TASK_CALLS: [CallWords; 12] = [
 pub static MOUNT_OVERLAY: CallWords = CallWords {
     name: "mount",
     usage: "`mount overlay PATH OPTIONS [FLAGS]`",
-    needed: &[OVERLAY, PATH, OPTIONS],
-    optional: &[FLAGS],
+    words: &[OVERLAY, PATH, OPTIONS, FLAGS],
+    needed: 3,
 };
 
 // Calls about mounts.
@@ -402,62 +403,62 @@ static MOUNT_CALLS: [CallWords; 10] = [
     CallWords {
         name: "mount",
         usage: "`mount plain PATH [FLAGS]`",
-        needed: &[PLAIN, PATH],
-        optional: &[FLAGS],
+        words: &[PLAIN, PATH, FLAGS],
+        needed: 2,
     },
     CallWords {
         name: "bind",
         usage: "`bind SOURCE PATH`",
-        needed: &[SOURCE, PATH],
-        optional: &[],
+        words: &[SOURCE, PATH],
+        needed: 2,
     },
     CallWords {
         name: "rbind",
         usage: "`rbind SOURCE PATH`",
-        needed: &[SOURCE, PATH],
-        optional: &[],
+        words: &[SOURCE, PATH],
+        needed: 2,
     },
     CallWords {
         name: "move",
         usage: "`move SOURCE PATH`",
-        needed: &[SOURCE, PATH],
-        optional: &[],
+        words: &[SOURCE, PATH],
+        needed: 2,
     },
     CallWords {
         name: "umount",
         usage: "`umount PATH`",
-        needed: &[PATH],
-        optional: &[],
+        words: &[PATH],
+        needed: 1,
     },
     CallWords {
         name: "lazy",
         usage: "`lazy PATH`",
-        needed: &[PATH],
-        optional: &[],
+        words: &[PATH],
+        needed: 1,
     },
     CallWords {
         name: "remount",
         usage: "`remount PATH FLAGS`",
-        needed: &[PATH, FLAGS],
-        optional: &[],
+        words: &[PATH, FLAGS],
+        needed: 2,
     },
     CallWords {
         name: "type",
         usage: "`type PATH TYPE`",
-        needed: &[PATH, TYPE],
-        optional: &[],
+        words: &[PATH, TYPE],
+        needed: 2,
     },
     CallWords {
         name: "rtype",
         usage: "`rtype PATH TYPE`",
-        needed: &[PATH, TYPE],
-        optional: &[],
+        words: &[PATH, TYPE],
+        needed: 2,
     },
     CallWords {
         name: "mounts",
         usage: "`mounts`",
-        needed: &[],
-        optional: &[],
+        words: &[],
+        needed: 0,
     },
 ];
 
@@ -465,8 +466,8 @@ static MOUNT_CALLS: [CallWords; 10] = [
 static SECOND_CALLS: [CallWords; 1] = [CallWords {
     name: "pivot_root",
     usage: "`pivot_root NEW PUT`",
-    needed: &[NEW, PUT],
-    optional: &[],
+    words: &[NEW, PUT],
+    needed: 2,
 }];
 
 // What is said of the words of each kind.
@@ -702,16 +703,8 @@ static SECOND_FLAGS_WORDS: KindWords = KindWords {
     synonyms: FLAG_SYNONYMS,
 };
 
-// What is said of the flags of a mount. Version 2 has one more.
-fn flags_words(version: Version) -> &'static KindWords {
-    match version {
-        Version::One => &FIRST_FLAGS_WORDS,
-        Version::Two => &SECOND_FLAGS_WORDS,
-    }
-}
-
 impl Kind {
-    /// What is said of its words, in a version of the language.
+    /// What is said of its words, in a version of the language. Version 2 has one flag more.
     pub fn words(self, version: Version) -> &'static KindWords {
         match self {
             Kind::Access => &ACCESS_WORDS,
@@ -720,7 +713,10 @@ impl Kind {
             Kind::Creation => &CREATION_WORDS,
             Kind::Descriptor => &DESCRIPTOR_WORDS,
             Kind::Filesystem => &FILESYSTEM_WORDS,
-            Kind::Flags => flags_words(version),
+            Kind::Flags => match version {
+                Version::One => &FIRST_FLAGS_WORDS,
+                Version::Two => &SECOND_FLAGS_WORDS,
+            },
             Kind::Groups => &GROUPS_WORDS,
             Kind::Identity => &IDENTITY_WORDS,
             Kind::KeptIdentity => &KEPT_IDENTITY_WORDS,
@@ -735,22 +731,26 @@ impl Kind {
     }
 }
 
-// Those that version 2 alone has, if it is that one.
-fn further_calls(version: Version) -> &'static [CallWords] {
-    match version {
-        Version::One => &[],
-        Version::Two => &SECOND_CALLS,
-    }
-}
+/// The directive of `!`, written as a call.
+pub static PEERS: CallWords = CallWords {
+    name: "peers",
+    usage: "`! peers`",
+    words: &[],
+    needed: 0,
+};
 
 /// The calls of a version of the language, in parts.
 pub fn calls(version: Version) -> [&'static [CallWords]; 5] {
+    let further: &'static [CallWords] = match version {
+        Version::One => &[],
+        Version::Two => &SECOND_CALLS,
+    };
     [
         &OBJECT_CALLS,
         &NAME_CALLS,
         &TASK_CALLS,
         &MOUNT_CALLS,
-        further_calls(version),
+        further,
     ]
 }
 

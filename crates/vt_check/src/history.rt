@@ -1,13 +1,25 @@
 //! What the lines of a script leave for later ones, as far as it is known without a run, and warnings that come of it.
 use crate::draft::Draft;
+use crate::finding::Diagnosis;
+use crate::words::{Word, word_at};
 use std::alloc::{AllocError, Global};
 use std::collections::BTreeMap;
 use vt_layers::LayerOptions;
+use vt_line::line::Line;
+use vt_line::version::Version;
 use vt_request::{Call, Creation, DescriptorCall, MakeCall, MountCall, TaskCall, TaskName};
 use vt_spec::attributes::Mode;
 
 // The umask of the first task.
 const UMASK: u16 = 0o022;
+
+// What is said of the options of an overlay.
+const READ_ONLY: &str =
+    "an overlay is read here, and not written: `lowerdir=/high:/low`, the top layer first";
+
+const OPTIONS: &str =
+    "options are `lowerdir=`, `workdir=`, `index=off`, `metacopy=off`, `redirect_dir=off` and `xino=off`; \
+     flags are a word behind them";
 
 // What is known of a task.
 #[derive(Clone, Copy)]
@@ -20,46 +32,6 @@ struct Task {
     refused_fork: Option<u64>,
 }
 
-impl Task {
-    fn new(umask: u16) -> Self {
-        Task {
-            forks: 0,
-            umask,
-            chroot: None,
-            refused_fork: None,
-        }
-    }
-}
-
-/// A warning about a word of a line.
-#[derive(Clone, Copy)]
-pub enum Warning<'a> {
-    /// No line forks the task of these numbers.
-    Unforked(&'a [u8]),
-    /// The umask takes bits of the mode that is the word at this place.
-    Masked {
-        word: usize,
-        mode: u16,
-        umask: u16,
-    },
-    /// The child of the task of these numbers has this number, since a line above is refused.
-    Renumbered {
-        line: u64,
-        numbers: &'a [u8],
-        child: u64,
-    },
-    /// No change of the working directory follows a change of the root.
-    Unfollowed,
-    /// The options of an overlay stand where its path should.
-    Exchanged,
-    /// The options of an overlay have an upper layer.
-    Upper,
-    /// This is no option of an overlay.
-    NoOption(&'a [u8]),
-    /// The options of an overlay have fewer than two layers.
-    FewLayers,
-}
-
 // Appends the name of the task that these numbers name.
 fn push_task(text: &mut Draft, numbers: &[u8]) {
     text.push("t");
@@ -69,164 +41,20 @@ fn push_task(text: &mut Draft, numbers: &[u8]) {
     }
 }
 
-fn write_unforked(text: &mut Draft, numbers: &[u8]) {
-    text.push("no line above forks `");
-    push_task(text, numbers);
-    text.push("`");
-}
-
-// The bits of a mode that an umask leaves.
-fn kept_bits(mode: u16, umask: u16) -> u16 {
-    mode & (0o1777 ^ (umask & 0o1777))
-}
-
-fn write_masked(text: &mut Draft, mode: u16, umask: u16) {
-    text.push("the umask ");
-    text.push_octal(umask, 3);
-    text.push(" makes ");
-    text.push_octal(kept_bits(mode, umask), 1);
-    text.push(" of the mode ");
-    text.push_octal(mode, 1);
-}
-
-fn write_renumbered(text: &mut Draft, line: u64, numbers: &[u8], child: u64) {
-    text.push("this makes `");
-    push_task(text, numbers);
-    text.push(".");
-    text.push_number(child);
-    text.push("`, since line ");
-    text.push_number(line);
-    text.push(" is refused and forks nothing");
-}
-
-// Whether the options of an overlay name two layers.
-fn has_two_layers(options: &[u8]) -> bool {
-    match LayerOptions::parse(options) {
-        Some(options) => options.lowers().nth(1).is_some(),
-        None => false,
-    }
-}
-
-fn write_no_option(text: &mut Draft, item: &[u8]) {
-    if item.is_empty() {
-        text.push("an empty option");
-    } else {
-        text.push("`");
-        text.push_bytes(item);
-        text.push("` is no option of an overlay here");
-    }
-    text.push(": a run refuses it");
-}
-
-impl<'a> Warning<'a> {
-    // A warning where the umask takes bits of a mode.
-    fn of_mode(word: usize, mode: Mode, umask: u16) -> Option<Self> {
-        let mode = mode.bits();
-        if kept_bits(mode, umask) == mode {
-            return None;
-        }
-        Some(Warning::Masked { word, mode, umask })
-    }
-
-    // A warning about one of the options of an overlay.
-    fn of_option(item: &'a [u8]) -> Option<Self> {
-        match LayerOptions::parse(item) {
-            Some(option) if option.upper().is_some() => Some(Warning::Upper),
-            Some(_) => None,
-            None => Some(Warning::NoOption(item)),
-        }
-    }
-
-    // A warning about the options of an overlay: the first one that a run refuses, or that they have no two layers.
-    fn of_options(options: &'a [u8]) -> Option<Self> {
-        for item in options.split(|byte| *byte == b',') {
-            if let Some(warning) = Warning::of_option(item) {
-                return Some(warning);
-            }
-        }
-        if has_two_layers(options) {
-            None
-        } else {
-            Some(Warning::FewLayers)
-        }
-    }
-
-    // A warning about the words of a mount of an overlay.
-    fn of_overlay(path: &[u8], options: &'a [u8]) -> Option<Self> {
-        let is_path = LayerOptions::parse(path).is_none();
-        if is_path || LayerOptions::parse(options).is_some() {
-            Warning::of_options(options)
-        } else {
-            Some(Warning::Exchanged)
-        }
-    }
-
-    /// The place of the word in the line.
-    pub fn word(self) -> usize {
-        match self {
-            Warning::Unforked(_) => 0,
-            Warning::Masked { word, .. } => word,
-            Warning::Renumbered { .. } | Warning::Unfollowed => 1,
-            Warning::Exchanged => 3,
-            Warning::Upper | Warning::NoOption(_) | Warning::FewLayers => 4,
-        }
-    }
-
-    /// Writes it in one sentence.
-    pub fn write(self, text: &mut Draft) {
-        match self {
-            Warning::Unforked(numbers) => write_unforked(text, numbers),
-            Warning::Masked { mode, umask, .. } => write_masked(text, mode, umask),
-            Warning::Renumbered {
-                line,
-                numbers,
-                child,
-            } => write_renumbered(text, line, numbers, child),
-            Warning::Unfollowed => {
-                text.push("no `chdir` of this task follows: it stays in its old directory");
-            }
-            Warning::Exchanged => text.push("options in the place of the path: a run refuses it"),
-            Warning::NoOption(item) => write_no_option(text, item),
-            Warning::Upper => text.push("`upperdir` is not in this version: a run refuses it"),
-            Warning::FewLayers => text.push("fewer than two layers: a run refuses it"),
-        }
-    }
-
-    /// What to do about it.
-    pub fn help(self) -> &'static str {
-        match self {
-            Warning::Unforked(_) => {
-                "a task's children are `.1`, `.2` and so on, in the order of its `fork` lines"
-            }
-            Warning::Masked { .. } => "`chmod` sets a mode whatever the umask is",
-            Warning::Renumbered { .. } => {
-                "a refused line uses no number: mend it, or number the tasks anew"
-            }
-            Warning::Unfollowed => "`chdir /` enters the new root; until then `..` leads out of it",
-            Warning::Exchanged => "the path comes first: `mount overlay /m lowerdir=/high:/low`",
-            Warning::NoOption(_) => {
-                "options are `lowerdir=`, `workdir=`, `index=off`, `metacopy=off`, `redirect_dir=off` and `xino=off`; \
-                 flags are a word behind them"
-            }
-            Warning::Upper | Warning::FewLayers => {
-                "an overlay is read here, and not written: `lowerdir=/high:/low`, the top layer first"
-            }
-        }
-    }
-}
-
 /// The tasks that the lines so far speak of, by the numbers of their names. An allocation that fails is noted.
 #[derive(Drop)]
 pub struct History {
+    version: Version,
     alloc: Global,
     tasks: BTreeMap<Vec<u8>, Task>,
-    failed: bool,
+    pub failed: bool,
 }
 
 impl History {
     /// The first task alone.
-    pub fn new(alloc: Global) -> Self {
+    pub fn new(version: Version, alloc: Global) -> Self {
         let mut history = History {
+            version,
             alloc,
             tasks: BTreeMap::new(alloc),
             failed: false,
@@ -235,108 +63,217 @@ impl History {
         history
     }
 
-    /// Whether an allocation failed.
-    pub fn has_failed(&self) -> bool {
-        self.failed
-    }
-
-    // Begins to speak of a task, if there is memory for it.
-    fn insert(&mut self, numbers: &[u8], umask: u16) -> Result<(), AllocError> {
-        self.tasks
-            .insert(numbers.to_vec(self.alloc)?, Task::new(umask))?;
-        Ok(())
-    }
-
     // Begins to speak of a task, and says whether it is new.
     fn meet(&mut self, numbers: &[u8], umask: u16) -> bool {
-        let is_new = !self.tasks.contains_key(numbers);
-        if is_new {
-            self.failed |= self.insert(numbers, umask).is_err();
+        if self.tasks.contains_key(numbers) {
+            return false;
         }
-        is_new
+        let task = Task {
+            forks: 0,
+            umask,
+            chroot: None,
+            refused_fork: None,
+        };
+        match numbers.to_vec(self.alloc) {
+            Ok(numbers) => self.failed |= self.tasks.insert(numbers, task).is_err(),
+            Err(_) => self.failed = true,
+        }
+        true
+    }
+
+    // A warning about the word at this place of a line, and what to do about it. Its message is still to be written.
+    fn warning(&self, line: &[u8], place: usize, help: &'static str) -> Diagnosis {
+        let Word { column, text } = word_at(str::from_utf8(line).unwrap_or_default(), place);
+        let mut found = Diagnosis::new(self.version, self.alloc);
+        found.column = column;
+        found.width = text.len();
+        found.words = help;
+        found
+    }
+
+    // A warning about a task that no line forks.
+    fn unforked(&self, line: &[u8], numbers: &[u8]) -> Diagnosis {
+        let help = "a task's children are `.1`, `.2` and so on, in the order of its `fork` lines";
+        let mut found = self.warning(line, 0, help);
+        found.message.push("no line above forks `");
+        push_task(&mut found.message, numbers);
+        found.message.push("`");
+        found
     }
 
     // Begins to speak of a child of the task of these numbers, if there is memory for it.
-    fn try_meet_child(
-        &mut self,
-        numbers: &[u8],
-        number: u64,
-        umask: u16,
-    ) -> Result<(), AllocError> {
-        let mut child = numbers.to_vec(self.alloc)?;
-        child.push(u8::try_from(number).unwrap_or(u8::MAX))?;
-        self.meet(child.as_slice(), umask);
+    fn meet_child(&mut self, numbers: &[u8], child: u64, umask: u16) -> Result<(), AllocError> {
+        let mut numbers = numbers.to_vec(self.alloc)?;
+        numbers.push(u8::try_from(child).unwrap_or(u8::MAX))?;
+        self.meet(numbers.as_slice(), umask);
         Ok(())
     }
 
-    // A child of a task.
-    fn fork<'a>(&mut self, numbers: &'a [u8]) -> Option<Warning<'a>> {
+    // A child of a task. It has another number than is meant, where a line above is refused.
+    fn fork(&mut self, line: &[u8], numbers: &[u8]) -> Option<Diagnosis> {
         let task = self.tasks.get_mut(numbers)?;
         task.forks = task.forks.saturating_add(1);
         let (child, umask, refused) = (task.forks, task.umask, task.refused_fork);
         task.refused_fork = None;
-        self.failed |= self.try_meet_child(numbers, child, umask).is_err();
-        Some(Warning::Renumbered {
-            line: refused?,
-            numbers,
-            child,
-        })
+        self.failed |= self.meet_child(numbers, child, umask).is_err();
+        let refused = refused?;
+        let help = "a refused line uses no number: mend it, or number the tasks anew";
+        let mut found = self.warning(line, 1, help);
+        found.message.push("this makes `");
+        push_task(&mut found.message, numbers);
+        found.message.push(".");
+        found.message.push_number(child);
+        found.message.push("`, since line ");
+        found.message.push_number(refused);
+        found.message.push(" is refused and forks nothing");
+        Some(found)
+    }
+
+    // A warning where the umask takes bits of the mode that is the word at this place.
+    fn of_mode(&self, line: &[u8], place: usize, mode: Mode, umask: u16) -> Option<Diagnosis> {
+        let mode = mode.bits();
+        let kept = mode & (0o1777 ^ (umask & 0o1777));
+        if kept == mode {
+            return None;
+        }
+        let help = "`chmod` sets a mode whatever the umask is";
+        let mut found = self.warning(line, place, help);
+        found.message.push("the umask ");
+        found.message.push_octal(umask, 3);
+        found.message.push(" makes ");
+        found.message.push_octal(kept, 1);
+        found.message.push(" of the mode ");
+        found.message.push_octal(mode, 1);
+        Some(found)
+    }
+
+    // A warning about the first option of an overlay that a run refuses, if there is one.
+    fn of_option(&self, line: &[u8], options: &[u8]) -> Option<Diagnosis> {
+        for item in options.split(|byte| *byte == b',') {
+            match LayerOptions::parse(item) {
+                Some(option) if option.upper().is_some() => {
+                    let mut found = self.warning(line, 4, READ_ONLY);
+                    found
+                        .message
+                        .push("`upperdir` is not in this version: a run refuses it");
+                    return Some(found);
+                }
+                Some(_) => {}
+                None => {
+                    let mut found = self.warning(line, 4, OPTIONS);
+                    if item.is_empty() {
+                        found.message.push("an empty option");
+                    } else {
+                        found.message.push("`");
+                        found.message.push_bytes(item);
+                        found.message.push("` is no option of an overlay here");
+                    }
+                    found.message.push(": a run refuses it");
+                    return Some(found);
+                }
+            }
+        }
+        None
+    }
+
+    // A warning about the words of a mount of an overlay: they stand in each other's place, a run refuses an option, or
+    // there are no two layers.
+    fn of_overlay(&self, line: &[u8], path: &[u8], options: &[u8]) -> Option<Diagnosis> {
+        let all = LayerOptions::parse(options);
+        if all.is_none() && LayerOptions::parse(path).is_some() {
+            let help = "the path comes first: `mount overlay /m lowerdir=/high:/low`";
+            let mut found = self.warning(line, 3, help);
+            found
+                .message
+                .push("options in the place of the path: a run refuses it");
+            return Some(found);
+        }
+        let bad = self.of_option(line, options);
+        match all {
+            _ if bad.is_some() => bad,
+            Some(all) if all.lowers().nth(1).is_some() => None,
+            _ => {
+                let mut found = self.warning(line, 4, READ_ONLY);
+                found
+                    .message
+                    .push("fewer than two layers: a run refuses it");
+                Some(found)
+            }
+        }
     }
 
     // What a call of a task leaves for later ones, if it is no fork.
-    fn apply<'a>(&mut self, line: u64, numbers: &'a [u8], call: &Call<'a>) -> Option<Warning<'a>> {
+    fn apply(
+        &mut self,
+        number: u64,
+        line: &[u8],
+        numbers: &[u8],
+        call: &Call<'_>,
+    ) -> Option<Diagnosis> {
         let task = self.tasks.get_mut(numbers)?;
+        let umask = task.umask;
         match call {
             Call::Task(TaskCall::Umask { mode }) => task.umask = mode.bits(),
-            Call::Task(TaskCall::Chroot { .. }) => task.chroot = Some(line),
+            Call::Task(TaskCall::Chroot { .. }) => task.chroot = Some(number),
             Call::Task(TaskCall::Chdir { .. } | TaskCall::Setns { .. }) => task.chroot = None,
             Call::Make(
                 MakeCall::Mkdir {
                     mode: Some(mode),
                     ..
                 },
-            ) => return Warning::of_mode(3, *mode, task.umask),
+            ) => return self.of_mode(line, 3, *mode, umask),
             Call::Descriptor(
                 DescriptorCall::Open {
                     creation: Creation::OrCreate(mode) | Creation::Exclusive(mode),
                     ..
                 },
             ) => {
-                return Warning::of_mode(5, *mode, task.umask);
+                return self.of_mode(line, 5, *mode, umask);
             }
             Call::Mount(MountCall::Overlay { path, options, .. }) => {
-                return Warning::of_overlay(path, options);
+                return self.of_overlay(line, path, options);
             }
             _ => {}
         }
         None
     }
 
-    /// Goes on by a task's call in this line, and warns of what is seldom meant.
-    pub fn call<'a>(
+    /// Goes on by a task's call in the line of this number, and warns of what is seldom meant.
+    pub fn call(
         &mut self,
-        line: u64,
-        name: &'a TaskName,
-        call: &Call<'a>,
-    ) -> Option<Warning<'a>> {
+        number: u64,
+        line: &[u8],
+        name: &TaskName,
+        call: &Call<'_>,
+    ) -> Option<Diagnosis> {
         let numbers = name.numbers();
         let is_new = self.meet(numbers, UMASK);
         let warning = match call {
-            Call::Task(TaskCall::Fork { .. }) => self.fork(numbers),
-            _ => self.apply(line, numbers, call),
+            Call::Task(TaskCall::Fork { .. }) => self.fork(line, numbers),
+            _ => self.apply(number, line, numbers, call),
         };
         if is_new {
-            Some(Warning::Unforked(numbers))
+            Some(self.unforked(line, numbers))
         } else {
             warning
         }
     }
 
-    /// Goes on by a line that was to fork a child of this task, and is refused.
-    pub fn refused_fork(&mut self, line: u64, name: &TaskName) {
-        if let Some(task) = self.tasks.get_mut(name.numbers()) {
-            task.refused_fork = Some(line);
+    /// Goes on by a line that was to fork a child of the task of another line, and is refused.
+    pub fn refuse_fork(&mut self, number: u64, other: &Option<Line<'_>>) {
+        if let Some(Line::Call(name, _)) = other {
+            if let Some(task) = self.tasks.get_mut(name.numbers()) {
+                task.refused_fork = Some(number);
+            }
         }
+    }
+
+    /// A warning about a line that changes a task's root, and that no change of the working directory follows.
+    pub fn unfollowed(&self, line: &[u8]) -> Diagnosis {
+        let help = "`chdir /` enters the new root; until then `..` leads out of it";
+        let mut found = self.warning(line, 1, help);
+        found.message.push("no `chdir` of this task follows: it stays in its old directory");
+        found
     }
 
     /// The lines that change a task's root, and behind which its working directory was not changed, in order.

@@ -1,99 +1,73 @@
 //! Words that are like a given one.
 use crate::draft::Draft;
-use crate::finding::Helper;
+use crate::finding::Diagnosis;
 use crate::grammar::{CAPABILITIES, CallWords, Kind, calls};
 use crate::unmodelled::is_unmodelled;
 use strsim::osa_distance;
-use vt_line::version::Version;
 
-// The search for a word that is like a text.
-#[derive(Clone, Copy)]
-struct Search<'a> {
-    text: &'a str,
-    // The word that is most like it so far, and how many letters may differ of another.
-    found: Option<&'static str>,
-    least: usize,
-}
-
-impl<'a> Search<'a> {
-    // At most two letters may differ, or one of a text of up to four.
-    fn new(text: &'a str) -> Self {
-        Search {
-            text,
-            found: None,
-            least: if text.len() <= 4 { 2 } else { 3 },
+// Whether a word is more like the text than all before it, and how many letters differ then: at most two, or one of a
+// text of up to four.
+fn is_nearer(found: &mut Diagnosis, text: &str, word: &str, least: &mut usize) -> bool {
+    let most = if text.len() <= 4 { 1 } else { 2 };
+    match osa_distance(found.alloc, text, word) {
+        Ok(distance) if distance <= most && distance < *least => {
+            *least = distance;
+            true
         }
-    }
-
-    fn compare(&mut self, helper: &mut Helper, word: &'static str) {
-        match osa_distance(helper.alloc, self.text, word) {
-            Ok(distance) if distance < self.least => {
-                self.least = distance;
-                self.found = Some(word);
-            }
-            Ok(_) => {}
-            Err(_) => helper.fail(),
-        }
-    }
-
-    fn compare_calls(&mut self, helper: &mut Helper, calls: &'static [CallWords]) {
-        for call in calls {
-            self.compare(helper, call.name);
+        Ok(_) => false,
+        Err(_) => {
+            found.fail();
+            false
         }
     }
 }
 
 // The word of the list that is like the text: at most two letters differ, or one of a text of up to four.
-fn nearest(helper: &mut Helper, text: &str, words: &[&'static str]) -> Option<&'static str> {
-    let mut search = Search::new(text);
+fn nearest(found: &mut Diagnosis, text: &str, words: &[&'static str]) -> Option<&'static str> {
+    let mut nearest = None;
+    let mut least = usize::MAX;
     for word in words {
-        search.compare(helper, *word);
+        if is_nearer(found, text, *word, &mut least) {
+            nearest = Some(*word);
+        }
     }
-    search.found
+    nearest
 }
 
-// The name of the call that is like a text in lower case.
-fn nearest_name(helper: &mut Helper, version: Version, text: &str) -> Option<&'static str> {
-    let mut search = Search::new(text);
-    for part in calls(version) {
-        search.compare_calls(helper, part);
+// The call of the list whose name is more like the text than all before it.
+fn nearest_among(
+    found: &mut Diagnosis,
+    text: &str,
+    calls: &'static [CallWords],
+    least: &mut usize,
+) -> Option<&'static CallWords> {
+    let mut nearest = None;
+    for call in calls {
+        if is_nearer(found, text, call.name, least) {
+            nearest = Some(call);
+        }
     }
-    search.found
+    nearest
 }
 
-/// The name of the call that is like the text in whichever case, in a version of the language.
-pub fn nearest_call(helper: &mut Helper, version: Version, text: &str) -> Option<&'static str> {
-    let mut lower = helper.draft();
+/// The call whose name is like the text in whichever case.
+pub fn nearest_call(found: &mut Diagnosis, text: &str) -> Option<&'static CallWords> {
+    let mut lower = found.draft();
     for character in text.chars() {
         lower.push_char(character.to_ascii_lowercase());
     }
-    let lower = helper.ended(lower)?;
-    let name = nearest_name(helper, version, lower.as_str());
-    drop(lower);
-    name
-}
-
-// The word that stands for the text in a kind.
-fn synonym(version: Version, kind: Kind, text: &str) -> Option<&'static str> {
-    for (from, word) in kind.words(version).synonyms {
-        if *from == text {
-            return Some(*word);
-        }
+    let lower = found.ended(lower)?;
+    let mut nearest = None;
+    let mut least = usize::MAX;
+    for part in calls(found.version) {
+        nearest = nearest_among(found, lower.as_str(), part, &mut least).or(nearest);
     }
-    None
-}
-
-// The capability that a whole name means.
-fn modelled(helper: &mut Helper, name: &str) -> Option<&'static str> {
-    if is_unmodelled(name) {
-        return None;
-    }
-    nearest(helper, name, &CAPABILITIES)
+    nearest
 }
 
 // The capability that a name means, in whichever case, with or without `CAP_`.
-fn capability(helper: &mut Helper, name: &str) -> Option<&'static str> {
-    let mut whole = helper.draft();
+fn capability(found: &mut Diagnosis, name: &str) -> Option<&'static str> {
+    let mut whole = found.draft();
     if !name
         .get(..4)
         .unwrap_or_default()
@@ -104,16 +78,18 @@ fn capability(helper: &mut Helper, name: &str) -> Option<&'static str> {
     for character in name.chars() {
         whole.push_char(character.to_ascii_uppercase());
     }
-    let whole = helper.ended(whole)?;
-    let found = modelled(helper, whole.as_str());
-    drop(whole);
-    found
+    let whole = found.ended(whole)?;
+    if is_unmodelled(whole.as_str()) {
+        None
+    } else {
+        nearest(found, whole.as_str(), &CAPABILITIES)
+    }
 }
 
 // Writes the names of capabilities, each as it is meant, and says whether all are clear.
-fn write_capabilities(helper: &mut Helper, text: &str, names: &mut Draft) -> bool {
+fn write_capabilities(found: &mut Diagnosis, text: &str, names: &mut Draft) -> bool {
     for part in text.split([',', '+', ';']) {
-        match capability(helper, part) {
+        match capability(found, part) {
             Some(name) => names.push_after(",", name),
             None => return false,
         }
@@ -124,12 +100,9 @@ fn write_capabilities(helper: &mut Helper, text: &str, names: &mut Draft) -> boo
 // Writes a mode without what a shell or a language writes before it, and says whether there is something.
 fn write_mode(text: &str, mode: &mut Draft) -> bool {
     let digits = text.trim_start_matches("0o").trim_start_matches('0');
-    if digits.is_empty() || digits.len() > 3 || digits.len() == text.len() {
-        return false;
-    }
     mode.push("0");
     mode.push(digits);
-    true
+    matches!(digits.len(), 1..=3) && digits.len() < text.len()
 }
 
 // Writes a task's name, as `t.1` for `t1`, `1` and `t.01`, and says whether there is none of 0.
@@ -150,58 +123,43 @@ fn write_task(text: &str, name: &mut Draft) -> bool {
     true
 }
 
-// Writes groups between commas, where others stand between them.
-fn write_groups(text: &str, groups: &mut Draft) {
-    for part in text.split([';', ':', '.', '+']) {
-        groups.push_after(",", part);
-    }
-}
-
-// Writes the word of a list that is like the text, and says whether there is one.
-fn write_nearest(
-    helper: &mut Helper,
-    text: &str,
-    words: &[&'static str],
-    word: &mut Draft,
-) -> bool {
-    let found = nearest(helper, text, words);
-    word.push(found.unwrap_or_default());
-    found.is_some()
-}
-
-// Writes the word of a kind that a text means, where none stands for it, and says whether one is clear.
-fn write_meant(
-    helper: &mut Helper,
-    version: Version,
-    kind: Kind,
-    text: &str,
-    word: &mut Draft,
-) -> bool {
-    match kind {
-        Kind::Capabilities => write_capabilities(helper, text, word),
-        Kind::Mode => write_mode(text, word),
-        Kind::Task => write_task(text, word),
-        Kind::Groups => {
-            write_groups(text, word);
-            true
-        }
-        _ => write_nearest(helper, text, kind.words(version).choices, word),
-    }
+// Writes what stands on both sides of a colon as the words for an owner and a group, and says whether there is one.
+fn write_owner(text: &str, words: &mut Draft) -> bool {
+    let Some((user, group)) = text.split_once(':') else {
+        return false;
+    };
+    words.push(if user.is_empty() { "-" } else { user });
+    words.push(" ");
+    words.push(if group.is_empty() { "-" } else { group });
+    true
 }
 
 /// Writes the word of a kind that a text means, and says whether one is clear.
-pub fn write_corrected(
-    helper: &mut Helper,
-    version: Version,
-    kind: Kind,
-    text: &str,
-    word: &mut Draft,
-) -> bool {
-    match synonym(version, kind, text) {
-        Some(synonym) => {
+pub fn write_corrected(found: &mut Diagnosis, kind: Kind, text: &str, word: &mut Draft) -> bool {
+    let words = kind.words(found.version);
+    for (from, synonym) in words.synonyms {
+        if *from == text {
             word.push(synonym);
+            return true;
+        }
+    }
+    match kind {
+        Kind::Capabilities => write_capabilities(found, text, word),
+        Kind::Mode => write_mode(text, word),
+        Kind::Task => write_task(text, word),
+        Kind::KeptIdentity => write_owner(text, word),
+        Kind::Groups => {
+            for part in text.split([';', ':', '.', '+']) {
+                word.push_after(",", part);
+            }
             true
         }
-        None => write_meant(helper, version, kind, text, word),
+        _ => match nearest(found, text, words.choices) {
+            Some(nearest) => {
+                word.push(nearest);
+                true
+            }
+            None => false,
+        },
     }
 }

@@ -3,13 +3,6 @@ use crate::draft::Draft;
 use serde_json::{Map, Value};
 use std::alloc::{AllocError, Global};
 
-// An object as a line.
-fn line_of(alloc: Global, object: &Value) -> Result<String, AllocError> {
-    let mut line = object.to_string(alloc)?;
-    line.push('\n')?;
-    Ok(line)
-}
-
 /// An object that is being written. An allocation that fails is noted, and told at the end.
 #[derive(Drop)]
 pub struct Object {
@@ -28,17 +21,12 @@ impl Object {
         }
     }
 
-    // Adds a member, if there is memory for its value.
-    fn try_put(&mut self, name: &str, value: Result<Value, AllocError>) -> Result<(), AllocError> {
-        let value = value?;
-        self.members
-            .insert(String::from_str(self.alloc, name)?, value)?;
-        Ok(())
-    }
-
     /// Adds a member.
     pub fn put(&mut self, name: &str, value: Result<Value, AllocError>) {
-        self.failed |= self.try_put(name, value).is_err();
+        match (String::from_str(self.alloc, name), value) {
+            (Ok(name), Ok(value)) => self.failed |= self.members.insert(name, value).is_err(),
+            _ => self.failed = true,
+        }
     }
 
     /// Adds a text.
@@ -82,18 +70,16 @@ impl Object {
 
     /// Appends the object as a line, or notes that an allocation failed.
     pub fn push_line(self, text: &mut Draft) {
-        match self.line() {
-            Ok(line) => text.push(line.as_str()),
+        let alloc = self.alloc;
+        let Ok(object) = self.end() else {
+            return text.fail();
+        };
+        match object.to_string(alloc) {
+            Ok(line) => {
+                text.push(line.as_str());
+                text.push("\n");
+            }
             Err(_) => text.fail(),
-        }
-    }
-
-    /// The object as a line, if no allocation failed.
-    pub fn line(self) -> Result<String, AllocError> {
-        if self.failed {
-            Err(AllocError)
-        } else {
-            line_of(self.alloc, &Value::Object(self.members))
         }
     }
 }
@@ -116,15 +102,12 @@ impl List {
         }
     }
 
-    // Appends a value, if there is memory for it.
-    fn try_push(&mut self, value: Result<Value, AllocError>) -> Result<(), AllocError> {
-        self.values.push(value?)?;
-        Ok(())
-    }
-
     /// Appends a value.
     pub fn push(&mut self, value: Result<Value, AllocError>) {
-        self.failed |= self.try_push(value).is_err();
+        match value {
+            Ok(value) => self.failed |= self.values.push(value).is_err(),
+            Err(_) => self.failed = true,
+        }
     }
 
     /// Appends a text.

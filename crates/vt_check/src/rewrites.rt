@@ -19,7 +19,7 @@ mod tasks;
 mod unmounts;
 
 use crate::draft::Draft;
-use crate::finding::Helper;
+use crate::finding::Diagnosis;
 use crate::words::{Given, Word};
 
 /// A call in other words, the lines that are meant, and what is said about them.
@@ -44,11 +44,6 @@ fn tables() -> [&'static [Row]; 13] {
     ]
 }
 
-// Whether a word is that of a part of a row's first text.
-fn is_of_part(part: &str, word: &str) -> bool {
-    part == "*" || part == word || (part == "/*" && word.starts_with('/'))
-}
-
 // Whether the words are those of a row's first text.
 fn is_of(pattern: &str, words: &[Word<'_>]) -> bool {
     let mut given = words.iter();
@@ -57,64 +52,53 @@ fn is_of(pattern: &str, words: &[Word<'_>]) -> bool {
             return true;
         }
         match given.next() {
-            Some(word) if is_of_part(part, word.text) => {}
+            Some(_) if part == "*" => {}
+            Some(word) if part == "/*" && word.text.starts_with('/') => {}
+            Some(word) if part == word.text => {}
             _ => return false,
         }
     }
     given.next().is_none()
 }
 
-// The place of the word that a part of a row's second text stands for.
-fn place_of(part: &str) -> Option<usize> {
-    part.strip_prefix('$')?.parse().ok()
-}
-
-// Appends a part of a row's second text, or the word that it stands for.
-fn push_part(line: &mut Draft, part: &str, words: &[Word<'_>]) {
-    let place = place_of(part).unwrap_or(usize::MAX);
-    match words.get(place) {
-        Some(word) => line.push_word(word.text),
-        None => line.push_word(part),
-    }
-}
-
 // Writes a line of a row's second text, behind the task unless its first word is given.
-fn write_line(who: &str, text: &str, words: &[Word<'_>], line: &mut Draft) {
+fn write_line(line: &mut Draft, who: &str, text: &str, words: &[Word<'_>]) {
     if !text.starts_with('$') {
         line.push(who);
     }
     for part in text.split(' ') {
-        push_part(line, part, words);
+        let given = match part.as_bytes() {
+            [b'$', digit] => words.get(usize::from(digit.wrapping_sub(b'0'))),
+            _ => None,
+        };
+        line.push_word(match given {
+            Some(word) => word.text,
+            None => part,
+        });
     }
 }
 
-// Proposes the lines of a row, if a run takes all of them, and says whether it does.
-fn propose_lines(helper: &mut Helper, who: &str, to: &str, words: &[Word<'_>]) -> bool {
-    for text in to.split(" | ") {
-        let mut line = helper.draft();
-        write_line(who, text, words, &mut line);
-        if !helper.propose(line) {
-            helper.take_back();
+// Proposes the lines of a row, if there are some, and if a run takes all of them, and says whether it does.
+fn propose_lines(found: &mut Diagnosis, who: &str, lines: &str, words: &[Word<'_>]) -> bool {
+    if lines.is_empty() {
+        return true;
+    }
+    for text in lines.split(" | ") {
+        let mut line = found.draft();
+        write_line(&mut line, who, text, words);
+        if !found.propose(line) {
+            found.lines.clear();
             return false;
         }
     }
     true
 }
 
-// Helps as a row says, if it fits the line.
-fn help_by_row(helper: &mut Helper, who: &str, words: &[Word<'_>], row: &Row) -> bool {
-    let (from, to, said) = *row;
-    let fits = is_of(from, words) && (to.is_empty() || propose_lines(helper, who, to, words));
-    if fits {
-        helper.say(said);
-    }
-    fits
-}
-
 // Helps as the first row of a table says that fits.
-fn help_by_table(helper: &mut Helper, who: &str, words: &[Word<'_>], rows: &[Row]) -> bool {
-    for row in rows {
-        if help_by_row(helper, who, words, row) {
+fn help_by(found: &mut Diagnosis, rows: &[Row], who: &str, words: &[Word<'_>]) -> bool {
+    for (from, to, said) in rows {
+        if is_of(from, words) && propose_lines(found, who, to, words) {
+            found.words = said;
             return true;
         }
     }
@@ -122,12 +106,12 @@ fn help_by_table(helper: &mut Helper, who: &str, words: &[Word<'_>], rows: &[Row
 }
 
 /// Helps as the first row says that fits the line, and says whether there is one.
-pub fn rewrite(helper: &mut Helper, line: Given<'_>) -> bool {
-    let Some(who) = line.words.first() else {
+pub fn rewrite(found: &mut Diagnosis, line: Given<'_>) -> bool {
+    let Some((who, words)) = line.words.split_first() else {
         return false;
     };
     for rows in tables() {
-        if help_by_table(helper, who.text, line.request(), rows) {
+        if help_by(found, rows, who.text, words) {
             return true;
         }
     }

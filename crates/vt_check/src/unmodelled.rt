@@ -1,5 +1,6 @@
 //! Words of Linux that are not modelled: they are named so, and no other word is proposed for them.
-use crate::words::Word;
+use crate::finding::Diagnosis;
+use crate::words::{Word, parts_of};
 
 // Flags and options of mount(8) and of system calls.
 static FLAGS: [&str; 35] = [
@@ -82,24 +83,14 @@ pub fn is_unmodelled(text: &str) -> bool {
     FLAGS.contains(&text) || CAPABILITIES.contains(&text)
 }
 
-// The part of a word, between commas or bars, that is not modelled.
-fn part_of<'a>(word: Word<'a>) -> Option<Word<'a>> {
-    let mut column = word.column;
-    for part in word.text.split([',', '|']) {
-        if is_unmodelled(part) {
-            return Some(Word { column, text: part });
-        }
-        column = column.saturating_add(part.len()).saturating_add(1);
-    }
-    None
-}
-
-/// The first part of the words that is not modelled.
-pub fn unmodelled_in<'a>(words: &[Word<'a>]) -> Option<Word<'a>> {
+/// The first part of the words, between commas or bars, that is not modelled.
+pub fn unmodelled_in<'a>(found: &mut Diagnosis, words: &[Word<'a>]) -> Option<Word<'a>> {
     for word in words {
-        let part = part_of(*word);
-        if part.is_some() {
-            return part;
+        let parts = parts_of(found, *word, [',', '|']);
+        for part in &parts {
+            if is_unmodelled(part.text) {
+                return Some(*part);
+            }
         }
     }
     None

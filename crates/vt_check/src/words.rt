@@ -1,5 +1,5 @@
 //! The words of a line, with their places.
-use crate::finding::{Helper, Span};
+use crate::finding::Diagnosis;
 use vt_line::version::Version;
 
 /// A word, and the column where it begins, counted from 0.
@@ -7,16 +7,6 @@ use vt_line::version::Version;
 pub struct Word<'a> {
     pub column: usize,
     pub text: &'a str,
-}
-
-impl<'a> Word<'a> {
-    /// Where it stands.
-    pub fn span(self) -> Span {
-        Span {
-            column: self.column,
-            width: self.text.len(),
-        }
-    }
 }
 
 /// A line with its words, in a version of the language.
@@ -32,32 +22,21 @@ impl<'a> Given<'a> {
     pub fn arguments(self) -> &'a [Word<'a>] {
         self.words.get(2..).unwrap_or_default()
     }
-
-    /// The words behind the task.
-    pub fn request(self) -> &'a [Word<'a>] {
-        self.words.get(1..).unwrap_or_default()
-    }
-
-    /// The place behind the last word, as a word of one column.
-    pub fn end(self) -> Word<'a> {
-        Word {
-            column: self.text.trim_end().len(),
-            text: " ",
-        }
-    }
 }
 
-/// The words between the spaces of a line. An allocation that fails is noted with the help.
-pub fn words_of<'a>(help: &mut Helper, line: &'a str) -> Vec<Word<'a>> {
-    let mut words = Vec::new(help.alloc);
-    let mut column: usize = 0;
-    for text in line.split(' ') {
-        if !text.is_empty() && words.push(Word { column, text }).is_err() {
-            help.fail();
+/// The parts of a word between these marks; between spaces only those that are not empty. An allocation that fails is
+/// noted with the diagnosis.
+pub fn parts_of<'a>(found: &mut Diagnosis, word: Word<'a>, marks: [char; 2]) -> Vec<Word<'a>> {
+    let mut parts = Vec::new(found.alloc);
+    let mut column = word.column;
+    for text in word.text.split(marks) {
+        let is_part = !text.is_empty() || !marks.contains(&' ');
+        if is_part && parts.push(Word { column, text }).is_err() {
+            found.fail();
         }
         column = column.saturating_add(text.len()).saturating_add(1);
     }
-    words
+    parts
 }
 
 /// The word at this place of a line, counted from 0, or its first column where there is none.

@@ -28,22 +28,12 @@ fn push_calls(text: &mut Draft, calls: &[&str]) {
 // Appends the section of a rule.
 fn push_rule(text: &mut Draft, rule: Rule) {
     let (page, errno) = (page_of(rule), rule.errno());
-    text.push("\n## ");
-    text.push(rule.name());
-    text.push(": ");
-    text.push(errno.name());
-    text.push(" ");
+    text.fill("\n## {}: {} ", &[rule.name(), errno.name()]);
     text.push_number(u64::from(errno.number()));
-    text.push("\n\nWhen: ");
-    text.push(page.meaning);
-    text.push(". Manual: ");
-    text.push(page.manual);
-    text.push(". ");
+    text.fill("\n\nWhen: {}. Manual: {}. ", &[page.meaning, page.manual]);
     push_calls(text, page.calls);
     if !page.script.is_empty() {
-        text.push("\n```\n");
-        text.push(page.script);
-        text.push("```\n");
+        text.fill("\n```\n{}```\n", &[page.script]);
     }
 }
 

@@ -24,25 +24,32 @@ fn push_wrapped(text: &mut Draft, words: &[&str]) {
     text.push("\n");
 }
 
-// A rule in one line: its name, its error and its meaning.
-fn line_of(alloc: Global, rule: Rule) -> Result<String, AllocError> {
-    let (name, errno) = (rule.name(), rule.errno());
-    let (number, error) = (errno.number(), errno.name());
-    let meaning = page_of(rule).meaning;
-    format!(in alloc; "{name:<4}{number:>3} {error:<13}{meaning}\n")
+// Appends a text in a column of this width.
+fn push_column(text: &mut Draft, part: &str, width: usize) {
+    text.push(part);
+    text.push_times(' ', width.saturating_sub(part.len()));
 }
 
-// Appends a rule in one line.
-fn push_line(text: &mut Draft, alloc: Global, rule: Rule) {
-    match line_of(alloc, rule) {
-        Ok(line) => text.push(line.as_str()),
-        Err(_) => text.fail(),
-    }
+// Appends a rule in one line: its name, its error and its meaning.
+fn push_line(text: &mut Draft, rule: Rule) {
+    let errno = rule.errno();
+    let number = u64::from(errno.number());
+    push_column(text, rule.name(), 4);
+    text.push(match number {
+        0..=9 => "  ",
+        10..=99 => " ",
+        _ => "",
+    });
+    text.push_number(number);
+    text.push(" ");
+    push_column(text, errno.name(), 13);
+    text.push(page_of(rule).meaning);
+    text.push("\n");
 }
 
 // Appends what is told of a rule.
-fn push_rule(text: &mut Draft, alloc: Global, rule: Rule) {
-    push_line(text, alloc, rule);
+fn push_rule(text: &mut Draft, rule: Rule) {
+    push_line(text, rule);
     let page = page_of(rule);
     if page.calls.is_empty() {
         text.push("  not in this version\n");
@@ -50,13 +57,9 @@ fn push_rule(text: &mut Draft, alloc: Global, rule: Rule) {
         text.push("  calls:");
         push_wrapped(text, page.calls);
     }
-    text.push("  manual: ");
-    text.push(page.manual);
-    text.push("\n");
+    text.fill("  manual: {}\n", &[page.manual]);
     for line in page.script.lines() {
-        text.push("    ");
-        text.push(line);
-        text.push("\n");
+        text.fill("    {}\n", &[line]);
     }
 }
 
@@ -64,28 +67,24 @@ fn push_rule(text: &mut Draft, alloc: Global, rule: Rule) {
 pub fn order(alloc: Global) -> Result<String, AllocError> {
     let mut text = Draft::new(alloc);
     for rule in &RULES {
-        push_line(&mut text, alloc, *rule);
+        push_line(&mut text, *rule);
     }
     text.end()
-}
-
-// The call that a word means: what `mount` mounts is no call of its own.
-fn call_meant(word: &str) -> &str {
-    match word {
-        "plain" | "overlay" => "mount",
-        _ => word,
-    }
 }
 
 /// What is told of a word: of a rule its page, of an error or a call its rules. Empty where it is none of these.
 pub fn told(alloc: Global, word: &str) -> Result<String, AllocError> {
     let mut text = Draft::new(alloc);
-    let call = call_meant(word);
+    // What `mount` mounts is no call of its own.
+    let call = match word {
+        "plain" | "overlay" => "mount",
+        _ => word,
+    };
     for rule in &RULES {
         if rule.name() == word {
-            push_rule(&mut text, alloc, *rule);
+            push_rule(&mut text, *rule);
         } else if rule.errno().name() == word || page_of(*rule).calls.contains(&call) {
-            push_line(&mut text, alloc, *rule);
+            push_line(&mut text, *rule);
         }
     }
     text.end()
@@ -97,10 +96,7 @@ pub fn suite(alloc: Global) -> Result<String, AllocError> {
     for rule in &RULES {
         let script = page_of(*rule).script;
         if !script.is_empty() {
-            text.push("== ");
-            text.push(rule.name());
-            text.push("\n");
-            text.push(script);
+            text.fill("== {}\n{}", &[rule.name(), script]);
         }
     }
     text.end()

@@ -1,37 +1,29 @@
 //! The answers of a run beside those that are wanted.
-use crate::suite::Wanted;
+use crate::suite::Answer;
 use memchr::memchr;
 use std::alloc::{AllocError, Global};
 use vt_lines::lines::first_line;
-
-/// A line that a run has written.
-#[derive(Clone, Copy)]
-pub struct Given<'a> {
-    /// The number of the line that it answers.
-    pub number: u64,
-    pub text: &'a [u8],
-}
 
 /// A line of a script that is answered otherwise than is wanted.
 #[derive(Clone, Copy)]
 pub struct Difference<'a> {
     pub number: u64,
-    pub wanted: &'a [Wanted<'a>],
-    pub given: &'a [Given<'a>],
+    pub wanted: &'a [Answer<'a>],
+    pub given: &'a [Answer<'a>],
 }
 
 // The number at the front of a text, up to a space, and what follows the space.
-fn numbered(line: &[u8]) -> Option<Given<'_>> {
+fn numbered(line: &[u8]) -> Option<Answer<'_>> {
     let space = memchr(b' ', line)?;
     let digits = str::from_utf8(line.get(..space)?).ok()?;
-    Some(Given {
+    Some(Answer {
         number: digits.parse().ok()?,
         text: line.get(space.saturating_add(1)..)?,
     })
 }
 
 /// The lines that a run has written.
-pub fn given_lines(alloc: Global, answers: &[u8]) -> Result<Vec<Given<'_>>, AllocError> {
+pub fn given_lines(alloc: Global, answers: &[u8]) -> Result<Vec<Answer<'_>>, AllocError> {
     let mut lines = Vec::new(alloc);
     let mut rest = answers;
     while let Some((line, after)) = first_line(rest) {
@@ -76,75 +68,44 @@ pub fn is_met(wanted: &[u8], given: &[u8]) -> bool {
         && is_denial_of(wanted, given)
 }
 
-// Whether each line of an answer is what is wanted.
-fn are_all_met(wanted: &[Wanted<'_>], given: &[Given<'_>]) -> bool {
+// Whether the lines of an answer are what is wanted. `ok ..` wants no further lines, and takes any.
+fn are_met(wanted: &[Answer<'_>], given: &[Answer<'_>]) -> bool {
+    let is_any = matches!(wanted, [first] if first.text == b"ok ..".as_slice());
     for (wanted, given) in wanted.iter().zip(given) {
         if !is_met(wanted.text, given.text) {
             return false;
         }
     }
-    wanted.len() == given.len()
+    wanted.len() == given.len() || (is_any && !given.is_empty())
 }
 
-// Whether the lines of an answer are what is wanted. `ok ..` wants no further lines, and takes any.
-fn are_met(wanted: &[Wanted<'_>], given: &[Given<'_>]) -> bool {
-    match (wanted, given) {
-        ([wanted], [given, _, ..]) => {
-            wanted.text == b"ok ..".as_slice() && is_met(wanted.text, given.text)
-        }
-        _ => are_all_met(wanted, given),
-    }
-}
-
-// How many of the first answers that are wanted are those of a line.
-fn wanted_for(wanted: &[Wanted<'_>], number: u64) -> usize {
-    let mut count: usize = 0;
-    for answer in wanted {
+// The first answers, which are those of a line, and those that follow.
+fn split_line<'a>(answers: &'a [Answer<'a>], number: u64) -> (&'a [Answer<'a>], &'a [Answer<'a>]) {
+    for (place, answer) in answers.iter().enumerate() {
         if answer.number != number {
-            return count;
+            return answers.split_at_checked(place).unwrap_or((answers, &[]));
         }
-        count = count.saturating_add(1);
     }
-    count
-}
-
-// How many of the first lines that were written answer a line.
-fn given_for(given: &[Given<'_>], number: u64) -> usize {
-    let mut count: usize = 0;
-    for line in given {
-        if line.number != number {
-            return count;
-        }
-        count = count.saturating_add(1);
-    }
-    count
-}
-
-// The number of the first line that has an answer, wanted or given.
-fn next_number(wanted: &[Wanted<'_>], given: &[Given<'_>]) -> Option<u64> {
-    match (wanted.first(), given.first()) {
-        (Some(wanted), Some(given)) => Some(wanted.number.min(given.number)),
-        (Some(wanted), None) => Some(wanted.number),
-        (None, Some(given)) => Some(given.number),
-        (None, None) => None,
-    }
+    (answers, &[])
 }
 
 // The answers that are wanted and those that are given, as far as they are not compared.
 #[derive(Clone, Copy)]
 struct Rest<'a> {
-    wanted: &'a [Wanted<'a>],
-    given: &'a [Given<'a>],
+    wanted: &'a [Answer<'a>],
+    given: &'a [Answer<'a>],
 }
 
 impl<'a> Rest<'a> {
     // The first line that has an answer, with its answers, and what follows them.
     fn split(self) -> Option<(Difference<'a>, Rest<'a>)> {
-        let number = next_number(self.wanted, self.given)?;
-        let wanted_count = wanted_for(self.wanted, number);
-        let (wanted, more_wanted) = self.wanted.split_at_checked(wanted_count)?;
-        let given_count = given_for(self.given, number);
-        let (given, more_given) = self.given.split_at_checked(given_count)?;
+        let number = match (self.wanted.first(), self.given.first()) {
+            (Some(wanted), Some(given)) => wanted.number.min(given.number),
+            (Some(answer), None) | (None, Some(answer)) => answer.number,
+            (None, None) => return None,
+        };
+        let (wanted, more_wanted) = split_line(self.wanted, number);
+        let (given, more_given) = split_line(self.given, number);
         let line = Difference {
             number,
             wanted,
@@ -161,8 +122,8 @@ impl<'a> Rest<'a> {
 /// The lines that are answered otherwise than is wanted.
 pub fn differences<'a>(
     alloc: Global,
-    wanted: &'a [Wanted<'a>],
-    given: &'a [Given<'a>],
+    wanted: &'a [Answer<'a>],
+    given: &'a [Answer<'a>],
 ) -> Result<Vec<Difference<'a>>, AllocError> {
     let mut found = Vec::new(alloc);
     let mut rest = Rest { wanted, given };

@@ -1,13 +1,14 @@
 //! The outcome of a script as JSON, one object a line.
-use crate::compare::{Difference, Given};
-use crate::suite::{Script, Wanted};
+use crate::compare::Difference;
+use crate::suite::{Answer, Script};
 use crate::text::{line_of, push_name};
 use serde_json::Value;
 use std::alloc::{AllocError, Global};
+use vt_check::draft::Draft;
 use vt_check::object::{List, Object};
 
-// The answers that are wanted.
-fn wanted(alloc: Global, answers: &[Wanted<'_>]) -> Result<Value, AllocError> {
+// Answers as texts.
+fn texts(alloc: Global, answers: &[Answer<'_>]) -> Result<Value, AllocError> {
     let mut texts = List::new(alloc);
     for answer in answers {
         texts.push_bytes(answer.text);
@@ -15,30 +16,7 @@ fn wanted(alloc: Global, answers: &[Wanted<'_>]) -> Result<Value, AllocError> {
     texts.end()
 }
 
-// The answers that are given.
-fn given(alloc: Global, answers: &[Given<'_>]) -> Result<Value, AllocError> {
-    let mut texts = List::new(alloc);
-    for answer in answers {
-        texts.push_bytes(answer.text);
-    }
-    texts.end()
-}
-
-// A difference as an object.
-fn difference(
-    alloc: Global,
-    script: &Script<'_>,
-    found: &Difference<'_>,
-) -> Result<Value, AllocError> {
-    let mut object = Object::new(alloc);
-    object.put_number("line", script.before.saturating_add(found.number));
-    object.put_bytes("call", line_of(script, found.number));
-    object.put("wanted", wanted(alloc, found.wanted));
-    object.put("given", given(alloc, found.given));
-    object.end()
-}
-
-// The differences of a script.
+// The differences of a script, each as an object.
 fn differences(
     alloc: Global,
     script: &Script<'_>,
@@ -46,18 +24,24 @@ fn differences(
 ) -> Result<Value, AllocError> {
     let mut all = List::new(alloc);
     for one in found {
-        all.push(difference(alloc, script, one));
+        let mut object = Object::new(alloc);
+        object.put_number("line", script.before.saturating_add(one.number));
+        object.put_bytes("call", line_of(script, one.number));
+        object.put("wanted", texts(alloc, one.wanted));
+        object.put("given", texts(alloc, one.given));
+        all.push(object.end());
     }
     all.end()
 }
 
-/// A script and its differences, as an object and a newline.
-pub fn outcome(
+/// Appends a script and its differences, as an object and a newline.
+pub fn push_outcome(
+    text: &mut Draft,
     alloc: Global,
     file: &str,
     script: &Script<'_>,
     found: &[Difference<'_>],
-) -> Result<String, AllocError> {
+) {
     let mut object = Object::new(alloc);
     object.put_text("file", file);
     object.put_number("line", script.before.saturating_add(1));
@@ -66,21 +50,21 @@ pub fn outcome(
     object.put_draft("script", name);
     object.put("passed", Ok(Value::Bool(found.is_empty())));
     object.put("differences", differences(alloc, script, found));
-    object.line()
+    object.push_line(text);
 }
 
-/// A file that cannot be tested, as an object and a newline.
-pub fn fault(alloc: Global, file: &str, said: &str) -> Result<String, AllocError> {
+/// Appends a file that cannot be tested, as an object and a newline.
+pub fn push_fault(text: &mut Draft, alloc: Global, file: &str, said: &str) {
     let mut object = Object::new(alloc);
     object.put_text("file", file);
     object.put_text("error", said);
-    object.line()
+    object.push_line(text);
 }
 
-/// How many scripts have passed and failed, as an object and a newline.
-pub fn totals(alloc: Global, passed: u64, failed: u64) -> Result<String, AllocError> {
+/// Appends how many scripts have passed and failed, as an object and a newline.
+pub fn push_totals(text: &mut Draft, alloc: Global, passed: u64, failed: u64) {
     let mut object = Object::new(alloc);
     object.put_number("passed", passed);
     object.put_number("failed", failed);
-    object.line()
+    object.push_line(text);
 }

@@ -1,6 +1,6 @@
 //! A file of scripts with the answers that are given.
-use crate::compare::{Difference, Given, differences, given_lines};
-use crate::suite::{Entry, Script, SuiteFault, entry_of, scripts};
+use crate::compare::{differences, given_lines};
+use crate::suite::{Answer, Entry, Script, SuiteFault, entry_of, scripts};
 use std::alloc::{AllocError, Global};
 use vt_lines::answers::answers;
 use vt_lines::lines::first_line;
@@ -17,92 +17,32 @@ struct Change {
     answers: Vec<u8>,
 }
 
-// Appends the answers of a line as they stand in a file.
-fn write_answers(text: &mut Vec<u8>, given: &[Given<'_>]) -> Result<(), AllocError> {
+// The answers of a line as they stand in a file.
+fn written(alloc: Global, given: &[Answer<'_>]) -> Result<Vec<u8>, AllocError> {
+    let mut text = Vec::new(alloc);
     for (place, answer) in given.iter().enumerate() {
         text.extend_from_slice(if place == 0 { b" => " } else { b"\n=> " })?;
         text.extend_from_slice(answer.text)?;
     }
-    Ok(())
-}
-
-// Appends a difference as a change of the file.
-fn push_change(
-    alloc: Global,
-    changes: &mut Vec<Change>,
-    before: u64,
-    found: &Difference<'_>,
-) -> Result<(), AllocError> {
-    let mut answers = Vec::new(alloc);
-    write_answers(&mut answers, found.given)?;
-    changes.push(Change {
-        line: before.saturating_add(found.number),
-        answers,
-    })?;
-    Ok(())
-}
-
-// Appends the changes of a script that is answered by these lines.
-fn push_differences(
-    alloc: Global,
-    changes: &mut Vec<Change>,
-    script: &Script<'_>,
-    given: &[Given<'_>],
-) -> Result<(), AllocError> {
-    for one in &differences(alloc, script.wanted.as_slice(), given)? {
-        push_change(alloc, changes, script.before, one)?;
-    }
-    Ok(())
-}
-
-// Appends the changes of a script that is answered by this text.
-fn push_changes(
-    alloc: Global,
-    changes: &mut Vec<Change>,
-    script: &Script<'_>,
-    answers: &[u8],
-) -> Result<(), AllocError> {
-    let given = given_lines(alloc, answers)?;
-    let pushed = push_differences(alloc, changes, script, given.as_slice());
-    drop(given);
-    pushed
+    Ok(text)
 }
 
 // Appends the changes of a script, as it is answered.
-fn push_changes_of<C: Calls>(
+fn push_changes<C: Calls>(
     alloc: Global,
     changes: &mut Vec<Change>,
     script: &Script<'_>,
 ) -> Result<(), AllocError> {
     let text = answers::<C>(script.version, alloc, script.text.as_slice(), PIECE)?;
-    let pushed = push_changes(alloc, changes, script, text.bytes());
-    drop(text);
-    pushed
-}
-
-// Appends the changes of scripts.
-fn push_all_changes<C: Calls>(
-    alloc: Global,
-    changes: &mut Vec<Change>,
-    scripts: &[Script<'_>],
-) -> Result<(), AllocError> {
-    for script in scripts {
-        push_changes_of::<C>(alloc, changes, script)?;
+    let given = given_lines(alloc, text.bytes())?;
+    let found = differences(alloc, script.wanted.as_slice(), given.as_slice())?;
+    for one in &found {
+        changes.push(Change {
+            line: script.before.saturating_add(one.number),
+            answers: written(alloc, one.given)?,
+        })?;
     }
     Ok(())
-}
-
-// Appends the changes of a file, in the order of its lines.
-fn push_changes_in<C: Calls>(
-    version: Version,
-    alloc: Global,
-    changes: &mut Vec<Change>,
-    file: &[u8],
-) -> Result<(), SuiteFault> {
-    let scripts = scripts(version, alloc, file)?;
-    let pushed = push_all_changes::<C>(alloc, changes, scripts.as_slice());
-    drop(scripts);
-    Ok(pushed?)
 }
 
 // A file as it is written anew, with these changes.
@@ -117,15 +57,6 @@ struct Rewriting {
 }
 
 impl Rewriting {
-    fn new(alloc: Global) -> Self {
-        Rewriting {
-            changes: Vec::new(alloc),
-            made: 0,
-            leaves_out: false,
-            text: Vec::new(alloc),
-        }
-    }
-
     // Writes a line of the file, whose call this is.
     fn write(&mut self, number: u64, line: &[u8], call: &[u8]) -> Result<(), AllocError> {
         match self.changes.get(self.made) {
@@ -174,7 +105,10 @@ impl Rewriting {
         alloc: Global,
         file: &[u8],
     ) -> Result<(), SuiteFault> {
-        push_changes_in::<C>(version, alloc, &mut self.changes, file)?;
+        let scripts = scripts(version, alloc, file)?;
+        for script in &scripts {
+            push_changes::<C>(alloc, &mut self.changes, script)?;
+        }
         Ok(self.write_all(file)?)
     }
 }
@@ -194,7 +128,12 @@ pub fn with_given_answers<C: Calls>(
     alloc: Global,
     file: &[u8],
 ) -> Result<Rewritten, SuiteFault> {
-    let mut rewriting = Rewriting::new(alloc);
+    let mut rewriting = Rewriting {
+        changes: Vec::new(alloc),
+        made: 0,
+        leaves_out: false,
+        text: Vec::new(alloc),
+    };
     match rewriting.rewrite::<C>(version, alloc, file) {
         Ok(()) => Ok(Rewritten {
             text: rewriting.text,

@@ -11,9 +11,9 @@ use vt_io::line::LONGEST_LINE;
 use vt_lines::lines::first_line;
 use vt_script::Version;
 
-/// An answer that is wanted, or a further line of one.
+/// An answer that is wanted or given, or a further line of one.
 #[derive(Clone, Copy)]
-pub struct Wanted<'a> {
+pub struct Answer<'a> {
     /// The number of the line in its script, from 1.
     pub number: u64,
     pub text: &'a [u8],
@@ -29,7 +29,7 @@ pub struct Script<'a> {
     pub before: u64,
     pub text: Vec<u8>,
     /// What is wanted, in the order of the lines.
-    pub wanted: Vec<Wanted<'a>>,
+    pub wanted: Vec<Answer<'a>>,
 }
 
 /// Why a file is none of scripts, with the number of the line.
@@ -88,29 +88,30 @@ fn trimmed(text: &[u8]) -> &[u8] {
     without_front(without_end(text))
 }
 
-// Whether a line is a comment or of spaces alone, and not too long to be one.
-fn is_silent(line: &[u8]) -> bool {
-    line.len() <= LONGEST_LINE && matches!(without_front(line).first(), None | Some(b'#'))
-}
-
-// Whether a text begins with the mark ` =>` that a space follows, or the text's end.
-fn is_mark(text: &[u8]) -> bool {
-    text.starts_with(b" =>") && matches!(text.get(3), None | Some(b' '))
-}
-
-// Where the first mark of a line begins.
+// Where the first mark ` =>` begins that a space follows, or the line's end.
 fn mark_in(line: &[u8]) -> Option<usize> {
     for place in 0..line.len() {
-        if is_mark(line.get(place..).unwrap_or_default()) {
+        let rest = line.get(place..).unwrap_or_default();
+        if rest.starts_with(b" =>") && matches!(rest.get(3), None | Some(b' ')) {
             return Some(place);
         }
     }
     None
 }
 
-// A line of a script with its answer.
-fn line_entry(line: &[u8]) -> Entry<'_> {
-    if is_silent(line) {
+/// What a line of a file is. One that is a comment or of spaces alone, and not too long to be one, has no answer.
+pub fn entry_of(line: &[u8]) -> Entry<'_> {
+    if line == b"==".as_slice() {
+        return Entry::Name(b"");
+    }
+    if let Some(name) = line.strip_prefix(b"== ") {
+        return Entry::Name(trimmed(name));
+    }
+    if let Some(more) = line.strip_prefix(b"=> ") {
+        return Entry::More(trimmed(more));
+    }
+    let is_silent = matches!(without_front(line).first(), None | Some(b'#'));
+    if is_silent && line.len() <= LONGEST_LINE {
         return Entry::Line(line, None);
     }
     let Some(mark) = mark_in(line) else {
@@ -119,20 +120,6 @@ fn line_entry(line: &[u8]) -> Entry<'_> {
     let call = line.get(..mark).unwrap_or_default();
     let answer = trimmed(line.get(mark.saturating_add(3)..).unwrap_or_default());
     Entry::Line(call, (!answer.is_empty()).then_some(answer))
-}
-
-/// What a line of a file is.
-pub fn entry_of(line: &[u8]) -> Entry<'_> {
-    if line == b"==".as_slice() {
-        return Entry::Name(b"");
-    }
-    if let Some(name) = line.strip_prefix(b"== ") {
-        return Entry::Name(trimmed(name));
-    }
-    match line.strip_prefix(b"=> ") {
-        Some(more) => Entry::More(trimmed(more)),
-        None => line_entry(line),
-    }
 }
 
 impl<'a> Script<'a> {
@@ -156,25 +143,9 @@ impl<'a> Script<'a> {
         self.text.extend_from_slice(call)?;
         self.text.push(b'\n')?;
         if let Some(text) = answer {
-            self.wanted.push(Wanted { number, text })?;
+            self.wanted.push(Answer { number, text })?;
         }
         Ok(())
-    }
-
-    // Goes on with the answer above by a further line.
-    fn say_more(&mut self, text: &'a [u8]) -> Result<bool, AllocError> {
-        let Some(last) = self.wanted.last() else {
-            return Ok(false);
-        };
-        let number = last.number;
-        self.text.push(b'\n')?;
-        self.wanted.push(Wanted { number, text })?;
-        Ok(true)
-    }
-
-    // Whether it has neither a name nor a line.
-    fn is_nothing(&self) -> bool {
-        self.name.is_empty() && self.wanted.is_empty()
     }
 }
 
@@ -187,14 +158,6 @@ struct Reading<'a> {
 }
 
 impl<'a> Reading<'a> {
-    fn new(version: Version, alloc: Global) -> Self {
-        Reading {
-            done: Vec::new(alloc),
-            script: Script::new(version, alloc, b"", 0),
-            names: BTreeMap::new(alloc),
-        }
-    }
-
     // Begins a script.
     fn begin(&mut self, alloc: Global, line: u64, name: &'a [u8]) -> Result<(), SuiteFault> {
         if name.is_empty() {
@@ -206,8 +169,7 @@ impl<'a> Reading<'a> {
                 first: *first,
             });
         }
-        self.start(alloc, line, name)?;
-        Ok(())
+        Ok(self.start(alloc, line, name)?)
     }
 
     // Begins a script of a new name.
@@ -216,32 +178,29 @@ impl<'a> Reading<'a> {
         self.end(Script::new(self.script.version, alloc, name, line))
     }
 
-    // Ends a script, where another begins.
+    // Ends a script, where another begins, if it has a name or a line.
     fn end(&mut self, next: Script<'a>) -> Result<(), AllocError> {
         let script = mem::replace(&mut self.script, next);
-        if script.is_nothing() {
-            return Ok(());
+        if !script.name.is_empty() || !script.wanted.is_empty() {
+            self.done.push(script)?;
         }
-        self.done.push(script)?;
         Ok(())
     }
 
     // Goes on by a line of the file.
     fn take(&mut self, alloc: Global, line: u64, text: &'a [u8]) -> Result<(), SuiteFault> {
-        match entry_of(text) {
-            Entry::Name(name) => self.begin(alloc, line, name),
-            Entry::More(more) => {
-                if self.script.say_more(more)? {
-                    Ok(())
-                } else {
-                    Err(SuiteFault::NothingAbove { line })
-                }
-            }
+        let (number, call, answer) = match entry_of(text) {
+            Entry::Name(name) => return self.begin(alloc, line, name),
+            Entry::More(more) => match self.script.wanted.last() {
+                Some(above) => (above.number, b"".as_slice(), Some(more)),
+                None => return Err(SuiteFault::NothingAbove { line }),
+            },
             Entry::Line(call, answer) => {
                 let number = line.saturating_sub(self.script.before);
-                Ok(self.script.say(number, call, answer)?)
+                (number, call, answer)
             }
-        }
+        };
+        Ok(self.script.say(number, call, answer)?)
     }
 
     // Goes on by all lines of a file.
@@ -264,7 +223,11 @@ pub fn scripts(
     alloc: Global,
     file: &[u8],
 ) -> Result<Vec<Script<'_>>, SuiteFault> {
-    let mut reading = Reading::new(version, alloc);
+    let mut reading = Reading {
+        done: Vec::new(alloc),
+        script: Script::new(version, alloc, b"", 0),
+        names: BTreeMap::new(alloc),
+    };
     match reading.read(version, alloc, file) {
         Ok(()) => Ok(reading.done),
         Err(fault) => Err(fault),

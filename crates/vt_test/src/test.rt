@@ -1,7 +1,8 @@
 //! Files of scripts, tested.
-use crate::compare::{Difference, Given, differences, given_lines};
+use crate::compare::{differences, given_lines};
 use crate::suite::{Script, SuiteFault, scripts};
-use crate::{json, junit, text};
+use crate::text::push_failure;
+use crate::{json, junit};
 use std::alloc::{AllocError, Global};
 use std::io::{self, Write};
 use vt_check::draft::Draft;
@@ -35,131 +36,40 @@ impl Totals {
         }
     }
 
-    // With one more.
-    fn with(self, passed: bool) -> Self {
+    // One more.
+    fn count(&mut self, passed: bool) {
         if passed {
-            Totals {
-                passed: self.passed.saturating_add(1),
-                ..self
-            }
+            self.passed = self.passed.saturating_add(1);
         } else {
-            Totals {
-                failed: self.failed.saturating_add(1),
-                ..self
-            }
+            self.failed = self.failed.saturating_add(1);
         }
     }
 }
 
-// Whether a script passes, and what is written of it.
-#[derive(Drop)]
-struct ScriptOutcome {
-    passed: bool,
-    text: String,
-}
-
-// What is written of a script with these differences.
-fn outcome_text(
+// Appends what is to be said of a script, and tells whether it passes.
+fn push_tested<C: Calls>(
+    text: &mut Draft,
     alloc: Global,
     file: &str,
     format: Format,
     script: &Script<'_>,
-    found: &[Difference<'_>],
-) -> Result<String, AllocError> {
-    match format {
-        Format::Text if found.is_empty() => Ok(String::new(alloc)),
-        Format::Text => text::failure(alloc, file, script, found),
-        Format::Json => json::outcome(alloc, file, script, found),
-        Format::Junit => junit::outcome(alloc, file, script, found),
-    }
-}
-
-// The outcome of a script with these differences.
-fn outcome(
-    alloc: Global,
-    file: &str,
-    format: Format,
-    script: &Script<'_>,
-    found: &[Difference<'_>],
-) -> Result<ScriptOutcome, AllocError> {
-    match outcome_text(alloc, file, format, script, found) {
-        Ok(text) => Ok(ScriptOutcome {
-            passed: found.is_empty(),
-            text,
-        }),
-        Err(error) => Err(error),
-    }
-}
-
-// The outcome of a script that is answered by these lines.
-fn outcome_of_lines(
-    alloc: Global,
-    file: &str,
-    format: Format,
-    script: &Script<'_>,
-    given: &[Given<'_>],
-) -> Result<ScriptOutcome, AllocError> {
-    let found = differences(alloc, script.wanted.as_slice(), given)?;
-    let outcome = outcome(alloc, file, format, script, found.as_slice());
-    drop(found);
-    outcome
-}
-
-// The outcome of a script that is answered by this text.
-fn outcome_of(
-    alloc: Global,
-    file: &str,
-    format: Format,
-    script: &Script<'_>,
-    answers: &[u8],
-) -> Result<ScriptOutcome, AllocError> {
-    let given = given_lines(alloc, answers)?;
-    let outcome = outcome_of_lines(alloc, file, format, script, given.as_slice());
-    drop(given);
-    outcome
-}
-
-// The outcome of a script.
-fn tested<C: Calls>(
-    alloc: Global,
-    file: &str,
-    format: Format,
-    script: &Script<'_>,
-) -> Result<ScriptOutcome, AllocError> {
+) -> Result<bool, AllocError> {
     let written = answers::<C>(script.version, alloc, script.text.as_slice(), PIECE)?;
-    let outcome = outcome_of(alloc, file, format, script, written.bytes());
-    drop(written);
-    outcome
-}
-
-// What is said of a file that is none of scripts.
-fn said(alloc: Global, fault: &SuiteFault) -> Result<String, AllocError> {
-    format!(in alloc; "{fault}")
-}
-
-// What is written of a file that is none of scripts, as this says.
-fn fault_text(alloc: Global, file: &str, format: Format, said: &str) -> Result<String, AllocError> {
+    let given = given_lines(alloc, written.bytes())?;
+    let found = differences(alloc, script.wanted.as_slice(), given.as_slice())?;
+    let passed = found.is_empty();
     match format {
-        Format::Text => fault_line(alloc, file, said),
-        Format::Json => json::fault(alloc, file, said),
-        Format::Junit => junit::fault(alloc, file, said),
+        Format::Text if passed => {}
+        Format::Text => push_failure(text, alloc, file, script, found.as_slice()),
+        Format::Json => json::push_outcome(text, alloc, file, script, found.as_slice()),
+        Format::Junit => junit::push_outcome(text, alloc, file, script, found.as_slice()),
     }
-}
-
-// What is written as text of a file that is none of scripts.
-fn fault_line(alloc: Global, file: &str, said: &str) -> Result<String, AllocError> {
-    let mut text = Draft::new(alloc);
-    text.push("error: ");
-    text.push(file);
-    text.push(": ");
-    text.push(said);
-    text.push("\n");
-    text.end()
+    Ok(passed)
 }
 
 // Writes a text, if no allocation failed.
-fn write_text<W: Write>(output: &mut W, text: Result<String, AllocError>) -> io::Result<()> {
-    let text = text?;
+fn write_text<W: Write>(output: &mut W, text: Draft) -> io::Result<()> {
+    let text = text.end()?;
     let written = output.write_all(text.as_bytes());
     drop(text);
     written
@@ -175,25 +85,29 @@ fn test_scripts<C: Calls, W: Write>(
 ) -> io::Result<Totals> {
     let mut totals = Totals::new();
     for script in scripts {
-        let ScriptOutcome { passed, text } = tested::<C>(alloc, file, format, script)?;
-        write_text(output, Ok(text))?;
-        totals = totals.with(passed);
+        let mut text = Draft::new(alloc);
+        let passed = push_tested::<C>(&mut text, alloc, file, format, script)?;
+        totals.count(passed);
+        write_text(output, text)?;
     }
     Ok(totals)
 }
 
-// Writes why a file is none of scripts.
-fn write_fault<W: Write>(
+// What is to be said of a file that is none of scripts.
+fn told(
     alloc: Global,
     file: &str,
     format: Format,
     fault: &SuiteFault,
-    output: &mut W,
-) -> io::Result<()> {
-    let said = said(alloc, fault)?;
-    let text = fault_text(alloc, file, format, said.as_str());
-    drop(said);
-    write_text(output, text)
+) -> Result<Draft, AllocError> {
+    let said = format!(in alloc; "{fault}")?;
+    let mut text = Draft::new(alloc);
+    match format {
+        Format::Text => text.fill("error: {}: {}\n", &[file, said.as_str()]),
+        Format::Json => json::push_fault(&mut text, alloc, file, said.as_str()),
+        Format::Junit => junit::push_fault(&mut text, file, said.as_str()),
+    }
+    Ok(text)
 }
 
 /// Tests the scripts of a file, in a version of their language, and writes what is to be said of each.
@@ -212,8 +126,11 @@ pub fn test_file<C: Calls, W: Write>(
             totals
         }
         Err(fault) => {
-            write_fault(alloc, file, format, &fault, output)?;
-            Ok(Totals::new().with(false))
+            write_text(output, told(alloc, file, format, &fault)?)?;
+            Ok(Totals {
+                passed: 0,
+                failed: 1,
+            })
         }
     }
 }
@@ -226,16 +143,6 @@ pub fn begin<W: Write>(format: Format, output: &mut W) -> io::Result<()> {
     }
 }
 
-// How many scripts have passed and failed, as text.
-fn totals_line(alloc: Global, totals: Totals) -> Result<String, AllocError> {
-    let mut text = Draft::new(alloc);
-    text.push_number(totals.passed);
-    text.push(" passed, ");
-    text.push_number(totals.failed);
-    text.push(" failed\n");
-    text.end()
-}
-
 /// Writes what stands behind all files.
 pub fn end<W: Write>(
     alloc: Global,
@@ -243,9 +150,16 @@ pub fn end<W: Write>(
     totals: Totals,
     output: &mut W,
 ) -> io::Result<()> {
+    let mut text = Draft::new(alloc);
     match format {
-        Format::Text => write_text(output, totals_line(alloc, totals)),
-        Format::Json => write_text(output, json::totals(alloc, totals.passed, totals.failed)),
-        Format::Junit => output.write_all(junit::FOOT.as_bytes()),
+        Format::Text => {
+            text.push_number(totals.passed);
+            text.push(" passed, ");
+            text.push_number(totals.failed);
+            text.push(" failed\n");
+        }
+        Format::Json => json::push_totals(&mut text, alloc, totals.passed, totals.failed),
+        Format::Junit => text.push(junit::FOOT),
     }
+    write_text(output, text)
 }

@@ -1,6 +1,6 @@
 //! The outcome of a script as text.
 use crate::compare::Difference;
-use crate::suite::{Script, without_end};
+use crate::suite::{Answer, Script, without_end};
 use std::alloc::{AllocError, Global};
 use vt_check::check::push_explained;
 use vt_check::draft::Draft;
@@ -32,69 +32,17 @@ pub fn line_of<'a>(script: &'a Script<'_>, number: u64) -> &'a [u8] {
     without_end(line)
 }
 
-// What stands before the lines about a line of this number: as many spaces as it has digits.
-#[derive(Clone, Copy)]
-struct Margin {
-    columns: usize,
-}
-
-impl Margin {
-    // The margin of a number.
-    fn of(number: u64) -> Self {
-        let log = number.checked_ilog10().unwrap_or_default();
-        Margin {
-            columns: (log as usize).saturating_add(1),
-        }
-    }
-
-    // Appends it, and what follows it.
-    fn push(self, text: &mut Draft, mark: &str) {
-        text.push_times(' ', self.columns);
-        text.push(mark);
-    }
-
-    // Appends an answer behind it.
-    fn push_answer(self, text: &mut Draft, mark: &str, answer: &[u8]) {
-        self.push(text, mark);
-        text.push_bytes(answer);
+// Appends the answers of a line of the file that has this number, each behind a mark.
+fn push_answers(text: &mut Draft, number: u64, mark: &str, answers: &[Answer<'_>]) {
+    for answer in answers {
+        text.push_margin(number, mark);
+        text.push_bytes(answer.text);
         text.push("\n");
     }
-
-    // Appends the answers that are wanted, and those that are given.
-    fn push_answers(self, text: &mut Draft, found: &Difference<'_>) {
-        for wanted in found.wanted {
-            self.push_answer(text, " | - ", wanted.text);
-        }
-        for given in found.given {
-            self.push_answer(text, " | + ", given.text);
-        }
-    }
 }
 
-// Whether a line is refused as none of the grammar, where that is not wanted.
-fn is_refused(found: &Difference<'_>) -> bool {
-    match found.given.first() {
-        Some(given) => given.text == b"deny 22 EINVAL S1".as_slice(),
-        None => false,
-    }
-}
-
-// Appends where a line stands in a file, and the line.
-fn push_line(text: &mut Draft, margin: Margin, file: &str, number: u64, line: &[u8]) {
-    margin.push(text, "--> ");
-    text.push(file);
-    text.push(":");
-    text.push_number(number);
-    text.push("\n");
-    margin.push(text, " |\n");
-    text.push_number(number);
-    text.push(" | ");
-    text.push_bytes(line);
-    text.push("\n");
-}
-
-// Appends a difference: where the line stands in the file, the line, and the answers; for a line of no grammar also what
-// is wrong.
+// Appends a difference: where the line stands in the file, the line, and the answers; where the line is refused as none
+// of the grammar, and that is not wanted, also what is wrong.
 fn push_difference(
     text: &mut Draft,
     alloc: Global,
@@ -103,12 +51,24 @@ fn push_difference(
     found: &Difference<'_>,
 ) {
     let number = script.before.saturating_add(found.number);
-    let margin = Margin::of(number);
     let line = line_of(script, found.number);
-    push_line(text, margin, file, number, line);
-    margin.push_answers(text, found);
-    if is_refused(found) {
-        push_explained(text, script.version, alloc, file, number, line);
+    text.push_margin(number, "--> ");
+    text.push(file);
+    text.push(":");
+    text.push_number(number);
+    text.push("\n");
+    text.push_margin(number, " |\n");
+    text.push_number(number);
+    text.push(" | ");
+    text.push_bytes(line);
+    text.push("\n");
+    push_answers(text, number, " | - ", found.wanted);
+    push_answers(text, number, " | + ", found.given);
+    match found.given.first() {
+        Some(given) if given.text == b"deny 22 EINVAL S1".as_slice() => {
+            push_explained(text, script.version, alloc, file, number, line);
+        }
+        _ => {}
     }
 }
 
@@ -138,17 +98,13 @@ pub fn push_failure(
     for one in found.get(..MOST_SHOWN).unwrap_or(found) {
         push_difference(text, alloc, file, script, one);
     }
-    push_hidden(text, found.len().saturating_sub(MOST_SHOWN));
-    if !text.ends_with("\n\n") {
-        text.push("\n");
-    }
-}
-
-// Appends how many differences are not shown, if there are some.
-fn push_hidden(text: &mut Draft, hidden: usize) {
+    let hidden = found.len().saturating_sub(MOST_SHOWN);
     if hidden > 0 {
         text.push("note: ");
         text.push_number(hidden as u64);
         text.push(" more differences are not shown\n");
+    }
+    if !text.ends_with("\n\n") {
+        text.push("\n");
     }
 }
