@@ -209,7 +209,8 @@ pub copy_shared : (it : Attachment) (can : CanAttach it) (part origin : Mount �
     → IsOfTree it origin → part.propagation ≡ Shared group
     → (copy_of it part origin).propagation ≡ Shared (image_group it can origin group)
 copy_shared it can part origin group c d e = copy_kind it can part origin c d
-    ∙ shared_kind it.mount_point it.moves (serve_images it can) can.each_once part origin (part_among it can part c) group e
+    ∙ shared_kind it.mount_point it.moves (serve_images it can) can.each_once part origin
+    (part_among it can part c) group e
 
 pub copies_at_peers_are_peers : CopiesAtPeersArePeers
 copies_at_peers_are_peers it one other origin group can c c_other d e e_other = (
@@ -221,7 +222,8 @@ copies_at_peers_are_peers it one other origin group can c c_other d e e_other = 
 pub copies_at_slaves_are_slaves : CopiesAtSlavesAreSlaves
 copies_at_slaves_are_slaves it one other origin master group can c c_other d away e near e_other = (
   image_group it can origin group,
-  copy_kind it can one origin c d ∙ slave_kind it.mount_point it.moves (serve_images it can) can.each_once one origin master group away e near,
+  copy_kind it can one origin c d
+      ∙ slave_kind it.mount_point it.moves (serve_images it can) can.each_once one origin master group away e near,
   copy_shared it can other origin group c_other d e_other,
 )
 

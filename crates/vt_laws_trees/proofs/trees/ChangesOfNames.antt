@@ -156,7 +156,8 @@ module _ (files : FileTree ℕ) {directory : ℕ} {name : List ℕ} {object : �
     directories = removed_kind;
     in_order = λ d. cc (removed_entries d, untaken_in_order files directory name conditions.in_order d);
     alive = λ d n k e. removed_used k ∙ conditions.alive d n k (removed_told d n k e).0;
-    kept = λ d n k e is. ⊎_elim (λ same. inl (same_Some k object (cc (same.0, same.1, may.named)))) (λ entry. inr (removed_entry d n ∙ entry))
+    kept = λ d n k e is. ⊎_elim (λ same. inl (same_Some k object (cc (same.0, same.1, may.named))))
+        (λ entry. inr (removed_entry d n ∙ entry))
         (untaken_kept files directory name d n k e);
     told = λ d n k e is.
         let old = removed_told d n k e in

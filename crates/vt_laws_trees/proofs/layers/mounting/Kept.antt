@@ -119,7 +119,8 @@ module _ (world : World ℕ) (conditions : IsWorld nat_eq world) (fresh : Fresh 
           (pairwise_append (λ a b. nat_eq a.number b.number ≡ false) world.filesystems (new ∷ [])
           (no_pair (λ a b. nat_eq a.number b.number) world.filesystems conditions.files.one_filesystem)
           (λ b among. absurd among, tt) (λ a b in_old in_new. Rattle.std.proofs.Common.⊎_elim
-          (λ e. cc (none_equal (evens (evens fresh) 0) world.filesystems unused a in_old)) (λ none. absurd none) in_new))
+          (λ e. cc (none_equal (evens (evens fresh) 0) world.filesystems unused a in_old))
+          (λ none. absurd none) in_new))
           (λ a b l r. refl);
       fit_filesystems = pushed is_fit_filesystem conditions.files.fit_filesystems
           (new_overlay_is_fit (evens fresh) world overlay conditions are_layers

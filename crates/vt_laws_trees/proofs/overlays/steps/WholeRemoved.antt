@@ -370,7 +370,8 @@ module _ {stack : Stack ℕ} {merge : Merge ℕ} (whole : IsWhole stack merge) {
         (whiteout_of stack.mounter) ud_directory vacant in
         later_is_fine (without_contents nat_eq whited o) (Some c)
         (λ path. emptied_led whited (Some c) new_number white_led o is_own path ∙ white_led path) (λ u there.
-        alike_both (merge.upper.tree.node u) (whited.tree.node u) _ (inodes.1 u (λ same. cc)) (emptied_alike whited o u))
+        alike_both (merge.upper.tree.node u) (whited.tree.node u) _ (inodes.1 u (λ same. cc))
+        (emptied_alike whited o u))
         (inr (c, refl, cc (white_alike (whited.tree.node c) _ (emptied_alike whited o c), inodes.0)))
 
 pub remove_keeps_shown : RemoveKeepsShown
