@@ -56,7 +56,8 @@ module _ (base : World ℕ) (new : Copies ℕ) (place : Location ℕ) (moves : B
 
   made_there : (o : Mount ℕ) → Among o origins → (entry : ℕ × Option ℕ) → twig_master (twig o) ≡ Some entry
       → AreOf Ours entry
-  made_there o m entry e = grind (arith, common_steps, none_is_some, same_Some, twig_ours, source_from_group, after_ours)
+  made_there o m entry e =
+      grind (arith, common_steps, none_is_some, same_Some, twig_ours, source_from_group, after_ours)
 
   made_elsewhere : (o : Mount ℕ) → Among o origins → (entry : ℕ × Option ℕ) (kind : Option ℕ)
       → then_some kind (λ group. when (not (is_member_of nat_eq group destination)) (

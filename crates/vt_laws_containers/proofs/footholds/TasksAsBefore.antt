@@ -102,7 +102,8 @@ others_unmoved world names name call it task called mine named =
     unmoved : (t : Task ℕ) → Among t (outsiders world names) → replaced_if_called mine t ≡ t
     unmoved t m =
         let from = among-from_filter (λ (x : Task ℕ). not (is_member_task names x)) world.tasks t m in
-        ⊎_elim (λ its. absurd (cc (member, its.1, not-true (is_member_task names t) from.1))) (λ same. same) (replaced_how it task called mine named t from.0)
+        ⊎_elim (λ its. absurd (cc (member, its.1, not-true (is_member_task names t) from.1))) (λ same. same)
+        (replaced_how it task called mine named t from.0)
 
 -- It stands where members get.
 pub caller_beside : (world : World ℕ) (names : List TaskName) (name : TaskName) (call : Call)

@@ -89,7 +89,12 @@ module _ {world : World ℕ} {names : List TaskName} (sealing : IsSealed world n
   above_ours : (group above : ℕ) → Ours group → world.master group ≡ Some above → Ours above
   above_ours group above its e = ⊎_elim
       (λ heard. let member = member_of_heard so_far heard.0 heard.1 group heard.2 in
-      inl (member.0, member.1, inr (master_in world member.0.propagation group (member_group group member.0 member.2) ∙ e)))
+      inl (
+        member.0,
+        member.1,
+        inr (master_in world member.0.propagation group (member_group group member.0 member.2)
+            ∙ e),
+      ))
       (λ new. none_is_some above
       (sym ((standing_apart_with world names apart fresh serves).new_master group new) ∙ e)) its
 

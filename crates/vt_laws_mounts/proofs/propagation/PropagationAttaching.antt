@@ -39,10 +39,10 @@ module _ (it : Attachment) (can : CanAttach it) where
   made_at = made it.world supply it.mount_point it.moves it.mounts
 
   abbrev pub kind_of : Mount ℕ → Mount ℕ → Propagation ℕ
-  kind_of = kind it.world supply it.mount_point it.moves it.mounts serve_images can.each_once
+  kind_of = kind it.mount_point it.moves serve_images can.each_once
 
   abbrev pub image_group : Mount ℕ → ℕ → ℕ
-  image_group = image_of it.world supply it.mount_point it.moves it.mounts serve_images can.each_once
+  image_group = image_of it.mount_point it.moves serve_images can.each_once
 
   pub is_copy : (part origin : Mount ℕ) → IsPart it part → IsOfTree it origin
       → copy_of it part origin ≡ arrived_at part origin
@@ -164,7 +164,7 @@ module _ (it : Attachment) (can : CanAttach it) (origin : Mount ℕ) (d : IsOfTr
   pub kind_at_destination : (copy_of it (destination_of it) origin).propagation
       ≡ type_at (supply it can) (group_of (destination_of it).propagation) origin
   kind_at_destination = copy_kind it can (destination_of it) origin (destination_part it can) d
-      ∙ kind_there it.world (supply it can) it.mount_point it.moves it.mounts (serve_images it can) can.each_once origin
+      ∙ kind_there it.mount_point it.moves (serve_images it can) can.each_once origin
 
   abbrev new_group : ℕ → ℕ
   new_group group = (supply it can).image group origin.number
@@ -188,10 +188,8 @@ private_on_shared it origin can d e f =
     let m = tree_among it can origin d in (
       new_group it can origin d own.0,
       cc (kind_on_shared it can origin d own.0 own.1, f),
-      there_new it.world (supply it can) it.mount_point it.moves it.mounts
-          (serve_images it can) can.each_once origin m own.0 own.1,
-      private_there it.world (supply it can) it.mount_point it.moves it.mounts
-          (serve_images it can) can.each_once origin m own.0 own.1 f,
+      there_new it.mount_point it.moves (serve_images it can) can.each_once origin m own.0 own.1,
+      private_there it.mount_point it.moves (serve_images it can) can.each_once origin m own.0 own.1 f,
     )
 
 pub slave_on_shared : SlaveOnShared
@@ -200,10 +198,8 @@ slave_on_shared it origin master can d e f =
     let m = tree_among it can origin d in (
       new_group it can origin d own.0,
       cc (kind_on_shared it can origin d own.0 own.1, f),
-      there_new it.world (supply it can) it.mount_point it.moves it.mounts
-          (serve_images it can) can.each_once origin m own.0 own.1,
-      slave_there it.world (supply it can) it.mount_point it.moves it.mounts
-          (serve_images it can) can.each_once origin m own.0 master own.1 f,
+      there_new it.mount_point it.moves (serve_images it can) can.each_once origin m own.0 own.1,
+      slave_there it.mount_point it.moves (serve_images it can) can.each_once origin m own.0 master own.1 f,
     )
 
 -- At receivers
@@ -213,8 +209,8 @@ pub copy_shared : (it : Attachment) (can : CanAttach it) (part origin : Mount �
     → IsOfTree it origin → part.propagation ≡ Shared group
     → (copy_of it part origin).propagation ≡ Shared (image_group it can origin group)
 copy_shared it can part origin group c d e = copy_kind it can part origin c d
-    ∙ shared_kind it.world (supply it can) it.mount_point it.moves it.mounts
-    (serve_images it can) can.each_once part origin (part_among it can part c) group e
+    ∙ shared_kind it.mount_point it.moves (serve_images it can) can.each_once part origin
+    (part_among it can part c) group e
 
 pub copies_at_peers_are_peers : CopiesAtPeersArePeers
 copies_at_peers_are_peers it one other origin group can c c_other d e e_other = (
@@ -226,8 +222,8 @@ copies_at_peers_are_peers it one other origin group can c c_other d e e_other = 
 pub copies_at_slaves_are_slaves : CopiesAtSlavesAreSlaves
 copies_at_slaves_are_slaves it one other origin master group can c c_other d away e near e_other = (
   image_group it can origin group,
-  copy_kind it can one origin c d ∙ slave_kind it.world (supply it can) it.mount_point it.moves it.mounts
-      (serve_images it can) can.each_once one origin master group away e near,
+  copy_kind it can one origin c d
+      ∙ slave_kind it.mount_point it.moves (serve_images it can) can.each_once one origin master group away e near,
   copy_shared it can other origin group c_other d e_other,
 )
 
@@ -238,12 +234,11 @@ copies_at_lower_groups_follow it one other origin own master group can c c_other
   (
     image_group it can origin own,
     copy_shared it can one origin own c d e,
-    image_new it.world (supply it can) it.mount_point it.moves it.mounts (serve_images it can) can.each_once origin
+    image_new it.mount_point it.moves (serve_images it can) can.each_once origin
         (tree_among it can origin d) own
         (any_from_among (is_member_of nat_eq own) (parts_of nat_eq it.world it.mount_point) one
         (part_among it can one c) (shared_member own one e)) lacks,
-    lower_master it.world (supply it can) it.mount_point it.moves it.mounts
-        (serve_images it can) can.each_once one origin
+    lower_master it.mount_point it.moves (serve_images it can) can.each_once one origin
         (part_among it can one c) (tree_among it can origin d) own master group e lacks up near,
   ),
 )

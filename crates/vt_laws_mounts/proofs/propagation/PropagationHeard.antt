@@ -62,8 +62,7 @@ copies_hear_one_another it one other origin group can c c_other d e =
     let own = in_a_group it can other group c_other e in (
       image_group it can origin group,
       copy_shared it can other origin group c_other d e,
-      hears_images it.world (supply it can) it.mount_point it.moves it.mounts
-          (serve_images it can) can.each_once can.groups
+      hears_images it.mount_point it.moves (serve_images it can) can.each_once can.groups
           origin (tree_among it can origin d) (sourced it can origin (tree_among it can origin d)) own.0 own.1
           (groups_after it can) one (part_among it can one c) (copy_of it one origin) (copy_among it can one origin c d)
           (copy_kind it can one origin c d) group
@@ -76,8 +75,7 @@ copies_hear_as_their_origins it part origin group can c d lived = by (group_of (
   where
     by : (found : Option ℕ) → group_of (destination_of it).propagation ≡ found
         → receives nat_eq (world_after it) group (copy_of it part origin) ≡ receives nat_eq it.world group origin
-    by (Some own) f = hears_old it.world (supply it can) it.mount_point it.moves it.mounts
-        (serve_images it can) can.each_once can.groups
+    by (Some own) f = hears_old it.mount_point it.moves (serve_images it can) can.each_once can.groups
         origin (tree_among it can origin d) (sourced it can origin (tree_among it can origin d)) own f
         (groups_after it can) part (part_among it can part c) (copy_of it part origin)
         (copy_among it can part origin c d) (copy_kind it can part origin c d) group lived

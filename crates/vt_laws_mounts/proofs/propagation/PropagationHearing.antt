@@ -17,10 +17,7 @@ use Rattle.vt_laws_mounts.proofs.propagation.PropagationUp.Nearest.{further, its
 use Rattle.vt_laws_mounts.proofs.mounts.Receivers.{receives_from_source}
 
 shared_kind_of : (kind : Propagation ℕ) (group : ℕ) → group_of kind ≡ Some group → kind ≡ Shared group
-shared_kind_of (Shared own) group e = ap Shared (same_Some own group e)
-shared_kind_of (Slave master) group e = absurd (true≢false (sym (ap is_some e)))
-shared_kind_of Private group e = absurd (true≢false (sym (ap is_some e)))
-shared_kind_of Unbindable group e = absurd (true≢false (sym (ap is_some e)))
+shared_kind_of kind group e = grind (arith, common_steps, same_Some)
 
 module _ {world : World ℕ} {new : Copies ℕ} (place : Location ℕ) (moves : Bool) {mounts : List (Mount ℕ)}
     (serve : ServeAsImages world (parts_of nat_eq world place) mounts new) (own : OneNumberAMount mounts) where
@@ -43,7 +40,7 @@ module _ {world : World ℕ} {new : Copies ℕ} (place : Location ℕ) (moves : 
       (live_members world.master (has_members nat_eq world.mounts) it life) ∙ e) (old_up_after next end
       (lives_up world.master (has_members nat_eq world.mounts) it next life (above it next next e (here next))) way)
 
-module _ (world : World ℕ) (new : Copies ℕ) (place : Location ℕ) (moves : Bool) (mounts : List (Mount ℕ))
+module _ {world : World ℕ} {new : Copies ℕ} (place : Location ℕ) (moves : Bool) {mounts : List (Mount ℕ)}
     (serve : ServeAsImages world (parts_of nat_eq world place) mounts new) (own : OneNumberAMount mounts)
     (live : GroupsLive world) (origin : Mount ℕ) (of_tree : Among origin mounts)
     (sourced : (source : ℕ) → source_of origin.propagation ≡ Some source → LivesIn world source)
@@ -55,7 +52,7 @@ module _ (world : World ℕ) (new : Copies ℕ) (place : Location ℕ) (moves : 
   there = mount_at nat_eq world place
 
   abbrev image : ℕ → ℕ
-  image = image_of world new place moves mounts serve own origin
+  image = image_of place moves serve own origin
 
   abbrev up : ℕ → Option ℕ
   up = (attached_by nat_eq world new place moves mounts).master
@@ -112,7 +109,7 @@ module _ (world : World ℕ) (new : Copies ℕ) (place : Location ℕ) (moves : 
       let found = finds_some has (groups_up world next) group (up_among world live next group life way) group_has in (
         found.0,
         found_nearest world.master has (length world.mounts) next found.0 found.1,
-        lower_master world new place moves mounts serve own t.0 origin t.1 of_tree one next found.0 t.2 lacks e found.1,
+        lower_master place moves serve own t.0 origin t.1 of_tree one next found.0 t.2 lacks e found.1,
       )
 
   -- up the masters of parts their images go up
@@ -157,7 +154,7 @@ module _ (world : World ℕ) (new : Copies ℕ) (place : Location ℕ) (moves : 
 
   image_by : (kind : Propagation ℕ) → origin.propagation ≡ kind
       → image group ≡ unwrap_or (group_of (type_on_shared fresh_group kind)) fresh_group
-  image_by kind e = image_in world new place moves mounts serve own origin group shared
+  image_by kind e = image_in place moves serve own origin group shared
       ∙ ap (λ k. unwrap_or (group_of (type_on_shared fresh_group k)) fresh_group) e
 
   no_further : up fresh_group ≡ None → (from to : ℕ) → Up up from to → from ≡ fresh_group → to ≡ fresh_group
@@ -185,7 +182,7 @@ module _ (world : World ℕ) (new : Copies ℕ) (place : Location ℕ) (moves : 
         master,
         ap source_of e,
         old_up place moves serve own master one (sourced master (ap source_of e)) further_up,
-      )) (one_further master (slave_there world new place moves mounts serve own origin of_tree group master shared e)
+      )) (one_further master (slave_there place moves serve own origin of_tree group master shared e)
           (image group) one way (image_by (Slave master) e))
       by Private e = inl (no_further
           (master_there place moves serve own origin of_tree group shared Private e refl)
@@ -203,7 +200,7 @@ module _ (world : World ℕ) (new : Copies ℕ) (place : Location ℕ) (moves : 
           subst (λ x. Up up x one) (same_Some source old (sym e ∙ ap source_of f) ∙ sym (image_by (Shared old) f))
           (old_up_after place moves serve own source one (sourced source e) way)
       by (Slave master) f = subst (λ x. Up up x one) (sym (image_by (Slave master) f)) (above fresh_group master one
-          (slave_there world new place moves mounts serve own origin of_tree group master shared f)
+          (slave_there place moves serve own origin of_tree group master shared f)
           (subst (λ x. Up up x one) (same_Some source master (sym e ∙ ap source_of f))
           (old_up_after place moves serve own source one (sourced source e) way)))
       by Private f = absurd (true≢false (sym (ap is_some (sym (ap source_of f) ∙ e))))
@@ -249,7 +246,7 @@ module _ (world : World ℕ) (new : Copies ℕ) (place : Location ℕ) (moves : 
   abbrev CopySource : Mount ℕ → Type 0
   CopySource part =
       (source : ℕ) × (near : ℕ) × (source_of part.propagation ≡ Some source) × Nearest world.master has source near
-      × (source_of (kind world new place moves mounts serve own part origin) ≡ Some (image near))
+      × (source_of (kind place moves serve own part origin) ≡ Some (image near))
 
   copy_source : (part : Mount ℕ) → Among part parts → CopySource part
   copy_source part m = by part.propagation refl
@@ -269,7 +266,7 @@ module _ (world : World ℕ) (new : Copies ℕ) (place : Location ℕ) (moves : 
         one,
         ap source_of e,
         itself one (any_from_among (is_member_of nat_eq one) parts part m (shared_member one part e)),
-        ap source_of (shared_kind world new place moves mounts serve own part origin m one e),
+        ap source_of (shared_kind place moves serve own part origin m one e),
       )
       by (Slave master) e =
           let life = part_lives part m master (ap source_of e) in
@@ -279,7 +276,7 @@ module _ (world : World ℕ) (new : Copies ℕ) (place : Location ℕ) (moves : 
             found.0,
             ap source_of e,
             found_nearest world.master has (length world.mounts) master found.0 found.1,
-            ap source_of (slave_kind world new place moves mounts serve own part origin master found.0
+            ap source_of (slave_kind place moves serve own part origin master found.0
                 (slave_away master e) e found.1),
           )
       by Private e = no_source (ap source_of e)
@@ -294,7 +291,7 @@ module _ (world : World ℕ) (new : Copies ℕ) (place : Location ℕ) (moves : 
           → ((image group ≡ fresh_group) × (has_members nat_eq world.mounts (image group) ≡ false))
           ⊎ ((has_members nat_eq world.mounts (image group) ≡ true) ×
           (source_of origin.propagation ≡ Some (image group)))
-      made e = grind (arith, common_steps, there_new world new place moves mounts serve own origin of_tree group shared)
+      made e = grind (arith, common_steps, there_new place moves serve own origin of_tree group shared)
 
       by : (kind : Propagation ℕ) → origin.propagation ≡ kind
           → ((image group ≡ fresh_group) × (has_members nat_eq world.mounts (image group) ≡ false))
@@ -324,7 +321,7 @@ module _ (world : World ℕ) (new : Copies ℕ) (place : Location ℕ) (moves : 
           ⊎_elim (λ made. apart_by (ap image same ∙ made.0 ∙ ap (λ g. new.image g origin.number) (sym same)))
           (λ old. absurd (true≢false (sym old.0 ∙ ap (λ g. has_members nat_eq world.mounts (image g)) (sym same)
           ∙ ap (has_members nat_eq world.mounts) (sym e)
-          ∙ image_new world new place moves mounts serve own origin of_tree one h lacks))) group_image
+          ∙ image_new place moves serve own origin of_tree one h lacks))) group_image
       by false f = apart_by (image_elsewhere place moves serve own other origin f)
 
   -- what a mount of the tree hears of
@@ -336,7 +333,7 @@ module _ (world : World ℕ) (new : Copies ℕ) (place : Location ℕ) (moves : 
   module _ (groups_after : GroupsLive (attached_by nat_eq world new place moves mounts)) (part : Mount ℕ)
       (m : Among part parts) (copy : Mount ℕ)
       (copied : Among copy (attached_by nat_eq world new place moves mounts).mounts)
-      (is_kind : copy.propagation ≡ kind world new place moves mounts serve own part origin) where
+      (is_kind : copy.propagation ≡ kind place moves serve own part origin) where
     abbrev later_world : World ℕ
     later_world = attached_by nat_eq world new place moves mounts
 
@@ -366,7 +363,7 @@ module _ (world : World ℕ) (new : Copies ℕ) (place : Location ℕ) (moves : 
             by source near e n (inr t) false f = absurd (true≢false
                 (sym (live_members world.master (has_members nat_eq world.mounts) (image one)
                 (lives_up world.master (has_members nat_eq world.mounts) t.0 (image one) (sourced t.0 t.1) t.2))
-                ∙ image_new world new place moves mounts serve own origin of_tree one h f))
+                ∙ image_new place moves serve own origin of_tree one h f))
 
         forth : receives nat_eq world one part ≡ true → receives nat_eq later_world (image one) copy ≡ true
         forth r =
@@ -388,7 +385,7 @@ module _ (world : World ℕ) (new : Copies ℕ) (place : Location ℕ) (moves : 
             ⊎_elim (λ made. absurd (true≢false (sym lived ∙ ap (has_members nat_eq world.mounts) same ∙ made.1)))
             (λ old. origin_hears one one (old.1 ∙ ap Some (sym same)) (here one)) group_image
         of_image other h e false f = absurd (true≢false (sym lived ∙ ap (has_members nat_eq world.mounts) e
-            ∙ image_new world new place moves mounts serve own origin of_tree other h f))
+            ∙ image_new place moves serve own origin of_tree other h f))
 
         back : receives nat_eq later_world one copy ≡ true → receives nat_eq world one origin ≡ true
         back r =

@@ -18,7 +18,7 @@ shared_there new (Slave master) = refl
 shared_there new Private = refl
 shared_there new Unbindable = refl
 
-module _ (world : World ℕ) (new : Copies ℕ) (place : Location ℕ) (moves : Bool) (mounts : List (Mount ℕ))
+module _ {world : World ℕ} {new : Copies ℕ} (place : Location ℕ) (moves : Bool) {mounts : List (Mount ℕ)}
     (serve : ServeAsImages world (parts_of nat_eq world place) mounts new) (own : OneNumberAMount mounts) where
   abbrev all_parts : List (Mount ℕ)
   all_parts = parts_of nat_eq world place

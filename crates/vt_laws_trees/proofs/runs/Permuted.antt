@@ -1,5 +1,5 @@
 -- What is made of a list in another order.
-use Rattle.std.proofs.Common.{◌≡◌, refl, ap, ◌∙◌, ℕ, zero, suc, ◌<◌, Bool, true, false, cond, ◌&&◌, List, [], ◌∷◌, length, get_or, set, swap, filter, flat_map, append_assoc, arith, IsPermutation}
+use Rattle.std.proofs.Common.{◌≡◌, refl, ap, ℕ, zero, suc, ◌<◌, Bool, true, false, cond, ◌&&◌, List, [], ◌∷◌, length, get_or, set, swap, filter, flat_map, append_assoc, arith, IsPermutation}
 use Rattle.vt_spec.proofs.Common.{IsPermutation-append_left, IsPermutation-append_right, IsPermutation-refl, IsPermutation-trans, common_steps, list_all}
 use Rattle.std.proofs.lemmas.List.Sorted.{IsPermutation-append_comm, IsPermutation-keeps}
 
@@ -56,4 +56,4 @@ pub list_all-IsPermutation : {A : Type 0} (p : A → Bool) (xs ys : List A) → 
     → list_all p xs ≡ list_all p ys
 list_all-IsPermutation p = along_permutation (λ xs ys. list_all p xs ≡ list_all p ys) (λ xs. refl)
     (λ x xs ys h. ap (λ b. p x && b) h) (λ x y xs. and_swapped (p x) (p y) (list_all p xs))
-    (λ xs ys zs first second. first ∙ second)
+    (λ xs ys zs first second. cc)

@@ -1,6 +1,6 @@
 -- What is linked is there, and is no directory.
-use Rattle.std.proofs.Common.{eqb-true, ◌≡◌, sym, ap, ◌∙◌, ℕ, nat_eq, true, false, is_some}
-use Rattle.vt_spec.proofs.Common.{Location, NoneFails, Place, Task, World, files_at, is_directory_node, is_special, linking, name_of, node_at}
+use Rattle.std.proofs.Common.{eqb-true, ◌≡◌, ap, ℕ, nat_eq, true, false, is_some}
+use Rattle.vt_spec.proofs.Common.{Location, NoneFails, Place, Task, World, files_at, is_special, linking, name_of, node_at}
 use Rattle.vt_spec.proofs.Tables.{hard_link_rules}
 use Rattle.vt_laws_trees.specs.Trees.{IsFileTree, MayAddName}
 use Rattle.vt_laws_trees.proofs.trees.ChangesByRemoving.{shown}
@@ -22,6 +22,6 @@ module _ (world : World ℕ) (task : Task ℕ) (old : Location ℕ) (place : Pla
   may_link trees = record {
     name_is_free = place_is_free world place
         (place_is_file world place.parent place.last place.object is.0) plain passed.0 is.1 trees;
-    is_there = ap is_some (sym same_node) ∙ there;
-    no_directory = ap is_directory_node (sym same_node) ∙ passed.1.0;
+    is_there = cc (same_node);
+    no_directory = cc (same_node, passed.1.0);
   }

@@ -38,9 +38,7 @@ module _ (files : FileTree ℕ) (directory : ℕ) (name : List ℕ) (number : �
       (eqb_tells directory number)
 
   nodes_alike : (k : ℕ) → (with_object nat_eq files.tree directory name number node).node k ≡ in_turn.node k
-  nodes_alike k = one_of_two k (nat_eq k directory) (nat_eq k number) refl refl
-      ∙ ap (λ o. cond (nat_eq k directory) (node_with_entry name number o)
-      (cond (nat_eq k number) (Some node) (files.tree.node k))) (sym directory_first)
+  nodes_alike k = cc (one_of_two k (nat_eq k directory) (nat_eq k number) refl refl, directory_first)
 
   pub made_alike : with_object nat_eq files.tree directory name number node ≡ in_turn
   made_alike = λ i. record { root = files.tree.root; node = λ k. nodes_alike k i }

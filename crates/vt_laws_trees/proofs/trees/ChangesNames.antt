@@ -1,5 +1,5 @@
 -- The entries of a tree in which a name is given, or taken away.
-use Rattle.std.proofs.Common.{arith, ◌≡◌, ◌≢◌, refl, sym, ap, ◌∙◌, true≢false, ℕ, nat_eq, Bool, true, false, not, cond, List, [], ◌⊎◌, inl, inr, ⊎_elim, Some, None, bytes_eq, is_eq}
+use Rattle.std.proofs.Common.{arith, ◌≡◌, ◌≢◌, refl, ap, ◌∙◌, ℕ, nat_eq, Bool, true, false, not, cond, List, [], ◌⊎◌, inl, inr, ⊎_elim, Some, None, bytes_eq, is_eq}
 use Rattle.vt_spec.proofs.Common.{FileTree, IsDirectory, T_from_true, bytes_decides, common_steps, entries-node_with_entry, entries-node_without_entry, entries_in, entry_at, entry_named, entry_named-with_entry, entry_named-without_entry, eq_by_cmp, eqb_tells, is_sorted, is_sorted-put, is_sorted-where_key, name_cmp, nat_list_cmp_total, node_with_entry, node_without_entry, none_is_not, passes, tied_itself, with_entry, with_name, without_entry, without_name}
 use Rattle.vt_spec.proofs.Nodes.{same_name}
 use Rattle.vt_laws_trees.proofs.trees.ChangesNodes.{changed_node_there, elsewhere}
@@ -20,25 +20,23 @@ module _ (files : FileTree ℕ) (directory : ℕ) (name : List ℕ) where
       → entry_at (without_name nat_eq files directory name).tree d n ≡ Some k
       → (entry_at files.tree d n ≡ Some k) × ¬ ((d ≡ directory) × (n ≡ name))
   untaken_told d n k e = ⊎_elim (λ t. by (bytes_eq n name) refl t.1
-      (sym (entry_named-without_entry n name (entries_in (files.tree.node directory)))
-      ∙ sym (ap (entry_named n) entries_there)
-      ∙ ap (λ m. entry_at (without_name nat_eq files directory name).tree m n) (sym t.1) ∙ e))
-      (λ t. (sym (ap (entry_named n) (entries_elsewhere d t.1)) ∙ e, λ same. t.1 same.0)) (eqb_tells d directory)
+      (cc (entry_named-without_entry n name (entries_in (files.tree.node directory)), entries_there, t.1)))
+      (λ t. (cc (entries_elsewhere d t.1), λ same. t.1 same.0)) (eqb_tells d directory)
     where
       by : (b : Bool) → bytes_eq n name ≡ b → d ≡ directory
           → cond (not b) (entry_named n (entries_in (files.tree.node directory))) None ≡ Some k
           → (entry_at files.tree d n ≡ Some k) × ¬ ((d ≡ directory) × (n ≡ name))
       by true same here is = none_is_not None k refl is
       by false differ here is = (
-        ap (λ m. entry_at files.tree m n) here ∙ is,
-        λ both. true≢false (sym ((bytes_decides n name).1 both.1) ∙ differ),
+        cc (here, is),
+        λ both. cc ((bytes_decides n name).1 both.1),
       )
 
   -- and what was there is left, but for that name
   pub untaken_kept : (d : ℕ) (n : List ℕ) (k : ℕ) → entry_at files.tree d n ≡ Some k
       → ((d ≡ directory) × (n ≡ name)) ⊎ (entry_at (without_name nat_eq files directory name).tree d n ≡ Some k)
   untaken_kept d n k e = ⊎_elim (λ t. by (bytes_eq n name) refl t.1)
-      (λ t. inr (ap (entry_named n) (entries_elsewhere d t.1) ∙ e)) (eqb_tells d directory)
+      (λ t. inr (cc (entries_elsewhere d t.1))) (eqb_tells d directory)
     where
       by : (b : Bool) → bytes_eq n name ≡ b → d ≡ directory
           → ((d ≡ directory) × (n ≡ name)) ⊎ (entry_at (without_name nat_eq files directory name).tree d n ≡ Some k)
@@ -52,14 +50,13 @@ module _ (files : FileTree ℕ) (directory : ℕ) (name : List ℕ) where
       (λ t. ap (λ m. is_sorted name_cmp (entries_in ((without_name nat_eq files directory name).tree.node m))) t.1
       ∙ ap (is_sorted name_cmp) entries_there
       ∙ passes _ (is_sorted-where_key name_cmp (λ x. not (bytes_eq x name)) (entries_in (files.tree.node directory))
-      (T_from_true _ (sorted directory)))) (λ t. ap (is_sorted name_cmp) (entries_elsewhere d t.1) ∙ sorted d)
+      (T_from_true _ (sorted directory)))) (λ t. cc (entries_elsewhere d t.1, sorted d))
       (eqb_tells d directory)
 
   pub untaken_empty : (d : ℕ) → entries_in (files.tree.node d) ≡ []
       → entries_in ((without_name nat_eq files directory name).tree.node d) ≡ []
   untaken_empty d empty = ⊎_elim
-      (λ t. ap (λ m. entries_in ((without_name nat_eq files directory name).tree.node m)) t.1 ∙ entries_there
-      ∙ ap (without_entry name) (ap (λ m. entries_in (files.tree.node m)) (sym t.1) ∙ empty))
+      (λ t. cc (t.1, entries_there))
       (λ t. entries_elsewhere d t.1 ∙ empty) (eqb_tells d directory)
 
 -- A name given
@@ -87,10 +84,8 @@ module _ (files : FileTree ℕ) (directory : ℕ) (name : List ℕ) (number : �
       → ((d ≡ directory) × (n ≡ name) × (k ≡ number))
       ⊎ ((entry_at files.tree d n ≡ Some k) × ¬ ((d ≡ directory) × (n ≡ name)))
   given_told d n k e = ⊎_elim (λ t. by (eq_by_cmp name_cmp n name) refl t.1
-      (sym (entry_named-with_entry n name number (entries_in (files.tree.node directory)))
-      ∙ sym (ap (entry_named n) given_there)
-      ∙ ap (λ m. entry_at (with_name nat_eq files directory name number).tree m n) (sym t.1) ∙ e))
-      (λ t. inr (sym (ap (entry_named n) (given_elsewhere d t.1)) ∙ e, λ same. t.1 same.0)) (eqb_tells d directory)
+      (cc (entry_named-with_entry n name number (entries_in (files.tree.node directory)), given_there, t.1)))
+      (λ t. inr (cc (given_elsewhere d t.1), λ same. t.1 same.0)) (eqb_tells d directory)
     where
       by : (b : Bool) → eq_by_cmp name_cmp n name ≡ b → d ≡ directory
           → cond b (Some number) (entry_named n (entries_in (files.tree.node directory))) ≡ Some k
@@ -98,9 +93,8 @@ module _ (files : FileTree ℕ) (directory : ℕ) (name : List ℕ) (number : �
           ⊎ ((entry_at files.tree d n ≡ Some k) × ¬ ((d ≡ directory) × (n ≡ name)))
       by true tie here is = inl (here, same_name n name tie, cc)
       by false apart here is = inr (
-        ap (λ m. entry_at files.tree m n) here ∙ is,
-        λ both. true≢false (sym (ap (λ x. eq_by_cmp name_cmp x name) both.1
-            ∙ ap is_eq (tied_itself nat_list_cmp_total name)) ∙ apart),
+        cc (here, is),
+        λ both. cc (both.1, tied_itself nat_list_cmp_total name),
       )
 
   -- every entry stays, but for what had that name
@@ -116,5 +110,5 @@ module _ (files : FileTree ℕ) (directory : ℕ) (name : List ℕ) (number : �
       (λ t. ap (λ m. is_sorted name_cmp (entries_in ((with_name nat_eq files directory name number).tree.node m))) t.1
       ∙ ap (is_sorted name_cmp) given_there
       ∙ passes _ (is_sorted-put name_cmp nat_list_cmp_total name number (entries_in (files.tree.node directory))
-      (T_from_true _ (sorted directory)))) (λ t. ap (is_sorted name_cmp) (given_elsewhere d t.1) ∙ sorted d)
+      (T_from_true _ (sorted directory)))) (λ t. cc (given_elsewhere d t.1, sorted d))
       (eqb_tells d directory)

@@ -1,6 +1,6 @@
 -- Changes of inodes, links, removals and renames are rearrangements of a tree.
-use Rattle.std.proofs.Common.{arith, ◌≡◌, ◌≢◌, refl, sym, ap, subst, ◌∙◌, true≢false, ℕ, nat_eq, List, ◌⊎◌, inl, inr, ⊎_elim, Option, Some, None, is_some}
-use Rattle.vt_spec.proofs.Common.{FileTree, IsDirectory, IsReached, IsTree, Node, Tree, changed_node, common_steps, entries-node_with_parent, entries_in, entry_at, entry_named, eqb_tells, is_directory-node_with_entry, is_directory-node_with_parent, is_directory-node_without_entry, is_directory_node, is_some-node_with_entry, is_some-node_with_parent, is_some-node_without_entry, is_sorted, name_cmp, node_with_entry, node_with_parent, node_without_entry, none_is_not, parent-node_with_entry, parent-node_without_entry, parent_in, same_Some, with_name, without_name, without_parent}
+use Rattle.std.proofs.Common.{arith, ◌≡◌, ◌≢◌, refl, sym, ap, subst, ◌∙◌, ℕ, nat_eq, List, ◌⊎◌, inl, inr, ⊎_elim, Option, Some, None, is_some}
+use Rattle.vt_spec.proofs.Common.{FileTree, IsDirectory, IsReached, IsTree, Node, Tree, changed_node, common_steps, entries-node_with_parent, entries_in, entry_at, entry_named, eqb_tells, is_directory-node_with_entry, is_directory-node_with_parent, is_directory-node_without_entry, is_directory_node, is_some-node_with_entry, is_some-node_with_parent, is_some-node_without_entry, node_with_entry, node_with_parent, node_without_entry, none_is_not, parent-node_with_entry, parent-node_without_entry, parent_in, same_Some, with_name, without_name, without_parent}
 use Rattle.vt_laws_trees.specs.Trees.{MayAddName, MayRemove}
 use Rattle.vt_laws_trees.proofs.trees.ChangesNodes.{KeepsPlace, changed_node_there, elsewhere, own_parent-node_with_parent, part_stays}
 use Rattle.vt_laws_trees.proofs.trees.ChangesNames.{given_elsewhere, given_in_order, given_kept, given_told, untaken_empty, untaken_in_order, untaken_kept, untaken_told}
@@ -33,7 +33,7 @@ module _ (files : FileTree ℕ) (number : ℕ) (change : Option (Node ℕ) → O
   pub still_rearranged : IsRearranged files.tree (changed_node nat_eq files number change).tree.node Nobody Nowhere
   still_rearranged = record {
     directories = part_stays files number change is_directory_node keeps.kind;
-    in_order = λ d. ap (is_sorted name_cmp) (still_entries d) ∙ conditions.in_order d;
+    in_order = λ d. cc (still_entries d, conditions.in_order d);
     alive = λ d n k e. part_stays files number change is_some keeps.used k
         ∙ conditions.alive d n k (sym (still_entry d n) ∙ e);
     kept = λ d n k e is. inr (still_entry d n ∙ e);
@@ -68,13 +68,13 @@ module _ (files : FileTree ℕ) {directory : ℕ} {name : List ℕ} {object : �
     in_order = given_in_order files directory name object may.name_is_free.in_directory conditions.in_order;
     alive = λ d n k e. part_stays files directory (node_with_entry name object) is_some
         (is_some-node_with_entry name object) k ∙ ⊎_elim
-        (λ new. ap (λ m. is_some (files.tree.node m)) new.2 ∙ may.is_there) (λ old. conditions.alive d n k old.0)
+        (λ new. cc (new.2, may.is_there)) (λ old. conditions.alive d n k old.0)
         (linked_told d n k e);
     kept = λ d n k e is. ⊎_elim (λ same. none_is_not (entry_at files.tree directory name) k may.name_is_free.free
-        (sym (ap (λ m. entry_at files.tree m n) same.0 ∙ ap (entry_at files.tree directory) same.1) ∙ e)) inr
+        (cc (same.0, same.1))) inr
         (given_kept files directory name object may.name_is_free.in_directory d n k e);
     told = λ d n k e is. ⊎_elim
-        (λ new. absurd (true≢false (sym is ∙ ap (λ m. is_directory_node (files.tree.node m)) new.2 ∙ may.no_directory)))
+        (λ new. absurd (cc (new.2, may.no_directory)))
         (λ old. inr (old.0, λ nobody. nobody)) (linked_told d n k e);
     decided = λ k. inr (λ nobody. nobody);
     arrives_entry = λ d n k nobody. absurd nobody;
@@ -97,13 +97,13 @@ module _ (tree : Tree ℕ) (conditions : IsTree tree) (directory : ℕ) (name : 
   pub only_name : (d : ℕ) (n : List ℕ) (k : ℕ) → entry_at tree d n ≡ Some k → IsDirectory tree k → k ≡ object
       → (d ≡ directory) × (n ≡ name)
   only_name d n k e is same =
-      let here : entry_at tree directory name ≡ Some k = named ∙ ap Some (sym same) in
+      let here : entry_at tree directory name ≡ Some k = cc in
       let one : d ≡ directory = sym (conditions.one_parent d n k e is)
       ∙ conditions.one_parent directory name k here is in
-      (one, conditions.one_name directory n name k (ap (λ m. entry_at tree m n) (sym one) ∙ e) here is)
+      (one, conditions.one_name directory n name k (cc) here is)
 
   pub not_root : tree.root ≢ object
-  not_root same = conditions.root_unnamed directory name (named ∙ ap Some (sym same))
+  not_root same = conditions.root_unnamed directory name (cc)
 
 -- A name of an object taken away
 module _ (files : FileTree ℕ) {directory : ℕ} {name : List ℕ} {object : ℕ} (conditions : IsTree files.tree)
@@ -154,11 +154,10 @@ module _ (files : FileTree ℕ) {directory : ℕ} {name : List ℕ} {object : �
   pub removed_rearranged : IsRearranged files.tree removed.tree.node IsObject Nowhere
   removed_rearranged = record {
     directories = removed_kind;
-    in_order = λ d. ap (is_sorted name_cmp) (removed_entries d)
-        ∙ untaken_in_order files directory name conditions.in_order d;
+    in_order = λ d. cc (removed_entries d, untaken_in_order files directory name conditions.in_order d);
     alive = λ d n k e. removed_used k ∙ conditions.alive d n k (removed_told d n k e).0;
-    kept = λ d n k e is. ⊎_elim (λ same. inl (same_Some k object (sym e ∙ ap (λ m. entry_at files.tree m n) same.0
-        ∙ ap (entry_at files.tree directory) same.1 ∙ may.named))) (λ entry. inr (removed_entry d n ∙ entry))
+    kept = λ d n k e is. ⊎_elim (λ same. inl (same_Some k object (cc (same.0, same.1, may.named))))
+        (λ entry. inr (removed_entry d n ∙ entry))
         (untaken_kept files directory name d n k e);
     told = λ d n k e is.
         let old = removed_told d n k e in

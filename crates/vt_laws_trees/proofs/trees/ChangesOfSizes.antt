@@ -1,5 +1,5 @@
 -- Changes keep trees within the limits of names, texts and files.
-use Rattle.std.proofs.Common.{arith, eq-eqb, eqb-true, ◌≡◌, refl, ap, ◌∙◌, ℕ, nat_eq, nat_le, Bool, true, false, not, cond, List, [], ◌∷◌, length, map, ◌&&◌, Option, Some, None, filter, bytes_eq}
+use Rattle.std.proofs.Common.{arith, eq-eqb, eqb-true, ◌≡◌, refl, ap, ℕ, nat_eq, nat_le, Bool, true, false, not, cond, List, [], ◌∷◌, length, map, ◌&&◌, Option, Some, None, filter, bytes_eq}
 use Rattle.vt_spec.proofs.Common.{AddName, Content, CopyUp, Directory, Entries, FileTree, Filesystem, Make, Move, Node, Regular, Remove, SetAttr, SetBytes, SetMark, Symlink, Whiteout, World, all-filter, and_parts, changed_node, common_steps, entries_in, entry_named, filesystem_lives, has_fit_names, has_fit_text, is_fit_filesystem, is_no_larger, is_overlay, largest_file, list_all, node_with_attr, node_with_bytes, node_with_entry, node_with_mark, node_with_parent, node_without_entry, only_among, only_used, only_used_by, used_in, with_entry, with_inode, with_name, without_dead_filesystems, without_dead_in, without_dead_mounts, without_entry, without_name, without_parent}
 use Rattle.vt_spec.specs.declared.attributes.Attr.{Attr}
 use Rattle.vt_laws_trees.specs.Trees.Sizes.{ChangesKeepSizes, SettlingKeepsSizes, is_fit_name, is_fit_node, is_fit_tree}
@@ -102,7 +102,7 @@ pub inode_fits : (files : FileTree ℕ) (number : ℕ) (node : Node ℕ) → is_
     → is_fit_tree (with_inode nat_eq files number node) ≡ true
 inode_fits files number node k h = and_from (fits ((with_inode nat_eq files number node).tree.node number))
     (list_all (λ n. fits ((with_inode nat_eq files number node).tree.node n)) files.numbers)
-    (ap (λ b. fits (cond b (Some node) (files.tree.node number))) (eq-eqb number number refl) ∙ k)
+    (cc (eq-eqb number number refl))
     (all_alike (λ n. fits (files.tree.node n))
     (λ n. fits ((with_inode nat_eq files number node).tree.node n)) one files.numbers h)
   where

@@ -29,7 +29,7 @@ new_plain_fits number root = and_from (fits ((new_plain nat_eq number root).file
 pub alike_fit : (a b : World ℕ) → a.filesystems ≡ b.filesystems → IsFitWorld b → IsFitWorld a
 alike_fit a b same conditions = record {
   plain = subst (All (λ f. is_overlay f ≡ false)) (sym same) conditions.plain;
-  fit = ap (list_all is_fit_filesystem) same ∙ conditions.fit;
+  fit = cc (conditions.fit);
 }
 
 -- a change of a filesystem

@@ -22,8 +22,7 @@ module _ (tree : Tree ℕ) where
     where
       none : (a : ℕ) → 0 + a ≡ a
       none a = omega arith
-  up_plus (suc k) j o = ap (λ n. up tree n o) (later k j)
-      ∙ ap (option_and_then (named_parent nat_eq tree)) (up_plus k j o)
+  up_plus (suc k) j o = cc (later k j, up_plus k j o)
     where
       later : (a b : ℕ) → suc a + b ≡ suc (a + b)
       later a b = omega arith
@@ -81,13 +80,11 @@ module _ (tree : Tree ℕ) (conditions : IsTree tree) where
   -- the parent of a directory that has a name is the directory of the name
   pub parent_named : (directory : ℕ) (name : List ℕ) (number : ℕ) → entry_at tree directory name ≡ Some number
       → IsDirectory tree number → named_parent nat_eq tree number ≡ Some directory
-  parent_named directory name number entry is = ap (λ b. cond b None
-      (when (has_entry_to nat_eq tree (parent_in number (tree.node number)) number)
-      (parent_in number (tree.node number))))
-      (ne_eqb number tree.root (λ root. conditions.root_unnamed directory name (entry ∙ ap Some root)))
-      ∙ ap (λ parent. when (has_entry_to nat_eq tree parent number) parent)
-      (conditions.one_parent directory name number entry is)
-      ∙ ap (λ b. when b directory) (among_targets name (entries_in (tree.node directory)) number entry)
+  parent_named directory name number entry is = cc (
+    ne_eqb number tree.root (λ root. conditions.root_unnamed directory name (entry ∙ ap Some root)),
+    conditions.one_parent directory name number entry is,
+    among_targets name (entries_in (tree.node directory)) number entry,
+  )
 
   pub led_directory : (from : ℕ) (names : List (List ℕ)) (to : ℕ) → led tree from names ≡ Some to → IsDirectory tree to
       → IsDirectory tree from
@@ -138,8 +135,7 @@ module _ (files : FileTree ℕ) (conditions : IsFileTree files) (to : ℕ) (is :
           let more = height - k in
           let whole : height ≡ more + k = omega arith in
           none_is_not None files.tree.root refl
-          (sym (ap (λ n. up files.tree n (Some to)) whole ∙ up_plus files.tree more k (Some to)
-          ∙ ap (up files.tree more) e ∙ up_none files.tree more) ∙ at_root)
+          (cc (up_plus files.tree more k (Some to), up_none files.tree more, at_root))
       by (Some x) e = refl
 
   above_differ : (j k : ℕ) → j < k → k ≤ height → above k ≢ above j
@@ -179,15 +175,14 @@ module _ (files : FileTree ℕ) (conditions : IsFileTree files) (to : ℕ) (is :
   line_listed zero q le h = by (nat_eq q (above 0)) refl h
     where
       by : (b : Bool) → nat_eq q (above 0) ≡ b → (b || false) ≡ true → is_among nat_eq q files.numbers ≡ true
-      by true e g = ap (λ n. is_among nat_eq n files.numbers) (eqb-true q (above 0) e) ∙ above_listed 0 le
-      by false e g = absurd (true≢false (sym g))
+      by true e g = cc (eqb-true q (above 0) e, above_listed 0 le)
+      by false e g = cc
   line_listed (suc k) q le h = by (nat_eq q (above (suc k))) refl h (λ g. line_listed k q (omega arith) g)
     where
       by : (b : Bool) → nat_eq q (above (suc k)) ≡ b → (b || is_among nat_eq q (line k)) ≡ true
           → (is_among nat_eq q (line k) ≡ true → is_among nat_eq q files.numbers ≡ true)
           → is_among nat_eq q files.numbers ≡ true
-      by true e g rest = ap (λ n. is_among nat_eq n files.numbers) (eqb-true q (above (suc k)) e)
-          ∙ above_listed (suc k) le
+      by true e g rest = cc (eqb-true q (above (suc k)) e, above_listed (suc k) le)
       by false e g rest = rest g
 
   -- there are no more steps than inodes

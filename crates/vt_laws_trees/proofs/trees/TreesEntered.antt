@@ -123,7 +123,7 @@ module _ (world : World ℕ) (trees : All (λ (f : Filesystem ℕ). IsTree f.fil
             (unless ((q, W8) ∷ []) (Ok (topmost nat_eq world.mounts (parent_location nat_eq world location))))
             ≡ Ok reached → IsThere reached
         by true q h = subst IsThere (ok_same location reached (Ok location) refl h) (directory_there location is)
-        by false true h = absurd (true≢false (sym (ap is_ok_result h)))
+        by false true h = cc
           where
             is_ok_result : Result (Location ℕ) Deny → Bool
             is_ok_result (Ok l) = true
@@ -155,7 +155,7 @@ module _ (world : World ℕ) (trees : All (λ (f : Filesystem ℕ). IsTree f.fil
       where
         by : (o : Option (Location ℕ)) → entry_location nat_eq world here name ≡ o
             → ok_or (option_map (topmost nat_eq world.mounts) o) (denial W6) ≡ Ok reached → IsThere reached
-        by None f h = absurd (true≢false (sym (ap is_ok_result h)))
+        by None f h = cc
           where
             is_ok_result : Result (Location ℕ) Deny → Bool
             is_ok_result (Ok l) = true
@@ -196,7 +196,7 @@ module _ (world : World ℕ) (trees : All (λ (f : Filesystem ℕ). IsTree f.fil
         (λ here. ends_unless (λ h. is_some (node_at nat_eq world h.location) ≡ true) here.steps
         (slash_rules nat_eq world path here.location) here (λ passed. directory_there here.location
         (not-false (is_directory_at nat_eq world here.location)
-        (ap (λ b. cond b (not (is_directory_at nat_eq world here.location)) false) (sym slash) ∙ passed.0))))
+        (cc (passed.0)))))
     link_there_by path false slash = ends_then (λ text. (ends_in_slash text ≡ false) × (is_empty text ≡ false))
         (λ here. is_some (node_at nat_eq world here.location) ≡ true) (path_text path)
         (λ text. then_walk (prefix_walked nat_eq world task (followed nat_eq world task) (walk_start task text)

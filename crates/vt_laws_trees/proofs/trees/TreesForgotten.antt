@@ -1,6 +1,6 @@
 -- A tree without the inodes that are not used is a tree.
 use Rattle.std.proofs.Common.{arith, eqb-true, ◌≡◌, refl, sym, ap, subst, ◌∙◌, true≢false, ℕ, nat_eq, eq-eqb, Bool, true, false, cond, List, [], ◌∷◌, ◌++◌, not, ◌&&◌, ◌||◌, ⊎_elim, Some, None, is_some, filter, flat_map}
-use Rattle.vt_spec.proofs.Common.{All-filter, All-map, All-weaker, FileTree, Filesystem, HasName, IsDirectory, IsTree, Tree, World, among_targets, any-filter_same, cases_Bool, common_steps, directory_from_entry, directory_used, entries_in, entry_at, entry_named, filesystem_lives, is_among, is_among_left, is_among_right, is_directory_node, is_overlay, is_sorted, layers_in, list_all, list_any, located_in, name_cmp, named_in, none_from_not_some, objects_of_overlay, only_among, only_used, only_used_by, only_used_of, or_right, parent_in, targets_in, used_in, without_dead_filesystems, without_dead_in, without_dead_mounts}
+use Rattle.vt_spec.proofs.Common.{All-filter, All-map, All-weaker, FileTree, Filesystem, HasName, IsDirectory, IsTree, Tree, World, among_targets, any-filter_same, cases_Bool, common_steps, directory_from_entry, directory_used, entries_in, entry_at, filesystem_lives, is_among, is_among_left, is_among_right, is_overlay, is_sorted, layers_in, list_all, list_any, located_in, name_cmp, named_in, none_from_not_some, objects_of_overlay, only_among, only_used, only_used_by, only_used_of, or_right, parent_in, targets_in, used_in, without_dead_filesystems, without_dead_in, without_dead_mounts}
 use Rattle.vt_spec.proofs.Trees.{led_kept}
 use Rattle.vt_laws_trees.specs.Trees.{HasOwnParents, IsFileTree}
 use Rattle.vt_laws_trees.specs.Trees.Settling.{HasFileTrees, HoldsTree, SettlingKeepsTrees, UnusedIsGone, UsedStays}
@@ -8,13 +8,13 @@ use Rattle.vt_laws_trees.proofs.trees.TreesRearranged.{no_entries}
 
 pub among_flat_map : (f : ℕ → List ℕ) (xs : List ℕ) (x y : ℕ) → is_among nat_eq x xs ≡ true
     → is_among nat_eq y (f x) ≡ true → is_among nat_eq y (flat_map f xs) ≡ true
-among_flat_map f [] x y h k = absurd (true≢false (sym h))
+among_flat_map f [] x y h k = cc
 among_flat_map f (z ∷ zs) x y h k = by (nat_eq x z) refl (λ e. among_flat_map f zs x y e k) h
   where
     by : (b : Bool) → nat_eq x z ≡ b → (list_any (nat_eq x) zs ≡ true → is_among nat_eq y (flat_map f zs) ≡ true)
         → (b || list_any (nat_eq x) zs) ≡ true → is_among nat_eq y (f z ++ flat_map f zs) ≡ true
     by true same rest e = is_among_left y (f z) (flat_map f zs)
-        (ap (λ n. is_among nat_eq y (f n)) (sym (eqb-true x z same)) ∙ k)
+        (cc (eqb-true x z same))
     by false differ rest e = is_among_right y (f z) (flat_map f zs) (rest e)
 
 -- the named ones are those that have a name
@@ -43,36 +43,35 @@ module _ (used : List ℕ) (files : FileTree ℕ) (holds : HoldsTree used files)
       by : (b : Bool) → is_among nat_eq number used ≡ b → is_some (cond b (files.tree.node number) None) ≡ true
           → IsUsed number
       by true is h = is
-      by false is h = absurd (true≢false (sym h))
+      by false is h = cc
 
   kept_directory : (number : ℕ) → IsDirectory kept number → IsUsed number
   kept_directory number is = kept_used number (directory_used kept number is)
 
   was_directory : (number : ℕ) → IsDirectory kept number → IsDirectory files.tree number
-  was_directory number is = ap is_directory_node (sym (kept_node number (kept_directory number is))) ∙ is
+  was_directory number is = cc (kept_node number (kept_directory number is))
 
   is_directory_kept : (number : ℕ) → IsUsed number → IsDirectory files.tree number → IsDirectory kept number
-  is_directory_kept number used_there is = ap is_directory_node (kept_node number used_there) ∙ is
+  is_directory_kept number used_there is = cc (kept_node number used_there)
 
   -- a directory with an entry is used: without a name it would be empty
   pub entry_used : (directory : ℕ) (name : List ℕ) (number : ℕ) → entry_at files.tree directory name ≡ Some number
       → IsUsed directory
   entry_used directory name number e = ⊎_elim (λ is. is) (λ unused. no_entries files.tree directory name number
       (conditions.tree.unnamed_empty directory (directory_from_entry name number (files.tree.node directory) e)
-      (λ root. true≢false (sym holds.root ∙ ap (λ n. is_among nat_eq n used) (sym root) ∙ unused))
-      (λ named. true≢false (sym (holds.named directory named) ∙ unused))) e)
+      (λ root. cc (holds.root))
+      (λ named. cc (holds.named directory named))) e)
       (cases_Bool (is_among nat_eq directory used))
 
   entry_kept : (directory : ℕ) (name : List ℕ) (number : ℕ) → entry_at files.tree directory name ≡ Some number
       → entry_at kept directory name ≡ Some number
   entry_kept directory name number e =
-      ap (λ o. entry_named name (entries_in o)) (kept_node directory (entry_used directory name number e)) ∙ e
+      cc (kept_node directory (entry_used directory name number e), e)
 
   entry_was : (directory : ℕ) (name : List ℕ) (number : ℕ) → entry_at kept directory name ≡ Some number
       → entry_at files.tree directory name ≡ Some number
-  entry_was directory name number e = ap (λ o. entry_named name (entries_in o))
-      (sym (kept_node directory (kept_directory directory (directory_from_entry name number (kept.node directory) e))))
-      ∙ e
+  entry_was directory name number e =
+      cc (kept_node directory (kept_directory directory (directory_from_entry name number (kept.node directory) e)))
 
   name_was : (number : ℕ) → HasName kept number → HasName files.tree number
   name_was number named = (named.0, named.1, entry_was named.0 named.1 number named.2)
@@ -210,8 +209,8 @@ all_pass test (y ∷ ys) x h k = by (nat_eq x y) refl (test y) refl (λ e. all_p
     by : (b : Bool) → nat_eq x y ≡ b → (c : Bool) → test y ≡ c
         → (list_all test ys ≡ true → is_among nat_eq x ys ≡ false) → (c && list_all test ys) ≡ true
         → (b || is_among nat_eq x ys) ≡ false
-    by b e false f rest h = absurd (true≢false (sym h))
-    by true e true f rest h = absurd (true≢false (sym f ∙ ap test (sym (eqb-true x y e)) ∙ k))
+    by b e false f rest h = cc
+    by true e true f rest h = cc (eqb-true x y e)
     by false e true f rest h = rest h
 
 pub unused_is_gone : UnusedIsGone

@@ -1,5 +1,5 @@
 -- No call breaks a limit of a task.
-use Rattle.std.proofs.Common.{arith, ◌≡◌, refl, sym, ap, ◌∙◌, true≢false, ℕ, nat_eq, nat_le, Bool, true, false, not, cond, List, [], ◌∷◌, length, map, ◌+◌, Option, Some, None, ok_or, Ok, unwrap_or, find}
+use Rattle.std.proofs.Common.{arith, ◌≡◌, refl, ◌∙◌, true≢false, ℕ, nat_eq, nat_le, Bool, true, false, not, cond, List, [], ◌∷◌, length, map, ◌+◌, Option, Some, None, ok_or, Ok, find}
 use Rattle.vt_spec.proofs.Common.{Access, Call, Change, CopyUp, Fork, ForkWords, Fresh, Location, Mount, Outcome, Permit, Place, SetMark, Task, TaskName, ToOpen, TypeWord, World, all-filter, and_parts, apply, call_outcome, child_credentials, child_of, common_steps, deepest_first, deepest_name, denial, evens, finished_by, folded, is_copied_up, is_within_limits, lazily_unmounted, linking, list_all, looks_of, making, most_descriptors, most_forks, mount_at, mount_numbered, mount_tree, moving, namespace_entered, namespaces_ended, new_file, none_is_not, object_there, odds, open_new_permit, or_parts, overfills, pivoted, pivoted_location, pivoted_task, pwritten, raised, raised_task, removing, replaced_if_called, same_name, task_called, tasks-taken_away, tasks-with_change, tasks-without_replaced, unmounted, unmounted_if_there, unshared, with_change, with_copy, with_descriptor, with_new, with_task, with_type, without_descriptor, without_mounts_on, without_replaced, without_task}
 use Rattle.vt_spec.specs.declared.errors.Rule.TheVariants.{S2}
 use Rattle.vt_laws_trees.specs.Trees.Limits.{CallsKeepSmallTasks, HasSmallTasks, OpeningHasSmallTasks, names_few_groups}
@@ -12,7 +12,7 @@ use Rattle.vt_laws_rules.specs.Granted.IsGranted.{changes_directory, changes_mar
 
 -- Worlds with the same tasks
 pub same_tasks : (a b : World ℕ) → a.tasks ≡ b.tasks → HasSmallTasks b → HasSmallTasks a
-same_tasks a b same is = ap (list_all is_within_limits) same ∙ is
+same_tasks a b same is = cc
 
 pub lazily_tasks : (mounts : List (Mount ℕ)) (world : World ℕ)
     → (folded (unmounted_if_there nat_eq) world mounts).tasks ≡ world.tasks
@@ -45,8 +45,7 @@ found_within world name (first ∷ list) task h e = by (same_name name first.nam
     by : (b : Bool) → cond b (Some first) (find (λ other. same_name name other.name) list) ≡ Some task
         → (find (λ other. same_name name other.name) list ≡ Some task → is_within_limits task ≡ true)
         → is_within_limits task ≡ true
-    by true g rest = ap is_within_limits (sym (ap (λ o. unwrap_or o first) g))
-        ∙ (and_parts (is_within_limits first) (list_all is_within_limits list) h).0
+    by true g rest = cc ((and_parts (is_within_limits first) (list_all is_within_limits list) h).0)
     by false g rest = rest g
 
 -- fork(2) names few groups
@@ -54,7 +53,7 @@ fork_given : (words : Option ForkWords) → names_few_groups (Fork words) ≡ tr
     → words ≡ Some given → nat_le (length given.groups) 32 ≡ true
 fork_given None few given e = none_is_not None given refl e
 fork_given (Some words) few given e =
-    ap (λ (w : ForkWords). nat_le (length w.groups) 32) (sym (ap (λ o. unwrap_or o words) e)) ∙ few
+    cc (e, few)
 
 module _ (fresh : Fresh ℕ) (world : World ℕ) (task : Task ℕ) (small : HasSmallTasks world)
     (is : is_within_limits task ≡ true) where

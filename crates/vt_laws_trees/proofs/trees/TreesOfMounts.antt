@@ -1,5 +1,5 @@
 -- In each world the root of a mount, and its place, are directories.
-use Rattle.std.proofs.Common.{arith, ◌≡◌, refl, sym, ap, ◌∙◌, true≢false, ℕ, nat_eq, eq-eqb, ne_eqb, Bool, true, false, List, [], ◌∷◌, Option, Some, None, option_to_list, unwrap_or, All}
+use Rattle.std.proofs.Common.{arith, ◌≡◌, refl, true≢false, ℕ, nat_eq, eq-eqb, ne_eqb, Bool, true, false, List, [], ◌∷◌, Option, Some, None, option_to_list, All}
 use Rattle.vt_spec.proofs.Common.{All-cons, All-nil, Location, Mount, and_parts, any_pair, common_steps, has_its_root, list_all, list_any, mount_in, none_is_not, or_false_left, or_parts}
 use Rattle.std.proofs.lemmas.List.Sums.{AllPass-from_list_all}
 use Rattle.vt_laws_trees.specs.Trees.Calls.{WorldsAreStanding}
@@ -29,7 +29,7 @@ found_by_number (first ∷ mounts) h = grind (
 listed_place : (test : Location ℕ → Bool) (o : Option (Location ℕ)) (place : Location ℕ)
     → list_all test (option_to_list o) ≡ true → o ≡ Some place → test place ≡ true
 listed_place test None place h e = none_is_not None place refl e
-listed_place test (Some l) place h e = ap test (sym (ap (λ o. unwrap_or o l) e)) ∙ (and_parts (test l) true h).0
+listed_place test (Some l) place h e = cc ((and_parts (test l) true h).0)
 
 pub worlds_are_standing : WorldsAreStanding
 worlds_are_standing world conditions =

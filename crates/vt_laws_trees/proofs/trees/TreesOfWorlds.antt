@@ -1,5 +1,5 @@
 -- A change of a filesystem in a world of trees leaves a world of trees.
-use Rattle.std.proofs.Common.{arith, eqb-true, ◌≡◌, refl, sym, ap, subst, ◌∙◌, true≢false, ℕ, nat_eq, Bool, true, false, cond, List, [], ◌∷◌, map, ◌⊎◌, inl, inr, ⊎_elim, Some, None, is_some, unwrap_or, All, find}
+use Rattle.std.proofs.Common.{arith, eqb-true, ◌≡◌, refl, sym, ap, subst, ℕ, nat_eq, Bool, true, false, cond, List, [], ◌∷◌, map, ◌⊎◌, inl, inr, ⊎_elim, Some, None, is_some, unwrap_or, All, find}
 use Rattle.vt_spec.proofs.Common.{All-cons, All-head, All-nil, All-tail, Change, Filesystem, Fresh, Location, World, changed, common_steps, files_at, filesystem_at, filesystem_changed, filesystems-taken_away, filesystems_raised, is_overlay, list_any, mount_at, no_filesystem, none_from_not_some, raised, raised_if_changed, replaced_if_numbered, shown-taken_away, taken_away, with_change, with_files, with_filesystem}
 use Rattle.vt_laws_trees.specs.Trees.{IsFileTree, IsProper}
 use Rattle.vt_laws_trees.specs.Trees.Calls.{AreNew, IsWorldOfTrees}
@@ -52,8 +52,7 @@ replaced_all P new (filesystem ∷ list) h either =
     by : (b : Bool) → nat_eq new.number filesystem.number ≡ b
         → P new ⊎ All (λ other. nat_eq new.number other.number ≡ false) (filesystem ∷ list) → P (cond b new filesystem)
     by true e (inl is) = is
-    by true e (inr none) = absurd (true≢false
-        (sym e ∙ All-head (λ other. nat_eq new.number other.number ≡ false) filesystem list none))
+    by true e (inr none) = cc (All-head (λ other. nat_eq new.number other.number ≡ false) filesystem list none)
     by false e either = All-head P filesystem list h
 
 -- change numbers of some raised

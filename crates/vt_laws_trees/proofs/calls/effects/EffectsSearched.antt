@@ -1,5 +1,5 @@
 -- The directory of a name that a walk ends at may be searched.
-use Rattle.std.proofs.Common.{◌≡◌, true≢false, ℕ, suc, zero, ◌+◌, nat_eq, Bool, true, false, not, ◌&&◌, ◌||◌, List, [], ◌∷◌, Option, Some, None, is_some, Result, reverse}
+use Rattle.std.proofs.Common.{◌≡◌, ℕ, suc, zero, ◌+◌, nat_eq, Bool, true, false, not, ◌&&◌, ◌||◌, List, [], ◌∷◌, Option, Some, None, is_some, Result, reverse}
 use Rattle.vt_spec.proofs.Common.{Dot, DotDot, Here, LastWord, Location, Named, NoWord, Place, Rules, Stop, Task, World, ends_in_slash, execute_right, file_or_symlink, file_walked, final_word, followed, is_special, looks_of, most_symlinks, new_name_rules, node_allows, node_at, path_text, prefix_walked, rename_new_walk, symlink_of, then_walk, walk_start, walk_unless, words}
 use Rattle.vt_spec.specs.declared.errors.Rule.TheVariants.{W3, W6}
 use Rattle.vt_spec.proofs.Walk.{file_walk, follow_rules, is_directory_there, symlink_start, symlink_there, new_leaf_walk, new_walk, object_named, old_leaf_walk, old_walk, place_walk, placed, search_rules, steps_at}

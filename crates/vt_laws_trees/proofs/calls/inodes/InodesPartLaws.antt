@@ -1,5 +1,5 @@
 -- Each part of an inode is changed by its own calls alone.
-use Rattle.std.proofs.Common.{arith, ◌≡◌, refl, sym, ◌∙◌, true≢false, ℕ, Bool, true, false, List, Option, Some, None}
+use Rattle.std.proofs.Common.{arith, ◌≡◌, refl, ℕ, Bool, true, false, List, Option, Some, None}
 use Rattle.vt_spec.proofs.Common.{Content, Directory, Entries, Node, Regular, Symlink, Whiteout, bytes_of, common_steps, content_with_mark, content_with_parent, entries_of, is_kind, kind_of, opaque_of, when, with_bytes, with_entries}
 use Rattle.vt_laws_trees.proofs.calls.inodes.InodesParts.{KeptByBytes, KeptByMark, KeptByMode, KeptByNames, KeptByOwner, only_these}
 use Rattle.vt_laws_trees.specs.Calls.Inodes.{KindsStay, LinkTextsStay, OnlyChmodChangesModes, OnlyChownChangesOwners, OnlyNamingChangesEntries, OnlyOpaqueChangesMarks, OnlyTheseChange, OnlyWritesChangeBytes, owner_of}
@@ -8,7 +8,7 @@ use Rattle.vt_spec.specs.declared.attributes.Kind.TheVariants.{Symlink as Symlin
 
 -- what cannot be so
 no_such : {P : Type 0} {b : Bool} → b ≡ false → b ≡ true → P
-no_such isnt e = absurd (true≢false (sym e ∙ isnt))
+no_such isnt e = cc
 
 -- a part of the content, and what keeps it
 module _ {A : Type 0} (part : Content ℕ → A) where

@@ -1,5 +1,5 @@
 -- A granted call takes no inode away itself.
-use Rattle.std.proofs.Common.{arith, ◌≡◌, refl, sym, ap, ◌∙◌, true≢false, ℕ, nat_eq, eqb-true, Bool, true, false, cond, List, Option, Some, None, is_some}
+use Rattle.std.proofs.Common.{arith, ◌≡◌, refl, ℕ, nat_eq, eqb-true, Bool, true, false, cond, List, Option, Some, None, is_some}
 use Rattle.vt_spec.proofs.Common.{AddName, Call, Change, CopyUp, FileTree, Fresh, Location, Make, Move, Node, Permit, Remove, SetAttr, SetBytes, SetMark, Task, ToMountOverlay, ToMountPlain, World, changed, changed_node, common_steps, entries_in, entry_named, files_at, looks_of, node_with_attr, node_with_bytes, node_with_entry, node_with_mark, node_with_parent, node_without_entry, with_inode, with_name, without_name, without_parent}
 use Rattle.vt_laws_rules.proofs.given.GivenPermits.{permits_are_for_their_calls}
 use Rattle.vt_laws_trees.proofs.calls.inodes.InodesLeft.{LeftBy, MadeBy, inode_left}
@@ -77,14 +77,14 @@ module _ (other : ℕ) where
         → MadeBy (Remains Was) filesystem other fresh world plain (λ there. there) made
     made_left None = tt
     made_left (Some made) = λ same there. changed_remains (files_at nat_eq world made.0) made.1
-        (ap (λ n. is_some (inode_in world n other)) (sym same) ∙ there)
+        (cc)
 
     left : (task : Task ℕ) (call : Call) → mounts_overlay call ≡ false → (permit : Permit ℕ)
         → IsFor (looks_of nat_eq world) task call permit
         → LeftBy (Remains Was) filesystem other fresh world plain (λ there. there) permit
     left task call no_overlay (ToMountPlain place flags) for = λ same is there. refl
     left task call no_overlay (ToMountOverlay place overlay flags) for =
-        absurd (true≢false (sym (ap mounts_overlay for.2) ∙ no_overlay))
+        cc (for.2, no_overlay)
     left task call no_overlay permit for = made_left (change_of fresh world permit)
 
 pub only_unused_inodes_end : OnlyUnusedInodesEnd

@@ -1,5 +1,5 @@
 -- What settling and raising leave of inodes: each is as it was, or gone.
-use Rattle.std.proofs.Common.{arith, ◌≡◌, refl, sym, ap, subst, ◌∙◌, true≢false, ℕ, nat_eq, eqb-true, Bool, true, false, not, cond, ◌||◌, List, [], ◌∷◌, map, filter, find, Option, Some, None, unwrap_or, Ok, Err, ok_or}
+use Rattle.std.proofs.Common.{arith, ◌≡◌, refl, sym, subst, true≢false, ℕ, nat_eq, eqb-true, Bool, true, false, not, cond, ◌||◌, List, [], ◌∷◌, map, filter, find, Option, Some, None, unwrap_or, Ok, Err, ok_or}
 use Rattle.vt_spec.proofs.Common.{Call, Filesystem, Fresh, Judgement, Node, Permit, Task, TaskName, World, after, apply, common_steps, denial, denied, filesystem_lives, filesystems_changed_by, filesystems_raised, finished, finished_by, is_overlay, judge_in, no_filesystem, number-only_used, only_looks, only_used, only_used_by, policy, settled, task_called, used_in, without_dead_filesystems, without_dead_in, without_dead_mounts}
 use Rattle.vt_laws_rules.proofs.judged.CallsJudged.{policy_judges_then_applies}
 use Rattle.vt_spec.specs.declared.errors.Rule.TheVariants.{S2}
@@ -52,7 +52,7 @@ module _ (Q : Inode → Type 0) (number inode : ℕ) where
         by false e true f h later = none rest
           where
             dead : lives number ≡ false
-            dead = ap lives (eqb-true number first.number f) ∙ e
+            dead = cc (eqb-true number first.number f)
 
             none : (list : List (Filesystem ℕ)) → HoldsIn (filter (λ filesystem. lives filesystem.number) list)
             none [] = gone

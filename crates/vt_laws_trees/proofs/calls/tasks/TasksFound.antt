@@ -1,5 +1,5 @@
 -- Tasks by their names, in lists that are changed.
-use Rattle.std.proofs.Common.{arith, ◌≡◌, refl, sym, ap, ◌∙◌, true≢false, ℕ, Bool, true, false, not, cond, List, [], ◌∷◌, ◌++◌, map, filter, find, Option, Some, None, option_map, nat_eq}
+use Rattle.std.proofs.Common.{arith, ◌≡◌, refl, sym, ◌∙◌, ℕ, Bool, true, false, not, cond, List, [], ◌∷◌, ◌++◌, map, filter, find, Option, Some, None, option_map, nat_eq}
 use Rattle.vt_spec.proofs.Common.{Mount, Task, TaskName, common_steps, pivoted_task, raised_task, same_name, same_name_itself, same_task_name}
 
 abbrev pub Found : Type 0
@@ -50,10 +50,10 @@ others_left name other apart (first ∷ rest) =
         → called other (cond (not b) (first ∷ stay) stay) ≡ cond c (Some first) (called other rest)
     by true e true f later =
         let same : name ≡ other = same_task_name name first.name e ∙ sym (same_task_name other first.name f) in
-        absurd (true≢false (sym (same_name_itself name) ∙ ap (same_name name) same ∙ apart))
+        absurd (cc (same_name_itself name, same, apart))
     by true e false f later = later
     by false e c f later =
-        ap (λ c. cond c (Some first) (called other stay)) f ∙ ap (λ found. cond c (Some first) found) later
+        cc (f, later)
 
 -- one more at the end is found where nobody was
 pub find_appended : (B : Found → Type 0) (name : TaskName) (new : Task ℕ) (tasks : List (Task ℕ))

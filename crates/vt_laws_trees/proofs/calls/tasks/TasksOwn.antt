@@ -22,7 +22,7 @@ held_of_held set part wanted e f =
 
 part_is_held : (set kept : ℕ) → has_all set (bit_and set kept) ≡ true
 part_is_held set kept = eq-eqb (bit_and set (bit_and set kept)) (bit_and set kept)
-    (sym (and_assoc kept set set) ∙ ap (λ h. bit_and h kept) (and_self set))
+    (cc (and_assoc kept set set, and_self set))
 
 -- a drop leaves no more
 dropped_is_no_more : (who : Credentials) (dropped : ℕ) → IsNoMore who (with_dropped who dropped)
@@ -119,8 +119,8 @@ module _ (fresh : Fresh ℕ) (world : World ℕ) (name : TaskName) (call : Call)
             inside false c = inl refl
             inside true c =
                 let same : other ≡ name =
-                found_name other world.tasks entry e ∙ sym (same_task_name new.name entry.name c) ∙ keeps ∙ sym named in
-                let it : Some entry ≡ Some task = sym e ∙ ap (λ n. called n world.tasks) same ∙ is in
+                cc (found_name other world.tasks entry e, same_task_name new.name entry.name c, keeps, named) in
+                let it : Some entry ≡ Some task = cc (same) in
                 let was : task ≡ entry = cc in
                 inr (inl (same, subst (λ t. Changed call t new) was so))
 
@@ -137,8 +137,7 @@ module _ (fresh : Fresh ℕ) (world : World ℕ) (name : TaskName) (call : Call)
         by true e =
             let same : other ≡ task.name = sym (same_task_name task.name other e) in
             subst (λ found. Becomes (task_called world other) found)
-            (sym (ap (λ n. called n (filter (λ one. not (same_name task.name one.name)) world.tasks)) same
-            ∙ none_left task.name world.tasks)) (gone (task_called world other) (same ∙ sym named))
+            (sym (cc (none_left task.name world.tasks))) (gone (task_called world other) (same ∙ sym named))
         by false e = subst (λ found. Becomes (task_called world other) found)
             (sym (others_left task.name other e world.tasks)) still
 

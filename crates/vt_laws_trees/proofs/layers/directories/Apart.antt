@@ -1,5 +1,5 @@
 -- Upper and work directories still lie apart when an overlay is mounted that the rules on layers let be mounted.
-use Rattle.std.proofs.Common.{arith, ◌≡◌, ◌⊎◌, inl, inr, ⊎_elim, refl, sym, ap, subst, ◌∙◌, true≢false, ℕ, nat_eq, eqb-true, Bool, true, false, ◌||◌, List, [], ◌∷◌, ◌++◌, flat_map, map, option_to_list}
+use Rattle.std.proofs.Common.{arith, ◌≡◌, ◌⊎◌, inl, inr, ⊎_elim, refl, ap, subst, ◌∙◌, true≢false, ℕ, nat_eq, eqb-true, Bool, true, false, ◌||◌, List, [], ◌∷◌, ◌++◌, flat_map, map, option_to_list}
 use Rattle.vt_spec.proofs.Common.{Fresh, IsWorld, Layer, LayerLocations, Overlay, World, and_true_left, and_true_right, any_pair, common_steps, evens, filesystem_numbered, filter-append, flat_map-append, in_use, is_among, is_plain_layer, layers_of, lies_or_counts_under, list_all, list_any, live_layers, live_lowers, live_upper_and_work, of_overlay, or_false_left, or_false_right, overlap, overlaps_one_of, overlays, upper_and_work}
 use Rattle.vt_spec.specs.declared.errors.Rule.TheVariants.{O2, O3, O5}
 use Rattle.vt_spec.proofs.Tables.{layer_rules}
@@ -12,18 +12,18 @@ use Rattle.vt_laws_trees.proofs.layers.layers.ShownObjects.{Among, among_append_
 module _ {A : Type 0} where
   none_passes : (test : A → Bool) (list : List A) → list_any test list ≡ false → (a : A) → Among list a → test a ≡ false
   none_passes test [] e a among = absurd among
-  none_passes test (first ∷ list) e a (inl same) = ap test (sym same) ∙ or_false_left (test first) _ e
+  none_passes test (first ∷ list) e a (inl same) = cc (or_false_left (test first) _ e)
   none_passes test (first ∷ list) e a (inr among) = none_passes test list (or_false_right (test first) _ e) a among
 
   none_pass : (test : A → Bool) (list : List A) → ((a : A) → Among list a → test a ≡ false) → list_any test list ≡ false
   none_pass test [] h = refl
   none_pass test (first ∷ list) h =
-      ap (λ b. b || list_any test list) (h first (inl refl)) ∙ none_pass test list (λ a among. h a (inr among))
+      cc (h first (inl refl), none_pass test list (λ a among. h a (inr among)))
 
   pub each_passes : (test : A → Bool) (list : List A) → list_all test list ≡ true → (a : A) → Among list a
       → test a ≡ true
   each_passes test [] e a among = absurd among
-  each_passes test (first ∷ list) e a (inl same) = ap test (sym same) ∙ and_true_left (test first) _ e
+  each_passes test (first ∷ list) e a (inl same) = cc (and_true_left (test first) _ e)
   each_passes test (first ∷ list) e a (inr among) = each_passes test list (and_true_right (test first) _ e) a among
 
   pub no_pair : (test : A → A → Bool) (list : List A) → any_pair test list ≡ false

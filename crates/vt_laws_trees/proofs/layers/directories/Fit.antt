@@ -1,6 +1,6 @@
 -- A newly mounted overlay is a tree, within the limits of its layers.
-use Rattle.std.proofs.Common.{arith, ◌≡◌, ◌≤◌, refl, sym, ap, ◌∙◌, true≢false, ℕ, nat_eq, eqb-true, Bool, true, false, cond, not, ◌&&◌, ◌||◌, List, [], ◌∷◌, ◌++◌, length, map, Option, Some, None, is_some, option_and_then, inl, inr, slice_get, filter_map, find, nat_le, option_map, option_to_list}
-use Rattle.vt_spec.proofs.Common.{Content, Directory, Entries, Fresh, IsWorld, ListsNumbers, Merged, MergedInode, Node, OpenLayer, Overlay, Regular, Shown, Symlink, Whiteout, World, and_true_left, and_true_right, at_path, bytes_in, common_steps, entry_at, entry_in_directory, entry_named, eq_by_cmp, inode_count, inode_of, is_among, is_empty, is_fit_filesystem, is_kind_in, largest_file, led, list_all, longest_path, merged_content, name_cmp, names_in, none_is_some, odds, odds-distinct, open_layer, overlay_filesystem, shown, shown_layers, symlink_text}
+use Rattle.std.proofs.Common.{arith, ◌≡◌, ◌≤◌, refl, sym, ap, ◌∙◌, ℕ, nat_eq, eqb-true, Bool, true, false, cond, not, ◌&&◌, ◌||◌, List, [], ◌∷◌, ◌++◌, length, map, Option, Some, None, is_some, option_and_then, inl, inr, slice_get, filter_map, find, nat_le, option_map, option_to_list}
+use Rattle.vt_spec.proofs.Common.{Content, Directory, Entries, Fresh, IsWorld, ListsNumbers, Merged, MergedInode, Node, OpenLayer, Overlay, Regular, Shown, Symlink, Whiteout, World, and_true_left, and_true_right, bytes_in, common_steps, entry_at, entry_in_directory, entry_named, eq_by_cmp, inode_count, inode_of, is_among, is_empty, is_fit_filesystem, is_kind_in, largest_file, led, list_all, longest_path, merged_content, name_cmp, names_in, none_is_some, odds, odds-distinct, open_layer, overlay_filesystem, shown, shown_layers, symlink_text}
 use Rattle.vt_spec.specs.declared.attributes.Attr.{Attr}
 use Rattle.vt_spec.specs.declared.attributes.Kind.TheVariants.{File}
 use Rattle.vt_spec.proofs.Nodes.{same_name}
@@ -34,20 +34,19 @@ all_of_found p test (first ∷ list) a all f =
 
 all_of_among : (p : ℕ → Bool) (list : List ℕ) (number : ℕ) → list_all p list ≡ true
     → is_among nat_eq number list ≡ true → p number ≡ true
-all_of_among p [] number all a = absurd (true≢false (sym a))
+all_of_among p [] number all a = cc
 all_of_among p (first ∷ list) number all a =
     grind (arith, common_steps, all_of_among p list number (and_true_right (p first) _ all), eqb-true, and_true_left)
 
 all_pass : {A : Type 0} (p : A → Bool) (list : List A) → ((a : A) → Among list a → p a ≡ true) → list_all p list ≡ true
 all_pass p [] h = refl
-all_pass p (first ∷ list) h = ap (λ b. b && list_all p list) (h first (inl refl))
-    ∙ all_pass p list (λ a among. h a (inr among))
+all_pass p (first ∷ list) h = cc (h first (inl refl), all_pass p list (λ a among. h a (inr among)))
 
 all_pass_map : {A B : Type 0} (p : B → Bool) (f : A → B) (list : List A) → ((a : A) → Among list a → p (f a) ≡ true)
     → list_all p (map f list) ≡ true
 all_pass_map p f [] h = refl
 all_pass_map p f (first ∷ list) h =
-    ap (λ b. b && list_all p (map f list)) (h first (inl refl)) ∙ all_pass_map p f list (λ a among. h a (inr among))
+    cc (h first (inl refl), all_pass_map p f list (λ a among. h a (inr among)))
 
 -- a name that leads somewhere is one of the names
 named_fits : (name : List ℕ) (entries : Entries ℕ) (n : ℕ) → list_all is_fit_name (map (λ e. e.0) entries) ≡ true
@@ -58,7 +57,7 @@ named_fits name (entry ∷ entries) n all e = by (eq_by_cmp name_cmp name entry.
   where
     by : (b : Bool) → eq_by_cmp name_cmp name entry.0 ≡ b → cond b (Some entry.1) (entry_named name entries) ≡ Some n
         → (entry_named name entries ≡ Some n → is_fit_name name ≡ true) → is_fit_name name ≡ true
-    by true t e rest = ap is_fit_name (same_name name entry.0 t) ∙ and_true_left (is_fit_name entry.0) _ all
+    by true t e rest = cc (same_name name entry.0 t, and_true_left (is_fit_name entry.0) _ all)
     by false t e rest = rest e
 
 module _ (layers : List (OpenLayer ℕ)) (are_open : AreOpen layers) (longest : ℕ)
@@ -76,7 +75,7 @@ module _ (layers : List (OpenLayer ℕ)) (are_open : AreOpen layers) (longest : 
       let found = in_layer layers are_open longest bounded fresh distinct has_upper object
       (object_is layers are_open longest bounded object among) in
       by found.layer (fits object.seen.layer found.layer found.there) (led found.layer.tree found.layer.directory path)
-      (sym (last_name found.layer.tree found.layer.directory path name) ∙ ap (at_path found.layer) (sym e) ∙ found.at)
+      (cc (last_name found.layer.tree found.layer.directory path name, found.at))
     where
       by : (layer : OpenLayer ℕ) → ((o : ℕ) → fit_node (layer.tree.node o) ≡ true) → (o : Option ℕ)
           → option_and_then (λ directory. entry_at layer.tree directory name) o ≡ Some object.seen.object

@@ -20,14 +20,14 @@ not_found n [] e = refl
 not_found n (first ∷ list) e = grind (arith, common_steps, not_found n list, true≢false)
 
 pub any_found : {A : Type 0} (test : A → Bool) (list : List A) → list_any test list ≡ true → (a : A) × (test a ≡ true)
-any_found test [] e = absurd (true≢false (sym e))
+any_found test [] e = cc
 any_found test (first ∷ list) e = grind (arith, common_steps, any_found test list)
 
 pub any_same : {A : Type 0} (test other : A → Bool) (list : List A) → ((a : A) → Among list a → test a ≡ other a)
     → list_any test list ≡ list_any other list
 any_same test other [] same = refl
-any_same test other (first ∷ list) same = ap (λ b. b || list_any test list) (same first (inl refl))
-    ∙ ap (λ b. other first || b) (any_same test other list (λ a among. same a (inr among)))
+any_same test other (first ∷ list) same =
+    cc (same first (inl refl), any_same test other list (λ a among. same a (inr among)))
 
 absorbed : (l c n : Bool) → (n ≡ true → l ≡ true) → (l || (c || (n || false))) ≡ (l || c)
 absorbed true c n h = refl
@@ -69,8 +69,7 @@ module _ (world : World ℕ) (conditions : IsWorld nat_eq world) (overlay : Over
       by false e = refl
       by true e = none_is_some (filesystem_numbered nat_eq world layer.filesystem)
           (sym (not_found layer.filesystem world.filesystems
-          (ap (λ n. list_any (nat_eq n) (map (λ f. f.number) world.filesystems))
-          (eqb-true layer.filesystem new.number e) ∙ unused)) ∙ plain_found layer plain)
+          (cc (eqb-true layer.filesystem new.number e))) ∙ plain_found layer plain)
 
   lies_same : (fs object : ℕ) (layer : Layer ℕ) → IsOld layer
       → lies_in_layer nat_eq later fs object layer ≡ lies_in_layer nat_eq world fs object layer
@@ -120,7 +119,7 @@ module _ (world : World ℕ) (conditions : IsWorld nat_eq world) (overlay : Over
           → holds_of (λ upper. nat_eq fs upper.filesystem) o ≡ true
           → list_any (is_real_upper nat_eq made object) new.files.numbers ≡ true
           → lies_in_layer nat_eq world fs object layer ≡ true
-      by None is lies one any = absurd (true≢false (sym lies))
+      by None is lies one any = cc
       by (Some upper) is lies one any =
           let plain = up_plain upper is in
           let found = any_found (is_real_upper nat_eq made object) new.files.numbers any in
@@ -150,28 +149,28 @@ module _ (world : World ℕ) (conditions : IsWorld nat_eq world) (overlay : Over
   pub under_same : (fs object : ℕ) (layer : Layer ℕ) → IsOld layer
       → lies_or_counts_under nat_eq later fs object layer ≡ lies_or_counts_under nat_eq world fs object layer
   under_same fs object layer old =
-      ap (λ b. b || list_any (counts_in_layer nat_eq later fs object layer) (overlays later))
-      (lies_same fs object layer old) ∙ ap (λ b. lies_in_layer nat_eq world fs object layer || b)
-      (ap (list_any (counts_in_layer nat_eq later fs object layer)) overlays_later
-      ∙ list_any-append (counts_in_layer nat_eq later fs object layer) (overlays world) (new ∷ [])
-      ∙ ap (λ b. b || (counts_in_layer nat_eq later fs object layer new || false))
-      (any_same (counts_in_layer nat_eq later fs object layer) (counts_in_layer nat_eq world fs object layer)
-      (overlays world) (λ merged among. counts_same fs object layer old merged)))
-      ∙ absorbed (lies_in_layer nat_eq world fs object layer)
-      (list_any (counts_in_layer nat_eq world fs object layer) (overlays world))
-      (counts_in_layer nat_eq later fs object layer new) (new_counts fs object layer old)
+      cc (
+        lies_same fs object layer old,
+        overlays_later,
+        list_any-append (counts_in_layer nat_eq later fs object layer) (overlays world) (new ∷ []),
+        any_same (counts_in_layer nat_eq later fs object layer) (counts_in_layer nat_eq world fs object layer)
+            (overlays world) (λ merged among. counts_same fs object layer old merged),
+        absorbed (lies_in_layer nat_eq world fs object layer)
+            (list_any (counts_in_layer nat_eq world fs object layer) (overlays world))
+            (counts_in_layer nat_eq later fs object layer new) (new_counts fs object layer old),
+      )
 
   pub overlaps_same : (others : List (Layer ℕ)) (layer : Layer ℕ) → IsOld layer
       → ((other : Layer ℕ) → Among others other → IsOld other)
       → overlaps_one_of nat_eq later others layer ≡ overlaps_one_of nat_eq world others layer
   overlaps_same others layer old olds =
-      ap (λ f. list_any (λ object. lies_or_counts_under nat_eq later layer.filesystem object layer
-      && list_any (lies_or_counts_under nat_eq later layer.filesystem object) others) f.files.numbers)
-      (same_filesystem layer.filesystem old)
-      ∙ any_same _ _ (filesystem_numbered nat_eq world layer.filesystem).files.numbers (λ object among.
-      ap (λ b. b && list_any (lies_or_counts_under nat_eq later layer.filesystem object) others)
-      (under_same layer.filesystem object layer old)
-      ∙ ap (λ b. lies_or_counts_under nat_eq world layer.filesystem object layer && b)
-      (any_same (lies_or_counts_under nat_eq later layer.filesystem object)
-      (lies_or_counts_under nat_eq world layer.filesystem object) others
-      (λ other in_others. under_same layer.filesystem object other (olds other in_others))))
+      cc (
+        same_filesystem layer.filesystem old,
+        any_same _ _ (filesystem_numbered nat_eq world layer.filesystem).files.numbers (λ object among.
+            ap (λ b. b && list_any (lies_or_counts_under nat_eq later layer.filesystem object) others)
+            (under_same layer.filesystem object layer old)
+            ∙ ap (λ b. lies_or_counts_under nat_eq world layer.filesystem object layer && b)
+            (any_same (lies_or_counts_under nat_eq later layer.filesystem object)
+            (lies_or_counts_under nat_eq world layer.filesystem object) others
+            (λ other in_others. under_same layer.filesystem object other (olds other in_others)))),
+      )

@@ -1,6 +1,6 @@
 -- The merged tree of layers is a tree.
-use Rattle.std.proofs.Common.{arith, ◌≡◌, ◌≢◌, ◌≤◌, ◌⊎◌, inl, inr, refl, sym, ap, subst, ◌∙◌, true≢false, ℕ, ◌+◌, nat_eq, eqb-true, Bool, true, false, cond, not, ◌||◌, List, [], ◌∷◌, ◌++◌, filter, length, map, Option, Some, None, is_some, option_and_then, slice_get, unwrap_or, filter_map, find, option_map}
-use Rattle.vt_spec.proofs.Common.{Content, Directory, Fresh, HasName, HasOwnParents, IsDirectory, IsTree, ListsNumbers, Merged, MergedInode, OpenLayer, Regular, Shown, Symlink, Tree, Whiteout, at_path, common_steps, each_once, entries_in, entries_in-no_directory, entries_of, entry_at, entry_in_directory, entry_named, index_from, inode_of, is_among, is_directory, is_directory_node, is_one_inode, is_sorted, kind_of, last_or, led, list_any, merged_content, name_cmp, none_is_some, parent_in, parent_of, same_Some, same_path, same_truth, shown, without_last}
+use Rattle.std.proofs.Common.{arith, ◌≡◌, ◌≢◌, ◌≤◌, ◌⊎◌, inl, inr, refl, sym, ap, subst, ◌∙◌, ℕ, ◌+◌, nat_eq, eqb-true, Bool, true, false, not, ◌||◌, List, [], ◌∷◌, ◌++◌, filter, length, map, Option, Some, None, is_some, option_and_then, unwrap_or, filter_map, find, option_map}
+use Rattle.vt_spec.proofs.Common.{Content, Directory, Fresh, HasName, HasOwnParents, IsDirectory, IsTree, ListsNumbers, Merged, MergedInode, OpenLayer, Regular, Shown, Symlink, Tree, Whiteout, common_steps, each_once, entries_in, entries_in-no_directory, entries_of, entry_at, entry_in_directory, entry_named, index_from, inode_of, is_among, is_directory, is_directory_node, is_one_inode, is_sorted, kind_of, last_or, led, list_any, merged_content, name_cmp, none_is_some, parent_in, parent_of, same_Some, same_path, same_truth, shown, without_last}
 use Rattle.vt_spec.specs.Machine.Merging.{number_at, tree_of}
 use Rattle.vt_laws_trees.proofs.layers.directories.Order.{entries_in_order}
 use Rattle.vt_laws_trees.proofs.layers.layers.ShownDirectories.{AreOpen, last_of, longer_is_not_empty, shown_in_directory}
@@ -18,8 +18,7 @@ same_place : {A : Type 0} (test other : A → Bool) (k : ℕ) (list : List A) �
     → index_from test k list ≡ index_from other k list
 same_place test other k [] same = refl
 same_place test other k (first ∷ list) same =
-    ap (λ b. cond b (Some k) (index_from test (k + 1) list)) (same first (inl refl))
-    ∙ ap (cond (other first) (Some k)) (same_place test other (k + 1) list (λ a among. same a (inr among)))
+    cc (same first (inl refl), same_place test other (k + 1) list (λ a among. same a (inr among)))
 
 -- a list without repetitions has what the list has
 still_among : (number : ℕ) (list : List ℕ)
@@ -77,11 +76,11 @@ module _ (layers : List (OpenLayer ℕ)) (are_open : AreOpen layers) (longest : 
   one_place a b s t same found d =
       let other = in_layer layers are_open longest bounded fresh distinct has_upper b t in
       let layer = same_Some other.layer found.layer
-      (sym other.there ∙ ap (λ seen. slice_get layers seen.layer) (sym same) ∙ found.there) in
+      (cc (other.there, found.there)) in
       one_path found.layer.tree
       (are_open a.seen.layer found.layer found.there).0 found.layer.directory a.path b.path a.seen.object found.at
-      (ap (λ l. at_path l b.path) (sym layer) ∙ other.at ∙ ap (λ seen. Some seen.object) (sym same))
-      (ap is_directory_node found.is ∙ d)
+      (cc (other.at))
+      (cc (found.is))
 
   numbered_place : (a b : Merged ℕ) → shown layers a.path ≡ Some a.seen → shown layers b.path ≡ Some b.seen
       → num a ≡ num b → (found : Lies a) → is_directory (kind_of found.node.content) ≡ true → a.path ≡ b.path
@@ -100,9 +99,9 @@ module _ (layers : List (OpenLayer ℕ)) (are_open : AreOpen layers) (longest : 
           → same_path path other.path ≡ is_one_inode nat_eq has_upper (at path seen) other
       agree other t = same_truth _ _ (λ e.
           let paths = path_same path other.path e in
-          let seens = same_Some seen other.seen (sym s ∙ ap (shown layers) paths ∙ t) in
+          let seens = same_Some seen other.seen (cc (paths)) in
           let whole : at path seen ≡ other = λ i. record { path = paths i; seen = seens i } in
-          ap (is_one_inode nat_eq has_upper (at path seen)) (sym whole) ∙ one_itself has_upper (at path seen)) (λ e.
+          cc (whole, one_itself has_upper (at path seen))) (λ e.
           ap (same_path path) (sym (one_place (at path seen) other s t
           (is_one layers has_upper (at path seen) other s t e).seen found d)) ∙ path_itself path)
 
@@ -111,17 +110,17 @@ module _ (layers : List (OpenLayer ℕ)) (are_open : AreOpen layers) (longest : 
       → entries_of (merged_content nat_eq fresh has_upper all path content)
       ≡ filter_map (entry_in_directory nat_eq fresh has_upper all path) all
   merged_entries path (Directory parent entries opaque) d = refl
-  merged_entries path (Regular bytes) d = absurd (true≢false (sym d))
-  merged_entries path (Symlink text) d = absurd (true≢false (sym d))
-  merged_entries path Whiteout d = absurd (true≢false (sym d))
+  merged_entries path (Regular bytes) d = cc
+  merged_entries path (Symlink text) d = cc
+  merged_entries path Whiteout d = cc
 
   merged_parent : (own : ℕ) (path : List (List ℕ)) (content : Content ℕ) → is_directory (kind_of content) ≡ true
       → parent_of own (merged_content nat_eq fresh has_upper all path content)
       ≡ number_at fresh has_upper all (without_last path)
   merged_parent own path (Directory parent entries opaque) d = refl
-  merged_parent own path (Regular bytes) d = absurd (true≢false (sym d))
-  merged_parent own path (Symlink text) d = absurd (true≢false (sym d))
-  merged_parent own path Whiteout d = absurd (true≢false (sym d))
+  merged_parent own path (Regular bytes) d = cc
+  merged_parent own path (Symlink text) d = cc
+  merged_parent own path Whiteout d = cc
 
   merged_kind : (path : List (List ℕ)) (content : Content ℕ)
       → is_directory (kind_of (merged_content nat_eq fresh has_upper all path content)) ≡ is_directory (kind_of content)
@@ -147,7 +146,7 @@ module _ (layers : List (OpenLayer ℕ)) (are_open : AreOpen layers) (longest : 
       by : (o : Option (MergedInode ℕ))
           → inode_of (inodes layers are_open longest bounded fresh distinct has_upper) n nat_eq ≡ o
           → is_directory_node (option_map (λ inode. inode.node) o) ≡ true → IsShownDirectory n
-      by None e d = absurd (true≢false (sym d))
+      by None e d = cc
       by (Some inode) e d =
           let is = is_of_object layers are_open longest bounded fresh distinct has_upper n inode e in
           let directory = sym (merged_kind is.object.path is.layer.node.content)
@@ -160,10 +159,8 @@ module _ (layers : List (OpenLayer ℕ)) (are_open : AreOpen layers) (longest : 
             found = is.layer;
             directory = directory;
             numbered = is.numbered;
-            entries = ap entries_in node ∙ ap (λ m. entries_of m.content) is.node
-                ∙ merged_entries is.object.path is.layer.node.content directory;
-            parent = ap (parent_in n) node ∙ ap (λ m. parent_of n m.content) is.node
-                ∙ merged_parent n is.object.path is.layer.node.content directory;
+            entries = cc (is.node, merged_entries is.object.path is.layer.node.content directory);
+            parent = cc (is.node, merged_parent n is.object.path is.layer.node.content directory);
           }
 
   -- and one that is shown is one of the tree
@@ -188,16 +185,16 @@ module _ (layers : List (OpenLayer ℕ)) (are_open : AreOpen layers) (longest : 
       let above = of_directory directory (has_entries tree directory name n e) in
       by above (shown layers (above.path ++ name ∷ [])) refl
       (entry_leads layers are_open longest bounded fresh distinct has_upper above.path name)
-      (ap (entry_named name) (sym above.entries) ∙ e)
+      (cc (above.entries))
     where
       by : (above : IsShownDirectory directory) (o : Option (Shown ℕ)) → shown layers (above.path ++ name ∷ []) ≡ o
           → LeadsTo layers are_open longest bounded fresh distinct has_upper above.path name o
           (entry_named name (filter_map (entry_in_directory nat_eq fresh has_upper all above.path) all))
           → entry_named name (filter_map (entry_in_directory nat_eq fresh has_upper all above.path) all) ≡ Some n
           → IsEntry directory name n
-      by above None s leads e = none_is_some n (sym leads ∙ e)
+      by above None s leads e = none_is_some n (cc)
       by above (Some seen) s leads e =
-          record { above = above; seen = seen; is_shown = s; numbered = same_Some n _ (sym e ∙ leads) }
+          record { above = above; seen = seen; is_shown = s; numbered = same_Some n _ (cc) }
 
   -- The root
   root_found : (found : Lies (at [] top)) → is_directory (kind_of found.node.content) ≡ true
@@ -248,7 +245,7 @@ module _ (layers : List (OpenLayer ℕ)) (are_open : AreOpen layers) (longest : 
       by (first ∷ rest) e =
           let last = last_of (first ∷ rest) (not_empty first rest) in
           inr (named last.0 last.1 (led tree (fresh 0) last.0)
-          (sym (last_name tree (fresh 0) last.0 last.1) ∙ ap (led tree (fresh 0)) last.2 ∙ e))
+          (cc (last_name tree (fresh 0) last.0 last.1, last.2)))
 
   -- the parent
   has_parent : (n : ℕ) → IsShownDirectory n → IsDirectory tree (parent_in n (tree.node n))
@@ -279,7 +276,7 @@ module _ (layers : List (OpenLayer ℕ)) (are_open : AreOpen layers) (longest : 
           let last = last_of (first ∷ rest) (not_empty first rest) in
           subst (λ p. IsDirectory tree (number_at fresh has_upper all (without_last p))) last.2
           (subst (λ p. IsDirectory tree (number_at fresh has_upper all p)) (sym (without_last_of_longer last.0 last.1))
-          (above last.0 last.1 seen (ap (shown layers) last.2 ∙ s)))
+          (above last.0 last.1 seen (cc (last.2))))
 
   -- the path of a directory under a name
   path_of_entry : (directory : ℕ) (name : List ℕ) (n : ℕ) (entry : IsEntry directory name n) (own : IsShownDirectory n)

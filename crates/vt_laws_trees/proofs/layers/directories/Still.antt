@@ -1,6 +1,6 @@
 -- Each overlay is what its layers show when another one is mounted.
-use Rattle.std.proofs.Common.{arith, ◌≡◌, ◌∙◌, refl, sym, ap, subst, inl, inr, ℕ, zero, suc, nat_eq, eqb-true, Bool, true, false, cond, List, [], ◌∷◌, ◌++◌, map, Some, None, is_some, slice_get, unwrap_or, Option, find, option_to_list, option_map}
-use Rattle.vt_spec.proofs.Common.{Filesystem, Fresh, IsMerged, IsWorld, Layer, Overlay, Real, SameObject, World, common_steps, evens, filesystem_numbered, holds_of, is_among, is_plain_layer, is_there, layer_node, list_any, merged_at, no_filesystem, none_is_some, number_at_path, open_layer, overlay_filesystem, real_node, real_object, same_Some, shown, shown_layers, then_some}
+use Rattle.std.proofs.Common.{arith, ◌≡◌, ◌∙◌, refl, sym, ap, subst, inl, inr, ℕ, zero, suc, nat_eq, eqb-true, Bool, true, false, cond, List, [], ◌∷◌, ◌++◌, map, Some, None, is_some, slice_get, unwrap_or, Option, find, option_to_list}
+use Rattle.vt_spec.proofs.Common.{Filesystem, Fresh, IsMerged, IsWorld, Layer, Overlay, Real, SameObject, World, common_steps, evens, filesystem_numbered, holds_of, is_among, is_plain_layer, is_there, layer_node, list_any, no_filesystem, none_is_some, number_at_path, open_layer, overlay_filesystem, real_node, same_Some, shown, shown_layers, then_some}
 use Rattle.vt_laws_trees.specs.Layers.Layers.Mounted.{AreLayers}
 use Rattle.vt_laws_trees.specs.Layers.Layers.NewOverlays.{OverlaysStillMerge}
 use Rattle.vt_laws_trees.proofs.layers.directories.Apart.{each_passes}
@@ -36,8 +36,7 @@ module _ (world : World ℕ) (conditions : IsWorld nat_eq world) (overlay : Over
       → map (open_layer nat_eq after) list ≡ map (open_layer nat_eq world) list
   layers_same [] old = refl
   layers_same (layer ∷ list) old =
-      ap (λ l. l ∷ map (open_layer nat_eq after) list) (open_same layer (old layer (inl refl)))
-      ∙ ap (λ l. open_layer nat_eq world layer ∷ l) (layers_same list (λ l among. old l (inr among)))
+      cc (open_same layer (old layer (inl refl)), layers_same list (λ l among. old l (inr among)))
 
   module _ (filesystem : Filesystem ℕ) (some_overlay : Overlay ℕ)
       (old : (layer : Layer ℕ) → Among (shown_layers some_overlay) layer → Old layer)
@@ -58,9 +57,7 @@ module _ (world : World ℕ) (conditions : IsWorld nat_eq world) (overlay : Over
       shows = λ path.
           subst (λ layers. SameObject (then_some (number_at_path filesystem.files path) filesystem.files.tree.node)
           (then_some (shown layers path) (layer_node layers))) (sym same_layers) (is.shows path);
-      names = λ path number e. is.names path number e
-          ∙ ap (λ layers. option_map (λ object. real_object (is_some some_overlay.upper) object.seen.layer object)
-          (merged_at layers path)) (sym same_layers);
+      names = λ path number e. cc (is.names path number e, same_layers);
       real_objects = λ number.
           subst (SameObject (filesystem.files.tree.node number)) (sym (by_real (some_overlay.real number)))
           (is.real_objects number);

@@ -1,5 +1,5 @@
 -- What layers show under a name is what the directories show that are merged under it.
-use Rattle.std.proofs.Common.{◌≡◌, ◌≢◌, refl, sym, ap, ◌∙◌, true≢false, arith, ℕ, suc, ◌+◌, Bool, true, false, cond, ◌||◌, List, [], ◌∷◌, ◌++◌, Option, Some, None, option_and_then, option_map}
+use Rattle.std.proofs.Common.{◌≡◌, ◌≢◌, refl, ap, ◌∙◌, arith, ℕ, suc, ◌+◌, Bool, true, false, cond, ◌||◌, List, [], ◌∷◌, ◌++◌, Option, Some, None, option_and_then, option_map}
 use Rattle.vt_spec.proofs.Common.{All-cons, All-head, All-nil, All-tail, Node, Tree, View, common_steps, cuts, entry_at, hides, is_directory_node, led, node_led, none_is_some, prefixes, shown_from, shown_over, then_some}
 use Rattle.vt_spec.specs.Machine.Views.{Shown}
 use Rattle.vt_laws_trees.specs.Layers.Layers.Directories.{AreViews, DirectoriesAreMerged, IsView, LayersAreViews, MergedAreViews, PlacedShowTheSame, PlacedView, PlacesAreCountedBack, ShownUnderName, merged_under, placed_from, shown_in, view_under}
@@ -30,7 +30,7 @@ module _ (top : PlacedView ℕ) (is : IsView top.view) (name : List ℕ) where
     where
       by : (o : Option ℕ) → top.view.leads (name ∷ rest) ≡ o → o ≡ None
       by None e = refl
-      by (Some object) e = absurd (true≢false (sym (is.through (name ∷ []) rest object n e) ∙ d))
+      by (Some object) e = cc (is.through (name ∷ []) rest object n e)
 
   cuts_under : (rest : List (List ℕ)) → cuts top.view (name ∷ rest) ≡ (hides node || cuts own.view rest)
   cuts_under rest =

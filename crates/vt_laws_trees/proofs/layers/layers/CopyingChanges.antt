@@ -135,10 +135,10 @@ module _ {files : FileTree ℕ} (tree : IsTree files.tree) {first : ℕ → Opti
         ∙ emptied_part is_opaque_in (λ change keeps. keeps.mark) upper (upper_directory_named here to name) inode
 
     from_new : upper_of here from ≢ fresh 0
-    from_new same = old_differs from seen_from has_from (sym (upper_of_is here from seen_from has_from) ∙ same)
+    from_new same = old_differs from seen_from has_from (cc (upper_of_is here from seen_from has_from))
 
     object_new : upper_of here object ≢ fresh 0
-    object_new same = old_differs object seen has (sym (upper_of_is here object seen has) ∙ same)
+    object_new same = old_differs object seen has (cc (upper_of_is here object seen has))
 
     pub moved_with : LeftWith (fresh 0) (shown_in_lowers_at nat_eq stack here from old) stack
         (merge_with_moved nat_eq fresh stack here from old to name object).upper (upper_of here from) old
@@ -188,7 +188,7 @@ module _ {files : FileTree ℕ} (tree : IsTree files.tree) {first : ℕ → Opti
         (found.2 ∙ ap Some (same ∙ upper_of_is here from seen_from has_from)) has_from) ∙ e) in
         let not_to : replaced ≢ upper_of here to = λ same. no_loop files tree to name
         (found.1 ∙ ap Some (sound.one found.0 to seen_to
-        (found.2 ∙ ap Some (same ∙ upper_of_is here to seen_to has_to)) has_to)) in
+        (cc (found.2, upper_of_is here to seen_to has_to)) has_to)) in
         let base = without_name nat_eq
         (without_parent nat_eq freed (entry_named name (entries_in (freed.tree.node (upper_of here to)))))
         (upper_of here from) old in

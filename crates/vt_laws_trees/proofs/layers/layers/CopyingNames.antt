@@ -58,8 +58,8 @@ name_stays_without name other (Some node) differ = by node.content
     by : (content : Content ℕ) → entry_named name
         (entries_of (with_entries content (without_entry other (entries_of content))))
         ≡ entry_named name (entries_of content)
-    by (Directory parent entries opaque) = entry_named-without_entry name other entries
-        ∙ ap (λ b. cond (not b) (entry_named name entries) None) (apart (bytes_eq name other) refl)
+    by (Directory parent entries opaque) =
+        cc (entry_named-without_entry name other entries, apart (bytes_eq name other) refl)
     by (Regular bytes) = refl
     by (Symlink text) = refl
     by Whiteout = refl
@@ -87,8 +87,8 @@ pub left_stays : (number : ℕ) (below : Option (Shown ℕ)) (stack : Stack ℕ)
     (name : List ℕ) → entries_in (later.tree.node directory) ≡ entries_in (upper.tree.node directory)
     → later.tree.node number ≡ upper.tree.node number
     → LeftWith number below stack upper directory name → LeftWith number below stack later directory name
-left_stays number None stack upper later directory name e f left = ap (entry_named name) e ∙ left
-left_stays number (Some seen) stack upper later directory name e f left = (ap (entry_named name) e ∙ left.0, f ∙ left.1)
+left_stays number None stack upper later directory name e f left = cc
+left_stays number (Some seen) stack upper later directory name e f left = (cc (left.0), f ∙ left.1)
 
 -- where a name is left, every other inode is as it was
 pub left_elsewhere : (hidden : Bool) (fresh : Fresh ℕ) (stack : Stack ℕ) (upper : FileTree ℕ) (directory : ℕ)
@@ -124,7 +124,7 @@ marked_other false upper object inode differ = refl
 
 pub directory_marked : (inode : Option (Node ℕ)) → is_directory_node inode ≡ true
     → is_opaque_in (node_with_mark true inode) ≡ true
-directory_marked None d = absurd (true≢false (sym d))
+directory_marked None d = cc
 directory_marked (Some node) d = grind (arith, common_steps, true≢false)
 
 pub marked_itself : (mark : Bool) (upper : FileTree ℕ) (object : ℕ) → is_directory_node (upper.tree.node object) ≡ true

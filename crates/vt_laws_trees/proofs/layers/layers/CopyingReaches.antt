@@ -56,8 +56,7 @@ module _ {files : FileTree ℕ} {first : ℕ → Option (Real ℕ)} {spare : ℕ
   directory_there : (directory seen : ℕ) → upper_object (real directory) ≡ Some seen
       → IsReachedDirectory files directory → is_directory_node (upper.tree.node (upper_of here directory)) ≡ true
   directory_there directory seen has reached =
-      ap (λ n. is_directory_node (upper.tree.node n)) (upper_is directory seen has)
-      ∙ sound.kinds reached.0.0 directory seen reached.0.1 has ∙ reached.1
+      cc (upper_is directory seen has, sound.kinds reached.0.0 directory seen reached.0.1 has, reached.1)
 
   pub linked_named : (directory seen : ℕ) → upper_object (real directory) ≡ Some seen
       → IsReachedDirectory files directory → (name : List ℕ) (object : ℕ)

@@ -72,8 +72,8 @@ module _ (files : FileTree ℕ) (first : ℕ → Option (Real ℕ)) (spare : ℕ
         → ((number ≡ object) × (seen ≡ copy)) ⊎ (upper_object (real number) ≡ Some seen)
     told_later number seen e = ⊎_elim (λ t. inl (
       t.1,
-      sym (same_Some copy seen (ap (λ b. upper_object (cond b (Some (Upper copy)) (real number))) (sym t.0) ∙ e)),
-    )) (λ t. inr (ap (λ b. upper_object (cond b (Some (Upper copy)) (real number))) (sym t.0) ∙ e))
+      sym (same_Some copy seen (cc (t.0))),
+    )) (λ t. inr (cc (t.0)))
         (eqb_tells number object)
 
     directory_named : (named : Option (ℕ × List ℕ)) (inode : ℕ)
@@ -104,7 +104,7 @@ module _ (files : FileTree ℕ) (first : ℕ → Option (Real ℕ)) (spare : ℕ
         (files.tree.node object) node is_node)
 
     other_object : (number seen : ℕ) → upper_object (real number) ≡ Some seen → seen ≢ copy
-    other_object number seen e same = unused number (e ∙ ap Some same)
+    other_object number seen e same = unused number (cc)
 
     later_sound : IsSound real_later later
     later_sound = record {

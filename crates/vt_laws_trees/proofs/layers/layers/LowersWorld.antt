@@ -1,5 +1,5 @@
 -- Which filesystems a change of the world leaves as they were.
-use Rattle.std.proofs.Common.{arith, ◌≡◌, ◌≢◌, refl, sym, ap, ◌∙◌, true≢false, ℕ, nat_eq, ne_eqb, true, false, List, [], ◌∷◌, map, Option, Some, None, unwrap_or, find}
+use Rattle.std.proofs.Common.{arith, ◌≡◌, ◌≢◌, refl, ap, ◌∙◌, true≢false, ℕ, nat_eq, ne_eqb, List, [], ◌∷◌, map, Option, Some, None, unwrap_or, find}
 use Rattle.vt_spec.proofs.Common.{Change, Filesystem, Fresh, Layer, Location, Merge, Overlay, World, common_steps, eqb_tells, filesystem_at, filesystem_changed, filesystem_numbered, mount_at, nat_eq_itself, no_filesystem, overlay_changed, replaced_if_numbered, with_change, with_files, with_filesystem, with_merge}
 
 -- the filesystem with a number has that number
@@ -28,7 +28,7 @@ filesystem_elsewhere world new number differ =
 found_there : (new : Filesystem ℕ) (list : List (Filesystem ℕ)) (old : Filesystem ℕ)
     → find (λ filesystem. nat_eq new.number filesystem.number) list ≡ Some old
     → find (λ filesystem. nat_eq new.number filesystem.number) (map (replaced_if_numbered nat_eq new) list) ≡ Some new
-found_there new [] old e = absurd (true≢false (sym (ap (λ o. elim o [ None ↦ false | Some f ↦ true ]) e)))
+found_there new [] old e = cc
 found_there new (first ∷ list) old e = grind (arith, common_steps, found_there new list old, nat_eq_itself)
 
 -- none of that number stays none

@@ -1,6 +1,6 @@
 -- What is computed to be shown at a path is what is shown there.
 use Rattle.std.proofs.Common.{◌≡◌, ◌≢◌, ◌<◌, ◌↔◌, refl, sym, ap, subst, ◌∙◌, true≢false, arith, ℕ, zero, suc, ◌+◌, Bool, true, false, not, List, [], ◌∷◌, Option, Some, None}
-use Rattle.vt_spec.proofs.Common.{Content, Directory, Node, OpenLayer, Regular, Shown, Symlink, Whiteout, at_path, common_steps, is_kind, is_kind_in, kind_of, node_at_path, none_is_some, same_Some, shown, then_some}
+use Rattle.vt_spec.proofs.Common.{Content, Directory, Node, OpenLayer, Regular, Shown, Symlink, Whiteout, at_path, common_steps, is_kind, is_kind_in, kind_of, node_at_path, none_is_some, same_Some, shown}
 use Rattle.vt_spec.specs.declared.attributes.Kind.TheVariants.{White}
 use Rattle.vt_spec.proofs.Layers.{cuts, shown_from, shown_over}
 use Rattle.vt_laws_trees.specs.Layers.Layers.Shown.{HasAt, HasInodeAt, HasUncut, IsCut, IsShown}
@@ -66,13 +66,13 @@ module _ (layer : OpenLayer ℕ) (lower : List (OpenLayer ℕ)) (path : List (Li
     where
       by : (higher object : ℕ) → higher < suc seen.layer → ¬ (HasUncut (layer ∷ lower) higher path object)
       by zero object h has = none_is_some object
-          (sym e ∙ ap (λ l. at_path l path) (same_Some layer has.0.0 has.0.1) ∙ has.0.2)
+          (cc (same_Some layer has.0.0 has.0.1, has.0.2))
       by (suc higher) object h has =
           is.highest higher object (omega arith) (has.0, λ cut. has.1 (cut_by_lower higher cut))
 
   -- What is shown is shown in the top layer or below it.
   has_top : (object : ℕ) → HasAt (layer ∷ lower) 0 path object → at_path layer path ≡ Some object
-  has_top object has = ap (λ l. at_path l path) (same_Some layer has.0 has.1) ∙ has.2
+  has_top object has = cc (same_Some layer has.0 has.1, has.2)
 
   top_is_no_whiteout : (object : ℕ) → at_path layer path ≡ Some object
       → ((inode : Node ℕ) → HasInodeAt (layer ∷ lower) 0 path inode → inode.content ≢ Whiteout)
@@ -82,7 +82,7 @@ module _ (layer : OpenLayer ℕ) (lower : List (OpenLayer ℕ)) (path : List (Li
       by : (inode : Option (Node ℕ)) → layer.tree.node object ≡ inode → is_kind_in White inode ≡ false
       by None is = refl
       by (Some node) is = is_no_whiteout node.content
-          (none node (layer, refl, ap (λ o. then_some o layer.tree.node) e ∙ is))
+          (none node (layer, refl, cc))
 
   top_has_none : (depth object : ℕ) → IsShown (layer ∷ lower) path (record { layer = suc depth; object = object })
       → at_path layer path ≡ None

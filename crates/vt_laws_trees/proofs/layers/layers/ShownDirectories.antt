@@ -41,7 +41,7 @@ hides_not_at layer path name nonempty e = grind (arith, common_steps, true≢fal
 
 -- what is there and does not hide is a directory
 open_directory : (node : Option (Node ℕ)) → is_some node ≡ true → hides node ≡ false → is_directory_node node ≡ true
-open_directory None s h = absurd (true≢false (sym s))
+open_directory None s h = cc
 open_directory (Some node) s h = grind (arith, common_steps, true≢false)
 
 -- what names lead to is there

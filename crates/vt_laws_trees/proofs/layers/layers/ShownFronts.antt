@@ -19,8 +19,7 @@ cons_is_not_empty a list e = absurd (true≢false (ap (λ l. elim l [ [] ↦ fal
 pub prefix_passes : (test : List (List ℕ) → Bool) (path front rest : List (List ℕ)) → front ++ rest ≡ path → front ≢ []
     → test front ≡ true → list_any test (prefixes path) ≡ true
 prefix_passes test path [] rest e nonempty t = absurd (nonempty refl)
-prefix_passes test path (name ∷ []) rest e nonempty t = ap (λ p. list_any test (prefixes p)) (sym e)
-    ∙ ap (λ b. b || list_any test (map (λ front. name ∷ front) (prefixes rest))) t
+prefix_passes test path (name ∷ []) rest e nonempty t = cc
 prefix_passes test path (name ∷ other ∷ front) rest e nonempty t = ap (λ p. list_any test (prefixes p)) (sym e)
     ∙ or_right (test (name ∷ [])) (list_any test (map (λ front. name ∷ front) (prefixes (other ∷ front ++ rest))))
     (list_any_of_map test (λ front. name ∷ front) (prefixes (other ∷ front ++ rest))
@@ -33,7 +32,7 @@ PassingFront test path = (front : List (List ℕ)) × IsFrontOf front path × (t
 
 pub prefix_found : (test : List (List ℕ) → Bool) (path : List (List ℕ)) → list_any test (prefixes path) ≡ true
     → PassingFront test path
-prefix_found test [] e = absurd (true≢false (sym e))
+prefix_found test [] e = cc
 prefix_found test (name ∷ path) e = by (prefix_found (λ front. test (name ∷ front)) path) (test (name ∷ [])) refl e
   where
     later : PassingFront (λ front. test (name ∷ front)) path → PassingFront test (name ∷ path)
@@ -49,7 +48,7 @@ prefix_found test (name ∷ path) e = by (prefix_found (λ front. test (name ∷
 pub hiding : (content : Content ℕ) → (not (is_directory (kind_of content)) || opaque_of content) ≡ true
     → HidesLower content
 hiding (Directory parent entries true) e = an_opaque_directory parent entries
-hiding (Directory parent entries false) e = absurd (true≢false (sym e))
+hiding (Directory parent entries false) e = cc
 hiding (Regular bytes) e = a_file bytes
 hiding (Symlink text) e = a_link text
 hiding Whiteout e = a_whiteout
@@ -64,11 +63,11 @@ hidden c (an_opaque_directory parent entries) = refl
 -- an inode that hides is there
 pub hides_inode : (inode : Option (Node ℕ)) → hides inode ≡ true
     → (node : Node ℕ) × (inode ≡ Some node) × HidesLower node.content
-hides_inode None e = absurd (true≢false (sym e))
+hides_inode None e = cc
 hides_inode (Some node) e = (node, refl, hiding node.content e)
 
 -- a layer cuts where it has something that hides, at a front of the path
 pub cuts_by : (layer : OpenLayer ℕ) (path front : List (List ℕ)) (node : Node ℕ) → IsFrontOf front path
     → node_at_path layer front ≡ Some node → HidesLower node.content → cuts layer path ≡ true
 cuts_by layer path front node is e h =
-    prefix_passes (λ f. hides (node_at_path layer f)) path front is.0 is.1 is.2 (ap hides e ∙ hidden node.content h)
+    prefix_passes (λ f. hides (node_at_path layer f)) path front is.0 is.1 is.2 (cc (hidden node.content h))

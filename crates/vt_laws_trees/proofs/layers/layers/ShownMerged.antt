@@ -1,6 +1,6 @@
 -- A merged tree that is made of its layers has at each path what they show.
-use Rattle.std.proofs.Common.{◌≡◌, ◌≢◌, ◌≤◌, ◌⊎◌, inl, inr, refl, sym, ap, ◌∙◌, true≢false, arith, ℕ, ◌+◌, nat_eq, eq-eqb, eqb-true, Bool, true, false, cond, not, ◌&&◌, List, [], ◌∷◌, ◌++◌, length, Option, Some, None, slice_get, unwrap_or, filter_map, is_eq, option_map}
-use Rattle.vt_spec.proofs.Common.{Fresh, Merged, MergedInode, Node, OpenLayer, Shown, at_path, common_steps, cons_option, entry_in_directory, entry_named, eq_by_cmp, inode_of, is_directory, is_one_inode, is_root_path, kind_of, last_or, layer_node, merged_content, merged_inode, merged_inodes, merged_objects, name_cmp, nat_list_cmp_total, none_is_some, real_object, real_of, same_Some, same_path, shown, then_some, tied_itself, when, without_last}
+use Rattle.std.proofs.Common.{◌≡◌, ◌≢◌, ◌≤◌, ◌⊎◌, inl, inr, refl, sym, ap, ◌∙◌, true≢false, arith, ℕ, ◌+◌, nat_eq, eq-eqb, eqb-true, Bool, true, false, cond, not, ◌&&◌, List, [], ◌∷◌, ◌++◌, length, Option, Some, None, slice_get, filter_map, is_eq, option_map}
+use Rattle.vt_spec.proofs.Common.{Fresh, Merged, MergedInode, Node, OpenLayer, Shown, at_path, common_steps, cons_option, entry_in_directory, entry_named, eq_by_cmp, inode_of, is_directory, is_one_inode, is_root_path, kind_of, last_or, layer_node, merged_content, merged_inode, merged_inodes, merged_objects, name_cmp, nat_list_cmp_total, none_is_some, real_object, real_of, same_Some, same_path, shown, tied_itself, when, without_last}
 use Rattle.vt_spec.specs.Machine.Merging.{merged_number}
 use Rattle.vt_spec.proofs.Nodes.{same_name}
 use Rattle.vt_laws_trees.proofs.layers.layers.ShownAtPath.{computed}
@@ -46,8 +46,7 @@ module _ (layers : List (OpenLayer ℕ)) (are_open : AreOpen layers) (longest : 
       )
 
   pub layer_node_of : (object : Merged ℕ) (found : InLayer object) → layer_node layers object.seen ≡ Some found.node
-  layer_node_of object found = ap (λ o. then_some o (λ layer. layer.tree.node object.seen.object)) found.there
-      ∙ found.is
+  layer_node_of object found = cc (found.there, found.is)
 
   -- objects with one number are one inode
   pub one_number : (a b : Merged ℕ) → Among objects a → Among objects b → number a ≡ number b → IsOne has_upper a b
@@ -55,10 +54,10 @@ module _ (layers : List (OpenLayer ℕ)) (are_open : AreOpen layers) (longest : 
       let first = placed_among (is_one_inode nat_eq has_upper a) 0 objects a in_a (one_itself has_upper a) in
       let second = placed_among (is_one_inode nat_eq has_upper b) 0 objects b in_b (one_itself has_upper b) in
       let places = distinct (0 + first.place) (0 + second.place)
-      (sym (ap (λ o. fresh (unwrap_or o 0)) first.is) ∙ e ∙ ap (λ o. fresh (unwrap_or o 0)) second.is) in
+      (cc (first.is, second.is)) in
       let same_place : first.place ≡ second.place = omega arith in
       let same = same_Some first.element second.element
-      (sym first.there ∙ ap (slice_get objects) same_place ∙ second.there) in
+      (cc (first.there, same_place, second.there)) in
       let one = is_one layers has_upper a first.element (is_shown a in_a)
       (is_shown first.element first.among) first.passes in
       let two = is_one layers has_upper b second.element (is_shown b in_b)
@@ -106,11 +105,11 @@ module _ (layers : List (OpenLayer ℕ)) (are_open : AreOpen layers) (longest : 
           → HasInode object
       by own own_node found other among_other made there =
           let element = same_Some (inode_made other there.node) found.element
-          (sym (ap (option_map (inode_made other)) (layer_node_of other there)) ∙ made) in
+          (cc (layer_node_of other there)) in
           let one = one_number object other among among_other
-          (eqb-true (number object) found.element.number found.passes ∙ ap (λ inode. inode.number) (sym element)) in
+          (cc (eqb-true (number object) found.element.number found.passes, element)) in
           let same_node = same_Some there.node own.node
-          (sym (layer_node_of other there) ∙ ap (layer_node layers) (sym one.seen) ∙ own_node) in
+          (cc (layer_node_of other there, one.seen)) in
           grind (arith, common_steps)
 
   -- an inode of a directory is that of one path
@@ -120,7 +119,7 @@ module _ (layers : List (OpenLayer ℕ)) (are_open : AreOpen layers) (longest : 
       let here = in_layer object (is_shown object among) in
       let there = in_layer inode.other (is_shown inode.other inode.among) in
       let same_layer = same_Some there.layer here.layer
-      (sym there.there ∙ ap (λ seen. slice_get layers seen.layer) (sym inode.one.seen) ∙ here.there) in
+      (cc (there.there, inode.one.seen, here.there)) in
       let open_here = are_open object.seen.layer here.layer here.there in
       let node = same_Some here.node inode.node (sym (layer_node_of object here) ∙ inode.seen) in
       grind (arith, common_steps, one_path)
@@ -141,12 +140,11 @@ module _ (layers : List (OpenLayer ℕ)) (are_open : AreOpen layers) (longest : 
       where
         parted : (p : List (List ℕ)) → (not (is_root_path p) && same_path path (without_last p)) ≡ true
             → p ≡ path ++ last_or [] p ∷ []
-        parted [] e = absurd (true≢false (sym e))
+        parted [] e = cc
         parted (first ∷ rest) e =
             let last = last_of (first ∷ rest) (not_empty first rest) in
             let front = path_same path (without_last (first ∷ rest)) e in
-            sym last.2 ∙ ap (λ l. l ++ last.1 ∷ []) (sym (without_last_of_longer last.0 last.1) ∙ ap without_last last.2
-            ∙ sym front) ∙ ap (λ n. path ++ n ∷ []) (sym (last_of_longer last.0 last.1 []) ∙ ap (last_or []) last.2)
+            cc (last.2, without_last_of_longer last.0 last.1, front, last_of_longer last.0 last.1 [])
 
         by : (p : List (List ℕ)) → object.path ≡ p → (b : Bool)
             → (not (is_root_path object.path) && same_path path (without_last object.path)) ≡ b
@@ -155,7 +153,7 @@ module _ (layers : List (OpenLayer ℕ)) (are_open : AreOpen layers) (longest : 
         by p is false t e = none_is_some found e
         by p is true t e =
             let same = same_Some (last_or [] object.path, number object) found e in
-            (parted object.path t ∙ ap (λ f. path ++ f.0 ∷ []) same, ap (λ f. f.1) (sym same))
+            (cc (parted object.path t), ap (λ f. f.1) (sym same))
 
     abbrev is_name : List ℕ → List ℕ → Bool
     is_name a b = eq_by_cmp name_cmp a b
@@ -168,7 +166,7 @@ module _ (layers : List (OpenLayer ℕ)) (are_open : AreOpen layers) (longest : 
         by (entry first) refl among (λ later. named_some list target (λ object a. all object (inr a)) later e)
       where
         is_first : first ≡ target → entry first ≡ Some (name, number target)
-        is_first same = ap entry same ∙ entry_here target e
+        is_first same = cc (entry_here target e)
 
         same_as : (found : List ℕ × ℕ) → entry first ≡ Some found → found.0 ≡ name → found.1 ≡ number target
         same_as found f n = grind (arith, common_steps, entry_is_here, same_Some)
@@ -218,7 +216,7 @@ module _ (layers : List (OpenLayer ℕ)) (are_open : AreOpen layers) (longest : 
         by : (o : Option (Shown ℕ)) → shown layers (path ++ name ∷ []) ≡ o
             → LeadsTo o (entry_named name (filter_map entry objects))
         by None s = named_none objects
-            (λ object a e. none_is_some object.seen (sym s ∙ ap (shown layers) (sym e) ∙ is_shown object a))
+            (λ object a e. none_is_some object.seen (cc (is_shown object a)))
         by (Some seen) s =
             named_some objects (record { path = path ++ name ∷ []; seen = seen }) (λ object a. is_shown object a)
             (is_object layers are_open longest bounded (path ++ name ∷ []) seen s) refl

@@ -25,7 +25,7 @@ in_sum test (first ∷ list) filesystem e =
 all_pass_at : {A : Type 0} (test : A → Bool) (list : List A) → list_all test list ≡ true → (k : ℕ) (a : A)
     → slice_get list k ≡ Some a → test a ≡ true
 all_pass_at test [] all k a e = none_is_some a e
-all_pass_at test (first ∷ list) all zero a e = ap test (sym (same_Some first a e)) ∙ and_true_left (test first) _ all
+all_pass_at test (first ∷ list) all zero a e = cc (same_Some first a e, and_true_left (test first) _ all)
 all_pass_at test (first ∷ list) all (suc k) a e = all_pass_at test list (and_true_right (test first) _ all) k a e
 
 -- Layers of a world
@@ -190,7 +190,7 @@ module _ (world : World ℕ) (conditions : IsWorld nat_eq world) (overlay : Over
             → ((layer : OpenLayer ℕ) → slice_get (map (open_layer nat_eq world) (option_to_list o ++ overlay.lowers)) 0
             ≡ Some layer → is_some (layer.tree.node object) ≡ true)
             → holds_of (λ layer. is_there nat_eq world layer.filesystem object) o ≡ true
-        by object None h there = absurd (true≢false (sym h))
+        by object None h there = cc
         by object (Some layer) h there = there (open_layer nat_eq world layer) refl
 
 pub new_overlay_is_merged : (fresh : Fresh ℕ) (world : World ℕ) (overlay made : Overlay ℕ)

@@ -15,7 +15,7 @@ without_first n (m ∷ rest) = cond (nat_eq n m) rest (m ∷ without_first n res
 length_without_first : (n : ℕ) (list : List ℕ) → list_any (nat_eq n) list ≡ true
     → length list ≡ suc (length (without_first n list))
 unfolding without_first
-length_without_first n [] e = absurd (true≢false (sym e))
+length_without_first n [] e = cc
 length_without_first n (m ∷ rest) e = grind (arith, common_steps, length_without_first n rest)
 
 still_among : (q n : ℕ) (list : List ℕ) → nat_eq q n ≡ false → list_any (nat_eq q) list ≡ true
@@ -52,11 +52,11 @@ module _ (files : FileTree ℕ) (tree : IsTree files.tree) where
   -- its parent is the step before
   pub parent_of_reached : (steps directory : ℕ) (r : ReachedIn files.tree (suc steps) directory)
       → named_parent nat_eq files.tree directory ≡ Some r.0
-  parent_of_reached steps directory r = ap (λ b. cond b None (when (has_entry_to nat_eq files.tree
-      (parent_in directory (files.tree.node directory)) directory) (parent_in directory (files.tree.node directory))))
-      (ne_eqb directory files.tree.root (λ e. tree.root_unnamed r.0 r.1 (r.3 ∙ ap Some e)))
-      ∙ ap (λ p. when (has_entry_to nat_eq files.tree p directory) p) (tree.one_parent r.0 r.1 directory r.3 r.4)
-      ∙ ap (λ b. when b r.0) (entry_to files.tree r.0 r.1 directory r.3)
+  parent_of_reached steps directory r = cc (
+    ne_eqb directory files.tree.root (λ e. tree.root_unnamed r.0 r.1 (r.3 ∙ ap Some e)),
+    tree.one_parent r.0 r.1 directory r.3 r.4,
+    entry_to files.tree r.0 r.1 directory r.3,
+  )
 
   root_has_no_parent : (directory : ℕ) → directory ≡ files.tree.root → named_parent nat_eq files.tree directory ≡ None
   root_has_no_parent directory e = ap (λ b. cond b None (when (has_entry_to nat_eq files.tree
@@ -84,7 +84,7 @@ module _ (files : FileTree ℕ) (tree : IsTree files.tree) where
       → list_any (nat_eq q) (chain steps (named_parent nat_eq files.tree) directory) ≡ true → IsAbove steps q
   all_above zero directory r q e = grind (arith, common_steps, eqb-true, true≢false)
   all_above (suc steps) directory r q e =
-      by (nat_eq q directory) refl (sym (ap (list_any (nat_eq q)) (up_from steps steps directory r)) ∙ e)
+      by (nat_eq q directory) refl (cc (up_from steps steps directory r))
       (all_above steps r.0 r.2 q)
     where
       more : IsAbove steps q → IsAbove (suc steps) q
@@ -125,7 +125,7 @@ module _ (files : FileTree ℕ) (tree : IsTree files.tree) where
       → length (chain steps (named_parent nat_eq files.tree) directory) ≡ suc steps
   length_up zero directory r = refl
   length_up (suc steps) directory r =
-      ap length (up_from steps steps directory r) ∙ ap (λ n. suc n) (length_up steps r.0 r.2)
+      cc (up_from steps steps directory r, length_up steps r.0 r.2)
 
   -- so the steps from the root are fewer than the inodes
   pub depth_below : ListsNumbers nat_eq files → (steps directory : ℕ) → ReachedIn files.tree steps directory

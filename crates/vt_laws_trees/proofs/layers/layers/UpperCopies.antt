@@ -127,8 +127,8 @@ module _ (files : FileTree ℕ) (tree : IsTree files.tree) (numbers : ListsNumbe
           (line_by nat_eq files object named)) object
       by None e = record {
         arrives = copy_arrives real upper fine object (fresh 0) (new 0) there
-            (λ name is. absurd (true≢false (sym (ap is_some (sym e ∙ is)))));
-        parent = λ name is. absurd (true≢false (sym (ap is_some (sym e ∙ is))));
+            (λ name is. absurd cc);
+        parent = λ name is. absurd cc;
       }
       by (Some name) e =
           let entry = named_so files tree object name e in
@@ -138,9 +138,9 @@ module _ (files : FileTree ℕ) (tree : IsTree files.tree) (numbers : ListsNumbe
           (copied_each nat_eq fresh 0 (MergeOf real upper) (directories_to nat_eq files name.0)) name.0 object
           (line_arrives fresh new 0 real upper fine reached.0 (length files.numbers) name.0 reached.1
           (depth_bound files tree numbers reached.0 name.0 reached.1)) there
-          (λ other is. ap (λ n. n.0) (same_Some other name (sym is ∙ e))) last.0 in
+          (λ other is. ap (λ n. n.0) (same_Some other name (cc))) last.0 in
           subst (λ m. ArrivesWithParent real m object) (sym last.1) (record {
             arrives = both.arrives;
             parent = λ other is. subst (HasUpper both.arrives.real)
-                (ap (λ n. n.0) (same_Some name other (sym e ∙ is))) both.first;
+                (ap (λ n. n.0) (same_Some name other (cc))) both.first;
           })

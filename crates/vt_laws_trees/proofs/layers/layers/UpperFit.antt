@@ -55,7 +55,7 @@ module _ {world : World ℕ} (conditions : IsWorld nat_eq world) (number : ℕ) 
     one_to_one = λ a b object e f.
         let real_a = upper_is (overlay.real a) object e in
         let real_b = upper_is (overlay.real b) object f in
-        (overlay_merges world conditions number overlay is).one_to_one a b (ap is_some real_a) (real_a ∙ sym real_b);
+        (overlay_merges world conditions number overlay is).one_to_one a b (ap is_some real_a) (cc (real_a));
     kinds = kinds;
     unused = λ k inode e.
         true≢false (sym (ap (holds_of (λ layer. is_there nat_eq world layer.filesystem (fresh k))) (sym has)

@@ -1,6 +1,6 @@
 -- The directories from the root down to one.
-use Rattle.std.proofs.Common.{arith, ◌≡◌, ◌≢◌, refl, sym, ap, subst, ◌∙◌, true≢false, ℕ, zero, suc, nat_eq, Bool, true, false, List, [], ◌∷◌, Option, Some, None, option_and_then, ⊎_elim, find, filter_map, option_map}
-use Rattle.vt_spec.proofs.Common.{FileTree, HasName, IsDirectory, IsTree, Tree, a_name, common_steps, entries_in, entry_at, entry_from, entry_named, entry_to, eqb_tells, first_of_list, found_is_named, has_entry_to, led, name_in, none_is_some, parent_in, same_Some}
+use Rattle.std.proofs.Common.{arith, ◌≡◌, ◌≢◌, refl, sym, subst, ℕ, zero, suc, nat_eq, Bool, true, false, List, [], ◌∷◌, Option, Some, None, ⊎_elim, find, filter_map, option_map}
+use Rattle.vt_spec.proofs.Common.{FileTree, HasName, IsDirectory, IsTree, Tree, a_name, common_steps, entries_in, entry_at, entry_from, entry_to, eqb_tells, first_of_list, found_is_named, has_entry_to, led, name_in, none_is_some, parent_in, same_Some}
 use Rattle.vt_spec.proofs.Trees.{found}
 
 -- a name of an object leads to it

@@ -99,15 +99,14 @@ module _ (world : World ℕ) (fresh : Fresh ℕ) where
               → (o : Option (Layer ℕ)) → overlay.upper ≡ o
               → Stays world filesystem inode (changed_in supply world mounted change)
           layered overlay is None has = elsewhere away (λ other upper i h.
-              none_is_some upper (sym has ∙ ap (λ v. v.upper) (same_Some overlay other (sym is ∙ i)) ∙ h))
+              none_is_some upper (cc (same_Some overlay other (sym is ∙ i))))
           layered overlay is (Some upper) has = ⊎_elim (λ t.
               subst (λ n. Stays world n inode (changed_in supply world mounted change)) (sym t.1)
               (change_keeps world conditions mounted overlay is upper has inode
               (not_of overlay upper is has t.1) supply (granted.part inode new) change (granted.there overlay is)))
               (λ t.
               elsewhere away (λ other on i h same.
-              t.1 (same ∙ ap (λ l. l.filesystem)
-              (same_Some on upper (sym h ∙ ap (λ v. v.upper) (same_Some other overlay (sym i ∙ is)) ∙ has)))))
+              t.1 (cc (same_Some on upper (sym h ∙ ap (λ v. v.upper) (same_Some other overlay (sym i ∙ is)) ∙ has)))))
               (eqb_tells filesystem upper.filesystem)
 
           by : (o : Option (Overlay ℕ)) → (filesystem_numbered nat_eq world mounted).overlay ≡ o

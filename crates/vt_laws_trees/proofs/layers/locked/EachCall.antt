@@ -18,7 +18,7 @@ use Rattle.vt_laws_trees.proofs.trees.ChangesByOthers.{files_stay}
 entry_is : (mount : ℕ) (o : Option ℕ) (at : Option (Location ℕ)) (parent : Location ℕ)
     → at ≡ option_map (λ object. record { mount = mount; node = object }) o → is_some at ≡ true
     → o ≡ Some (unwrap_or at parent).node
-entry_is mount None at parent e is = absurd (true≢false (sym is ∙ ap is_some e))
+entry_is mount None at parent e is = cc
 entry_is mount (Some object) at parent e is = ap (λ a. Some (unwrap_or a parent).node) (sym e)
 
 module _ (world : World ℕ) (fresh : Fresh ℕ) (task : Task ℕ) where
@@ -68,8 +68,7 @@ module _ (world : World ℕ) (fresh : Fresh ℕ) (task : Task ℕ) where
       → ((overlay : Overlay ℕ) → (filesystem_at nat_eq world location).overlay ≡ Some overlay → Speaks location change)
       → Left (with_change nat_eq fresh world location change)
   one_left location change is unlocked = change_left fresh whole location change (λ inode locked new.
-      ap (is_among nat_eq inode) is
-      ∙ or_from (nat_eq inode location.node) false (differs location unlocked inode locked) refl)
+      cc (is, or_from (nat_eq inode location.node) false (differs location unlocked inode locked) refl))
 
   opened_left : (file : Location ℕ) (access : Access) → NodeThere file
       → Left (apply nat_eq fresh world task (ToOpen file access)).world

@@ -58,7 +58,7 @@ module _ (world : World ℕ) (conditions : IsWorld nat_eq world) (layer : Layer 
 pub no_new : (fresh : Fresh ℕ) (world : World ℕ) (filesystem inode : ℕ) → AreNoInodes fresh world filesystem
     → is_some (inode_in world filesystem inode) ≡ true → (k : ℕ) → inode ≢ fresh k
 no_new fresh world filesystem inode none there k e =
-    true≢false (sym there ∙ ap (λ n. is_some (inode_in world filesystem n)) e ∙ ap is_some (none k))
+    cc (there, e, none k)
 
 pub lower_paths_are_locked : LowerPathsAreLocked
 lower_paths_are_locked fresh world task call number overlay lower conditions called c is contains none =

@@ -119,8 +119,8 @@ module _ (world : World ℕ) (conditions : IsWorld nat_eq world) (fresh : Fresh 
           (pairwise_append (λ a b. nat_eq a.number b.number ≡ false) world.filesystems (new ∷ [])
           (no_pair (λ a b. nat_eq a.number b.number) world.filesystems conditions.files.one_filesystem)
           (λ b among. absurd among, tt) (λ a b in_old in_new. Rattle.std.proofs.Common.⊎_elim
-          (λ e. ap (λ f. nat_eq a.number f.number) (sym e)
-          ∙ none_equal (evens (evens fresh) 0) world.filesystems unused a in_old) (λ none. absurd none) in_new))
+          (λ e. cc (none_equal (evens (evens fresh) 0) world.filesystems unused a in_old))
+          (λ none. absurd none) in_new))
           (λ a b l r. refl);
       fit_filesystems = pushed is_fit_filesystem conditions.files.fit_filesystems
           (new_overlay_is_fit (evens fresh) world overlay conditions are_layers
@@ -159,8 +159,7 @@ module _ (world : World ℕ) (conditions : IsWorld nat_eq world) (fresh : Fresh 
             let same : filesystem_numbered nat_eq later number ≡ new =
             ap (λ o. unwrap_or o (no_filesystem number)) (find_new (λ f. nat_eq number f.number) world.filesystems new
             (not_found number world.filesystems
-            (ap (λ n. is_among nat_eq n (map (λ (f : Filesystem ℕ). f.number) world.filesystems))
-            (eqb-true number new.number t) ∙ unused)) t) in
+            (cc (eqb-true number new.number t, unused))) t) in
             let own = own_upper upper (ap (upper_in overlay) (sym (ap (λ (f : Filesystem ℕ). f.overlay) same) ∙ e)
             ∙ has) in
             reached_later upper (Lists.among_from_list_all (is_plain_layer nat_eq world) (layers_of overlay)
@@ -251,7 +250,7 @@ module _ (world : World ℕ) (fresh : Fresh ℕ) (task : Task ℕ) (flags : Moun
       (MountOverlay path (Some words) flags) permit → IsMounted places (apply nat_eq fresh world task permit).world
   granted_mounts path words places permit walked (mounts_overlayfs _ _ _ here layers admin end found passed free) =
       subst (λ places. IsMounted places (overlay_mounted nat_eq fresh world task here.location layers flags))
-      (same_ok layers places (sym found ∙ walked)) (record { place = here.location; passed = passed; is = refl })
+      (same_ok layers places (cc)) (record { place = here.location; passed = passed; is = refl })
 
   pub overlay_is_mounted : (path : List ℕ) (words : OverlayWords) (places : LayerLocations ℕ)
       → layers_walked nat_eq world task words ≡ Ok places

@@ -1,6 +1,6 @@
 -- What a change of the upper layer leaves of what is shown.
 use Rattle.std.proofs.Common.{arith, ◌≡◌, ◌≢◌, refl, sym, ap, subst, ◌∙◌, true≢false, ℕ, nat_eq, Bool, true, false, not, cond, List, [], ◌∷◌, ◌++◌, Option, Some, None, append-nil}
-use Rattle.vt_spec.proofs.Common.{AddName, Change, CopyUp, FileTree, IsDirectory, IsTree, Make, Move, Node, Remove, SetAttr, SetBytes, SetMark, Tree, View, changed, changed_node, common_steps, cuts, eqb_tells, is_kind, is_kind_in, kind_of, led, list_any, node_led, node_with_attr, node_with_bytes, node_with_mark, or_false_left, or_false_right, prefixes, same_option, shown_from, shown_over, then_some, when}
+use Rattle.vt_spec.proofs.Common.{AddName, Change, CopyUp, FileTree, IsDirectory, IsTree, Make, Move, Node, Remove, SetAttr, SetBytes, SetMark, Tree, View, changed, changed_node, common_steps, eqb_tells, is_kind, is_kind_in, kind_of, led, list_any, node_led, node_with_attr, node_with_bytes, node_with_mark, or_false_left, or_false_right, prefixes, same_option, shown_from, then_some, when}
 use Rattle.vt_spec.specs.declared.attributes.Attr.{Attr}
 use Rattle.vt_spec.specs.declared.attributes.Kind.TheVariants.{White}
 use Rattle.vt_laws_trees.specs.Layers.Layers.Mounted.{IsAlike}
@@ -26,7 +26,7 @@ fails false not_so = refl
 front_fails : (test : List (List ℕ) → Bool) (path front : List (List ℕ)) → IsFrontOf front path
     → list_any test (prefixes path) ≡ false → test front ≡ false
 front_fails test path front is none =
-    fails (test front) (λ e. true≢false (sym (prefix_passes test path front is.0 is.1 is.2 e) ∙ none))
+    fails (test front) (λ e. cc (prefix_passes test path front is.0 is.1 is.2 e))
 
 pub prefixes_fail : (test : List (List ℕ) → Bool) (path front : List (List ℕ)) → IsFrontOf front path
     → list_any test (prefixes path) ≡ false → list_any test (prefixes front) ≡ false
@@ -136,8 +136,7 @@ module _ (files : FileTree ℕ) (top : ℕ) where
             → Stays (view_in files top) (view_after files (Make directory name number node) top) path
         stays path none =
             let no = not_named files top directory name path none in (
-              make_adds_path files top directory number name node plain.0 plain.1 plain.2 path
-                  ∙ ap (λ b. cond b (Some number) (led files.tree top path)) no,
+              cc (make_adds_path files top directory number name node plain.0 plain.1 plain.2 path, no),
               hides_so _ _ (subst (λ b. IsAlike (cond b (Some node) (node_led (view_in files top) path))
                   (node_led (view_after files (Make directory name number node) top) path)) no
                   (make_is_seen files top directory number name node tree is_top plain.0 plain.1 plain.2 path)),
@@ -151,7 +150,7 @@ module _ (files : FileTree ℕ) (top : ℕ) where
     lead_alike (Remove directory name object) plain path none =
         through_none (Remove directory name object) directory name
         (λ path none. names_stay (Remove directory name object) refl path
-        (remove_ends_paths files top directory object name path ∙ ap (λ b. cond b None (led files.tree top path)) none))
+        (cc (remove_ends_paths files top directory object name path)))
         path none
     lead_alike (Move from old to new object) plain path none =
         all_stay (Move from old to new object) path (stays path no_new no_old) (λ front is. stays front
@@ -168,8 +167,7 @@ module _ (files : FileTree ℕ) (top : ℕ) where
             → goes_through (view_in files top) from old path ≡ false
             → Stays (view_in files top) (view_after files (Move from old to new object) top) path
         stays path no_new no_old = names_stay (Move from old to new object) refl path
-            (old_leads_nowhere files top from to object old new plain path no_new
-            ∙ ap (λ b. cond b None (led files.tree top path)) no_old)
+            (cc (old_leads_nowhere files top from to object old new plain path no_new))
     lead_alike (SetBytes file bytes) plain path none =
         all_stay (SetBytes file bytes) path (stays path) (λ front is. stays front)
       where
@@ -192,8 +190,7 @@ module _ (files : FileTree ℕ) (top : ℕ) where
           (changed_node nat_eq files directory (node_with_mark opaque)).tree top front (leads front)
           (λ inode l. subst (HidesAlike (files.tree.node inode))
           (sym (kept_elsewhere files directory (node_with_mark opaque) inode
-          (sym (ap (λ o. same_option nat_eq o (Some directory)) l)
-          ∙ front_fails (λ f. same_option nat_eq (led files.tree top f) (Some directory)) path front is none)))
+          (cc (front_fails (λ f. same_option nat_eq (led files.tree top f) (Some directory)) path front is none))))
           (hides_itself (files.tree.node inode)));
     }
       where
@@ -213,8 +210,7 @@ shown_elsewhere_stays files change top lowers tree is_top plain path none =
 pub on_top : (view : View ℕ) (lowers : List (View ℕ)) (path : List (List ℕ)) (object : ℕ) (white : Bool)
     → view.leads path ≡ Some object → is_kind_in White (view.node object) ≡ white
     → shown_from 0 (view ∷ lowers) path ≡ when (not white) (record { layer = 0; object = object })
-on_top view lowers path object white e is = ap (λ o. shown_over view 0 o (cuts view path) (shown_from 1 lowers path)) e
-    ∙ ap (λ b. when (not b) (record { layer = 0; object = object })) is
+on_top view lowers path object white e is = cc
 
 pub new_name_is_shown : NewNameIsShown
 new_name_is_shown files top directory number name node lowers is vacant bare path e =

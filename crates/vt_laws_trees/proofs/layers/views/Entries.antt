@@ -1,5 +1,5 @@
 -- The entries of a tree after a change of one inode.
-use Rattle.std.proofs.Common.{arith, ◌≡◌, sym, ap, ◌∙◌, true≢false, ℕ, nat_eq, Bool, true, cond, ◌&&◌, List, ⊎_elim, Option, Some, None, bytes_eq}
+use Rattle.std.proofs.Common.{arith, ◌≡◌, sym, ap, ◌∙◌, ℕ, nat_eq, Bool, true, cond, ◌&&◌, List, ⊎_elim, Option, Some, None, bytes_eq}
 use Rattle.vt_spec.proofs.Common.{FileTree, IsDirectory, Node, bytes_decides, changed_node, common_steps, entries-node_with_entry, entries-node_without_entry, entries_in, entry_at, entry_named, entry_named-with_entry, entry_named-without_entry, eqb_tells, node_with_entry, part_kept, texts_ties, with_name, without_name}
 
 -- the one entry
@@ -9,8 +9,8 @@ is_entry directory name other word = nat_eq other directory && bytes_eq word nam
 pub is_that_entry : (directory : ℕ) (name : List ℕ) (other : ℕ) (word : List ℕ)
     → is_entry directory name other word ≡ true → (other ≡ directory) × (word ≡ name)
 is_that_entry directory name other word e = ⊎_elim
-    (λ t. (t.1, (bytes_decides word name).0 (sym (ap (λ b. b && bytes_eq word name) t.0) ∙ e)))
-    (λ t. absurd (true≢false (sym e ∙ ap (λ b. b && bytes_eq word name) t.0))) (eqb_tells other directory)
+    (λ t. (t.1, (bytes_decides word name).0 (cc (t.0))))
+    (λ t. absurd (cc (t.0))) (eqb_tells other directory)
 
 module _ (files : FileTree ℕ) (directory : ℕ) (name : List ℕ) where
   -- a change of one inode that gives one of its names another meaning

@@ -15,13 +15,13 @@ hides_so one other is = record { of_kind = record { there = is.there; kind = is.
 pub hiding_alike : (one other : Option (Node ℕ)) → HidesAlike one other → hides other ≡ hides one
 hiding_alike None None is = refl
 hiding_alike None (Some there) is = absurd (true≢false is.of_kind.there)
-hiding_alike (Some here) None is = absurd (true≢false (sym is.of_kind.there))
+hiding_alike (Some here) None is = cc (is.of_kind.there)
 hiding_alike (Some here) (Some there) is = λ i. not (is_directory (is.of_kind.kind i)) || is.mark i
 
 white_of_kind : (one other : Option (Node ℕ)) → IsOneKind one other → is_kind_in White other ≡ is_kind_in White one
 white_of_kind None None is = refl
 white_of_kind None (Some there) is = absurd (true≢false is.there)
-white_of_kind (Some here) None is = absurd (true≢false (sym is.there))
+white_of_kind (Some here) None is = cc (is.there)
 white_of_kind (Some here) (Some there) is = ap (is_kind White) is.kind
 
 -- tests that agree on the fronts of a path

@@ -1,5 +1,5 @@
 -- A move on the view of a layer.
-use Rattle.std.proofs.Common.{◌≡◌, ◌≢◌, ◌≤◌, refl, sym, ap, subst, ◌∙◌, true≢false, eq-eqb, arith, ℕ, suc, nat_eq, true, false, cond, ◌&&◌, List, [], ◌∷◌, ◌++◌, Option, Some, None, option_and_then, bytes_eq}
+use Rattle.std.proofs.Common.{◌≡◌, ◌≢◌, ◌≤◌, refl, sym, ap, subst, ◌∙◌, true≢false, eq-eqb, arith, ℕ, suc, nat_eq, true, false, cond, List, [], ◌∷◌, ◌++◌, Option, Some, None, option_and_then}
 use Rattle.vt_spec.proofs.Common.{FileTree, IsDirectory, IsTree, Tree, bytes_decides, common_steps, entries-node_with_parent, entries-without_parent, entries_in, entry_at, entry_named, led, node_with_parent, none_is_some, part-changed_node, same_Some, with_moved, with_name, without_name, without_parent}
 use Rattle.vt_laws_trees.specs.Layers.Layers.Views.{MovedLeadsOn, NewLeadsAsOld, OldLeadsNowhere, ThroughIsSplit}
 use Rattle.vt_laws_trees.proofs.layers.layers.CopyingParts.{parent_keeps, without_entry_keeps}
@@ -60,7 +60,7 @@ no_way_up files tree from old object named names e =
     let d = has_entries files.tree from old object named in
     let reached = is_reached_in files tree from old object named in
     let again = steps_on files.tree (old ∷ names) reached.0 from from reached.1
-    (ap (option_and_then (λ next. led files.tree next names)) named ∙ e) d in
+    (cc) d in
     let same : after_steps (old ∷ names) reached.0
     ≡ reached.0 = one_depth files tree (after_steps (old ∷ names) reached.0) reached.0 from again reached.1 in
     let more : suc reached.0 ≤ after_steps (old ∷ names) reached.0 = more_steps names (suc reached.0) in
@@ -109,12 +109,11 @@ module _ (before after : Tree ℕ) (from : ℕ) (old : List ℕ) (to : ℕ) (new
 
     pub moved_led : (way rest : List (List ℕ)) (start : ℕ) → led before start way ≡ Some to
         → led after start (way ++ new ∷ rest) ≡ led before object rest
-    moved_led way rest start e = led_parts after way (new ∷ rest) start to (way_led way start e)
-        ∙ ap (option_and_then (λ next. led after next rest)) (told to new ∙ ap (λ b. cond b (Some object)
-        (cond (is_entry from old to new) None (entry_at before to new))) itself) ∙ object_led rest
+    moved_led way rest start e =
+        cc (led_parts after way (new ∷ rest) start to (way_led way start e), told to new, itself, object_led rest)
       where
         itself : is_entry to new to new ≡ true
-        itself = ap (λ b. b && bytes_eq new new) (eq-eqb to to refl) ∙ (bytes_decides new new).1 refl
+        itself = cc (eq-eqb to to refl, (bytes_decides new new).1 refl)
 
 -- The moved tree
 

@@ -1,5 +1,5 @@
 -- A new name and a removed one, on the view of a layer.
-use Rattle.std.proofs.Common.{arith, ◌≡◌, ◌≢◌, refl, sym, ap, subst, ◌∙◌, true≢false, ℕ, nat_eq, Bool, true, false, cond, List, [], ⊎_elim, Option, Some, None, is_some}
+use Rattle.std.proofs.Common.{arith, ◌≡◌, ◌≢◌, refl, sym, ap, subst, ◌∙◌, ℕ, nat_eq, Bool, true, false, cond, List, [], ⊎_elim, Option, Some, None}
 use Rattle.vt_spec.proofs.Common.{AddName, CopyUp, FileTree, IsDirectory, Make, Move, Node, Remove, SetAttr, SetBytes, SetMark, Tree, changed_node, common_steps, entries-without_parent, entries_in, entries_in-no_directory, entries_of, entry_at, entry_named, eqb_tells, is_directory_node, led, node_other, node_set, node_with_entry, node_without_entry, none_is_some, same_Some, then_some, with_inode, with_name, without_name, without_parent}
 use Rattle.vt_laws_trees.specs.Layers.Layers.Mounted.{IsAlike}
 use Rattle.vt_laws_trees.specs.Layers.Layers.Untouched.{IsKept}
@@ -52,9 +52,7 @@ pub inode_entries : (files : FileTree ℕ) (number : ℕ) (node : Node ℕ) → 
     → entries_of node.content ≡ [] → (other : ℕ)
     → entries_in ((with_inode nat_eq files number node).tree.node other) ≡ entries_in (files.tree.node other)
 inode_entries files number node vacant bare other = ⊎_elim
-    (λ t. ap (λ n. entries_in ((with_inode nat_eq files number node).tree.node n)) t.1
-    ∙ ap entries_in (node_set files.tree number (Some node)) ∙ bare
-    ∙ sym (ap entries_in vacant) ∙ ap (λ n. entries_in (files.tree.node n)) (sym t.1))
+    (λ t. cc (t.1, node_set files.tree number (Some node)))
     (λ t. ap entries_in (node_other files.tree number (Some node) other t.1)) (eqb_tells other number)
 
 -- A new inode, and its name
@@ -67,7 +65,7 @@ module _ (files : FileTree ℕ) (directory number : ℕ) (name : List ℕ) (node
   made = with_name nat_eq grown directory name number
 
   number_differs : number ≢ directory
-  number_differs same = true≢false (sym is ∙ ap is_directory_node (ap files.tree.node (sym same) ∙ vacant))
+  number_differs same = cc
 
   number_there : made.tree.node number ≡ Some node
   number_there =
@@ -113,7 +111,7 @@ pub add_name_adds_path : AddNameAddsPath
 add_name_adds_path files top directory object name is file path =
     given_led files.tree (with_name nat_eq files directory name object).tree directory name object
     (given files directory name object is.in_directory)
-    (λ same. true≢false (sym is.in_directory ∙ ap (λ n. is_directory_node (files.tree.node n)) (sym same) ∙ file))
+    (λ same. cc (is.in_directory))
     (entries_in-no_directory (files.tree.node object) file) is.bare top path
 
 -- A name taken away
@@ -161,10 +159,10 @@ names_leave_inodes files (Move from old to new object) top inode e =
     (alike_after left to (node_with_entry new object) (entry_keeps new object) inode)
     (alike_kept (named.tree.node inode) _ (kept_by_parent named object to inode))))
 names_leave_inodes files (CopyUp object) top inode e = alike_same (files.tree.node inode) _ refl
-names_leave_inodes files (Make directory name number node) top inode e = absurd (true≢false (sym e))
-names_leave_inodes files (SetBytes file bytes) top inode e = absurd (true≢false (sym e))
-names_leave_inodes files (SetAttr object attr) top inode e = absurd (true≢false (sym e))
-names_leave_inodes files (SetMark directory opaque) top inode e = absurd (true≢false (sym e))
+names_leave_inodes files (Make directory name number node) top inode e = cc
+names_leave_inodes files (SetBytes file bytes) top inode e = cc
+names_leave_inodes files (SetAttr object attr) top inode e = cc
+names_leave_inodes files (SetMark directory opaque) top inode e = cc
 
 -- What is at a path
 
@@ -187,8 +185,7 @@ make_is_seen files top directory number name node tree is_top is vacant bare pat
     (make_adds_path files top directory number name node is vacant bare path)
     (alike_same (Some node) _ (number_there files directory number name node is.in_directory vacant))
     (λ inode e. others_alike files directory number name node is.in_directory vacant inode
-    (λ same. true≢false (sym (led_is_there (record { tree = files.tree; directory = top }) tree is_top path inode e)
-    ∙ ap (λ n. is_some (files.tree.node n)) same ∙ ap is_some vacant)))
+    (λ same. cc (led_is_there (record { tree = files.tree; directory = top }) tree is_top path inode e)))
 
 pub add_name_is_seen : AddNameIsSeen
 add_name_is_seen files top directory object name is file path =

@@ -15,8 +15,7 @@ pub led_where : (before after : Tree ℕ) (path : List (List ℕ)) (start : ℕ)
     → entry_at after inode word ≡ entry_at before inode word) → led after start path ≡ led before start path
 led_where before after [] start same = refl
 led_where before after (word ∷ rest) start same =
-    ap (option_and_then (λ next. led after next rest)) (same [] start refl word)
-    ∙ by (entry_at before start word) refl (led_where before after rest)
+    cc (same [] start refl word, by (entry_at before start word) refl (led_where before after rest))
   where
     by : (o : Option ℕ) → entry_at before start word ≡ o
         → ((next : ℕ) → ((way : List (List ℕ)) (inode : ℕ) → led before next way ≡ Some inode → (word : List ℕ)
@@ -24,7 +23,7 @@ led_where before after (word ∷ rest) start same =
         → option_and_then (λ next. led after next rest) o ≡ option_and_then (λ next. led before next rest) o
     by None e later = refl
     by (Some next) e later =
-        later next (λ way inode l. same (word ∷ way) inode (ap (option_and_then (λ n. led before n way)) e ∙ l))
+        later next (λ way inode l. same (word ∷ way) inode (cc))
 
 -- a change of one inode that keeps its entries
 stays_led : (files : FileTree ℕ) (number : ℕ) (change : Option (Node ℕ) → Option (Node ℕ))

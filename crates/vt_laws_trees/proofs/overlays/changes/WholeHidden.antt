@@ -1,5 +1,5 @@
 -- What lower layers show after a change they showed before.
-use Rattle.std.proofs.Common.{arith, ◌≡◌, refl, sym, ap, subst, ◌∙◌, true≢false, eq-eqb, ℕ, suc, ◌+◌, nat_eq, Bool, true, false, cond, List, Option, Some, None, is_some}
+use Rattle.std.proofs.Common.{arith, ◌≡◌, refl, sym, ap, subst, ◌∙◌, eq-eqb, ℕ, suc, ◌+◌, nat_eq, Bool, true, false, cond, List, Option, Some, None, is_some}
 use Rattle.vt_spec.proofs.Common.{AddName, Change, CopyUp, Fresh, Lower, Make, Merge, Move, Real, Remove, SameObject, SetAttr, SetBytes, SetMark, Shown, Stack, Upper, common_steps, copied_up, directory_used, hides_directory, layer_node, merge_changed, none_is_some, number_at_path, odds, odds-distinct, real_object, same_Some, shown, shown_in_lowers_at, then_some, upper_object}
 use Rattle.vt_laws_trees.specs.Trees.{MayAddName, MayMake, MayRemove}
 use Rattle.vt_laws_trees.specs.Layers.Layers.ChangesUpper.{StandsInUpper}
@@ -85,7 +85,7 @@ shown_before stack merge later whole after uncovers path layer object e = by (nu
 -- what stands in the upper layer does not lie below
 no_below : (merge : Merge ℕ) (n layer : ℕ) (way : List (List ℕ)) → StandsInUpper merge n
     → merge.real n ≡ Some (Lower layer way) → ⊥
-no_below merge n layer way h e = true≢false (sym h ∙ ap (λ o. is_some (upper_object o)) e)
+no_below merge n layer way h e = cc
 
 -- each change does so
 module _ (fresh : Fresh ℕ) (stack : Stack ℕ) (merge : Merge ℕ) (whole : IsWhole stack merge)
@@ -197,5 +197,5 @@ hidden_stays_hidden fresh stack merge change path layer object whole distinct un
     shown_before stack merge (merge_changed nat_eq fresh stack merge change) whole
     (changes_keep_shown fresh stack merge change whole distinct unused asked)
     (uncovers fresh stack merge whole distinct unused change asked) path layer object
-    (e ∙ ap (λ n. Some (record { layer = n; object = object })) same)
+    (cc)
     ∙ ap (λ n. Some (record { layer = n; object = object })) (sym same)

@@ -151,8 +151,7 @@ module _ {fresh : Fresh ℕ} {world : World ℕ} {location : Location ℕ} {chan
           (subst (λ n. lies_or_counts_under nat_eq world n inode lower ≡ true) same lies)))
       by inode lies there false e = kept_same (inode_in world lower.filesystem inode) _
           (ap (λ f. f.files.tree.node inode) (others_elsewhere fresh world location change lower.filesystem
-          (λ s. none_is_some overlay (sym no_overlay ∙ ap (λ n. (filesystem_numbered nat_eq world n).overlay) s
-          ∙ it.is))
+          (λ s. none_is_some overlay (cc (no_overlay, it.is)))
           (λ o u f g s. true≢false (sym (eq-eqb lower.filesystem upper.filesystem
           (s ∙ ap (λ l. l.filesystem) (same_Some u upper
           (sym g ∙ ap (λ v. v.upper) (same_Some o overlay (sym f ∙ it.is)) ∙ it.has)))) ∙ e))))

@@ -11,7 +11,6 @@ use Rattle.vt_laws_trees.proofs.layers.views.Fronts.{shown_by_views}
 use Rattle.vt_laws_trees.proofs.layers.views.Names.{alike_kept, alike_same, make_seen}
 use Rattle.vt_laws_trees.specs.Overlays.WhatIsShown.{IsWhatIsShown, inode_behind, layers_under}
 use Rattle.vt_laws_trees.proofs.overlays.steps.WholeGrown.{alike_objects}
-use Rattle.vt_laws_trees.proofs.overlays.steps.WholeParts.{real_by}
 use Rattle.vt_laws_trees.proofs.layers.directories.Still.{among_slice}
 
 module _ (one other : Layer ℕ → OpenLayer ℕ) where
@@ -84,7 +83,7 @@ module _ (one other : Layer ℕ → OpenLayer ℕ) where
       shows = λ path. subst (λ o. SameObject (then_some (number_at_path merge.files path) merge.files.tree.node)
           (then_some o (layer_node (layers_under stack_other merge)))) (sym (shown_same path))
           (by path (shown (layers_under stack_one merge) path) refl (is.shows path));
-      names = λ path number e. is.names path number e ∙ ap (real_by path) (sym (shown_same path));
+      names = λ path number e. cc (is.names path number e, shown_same path);
       real_objects = λ number. alike_objects (merge.files.tree.node number) _ (merge.files.tree.node number) _
           (is.real_objects number) (make_seen _) (behind_alike (merge.real number));
       real_there = is.real_there;

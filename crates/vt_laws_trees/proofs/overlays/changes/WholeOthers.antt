@@ -85,10 +85,7 @@ module _ (world later : World ℕ) (filesystem : Filesystem ℕ) (other : Overla
     shows = λ path. subst (λ o. SameObject (then_some (number_at_path filesystem.files path) filesystem.files.tree.node)
         (then_some o (layer_node (map two (shown_layers other))))) (sym (shown_same path))
         (by path (shown (map one (shown_layers other)) path) refl (is.shows path));
-    names = λ path number e. is.names path number e
-        ∙ ap (λ o. option_map (λ m. Rattle.vt_spec.specs.Machine.Merging.real_object
-        (is_some other.upper) m.seen.layer m) (option_map (λ seen. record { path = path; seen = seen }) o))
-        (sym (shown_same path));
+    names = λ path number e. cc (is.names path number e, shown_same path);
     real_objects = λ number. alike_objects (filesystem.files.tree.node number) _ (filesystem.files.tree.node number) _
         (is.real_objects number) (alike_same _ _ refl) (behind_alike number (other.real number) refl);
     real_there = is.real_there;
@@ -139,8 +136,7 @@ module _ (fresh : Fresh ℕ) (world : World ℕ) (location : Location ℕ) (chan
           (subst (λ n. is_some (inode_in world n inode) ≡ true) same there)) (apart (sym same)))
       by false e = kept_same (inode_in world layer.filesystem inode) _ (ap (λ f. f.files.tree.node inode)
           (others_elsewhere fresh world location change layer.filesystem
-          (λ s. none_is_some overlay (sym (no_overlay_in world conditions layer plain)
-          ∙ ap (λ n. (filesystem_numbered nat_eq world n).overlay) s ∙ is))
+          (λ s. none_is_some overlay (cc (no_overlay_in world conditions layer plain)))
           (λ o u f g s. true≢false (sym (eq-eqb layer.filesystem upper.filesystem
           (s ∙ ap (λ l. l.filesystem) (same_Some u upper
           (sym g ∙ ap (λ v. v.upper) (same_Some o overlay (sym f ∙ is)) ∙ has)))) ∙ e))))
@@ -182,7 +178,7 @@ module _ (fresh : Fresh ℕ) (world : World ℕ) (location : Location ℕ) (chan
         up None e l = absurd l
         up (Some top) e (inr l) = absurd l
         up (Some top) e (inl same) =
-            let m = in_upper layer (e ∙ ap Some (sym same)) in
+            let m = in_upper layer (cc) in
             let plain = layer_plain world conditions number other is_other layer
             (among-append_left (upper_and_work other) other.lowers layer m) in
             leads_as_before world conditions layer plain later
@@ -255,8 +251,7 @@ module _ (fresh : Fresh ℕ) (world : World ℕ) (task : Task ℕ) (call : Call)
       (subst (λ o. Lists.Among layer (option_to_list o ++ option_to_list other.work)) (sym e) (inl refl)))
       (object_counts world conditions number other is_other layer e object of)
       (no_new fresh world layer.filesystem object (none layer.filesystem)
-      (ap (holds_of (λ l. is_there nat_eq world l.filesystem object)) (sym e)
-      ∙ (overlay_merges world conditions number other is_other).upper_there of.0 object of.1))
+      (cc ((overlay_merges world conditions number other is_other).upper_there of.0 object of.1)))
 
   call_same : filesystem_numbered nat_eq after number ≡ filesystem_numbered nat_eq world number
   call_same = goes.elsewhere number differ (λ o u f g s. none_is_some other (sym (no_overlay_in world conditions u

@@ -1,13 +1,12 @@
 -- A whole change of an overlay: copies first, and then what is asked.
-use Rattle.std.proofs.Common.{true, ◌⊎◌, ⊎_elim, inl, inr, ◌*◌, ◌+◌, ◌≡◌, sym, subst, ◌∙◌, ℕ, nat_eq, None, refl, ap, List, [], ◌∷◌, ◌++◌, ◌&&◌, ◌||◌, map, not, false, Option, Some, is_some, option_and_then, unwrap_or}
-use Rattle.vt_spec.proofs.Common.{AddName, CopyUp, Fresh, IsDirectory, Lower, Make, Merge, Move, Remove, SetAttr, SetBytes, SetMark, Stack, Upper, copied_up, directory_no_whiteout, directory_used, entry_at, evens, evens-distinct, has_lower_directory, led, led-append, none_is_some, number_at_path, odds, odds-distinct, odds-no_evens, path_down, path_to, same_Some, upper_object, upper_of, view_of}
+use Rattle.std.proofs.Common.{true, ◌⊎◌, ⊎_elim, inl, inr, ◌*◌, ◌+◌, ◌≡◌, sym, subst, ◌∙◌, ℕ, nat_eq, None, refl, ap, List, [], ◌∷◌, ◌++◌, Option, Some, is_some, option_and_then}
+use Rattle.vt_spec.proofs.Common.{AddName, CopyUp, Fresh, IsDirectory, Lower, Make, Merge, Move, Remove, SetAttr, SetBytes, SetMark, Stack, Upper, copied_up, directory_no_whiteout, directory_used, entry_at, evens, evens-distinct, has_lower_directory, led, led-append, none_is_some, number_at_path, odds, odds-distinct, odds-no_evens, path_to, same_Some, upper_object, upper_of}
 use Rattle.vt_laws_trees.specs.Trees.{MayAddName, MayMake, MayMove, MayRemove}
 use Rattle.vt_laws_trees.specs.Layers.Layers.ChangesUpper.{StandsInUpper, IsNewBy}
 use Rattle.vt_laws_trees.specs.Layers.Layers.Upper.{IsThere}
 use Rattle.vt_laws_trees.proofs.layers.layers.UpperLine.{has_entries, is_reached_in}
 use Rattle.vt_laws_trees.proofs.layers.layers.UpperShown.{way_to}
 use Rattle.vt_laws_trees.proofs.layers.layers.ShownNames.{last_name}
-use Rattle.vt_spec.specs.Machine.Views
 use Rattle.vt_laws_trees.specs.Overlays.WhatIsShown.{IsWhole}
 use Rattle.vt_laws_trees.specs.Overlays.WholeChanges.{ChangesKeepShown}
 use Rattle.vt_laws_trees.proofs.overlays.whole.UpperGoes.{Goes, goes_both}
@@ -118,7 +117,7 @@ twice fresh stack merge whole distinct unused f old t new o may =
     record {
       whole = second.copied.whole;
       from = stands_above stack two second.copied.whole f old o
-          (ap (λ files. entry_at files.tree f old) both ∙ may.named) own;
+          (cc (both, may.named)) own;
       to = stands_copied stack (evens (odds fresh))
           (evens-distinct (odds fresh) (odds-distinct fresh distinct)) one t first.copied.whole spare t_there;
       object = own;
@@ -127,15 +126,13 @@ twice fresh stack merge whole distinct unused f old t new o may =
           (λ j. odds-no_evens (odds fresh) (odds-distinct fresh distinct) 0 j);
       may = subst (λ files. MayMove files.tree f old t new o) (sym both) may;
       was_directory = λ d. subst (λ files. IsDirectory files.tree o) both d;
-      cut = λ d. ap (λ path. has_lower_directory
-          (record { tree = two.upper.tree; directory = stack.directory } ∷ []) stack.lowers path)
-          (ap (λ files. unwrap_or (path_down nat_eq files files.tree.root f) [] ++ old ∷ []) both)
-          ∙ ap (λ b. not (b || false) && Views.lowers_have_directory (map view_of stack.lowers)
-          (path_to nat_eq merge f old))
-          (second.cut ((to_object one.files first.copied.whole.tree first.copied.whole.numbers t t_there).directories
-          (subst (λ files. IsDirectory files.tree t) (sym same) may.in_directory)) (path_to nat_eq merge f old)
-          ∙ first.cut ((to_object merge.files whole.tree whole.numbers o o_there).directories
-          (subst (λ files. IsDirectory files.tree o) both d)) (path_to nat_eq merge f old));
+      cut = λ d. cc (
+        both,
+        second.cut ((to_object one.files first.copied.whole.tree first.copied.whole.numbers t t_there).directories
+            (subst (λ files. IsDirectory files.tree t) (sym same) may.in_directory)) (path_to nat_eq merge f old),
+        first.cut ((to_object merge.files whole.tree whole.numbers o o_there).directories
+            (subst (λ files. IsDirectory files.tree o) both d)) (path_to nat_eq merge f old),
+      );
       lower = λ n layer path e. first.copied.lower n layer path (second.copied.lower n layer path e);
       files = both;
       upper = goes_both stack.directory merge.upper one.upper two.upper first.copied.upper second.copied.upper;
@@ -147,7 +144,7 @@ twice fresh stack merge whole distinct unused f old t new o may =
       objects = λ n object e. ⊎_elim
           (λ f. ⊎_elim inl (λ g. inr (new_of_evens fresh object g)) (first.copied.objects n object f))
           (λ g. inr (new_of_odds fresh object (new_of_evens (odds fresh) object g))) (second.copied.objects n object e);
-      sizes = λ f h. second.copied.sizes (ap is_fit_tree same ∙ f) (first.copied.sizes f h);
+      sizes = λ f h. second.copied.sizes (cc (same)) (first.copied.sizes f h);
     }
 
 pub changes_keep_shown : ChangesKeepShown

@@ -1,6 +1,6 @@
 -- Which number is at a path of a merged tree, and what its inode is.
-use Rattle.std.proofs.Common.{arith, ◌≡◌, ◌≢◌, refl, sym, ap, subst, ◌∙◌, true≢false, ℕ, nat_eq, eq-eqb, eqb-true, Bool, true, false, cond, ◌||◌, T, List, [], ◌∷◌, ◌++◌, map, Option, Some, None, is_some, option_and_then, filter_map, is_eq, option_map, unwrap_or}
-use Rattle.vt_spec.proofs.Common.{Content, Directory, Entries, FileTree, Filesystem, HasName, HasOwnParents, Node, OpenLayer, Overlay, Real, Regular, SameObject, Shown, Symlink, Whiteout, World, a_name, bytes_eq-Decides, common_steps, cons_option, directory_used, entries_in, entries_of, entry_at, entry_named, filesystem_numbered, is_directory, is_directory_node, is_opaque_in, is_sorted, kind_of, layer_node, led-append, list_any, name_cmp, names_shown, nat_list_cmp_total, node_shown, none_is_some, nothing_is_no_object, number_at_path, opaque_of, parent_in, parent_of, real_node, real_object, real_shown, same_Some, same_content, same_entries, shown, then_some, view_of, without_last}
+use Rattle.std.proofs.Common.{arith, ◌≡◌, ◌≢◌, refl, sym, ap, subst, ◌∙◌, ℕ, nat_eq, eq-eqb, eqb-true, Bool, true, false, cond, ◌||◌, T, List, [], ◌∷◌, ◌++◌, map, Option, Some, None, is_some, option_and_then, filter_map, is_eq, option_map, unwrap_or}
+use Rattle.vt_spec.proofs.Common.{Content, Directory, Entries, FileTree, Filesystem, HasName, HasOwnParents, Node, OpenLayer, Overlay, Real, Regular, SameObject, Shown, Symlink, Whiteout, World, a_name, bytes_eq-Decides, common_steps, cons_option, directory_used, entries_in, entries_of, entry_at, entry_named, filesystem_numbered, is_directory, is_directory_node, is_opaque_in, is_sorted, kind_of, layer_node, led-append, list_any, name_cmp, names_shown, nat_list_cmp_total, node_shown, none_is_some, nothing_is_no_object, number_at_path, opaque_of, parent_in, parent_of, real_node, real_object, real_shown, same_Some, same_content, same_entries, shown, then_some, view_of}
 use Rattle.vt_spec.proofs.Layers.{names_at}
 use Rattle.vt_spec.proofs.Nodes.{same_name}
 use Rattle.vt_laws_trees.specs.Overlays.MergedTrees.{InodesAreThoseShown, IsMergedTree, IsNamedBy, MergedTreesAreOne, NumbersAreThoseShown, OtherInodesAreHeld, OverlaysAreMergedTrees, content_as, entries_shown, inode_held, inode_shown, layers_shown, node_as, number_shown, parent_shown}
@@ -21,23 +21,23 @@ same_filled : (parent : ℕ) (entries : Entries ℕ) (content shown : Content �
     → (is_directory (kind_of content) ≡ true → entries_of content ≡ entries) → content ≡ content_as parent entries shown
 same_filled parent entries (Directory p e o) (Directory q f r) s mark up names = λ i. Directory (up refl 0 i)
     (names refl i) (mark i)
-same_filled parent entries (Directory p e o) (Regular bytes) s mark up names = absurd (true≢false (sym s))
-same_filled parent entries (Directory p e o) (Symlink text) s mark up names = absurd (true≢false (sym s))
-same_filled parent entries (Directory p e o) Whiteout s mark up names = absurd (true≢false (sym s))
-same_filled parent entries (Regular bytes) (Directory q f r) s mark up names = absurd (true≢false (sym s))
+same_filled parent entries (Directory p e o) (Regular bytes) s mark up names = cc
+same_filled parent entries (Directory p e o) (Symlink text) s mark up names = cc
+same_filled parent entries (Directory p e o) Whiteout s mark up names = cc
+same_filled parent entries (Regular bytes) (Directory q f r) s mark up names = cc
 same_filled parent entries (Regular bytes) (Regular other) s mark up names = ap (λ b. Regular b)
     ((bytes_eq-Decides bytes other).0 s)
-same_filled parent entries (Regular bytes) (Symlink text) s mark up names = absurd (true≢false (sym s))
-same_filled parent entries (Regular bytes) Whiteout s mark up names = absurd (true≢false (sym s))
-same_filled parent entries (Symlink text) (Directory q f r) s mark up names = absurd (true≢false (sym s))
-same_filled parent entries (Symlink text) (Regular other) s mark up names = absurd (true≢false (sym s))
+same_filled parent entries (Regular bytes) (Symlink text) s mark up names = cc
+same_filled parent entries (Regular bytes) Whiteout s mark up names = cc
+same_filled parent entries (Symlink text) (Directory q f r) s mark up names = cc
+same_filled parent entries (Symlink text) (Regular other) s mark up names = cc
 same_filled parent entries (Symlink text) (Symlink other) s mark up names = ap (λ b. Symlink b)
     ((bytes_eq-Decides text other).0 s)
-same_filled parent entries (Symlink text) Whiteout s mark up names = absurd (true≢false (sym s))
-same_filled parent entries Whiteout (Directory q f r) s mark up names = absurd (true≢false (sym s))
-same_filled parent entries Whiteout (Regular other) s mark up names = absurd (true≢false (sym s))
-same_filled parent entries Whiteout (Symlink text) s mark up names = absurd (true≢false (sym s))
-same_filled parent entries Whiteout Whiteout s mark up names = absurd (true≢false (sym s))
+same_filled parent entries (Symlink text) Whiteout s mark up names = cc
+same_filled parent entries Whiteout (Directory q f r) s mark up names = cc
+same_filled parent entries Whiteout (Regular other) s mark up names = cc
+same_filled parent entries Whiteout (Symlink text) s mark up names = cc
+same_filled parent entries Whiteout Whiteout s mark up names = cc
 
 -- so is the inode, if it is there
 pub node_filled : (parent : ℕ) (entries : Entries ℕ) (number : ℕ) (node shown : Option (Node ℕ))
@@ -55,9 +55,9 @@ node_filled parent entries number (Some node) (Some shown) s mark up names =
     by : (content : Content ℕ) → is_directory (kind_of content) ≡ true → (own : ℕ)
         → parent_of number content ≡ parent → parent_of own content ≡ parent
     by (Directory p e o) d own up = up
-    by (Regular bytes) d own up = absurd (true≢false (sym d))
-    by (Symlink text) d own up = absurd (true≢false (sym d))
-    by Whiteout d own up = absurd (true≢false (sym d))
+    by (Regular bytes) d own up = cc
+    by (Symlink text) d own up = cc
+    by Whiteout d own up = cc
 
 -- the real object of something that is shown
 abbrev real_by : Bool → List (List ℕ) → Option (Shown ℕ) → Option (Real ℕ)
@@ -115,7 +115,7 @@ module _ (number_of : Real ℕ → ℕ) (held : ℕ → Option (Real ℕ)) (worl
   lastly path number longer e =
       let last = last_of path longer in
       by last.0 last.1 last.2 (at last.0) refl
-      (sym (last_name filesystem.files.tree filesystem.files.tree.root last.0 last.1) ∙ ap at last.2 ∙ e)
+      (cc (last_name filesystem.files.tree filesystem.files.tree.root last.0 last.1, last.2))
     where
       by : (front : List (List ℕ)) (name : List ℕ) → front ++ name ∷ [] ≡ path → (o : Option ℕ) → at front ≡ o
           → option_and_then (λ d. entry_at filesystem.files.tree d name) o ≡ Some number
@@ -158,8 +158,7 @@ module _ (number_of : Real ℕ → ℕ) (held : ℕ → Option (Real ℕ)) (worl
           → SameObject (then_some o filesystem.files.tree.node) (node_shown nat_eq world overlay path)
           → at path ≡ number_shown number_of world overlay path
       by None e same = e ∙ none (shown layers path) refl same
-      by (Some number) e same = e ∙ sym (numbered number (reached_there path number e))
-          ∙ ap (option_map number_of) (is.merged.names path number e)
+      by (Some number) e same = cc (numbered number (reached_there path number e), is.merged.names path number e)
 
   -- Entries of a directory at a path
   module _ (path : List (List ℕ)) (number : ℕ) (leads : at path ≡ Some number) where
@@ -180,7 +179,7 @@ module _ (number_of : Real ℕ → ℕ) (held : ℕ → Option (Real ℕ)) (worl
         by (Some seen) e =
             let has = (names_are_those_shown layers path name).1
             (seen, (computed layers (path ++ name ∷ []) seen).0 e) in
-            absurd (true≢false (sym (name_found name (names_shown layers path) has.0 has.1 has.2) ∙ out))
+            absurd (cc (name_found name (names_shown layers path) has.0 has.1 has.2, out))
 
     found : (name : List ℕ) → entry_named name
         (entries_shown number_of world overlay path) ≡ number_shown number_of world overlay (path ++ name ∷ [])
@@ -210,16 +209,16 @@ module _ (number_of : Real ℕ → ℕ) (held : ℕ → Option (Real ℕ)) (worl
         by : (way : List (List ℕ)) → path ≡ way
             → parent_in number (filesystem.files.tree.node number) ≡ parent_shown number_of world overlay path
         by [] e =
-            let root = same_Some filesystem.files.tree.root number (sym (ap at e) ∙ leads) in
+            let root = same_Some filesystem.files.tree.root number (cc) in
             subst (λ n. parent_in n (filesystem.files.tree.node n) ≡ n) root is.tree.root_parent
             ∙ ap (λ o. unwrap_or o 0) (sym leads ∙ numbers_are_shown path)
-            ∙ ap (λ p. unwrap_or (number_shown number_of world overlay p) 0) (e ∙ sym (ap without_last e))
+            ∙ ap (λ p. unwrap_or (number_shown number_of world overlay p) 0) (cc)
         by (word ∷ way) e =
-            let last = lastly path number (λ empty. not_empty word way (sym e ∙ empty)) leads in
+            let last = lastly path number (λ empty. not_empty word way (cc)) leads in
             is.tree.one_parent last.directory last.name number last.entry is_directory
             ∙ ap (λ o. unwrap_or o 0) (sym last.leads ∙ numbers_are_shown last.front)
             ∙ ap (λ p. unwrap_or (number_shown number_of world overlay p) 0)
-            (sym (without_last_of_longer last.front last.name) ∙ ap without_last last.split)
+            (cc (without_last_of_longer last.front last.name, last.split))
 
     pub inode_is : filesystem.files.tree.node number ≡ inode_shown number_of world overlay path
     inode_is =
@@ -292,13 +291,11 @@ module _ {number_of : Real ℕ → ℕ} {held : ℕ → Option (Real ℕ)} {worl
       by false e None f = is_nowhere at
         where
           at : (path : List (List ℕ)) → number_at_path one.files path ≢ Some number
-          at [] h = true≢false (sym (eq-eqb number one.files.tree.root
-              (sym (same_Some one.files.tree.root number h))) ∙ e)
+          at [] h = cc (eq-eqb number one.files.tree.root (sym (same_Some one.files.tree.root number h)))
           at (word ∷ path) h =
               let last = lastly number_of held world one overlay is named (word ∷ path) number
               (not_empty word path) h in
-              true≢false (sym (has_a_name one.files is.numbers last.directory last.name number last.entry)
-              ∙ ap is_some f)
+              cc (has_a_name one.files is.numbers last.directory last.name number last.entry, f)
 
   same_paths : (path : List (List ℕ)) → number_at_path other.files path ≡ number_at_path one.files path
   same_paths path = numbers_are_shown number_of held world other another other_is other_named path

@@ -1,5 +1,5 @@
 -- What is seen so is named so.
-use Rattle.std.proofs.Common.{◌≡◌, ◌≢◌, refl, sym, ap, ◌∙◌, ℕ, nat_eq, List, [], ◌∷◌, Option, Some, None, option_and_then, option_map}
+use Rattle.std.proofs.Common.{◌≡◌, ◌≢◌, refl, sym, ap, ◌∙◌, ℕ, nat_eq, List, [], ◌∷◌, Option, Some, None, option_and_then}
 use Rattle.vt_spec.proofs.Common.{Filesystem, HasName, Overlay, Real, Tree, World, entry_at, found_passes, holds_of, none_is_some, number_at_path, paths_from, same_Some}
 use Rattle.vt_laws_trees.proofs.layers.layers.ShownDirectories.{last_of}
 use Rattle.vt_laws_trees.proofs.layers.layers.ShownNames.{last_name}
@@ -37,8 +37,7 @@ module _ (number_of : Real ℕ → ℕ) (held : ℕ → Option (Real ℕ)) (long
     where
       by : (o : Option (List (List ℕ))) → found number ≡ o → number ≡ number_of object
       by None f = holds number object (sym (real_is number None f) ∙ e)
-      by (Some path) f = same_Some number (number_of object) (sym (shows number path f)
-          ∙ ap (option_map number_of) (sym (real_is number (Some path) f) ∙ e))
+      by (Some path) f = same_Some number (number_of object) (cc (shows number path f, real_is number (Some path) f))
 
   -- so paths lead to the numbers that are shown, whatever is held
   lead : (path : List (List ℕ)) → number_at_path filesystem.files path ≡ number_shown number_of world overlay path
@@ -54,8 +53,7 @@ module _ (number_of : Real ℕ → ℕ) (held : ℕ → Option (Real ℕ)) (long
       at (word ∷ path) e =
           let last = last_of (word ∷ path) (not_empty word path) in
           no_name (has_name filesystem.files.tree number (number_at_path filesystem.files last.0) last.1
-          (sym (last_name filesystem.files.tree filesystem.files.tree.root last.0 last.1)
-          ∙ ap (number_at_path filesystem.files) last.2 ∙ e))
+          (cc (last_name filesystem.files.tree filesystem.files.tree.root last.0 last.1, last.2)))
 
       by : (o : Option (List (List ℕ))) → found number ≡ o → overlay.real number ≡ held number
       by None f = real_is number None f

@@ -1,5 +1,5 @@
 -- No path at which something is shown is longer than a layer's tree has inodes.
-use Rattle.std.proofs.Common.{◌≡◌, ◌≤◌, refl, sym, ap, subst, ◌∙◌, arith, ℕ, suc, ◌+◌, nat_eq, List, [], ◌∷◌, length, Option, Some, None, option_and_then, slice_get, All, option_map}
+use Rattle.std.proofs.Common.{◌≡◌, ◌≤◌, refl, sym, subst, ◌∙◌, arith, ℕ, suc, ◌+◌, nat_eq, List, [], ◌∷◌, length, Option, Some, None, option_and_then, slice_get, All, option_map}
 use Rattle.vt_spec.proofs.Common.{FileTree, IsTree, Layer, ListsNumbers, OpenLayer, entry_at, get_or_from_slice_get, led, none_is_some, open_layer, same_Some, shown_layers, slice_get-map, slice_get_within}
 use Rattle.vt_laws_trees.proofs.layers.layers.ShownAtPath.{computed}
 use Rattle.vt_laws_trees.proofs.layers.layers.ShownDirectories.{last_of}
@@ -38,9 +38,9 @@ module _ (files : FileTree ℕ) (tree : IsTree files.tree) (listed : ListsNumber
   length-led [] to e = omega arith
   length-led (name ∷ path) to e =
       let last = last_of (name ∷ path) (not_empty name path) in
-      let long : length (name ∷ path) ≡ suc (length last.0) = sym (ap length last.2) ∙ length_longer last.0 last.1 in
+      let long : length (name ∷ path) ≡ suc (length last.0) = cc (last.2, length_longer last.0 last.1) in
       let within = at_last last.0 last.1 to (led files.tree start last.0) refl
-      (sym (last_name files.tree start last.0 last.1) ∙ ap (led files.tree start) last.2 ∙ e) in
+      (cc (last_name files.tree start last.0 last.1, last.2)) in
       omega (arith, long, within)
 
 pub paths_are_no_longer : PathsAreNoLonger
@@ -57,7 +57,7 @@ paths_are_no_longer world filesystem overlay longest path seen is listed larger 
     by layer (Some plain) s at m l =
         let same = same_Some (open_layer nat_eq world plain) layer m in
         let files = files_of world plain in
-        let tree = (is.layers seen.layer (open_layer nat_eq world plain) (at ∙ sym m)).0 in
+        let tree = (is.layers seen.layer (open_layer nat_eq world plain) (cc)).0 in
         let within = length-led files tree
         (all_at (λ (l : Layer ℕ). ListsNumbers nat_eq (files_of world l)) (shown_layers overlay) listed
         seen.layer plain s) plain.directory path seen.object

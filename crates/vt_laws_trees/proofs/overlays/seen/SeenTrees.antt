@@ -1,6 +1,6 @@
 -- Each merged tree that is named so is the tree that is seen.
-use Rattle.std.proofs.Common.{arith, ◌≡◌, ◌⊎◌, ◌≢◌, inl, inr, refl, sym, ap, ◌∙◌, true≢false, ℕ, nat_eq, eq-eqb, eqb-true, Bool, true, false, List, [], ◌∷◌, Option, Some, None, is_some, find, get_or, option_map, unwrap_or}
-use Rattle.vt_spec.proofs.Common.{Filesystem, IsWorld, ListsNumbers, Overlay, Real, Shown, World, common_steps, filesystem_numbered, found_passes, holds_of, no_filesystem, none_is_some, paths_from, real_object, shown, shown_layers}
+use Rattle.std.proofs.Common.{arith, ◌≡◌, ◌⊎◌, ◌≢◌, inl, inr, refl, sym, ap, ◌∙◌, ℕ, nat_eq, eq-eqb, eqb-true, Bool, true, false, List, [], ◌∷◌, Option, Some, None, find, get_or, unwrap_or}
+use Rattle.vt_spec.proofs.Common.{Filesystem, IsWorld, ListsNumbers, Overlay, Real, Shown, World, common_steps, filesystem_numbered, found_passes, holds_of, no_filesystem, none_is_some, paths_from, shown, shown_layers}
 use Rattle.vt_laws_trees.proofs.layers.layers.ShownObjects.{Among, paths_complete}
 use Rattle.vt_laws_trees.proofs.layers.layers.UpperWorld.{all_found}
 use Rattle.vt_laws_trees.specs.Overlays.MergedTrees.{IsMergedTree, IsNamedBy, layers_shown, number_shown}
@@ -13,7 +13,7 @@ by_first : {A : Type 0} (test : A → Bool) (first : A) (list : List A) (a : A) 
     → (Among list a → find test list ≢ None) → (first ≡ a) ⊎ Among list a → test a ≡ true
     → find test (first ∷ list) ≢ None
 by_first test first list a true s rest among passes e = grind (arith, common_steps, none_is_some)
-by_first test first list a false s rest (inl same) passes e = true≢false (sym passes ∙ ap test (sym same) ∙ s)
+by_first test first list a false s rest (inl same) passes e = cc
 by_first test first list a false s rest (inr among) passes e = grind (arith, common_steps)
 
 not_missed : {A : Type 0} (test : A → Bool) (list : List A) (a : A) → test a ≡ true → Among list a
@@ -23,7 +23,7 @@ not_missed test (first ∷ list) a passes among e =
     by_first test first list a (test first) refl (not_missed test list a passes) among passes e
 
 pub shown_number : (number : ℕ) (o : Option ℕ) → holds_of (nat_eq number) o ≡ true → o ≡ Some number
-shown_number number None e = absurd (true≢false (sym e))
+shown_number number None e = cc
 shown_number number (Some other) e = ap Some (sym (eqb-true number other e))
 
 module _ {number_of : Real ℕ → ℕ} {held : ℕ → Option (Real ℕ)} {world : World ℕ} {filesystem : Filesystem ℕ}
@@ -41,9 +41,7 @@ module _ {number_of : Real ℕ → ℕ} {held : ℕ → Option (Real ℕ)} {worl
       by : (o : Option (Shown ℕ)) → shown (layers_shown world overlay) path ≡ o
           → number_shown number_of world overlay path ≡ Some number
           → Among (paths_from longest (layers_shown world overlay) []) path
-      by None s e = none_is_some number (sym (ap (λ o. option_map number_of (option_map
-          (λ object. real_object (is_some overlay.upper) object.seen.layer object)
-          (option_map (λ seen. record { path = path; seen = seen }) o))) s) ∙ e)
+      by None s e = none_is_some number (cc)
       by (Some seen) s e = paths_complete (layers_shown world overlay) is.layers longest [] path seen
           (paths_are_no_longer world filesystem overlay longest path seen is listed larger s) s
 
@@ -58,7 +56,7 @@ module _ {number_of : Real ℕ → ℕ} {held : ℕ → Option (Real ℕ)} {worl
   same number None e = others_are_held number_of held world filesystem overlay is named number (λ path at.
       let shows = sym (numbers_are_those number_of held world filesystem overlay is named path) ∙ at in
       not_missed (passes number) (paths_from longest (layers_shown world overlay) []) path
-      (ap (holds_of (nat_eq number)) shows ∙ eq-eqb number number refl) (gone_through path number shows) e)
+      (cc (eq-eqb number number refl)) (gone_through path number shows) e)
 
   root : filesystem.files.tree.root ≡ unwrap_or (number_shown number_of world overlay []) 0
   root = ap (λ o. unwrap_or o 0) (numbers_are_those number_of held world filesystem overlay is named [])

@@ -1,6 +1,6 @@
 -- Bytes and attributes of what stands in the upper layer are set: the tree is still what the layers show.
 use Rattle.std.proofs.Common.{arith, ◌≡◌, refl, sym, ap, subst, ◌∙◌, true≢false, eqb-true, eq-eqb, ℕ, zero, suc, nat_eq, Bool, true, false, cond, List, map, Option, Some, None, is_some, slice_get, unwrap_or}
-use Rattle.vt_spec.proofs.Common.{Directory, IsTree, ListsNumbers, Lower, Merge, Node, OpenLayer, Real, SameObject, SetAttr, SetBytes, Stack, Upper, bytes_eq_itself, changed_both, changed_node, common_steps, is_kind_in, is_opaque_in, node_with_attr, node_with_bytes, none_is_some, number_at_path, part-changed_node, same_Some, then_some, upper_object, upper_of, view_of, with_bytes}
+use Rattle.vt_spec.proofs.Common.{IsTree, ListsNumbers, Lower, Merge, Node, OpenLayer, Real, SameObject, SetAttr, SetBytes, Stack, Upper, bytes_eq_itself, changed_both, changed_node, common_steps, is_kind_in, is_opaque_in, node_with_attr, node_with_bytes, none_is_some, number_at_path, part-changed_node, same_Some, then_some, upper_object, upper_of, view_of}
 use Rattle.vt_spec.specs.declared.attributes.Attr.{Attr}
 use Rattle.vt_spec.specs.declared.attributes.Kind.TheVariants.{White}
 use Rattle.vt_laws_trees.proofs.trees.ChangesKeepTrees.{changes_keep_numbers, changes_keep_trees}
@@ -16,9 +16,9 @@ pub upper_real : (merge : Merge ℕ) (number : ℕ) → StandsInUpper merge numb
 upper_real merge number h = by (merge.real number) h
   where
     by : (o : Option (Real ℕ)) → is_some (upper_object o) ≡ true → o ≡ Some (Upper (unwrap_or (upper_object o) number))
-    by None h = absurd (true≢false (sym h))
+    by None h = cc
     by (Some (Upper object)) h = refl
-    by (Some (Lower layer path)) h = absurd (true≢false (sym h))
+    by (Some (Lower layer path)) h = cc
 
 -- what a change of one inode keeps of its shape
 pub record KeepsShape (change : Option (Node ℕ) → Option (Node ℕ)) : Type 0 where
@@ -96,11 +96,11 @@ module _ {stack : Stack ℕ} {merge : Merge ℕ} (whole : IsWhole stack merge) (
 
   not_there : (o p : Option (Node ℕ)) → is_some o ≡ is_some p → o ≡ None → p ≡ None
   not_there o None e n = refl
-  not_there o (Some node) e n = absurd (true≢false (sym e ∙ ap is_some n))
+  not_there o (Some node) e n = cc
 
   fine_later : IsFine stack later
   fine_later = record {
-    paths = λ path. ap (λ o. then_some o merge.real) (one_path path) ∙ is_fine.paths path ∙ sym (one_seen path);
+    paths = λ path. cc (one_path path, is_fine.paths path, one_seen path);
     objects = object_same;
     there = λ number none. is_fine.there number (not_there (later.files.tree.node number) (merge.files.tree.node number)
         (part-changed_node is_some merge.files file change shape.there number) none);

@@ -44,11 +44,10 @@ module _ (stack : Stack ℕ) (merge : Merge ℕ) (is_fine : IsFine stack merge) 
   grown = record { files = files; real = real; upper = upper }
 
   differs : (n : ℕ) → nat_eq n number ≡ false → n ≢ number
-  differs n e same = true≢false (sym (eq-eqb n number same) ∙ e)
+  differs n e same = cc (eq-eqb n number same)
 
   not_new : (n u : ℕ) → merge.real n ≡ Some (Upper u) → u ≢ copy
-  not_new n u r same = true≢false
-      (sym (is_fine.upper n u r) ∙ ap (λ k. is_some (merge.upper.tree.node k)) same ∙ ap is_some vacant)
+  not_new n u r same = cc (is_fine.upper n u r)
 
   object_same : (n : ℕ) (b : Bool) → nat_eq n number ≡ b → SameObject (files.tree.node n)
       (then_some (cond b (Some (Upper copy)) (merge.real n)) (inode_behind stack grown))
@@ -69,8 +68,7 @@ module _ (stack : Stack ℕ) (merge : Merge ℕ) (is_fine : IsFine stack merge) 
 
   real_there : (n : ℕ) (b : Bool) → nat_eq n number ≡ b → files.tree.node n ≡ None
       → cond b (Some (Upper copy)) (merge.real n) ≡ None
-  real_there n true e none = absurd
-      (true≢false (sym there ∙ ap (λ k. is_some (files.tree.node k)) (sym (eqb-true n number e)) ∙ ap is_some none))
+  real_there n true e none = cc (eqb-true n number e)
   real_there n false e none = is_fine.there n
       (none_before (merge.files.tree.node n) (files.tree.node n) (others n (differs n e)).there none)
 

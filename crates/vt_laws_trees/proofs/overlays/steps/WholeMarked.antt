@@ -1,6 +1,6 @@
 -- A mark is set in the upper layer where lower layers have no directory: the tree is still what the layers show.
 use Rattle.std.proofs.Common.{arith, ◌≡◌, refl, sym, ap, subst, ◌∙◌, true≢false, eqb-true, eq-eqb, ℕ, suc, nat_eq, Bool, true, false, cond, List, [], ◌∷◌, ◌++◌, map, Option, Some, None, is_some, append-nil}
-use Rattle.vt_spec.proofs.Common.{Lower, Merge, Node, Real, SameObject, SetMark, Shown, Stack, Upper, View, common_steps, cuts, is_directory_node, is_kind_in, is_opaque_in, node_with_mark, none_is_some, number_at_path, part-changed_node, same_option, shown_from, shown_over, then_some, upper_of, view_of}
+use Rattle.vt_spec.proofs.Common.{Lower, Merge, Node, Real, SameObject, SetMark, Shown, Stack, Upper, View, common_steps, cuts, is_directory_node, is_kind_in, node_with_mark, none_is_some, number_at_path, part-changed_node, same_option, shown_from, shown_over, then_some, upper_of, view_of}
 use Rattle.vt_laws_trees.proofs.layers.layers.CopyingNames.{directory_marked}
 use Rattle.vt_spec.specs.declared.attributes.Kind.TheVariants.{White}
 use Rattle.vt_spec.specs.Machine.Layers.{lowers_have_directory}
@@ -16,7 +16,7 @@ use Rattle.vt_laws_trees.proofs.overlays.steps.WholeAttributes.{top_open, upper_
 use Rattle.vt_laws_trees.proofs.overlays.steps.WholeLeft.{lowers_have}
 use Rattle.vt_laws_trees.proofs.overlays.steps.WholeLinked.{no_white_object}
 use Rattle.vt_laws_trees.proofs.overlays.steps.WholeNames.{above_named, is_fine, object_above, same_is, whole_again}
-use Rattle.vt_laws_trees.proofs.overlays.steps.WholeParts.{IsFine, real_by}
+use Rattle.vt_laws_trees.proofs.overlays.steps.WholeParts.{IsFine}
 use Rattle.vt_laws_trees.proofs.overlays.steps.WholePlaces.{shown_longer}
 
 -- what a mark keeps of an inode
@@ -74,8 +74,7 @@ module _ (stack : Stack ℕ) (merge : Merge ℕ) (whole : IsWhole stack merge) (
   -- and where neither it nor lower layers show anything, nothing is
   nothing : (view : View ℕ) (path : List (List ℕ)) → view.leads path ≡ None → shown_from 1 lowers path ≡ None
       → shown_from 0 (view ∷ lowers) path ≡ None
-  nothing view path e none = ap (λ o. shown_over view 0 o (cuts view path) (shown_from 1 lowers path)) e
-      ∙ ap (shown_over view 0 None (cuts view path)) none ∙ by (cuts view path)
+  nothing view path e none = cc (by (cuts view path))
     where
       by : (b : Bool) → shown_over view 0 None b None ≡ None
       by true = refl
@@ -100,7 +99,7 @@ module _ (stack : Stack ℕ) (merge : Merge ℕ) (whole : IsWhole stack merge) (
       → shown_from 0 (after ∷ lowers) path ≡ shown_from 0 (before ∷ lowers) path
   through front rest path split e (Some object) at = on_top_same path object at
   through front [] path split e None at =
-      none_is_some above (sym at ∙ ap before.leads (sym split ∙ append-nil front) ∙ e)
+      none_is_some above (cc (append-nil front))
   through front (word ∷ rest) path split e None at =
       let none = ap (shown_from 1 lowers) (sym split)
       ∙ none_below front rest word e (shown_from 1 lowers (front ++ word ∷ rest)) refl in
@@ -138,7 +137,7 @@ module _ (stack : Stack ℕ) (merge : Merge ℕ) (whole : IsWhole stack merge) (
 
   fine_later : IsFine stack later
   fine_later = record {
-    paths = λ path. fine.paths path ∙ ap (real_by path) (sym (shown_same path));
+    paths = λ path. cc (fine.paths path, shown_same path);
     objects = objects_same;
     there = fine.there;
     whiteout = fine.whiteout;
@@ -166,6 +165,4 @@ mark_keeps_whole stack merge directory opaque whole stands bare =
 
 pub mark_of_the_tree_is_not_shown : MarkOfTheTreeIsNotShown
 mark_of_the_tree_is_not_shown stack merge directory d is =
-    true≢false (sym (ap (λ b. is_opaque_in (cond b (node_with_mark true (merge.files.tree.node directory))
-    (merge.files.tree.node directory))) (eq-eqb directory directory refl)
-    ∙ directory_marked (merge.files.tree.node directory) d) ∙ is.no_mark directory)
+    cc (eq-eqb directory directory refl, directory_marked (merge.files.tree.node directory) d, is.no_mark directory)

@@ -1,6 +1,6 @@
 -- Where names lead in the tree of an overlay and in its upper layer.
-use Rattle.std.proofs.Common.{arith, ◌≡◌, refl, sym, ap, subst, ◌∙◌, true≢false, eqb-true, eq-eqb, ℕ, zero, suc, nat_eq, Bool, true, false, not, ◌&&◌, List, [], ◌∷◌, ◌++◌, map, Option, Some, None, is_some, option_and_then, slice_get, bytes_eq}
-use Rattle.vt_spec.proofs.Common.{FileTree, IsDirectory, IsReached, IsTree, ListsNumbers, Merge, OpenLayer, SameObject, Shown, Stack, Upper, View, at_path, bytes_eq_itself, common_steps, cuts, directory_no_whiteout, entry_at, is_directory_node, is_empty_list, is_kind_in, last_or, led, none_is_some, number_at_path, real_object, same_Some, same_option, shown, shown_from, shown_over, then_some, upper_object, view_of, without_last}
+use Rattle.std.proofs.Common.{arith, ◌≡◌, refl, sym, ap, subst, ◌∙◌, eqb-true, eq-eqb, ℕ, zero, suc, nat_eq, Bool, true, false, not, ◌&&◌, List, [], ◌∷◌, ◌++◌, map, Option, Some, None, is_some, option_and_then, slice_get, bytes_eq}
+use Rattle.vt_spec.proofs.Common.{FileTree, IsDirectory, IsReached, IsTree, ListsNumbers, Merge, OpenLayer, SameObject, Shown, Stack, Upper, View, at_path, bytes_eq_itself, common_steps, cuts, directory_no_whiteout, entry_at, is_directory_node, is_empty_list, is_kind_in, last_or, led, none_is_some, number_at_path, real_object, same_Some, same_option, shown, shown_from, then_some, upper_object, view_of, without_last}
 use Rattle.vt_spec.specs.declared.attributes.Kind.TheVariants.{White}
 use Rattle.vt_laws_trees.specs.Layers.Layers.Shown.{IsShown}
 use Rattle.vt_laws_trees.specs.Layers.Layers.Views.{goes_through, names_entry, view_in}
@@ -19,11 +19,11 @@ use Rattle.vt_laws_trees.proofs.overlays.steps.WholeAttributes.{top_open}
 use Rattle.vt_laws_trees.proofs.overlays.steps.WholeParts.{IsFine, fine, real_by, what_is_shown}
 
 pub same_is : (o : Option ℕ) (n : ℕ) → same_option nat_eq o (Some n) ≡ true → o ≡ Some n
-same_is None n e = absurd (true≢false (sym e))
+same_is None n e = cc
 same_is (Some m) n e = ap Some (eqb-true m n e)
 
 pub same_holds : (o : Option ℕ) (n : ℕ) → o ≡ Some n → same_option nat_eq o (Some n) ≡ true
-same_holds o n e = ap (λ p. same_option nat_eq p (Some n)) e ∙ eq-eqb n n refl
+same_holds o n e = cc (eq-eqb n n refl)
 
 -- the path of an entry names it
 pub entry_named_so : (files : FileTree ℕ) (top directory : ℕ) (name : List ℕ) (way : List (List ℕ))
@@ -37,7 +37,7 @@ pub named_led : (files : FileTree ℕ) (top directory : ℕ) (name : List ℕ) (
     → led files.tree top path ≡ entry_at files.tree directory name
 named_led files top directory name path e =
     let named = is_named files top directory name path e in
-    ap (led files.tree top) (sym named.1) ∙ last_name files.tree top named.0 name
+    cc (named.1, last_name files.tree top named.0 name)
     ∙ ap (option_and_then (λ d. entry_at files.tree d name)) named.2
 
 -- a path through a name that is free leads nowhere
@@ -46,7 +46,7 @@ pub through_free : (files : FileTree ℕ) (top directory : ℕ) (name : List ℕ
     → goes_through (view_in files top) directory name path ≡ true → led files.tree top path ≡ None
 through_free files top directory name free path through =
     let parts = through_is_split files top directory name path through in
-    ap (led files.tree top) (sym parts.2) ∙ led_parts files.tree parts.0 (name ∷ parts.1) top directory parts.3
+    cc (parts.2, led_parts files.tree parts.0 (name ∷ parts.1) top directory parts.3)
     ∙ ap (option_and_then (λ next. led files.tree next parts.1)) free
 
 -- and one through what has no names in it too, but for its own path
@@ -57,13 +57,12 @@ pub through_bare : (files : FileTree ℕ) (top directory object : ℕ) (name : L
     → names_entry (view_in files top) directory name path ≡ false → led files.tree top path ≡ None
 through_bare files top directory object name e bare path through other =
     let parts = through_is_split files top directory name path through in
-    ap (led files.tree top) (sym parts.2) ∙ led_parts files.tree parts.0 (name ∷ parts.1) top directory parts.3
+    cc (parts.2, led_parts files.tree parts.0 (name ∷ parts.1) top directory parts.3)
     ∙ ap (option_and_then (λ next. led files.tree next parts.1)) e ∙ by parts.0 parts.1 parts.2 parts.3
   where
     by : (way rest : List (List ℕ)) → way ++ name ∷ rest ≡ path → led files.tree top way ≡ Some directory
         → led files.tree object rest ≡ None
-    by way [] is l = absurd (true≢false (sym (entry_named_so files top directory name way l)
-        ∙ ap (names_entry (view_in files top) directory name) is ∙ other))
+    by way [] is l = cc (entry_named_so files top directory name way l)
     by way (word ∷ rest) is l = ap (option_and_then (λ next. led files.tree next rest)) (bare word)
 
 -- Views that differ in what they lead to and hide at other paths
@@ -76,8 +75,7 @@ over_same one other lowers path leads white cut = grind (arith, common_steps)
 pub cut_shows_none : (view : View ℕ) (lowers : List (View ℕ)) (path : List (List ℕ)) → view.leads path ≡ None
     → cuts view path ≡ true → shown_from 0 (view ∷ lowers) path ≡ None
 cut_shows_none view lowers path leads cut =
-    ap (λ o. shown_over view 0 o (cuts view path) (shown_from 1 lowers path)) leads
-    ∙ ap (λ b. shown_over view 0 None b (shown_from 1 lowers path)) cut
+    cc (leads, cut)
 
 -- names lead to the upper layer's directory in its tree
 pub top_good : (stack : Stack ℕ) (merge : Merge ℕ) → IsWhole stack merge → IsGood stack.directory merge.upper
@@ -98,7 +96,7 @@ module _ (stack : Stack ℕ) (merge : Merge ℕ) (whole : IsWhole stack merge) w
   pub named_above : (path : List (List ℕ)) (number u : ℕ) → number_at_path merge.files path ≡ Some number
       → merge.real number ≡ Some (Upper u) → led merge.upper.tree stack.directory path ≡ Some u
   named_above path number u e r =
-      by (shown layers path) refl (sym r ∙ sym (ap (λ o. then_some o merge.real) e) ∙ is_fine.paths path)
+      by (shown layers path) refl (cc (is_fine.paths path))
     where
       at : (layer object : ℕ) → IsShown layers path (record { layer = layer; object = object })
           → Some (Upper u) ≡ Some (real_object true layer

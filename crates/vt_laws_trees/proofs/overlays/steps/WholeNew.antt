@@ -1,5 +1,5 @@
 -- A new inode under a name of the upper layer: where its view leads, and what it hides.
-use Rattle.std.proofs.Common.{◌≡◌, ◌≢◌, ap, subst, ◌∙◌, ℕ, nat_eq, Bool, true, false, cond, List, [], Some, None}
+use Rattle.std.proofs.Common.{◌≡◌, ◌≢◌, subst, ◌∙◌, ℕ, nat_eq, Bool, true, false, cond, List, [], Some, None}
 use Rattle.vt_spec.proofs.Common.{FileTree, IsDirectory, IsTree, Make, Node, View, changed, cuts, entries_of, hides, led, node_led}
 use Rattle.vt_laws_trees.specs.Layers.Layers.Mounted.{IsAlike}
 use Rattle.vt_laws_trees.specs.Layers.Layers.Views.{TakesName, goes_through, names_entry, view_in}
@@ -22,7 +22,7 @@ module _ (upper : FileTree ℕ) (top : ℕ) (top_tree : IsTree upper.tree) (top_
   pub leads_same : (path : List (List ℕ)) → names_entry before ud w path ≡ false
       → led grown.tree top path ≡ led upper.tree top path
   leads_same path e =
-      make_adds_path upper top ud c w new takes vacant bare path ∙ ap (λ b. cond b (Some c) (led upper.tree top path)) e
+      cc (make_adds_path upper top ud c w new takes vacant bare path, e)
 
   pub others_alike : (u : ℕ) → u ≢ c → IsAlike (upper.tree.node u) (grown.tree.node u)
   others_alike = (make_adds_inode upper top ud c w new takes.in_directory vacant).1

@@ -1,6 +1,6 @@
 -- That the tree of an overlay is what its layers show, as one equation for each path.
-use Rattle.std.proofs.Common.{arith, ◌≡◌, refl, sym, ap, ◌∙◌, true≢false, ℕ, zero, suc, true, false, List, Option, Some, None, is_some, option_map}
-use Rattle.vt_spec.proofs.Common.{Merge, Node, OpenLayer, Real, SameObject, Shown, Stack, Upper, common_steps, is_kind_in, is_opaque_in, layer_node, node_at_path, none_is_some, number_at_path, real_object, shown, then_some}
+use Rattle.std.proofs.Common.{arith, ◌≡◌, refl, sym, ℕ, zero, suc, true, false, List, Option, Some, None, is_some, option_map}
+use Rattle.vt_spec.proofs.Common.{Merge, Node, OpenLayer, Real, SameObject, Shown, Stack, Upper, common_steps, is_kind_in, is_opaque_in, layer_node, none_is_some, number_at_path, real_object, shown, then_some}
 use Rattle.vt_spec.specs.declared.attributes.Kind.TheVariants.{White}
 use Rattle.vt_laws_trees.specs.Layers.Layers.Shown.{IsShown}
 use Rattle.vt_laws_trees.specs.Overlays.WhatIsShown.{IsWhatIsShown, inode_behind, layers_under, real_seen}
@@ -18,7 +18,7 @@ real_by_none path (Some seen) e = none_is_some _ (sym e)
 
 -- nothing is not the same object as what is there
 pub object_is_not_none : (node : Option (Node ℕ)) → is_some node ≡ true → SameObject None node → ⊥
-object_is_not_none None t same = true≢false (sym t)
+object_is_not_none None t same = cc
 object_is_not_none (Some node) t same = same
 
 -- what is shown is there
@@ -79,9 +79,7 @@ module _ (stack : Stack ℕ) (merge : Merge ℕ) where
           (record { path = path; seen = record { layer = layer; object = object } }))
           ≡ layer_node layers (record { layer = layer; object = object })
       by zero object is = refl
-      by (suc layer) object is = ap (λ o. then_some o (λ lower. node_at_path lower path)) is.has_uncut.0.1
-          ∙ ap (λ o. then_some o is.has_uncut.0.0.tree.node) is.has_uncut.0.2
-          ∙ sym (ap (λ o. then_some o (λ lower. lower.tree.node object)) is.has_uncut.0.1)
+      by (suc layer) object is = cc (is.has_uncut.0.1, is.has_uncut.0.2)
 
   pub what_is_shown : IsFine → IsWhatIsShown stack merge
   what_is_shown is = grind (arith, common_steps, behind_shown, real_by_none)

@@ -1,6 +1,6 @@
 -- A name is taken away, with a whiteout or without one: the tree is still what the layers show.
 use Rattle.std.proofs.Common.{arith, ◌≡◌, ◌≢◌, refl, sym, ap, subst, ◌∙◌, true≢false, ne_eqb, ◌⊎◌, ⊎_elim, inl, inr, ℕ, suc, nat_eq, Bool, true, false, cond, List, [], ◌∷◌, ◌++◌, map, Option, Some, None, is_some, option_and_then, append-nil}
-use Rattle.vt_spec.proofs.Common.{FileTree, IsDirectory, IsTree, Lower, Make, Merge, Node, Real, Remove, Shown, Stack, Upper, View, changed, changed_node, common_steps, cuts, directory_no_whiteout, entries_in, entry_at, entry_named, hides, is_directory_node, is_kind_in, led, led-append, merge_without_name, name_left_by, node_led, node_with_parent, node_without_entries, node_without_entry, none_is_some, number_at_path, same_Some, shown_from, shown_in_lowers_at, shown_over, then_some, upper_directory_named, upper_object, upper_of, view_of, whiteout_of, without_contents, without_name}
+use Rattle.vt_spec.proofs.Common.{FileTree, IsDirectory, IsTree, Lower, Make, Merge, Node, Real, Remove, Shown, Stack, Upper, View, changed, changed_node, common_steps, cuts, directory_no_whiteout, entries_in, entry_at, entry_named, hides, is_directory_node, is_kind_in, led, led-append, merge_without_name, name_left_by, node_led, node_with_parent, node_without_entries, node_without_entry, none_is_some, number_at_path, same_Some, shown_from, shown_in_lowers_at, then_some, upper_directory_named, upper_object, upper_of, view_of, whiteout_of, without_contents, without_name}
 use Rattle.vt_spec.specs.declared.attributes.Kind.TheVariants.{White}
 use Rattle.vt_laws_trees.specs.Trees.{MayRemove}
 use Rattle.vt_laws_trees.specs.Layers.Layers.ChangesUpper.{StandsInUpper}
@@ -28,7 +28,7 @@ use Rattle.vt_laws_trees.proofs.layers.views.Walks.{entry_gone, goes_through_it}
 use Rattle.vt_laws_trees.proofs.overlays.steps.WholeAttributes.{top_open, upper_real}
 use Rattle.vt_laws_trees.proofs.overlays.steps.WholeMade.{below_name}
 use Rattle.vt_laws_trees.proofs.overlays.steps.WholeNames.{above_named, cut_shows_none, directory_stands, entry_named_so, is_fine, named_above, over_same, same_entry, same_holds, same_is, same_place, same_through, through_bare}
-use Rattle.vt_laws_trees.proofs.overlays.steps.WholeParts.{IsFine, real_by, what_is_shown}
+use Rattle.vt_laws_trees.proofs.overlays.steps.WholeParts.{IsFine, what_is_shown}
 use Rattle.vt_laws_trees.proofs.overlays.steps.WholePlaces.{shown_longer}
 use Rattle.vt_laws_trees.proofs.overlays.steps.WholeStill.{rearranged_is_fine}
 use Rattle.vt_laws_trees.proofs.overlays.steps.WholeLeft.{emptied_alike}
@@ -99,19 +99,14 @@ module _ {stack : Stack ℕ} {merge : Merge ℕ} (whole : IsWhole stack merge) {
 
     leads_old : (path : List (List ℕ)) → goes_through before ud w path ≡ false
         → led upper.tree stack.directory path ≡ led merge.upper.tree stack.directory path
-    leads_old path none = led_after path
-        ∙ ap (λ b. cond b x (cond (goes_through before ud w path) None (led merge.upper.tree stack.directory path)))
-        (names_not path none) ∙ ap (λ b. cond b None (led merge.upper.tree stack.directory path)) none
+    leads_old path none = cc (led_after path, names_not path none)
 
     leads_none : (path : List (List ℕ)) → goes_through before ud w path ≡ true → names_entry before ud w path ≡ false
         → led upper.tree stack.directory path ≡ None
-    leads_none path through other = led_after path ∙ ap (λ b. cond b x (cond (goes_through before ud w path) None
-        (led merge.upper.tree stack.directory path))) other
-        ∙ ap (λ b. cond b None (led merge.upper.tree stack.directory path)) through
+    leads_none path through other = cc (led_after path)
 
     leads_here : (path : List (List ℕ)) → names_entry before ud w path ≡ true → led upper.tree stack.directory path ≡ x
-    leads_here path e = led_after path ∙ ap (λ b. cond b x
-        (cond (goes_through before ud w path) None (led merge.upper.tree stack.directory path))) e
+    leads_here path e = cc (led_after path)
 
     is_there : (path : List (List ℕ)) (k : ℕ) → led merge.upper.tree stack.directory path ≡ Some k
         → is_some (merge.upper.tree.node k) ≡ true
@@ -120,8 +115,7 @@ module _ {stack : Stack ℕ} {merge : Merge ℕ} (whole : IsWhole stack merge) {
 
     hides_old : (front : List (List ℕ)) → goes_through before ud w front ≡ false
         → hides (node_led after front) ≡ hides (node_led before front)
-    hides_old front none = ap (λ o. hides (then_some o upper.tree.node)) (leads_old front none)
-        ∙ by (led merge.upper.tree stack.directory front) refl
+    hides_old front none = cc (leads_old front none, by (led merge.upper.tree stack.directory front) refl)
       where
         by : (o : Option ℕ) → led merge.upper.tree stack.directory front ≡ o
             → hides (then_some o upper.tree.node) ≡ hides (then_some o merge.upper.tree.node)
@@ -170,10 +164,10 @@ module _ {stack : Stack ℕ} {merge : Merge ℕ} (whole : IsWhole stack merge) {
 
             seen : (to rest : List (List ℕ)) → to ++ w ∷ rest ≡ path
                 → led merge.upper.tree stack.directory to ≡ Some ud → ⊥
-            seen to [] is l = none_is_some s (sym (here to [] is l) ∙ ap (shown_from 1 lowers) is ∙ e)
+            seen to [] is l = none_is_some s (cc (here to [] is l, e))
             seen to (next ∷ rest) is l =
                 let shows = shown_longer stack.lowers (λ k layer f. whole.layers (suc k) layer f) 1 rest
-                (to ++ w ∷ []) next s (ap (shown_from 1 lowers) (append_assoc to (w ∷ []) (next ∷ rest) ∙ is) ∙ e) in
+                (to ++ w ∷ []) next s (cc (append_assoc to (w ∷ []) (next ∷ rest), e)) in
                 none_is_some _ (sym (here to (next ∷ rest) is l) ∙ shows.is)
 
         plain : (x ≡ None) × (shown_in_lowers_at nat_eq stack merge d w ≡ None)
@@ -189,9 +183,7 @@ module _ {stack : Stack ℕ} {merge : Merge ℕ} (whole : IsWhole stack merge) {
 
             by : (b : Bool) → cuts after path ≡ b → shown_from 0 (after ∷ lowers) path ≡ None
             by true cut = cut_shows_none after lowers path leads cut
-            by false cut = ap (λ o. shown_over after 0 o (cuts after path) (shown_from 1 lowers path)) leads
-                ∙ ap (λ b. shown_over after 0 None b (shown_from 1 lowers path)) cut
-                ∙ lower_none p.1 cut (shown_from 1 lowers path) refl
+            by false cut = cc (leads, lower_none p.1 cut (shown_from 1 lowers path) refl)
 
         -- with one
         white : (c : ℕ) × (x ≡ Some c) × (is_kind_in White (upper.tree.node c) ≡ true)
@@ -204,8 +196,7 @@ module _ {stack : Stack ℕ} {merge : Merge ℕ} (whole : IsWhole stack merge) {
                 let found = prefix_found (names_entry before ud w) path through in
                 cut_shows_none after lowers path (leads_none path through e)
                 (prefix_passes (λ front. hides (node_led after front)) path found.0 found.1.0 found.1.1 found.1.2
-                (ap (λ o. hides (then_some o upper.tree.node)) (leads_here found.0 found.2 ∙ p.1)
-                ∙ white_hides (upper.tree.node p.0) p.2))
+                (cc (leads_here found.0 found.2, p.1, white_hides (upper.tree.node p.0) p.2)))
 
     number_after : (path : List (List ℕ)) (b : Bool) → names_entry before ud w path ≡ b
         → number_at_path files path ≡ cond b None (number_at_path merge.files path)
@@ -227,11 +218,9 @@ module _ {stack : Stack ℕ} {merge : Merge ℕ} (whole : IsWhole stack merge) {
 
         by : (b : Bool) → goes_through before ud w path ≡ b
             → then_some (number_at_path files path) merge.real ≡ real_seen stack later path
-        by true through = ap (λ o. then_some o merge.real) (none_there through (names_entry before ud w path) refl)
-            ∙ sym (ap (real_by path) (none_after path through))
+        by true through = cc (none_there through (names_entry before ud w path) refl, none_after path through)
         by false none =
-            ap (λ o. then_some o merge.real) (number_after path false (names_not path none)) ∙ fine_before.paths path
-            ∙ sym (ap (real_by path) (shown_old path none))
+            cc (number_after path false (names_not path none), fine_before.paths path, shown_old path none)
 
     pub later_is_fine : IsFine stack later
     later_is_fine = rearranged_is_fine stack merge fine_before files upper
@@ -266,14 +255,12 @@ module _ {stack : Stack ℕ} {merge : Merge ℕ} (whole : IsWhole stack merge) {
             (directory_no_whiteout (merge.upper.tree.node stack.directory) top_directory) in
             absurd (whole.tree.root_unnamed d w (may.named ∙ ap Some
             (fine_before.one object merge.files.tree.root (ap is_some r)
-            (r ∙ ap (λ n. Some (Upper n)) (sym (same_Some stack.directory uo l)) ∙ sym root.2
-            ∙ ap merge.real (sym (same_Some merge.files.tree.root root.0 root.1))))))
+            (cc (r, same_Some stack.directory uo l, root.2, same_Some merge.files.tree.root root.0 root.1)))))
         old (word ∷ rest) l =
             let last = last_of (word ∷ rest) (not_empty word rest) in
             subst (λ p. names_entry before ud w p ≡ true) last.2
             (at last.0 last.1 (led merge.upper.tree stack.directory last.0) refl
-            (sym (last_name merge.upper.tree stack.directory last.0 last.1)
-            ∙ ap (led merge.upper.tree stack.directory) last.2 ∙ l))
+            (cc (last_name merge.upper.tree stack.directory last.0 last.1, last.2)))
           where
             at : (front : List (List ℕ)) (name : List ℕ) (o : Option ℕ) → led merge.upper.tree stack.directory front ≡ o
                 → option_and_then (λ n. entry_at merge.upper.tree n name) o ≡ Some uo
@@ -283,17 +270,14 @@ module _ {stack : Stack ℕ} {merge : Merge ℕ} (whole : IsWhole stack merge) {
                 let same = sym (top_tree.one_parent parent name uo e uo_directory)
                 ∙ top_tree.one_parent ud w uo named_in_upper uo_directory in
                 let one = top_tree.one_name ud name w uo
-                (ap (λ n. entry_at merge.upper.tree n name) (sym same) ∙ e) named_in_upper uo_directory in
+                (cc (same)) named_in_upper uo_directory in
                 ap (λ n. names_entry before ud w (front ++ n ∷ [])) one
                 ∙ entry_named_so merge.upper stack.directory ud w front (f ∙ ap Some same)
 
         by : (a : Bool) → names_entry before ud w path ≡ a → (b : Bool) → goes_through before ud w path ≡ b → ⊥
         by true n b g = true≢false (sym there ∙ ap is_some (new uo (sym (led_first path ∙ ap (λ y.
             cond y x (cond (goes_through before ud w path) None (led merge.upper.tree stack.directory path))) n) ∙ e)))
-        by false n true g = none_is_some uo (sym (led_first path
-            ∙ ap (λ y. cond y x (cond (goes_through before ud w path) None
-            (led merge.upper.tree stack.directory path))) n
-            ∙ ap (λ y. cond y None (led merge.upper.tree stack.directory path)) g) ∙ e)
+        by false n true g = none_is_some uo (cc (led_first path, e))
         by false n false g = true≢false (sym (old path (sym (led_first path ∙ ap (λ y. cond y x
             (cond (goes_through before ud w path) None (led merge.upper.tree stack.directory path))) n
             ∙ ap (λ y. cond y None (led merge.upper.tree stack.directory path)) g) ∙ e)) ∙ n)
@@ -306,7 +290,7 @@ module _ {stack : Stack ℕ} {merge : Merge ℕ} (whole : IsWhole stack merge) {
     emptied_led None is path = refl
     emptied_led (Some uo) is path =
         led_where first.tree (without_contents nat_eq first (Some uo)).tree path stack.directory (λ to inode l word.
-        let differ = ne_eqb inode uo (λ same. unreached uo (is uo refl).0 (is uo refl).1 to (l ∙ ap Some same)) in
+        let differ = ne_eqb inode uo (λ same. unreached uo (is uo refl).0 (is uo refl).1 to (cc)) in
         ap (λ n. entry_named word (entries_in n))
         (kept_elsewhere (changed_node nat_eq first uo node_without_entries) uo (node_with_parent uo) inode differ
         ∙ kept_elsewhere first uo node_without_entries inode differ))
@@ -314,8 +298,7 @@ module _ {stack : Stack ℕ} {merge : Merge ℕ} (whole : IsWhole stack merge) {
   -- the upper directory that has the name is the object's
   is_own : (uo : ℕ) → upper_directory_named merge d w ≡ Some uo
       → (merge.real object ≡ Some (Upper uo)) × IsDirectory merge.files.tree object
-  is_own uo e = by (is_directory_node (merge.files.tree.node object)) refl (sym (ap (λ o. then_some o (λ k.
-      cond (is_directory_node (merge.files.tree.node k)) (upper_object (merge.real k)) None)) may.named) ∙ e)
+  is_own uo e = by (is_directory_node (merge.files.tree.node object)) refl (cc (may.named))
     where
       upper_is : (r : Option (Real ℕ)) → upper_object r ≡ Some uo → r ≡ Some (Upper uo)
       upper_is None e = none_is_some uo e
@@ -340,7 +323,7 @@ module _ {stack : Stack ℕ} {merge : Merge ℕ} (whole : IsWhole stack merge) {
       through n = at path n
         where
           at : (p : List (List ℕ)) → names_entry before ud w p ≡ true → goes_through before ud w p ≡ true
-          at [] n = absurd (true≢false (sym n))
+          at [] n = cc
           at (word ∷ rest) n = prefix_passes (names_entry before ud w) (word ∷ rest) (word ∷ rest) []
               (append-nil (word ∷ rest)) (not_empty word rest) n
 
@@ -377,7 +360,7 @@ module _ {stack : Stack ℕ} {merge : Merge ℕ} (whole : IsWhole stack merge) {
         (λ replaced names e. no_way_up merge.upper top_tree ud w replaced e names) path
 
     new_number : (k : ℕ) → Some c ≡ Some k → merge.upper.tree.node k ≡ None
-    new_number k e = ap merge.upper.tree.node (sym (same_Some c k e)) ∙ vacant
+    new_number k e = cc (same_Some c k e)
 
     pub white_is_fine : IsFine stack
         (record merge { files = files; upper = without_contents nat_eq whited (upper_directory_named merge d w) })
@@ -387,9 +370,9 @@ module _ {stack : Stack ℕ} {merge : Merge ℕ} (whole : IsWhole stack merge) {
         (whiteout_of stack.mounter) ud_directory vacant in
         later_is_fine (without_contents nat_eq whited o) (Some c)
         (λ path. emptied_led whited (Some c) new_number white_led o is_own path ∙ white_led path) (λ u there.
-        alike_both (merge.upper.tree.node u) (whited.tree.node u) _ (inodes.1 u (λ same. true≢false
-        (sym there ∙ ap (λ n. is_some (merge.upper.tree.node n)) same ∙ ap is_some vacant))) (emptied_alike whited o u))
-        (inr (c, refl, white_alike (whited.tree.node c) _ (emptied_alike whited o c) ∙ ap (is_kind_in White) inodes.0))
+        alike_both (merge.upper.tree.node u) (whited.tree.node u) _ (inodes.1 u (λ same. cc))
+        (emptied_alike whited o u))
+        (inr (c, refl, cc (white_alike (whited.tree.node c) _ (emptied_alike whited o c), inodes.0)))
 
 pub remove_keeps_shown : RemoveKeepsShown
 remove_keeps_shown fresh stack merge d w object whole stands vacant may =

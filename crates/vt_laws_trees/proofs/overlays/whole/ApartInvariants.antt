@@ -1,5 +1,5 @@
 -- The invariants of overlays and of trees after a change of an overlay.
-use Rattle.std.proofs.Common.{◌≡◌, ◌≢◌, refl, sym, ap, subst, ◌∙◌, true≢false, ◌⊎◌, ⊎_elim, inl, inr, ℕ, nat_eq, Bool, true, false, not, cond, ◌||◌, List, [], ◌∷◌, map, Option, Some, None, is_some}
+use Rattle.std.proofs.Common.{◌≡◌, ◌≢◌, refl, sym, ap, subst, ◌∙◌, true≢false, ◌⊎◌, ⊎_elim, inl, inr, ℕ, nat_eq, Bool, true, false, not, cond, List, [], ◌∷◌, map, Option, Some, None}
 use Rattle.vt_spec.proofs.Common.{All-weaker, Among, Change, Filesystem, Fresh, HasOwnParents, IsMerged, IsReached, IsTree, Layer, ListsNumbers, Location, Overlay, OverlayInvariants, World, all_from_among, among-append, among-from_map, among_from_all, among_from_list_all, and_from, and_true_left, and_true_right, any_pair, eqb_tells, filesystem_at, filesystem_numbered, has_fit_layers, is_directory_node, is_fit_filesystem, is_overlay, is_plain_layer, layers_of, list_all, list_all_from_among, list_any, merge_of, mount_at, none_is_some, of_overlay, overlay_or, replaced_if_numbered, same_Some, stack_of, upper_and_work, with_change}
 use Rattle.vt_laws_trees.specs.Trees.{IsFileTree}
 use Rattle.vt_laws_trees.specs.Trees.Sizes.{is_fit_tree}
@@ -23,15 +23,12 @@ pub pair_same : (r : Filesystem ℕ → Filesystem ℕ) (fs : List (Filesystem �
     → any_pair (λ (a b : Filesystem ℕ). nat_eq a.number b.number) (map r fs)
     ≡ any_pair (λ (a b : Filesystem ℕ). nat_eq a.number b.number) fs
 pair_same r [] same = refl
-pair_same r (f ∷ fs) same = ap (λ b. b || any_pair (λ (a b : Filesystem ℕ). nat_eq a.number b.number) (map r fs))
-    (any (r f).number f.number (same f) fs)
-    ∙ ap (λ b. list_any (λ (g : Filesystem ℕ). nat_eq f.number g.number) fs || b) (pair_same r fs same)
+pair_same r (f ∷ fs) same = cc (any (r f).number f.number (same f) fs, pair_same r fs same)
   where
     any : (a b : ℕ) → a ≡ b → (gs : List (Filesystem ℕ)) → list_any (λ (g : Filesystem ℕ). nat_eq a g.number) (map r gs)
         ≡ list_any (λ (g : Filesystem ℕ). nat_eq b g.number) gs
     any a b e [] = refl
-    any a b e (g ∷ gs) = ap (λ x. x || list_any (λ (h : Filesystem ℕ). nat_eq a h.number) (map r gs))
-        (ap (λ n. nat_eq n (r g).number) e ∙ ap (nat_eq b) (same g)) ∙ ap (λ x. nat_eq b g.number || x) (any a b e gs)
+    any a b e (g ∷ gs) = cc (same g, any a b e gs)
 
 module _ {fresh : Fresh ℕ} {world : World ℕ} {location : Location ℕ} {change : Change ℕ} {overlay : Overlay ℕ}
     {upper : Layer ℕ} (it : ChangesMerge fresh world location change overlay upper) where
@@ -74,7 +71,7 @@ module _ {fresh : Fresh ℕ} {world : World ℕ} {location : Location ℕ} {chan
           → (f ≡ changed) ⊎ ((f ≡ changed_upper) ⊎ Among f world.filesystems)
       again one same (old, o, e) = at old o (nat_eq changed.number old.number)
           (nat_eq changed_upper.number (replaced_if_numbered nat_eq changed old).number)
-          (same ∙ ap (replaced_if_numbered nat_eq changed_upper) e)
+          (cc)
 
       from : (one : Filesystem ℕ) × Among one (map (replaced_if_numbered nat_eq changed) world.filesystems)
           × (f ≡ replaced_if_numbered nat_eq changed_upper one)
@@ -91,12 +88,11 @@ module _ {fresh : Fresh ℕ} {world : World ℕ} {location : Location ℕ} {chan
       here : (nat_eq n number ≡ true) × (n ≡ number) → IsMerged nat_eq later (filesystem_numbered nat_eq later n) other
       here t = subst (λ k. IsMerged nat_eq later (filesystem_numbered nat_eq later k) other) (sym t.1)
           (changed_overlay_is_merged fresh world location change overlay other upper it.conditions it.is it.has
-          it.distinct it.none it.asked (ap (λ k. (filesystem_numbered nat_eq later k).overlay) (sym t.1) ∙ e))
+          it.distinct it.none it.asked (cc (t.1)))
 
       at_upper : n ≢ number → (nat_eq n upper.filesystem ≡ true) × (n ≡ upper.filesystem)
           → IsMerged nat_eq later (filesystem_numbered nat_eq later n) other
-      at_upper differ t = none_is_some other (sym upper_none ∙ sym (ap (λ f. f.overlay) upper_later)
-          ∙ ap (λ k. (filesystem_numbered nat_eq later k).overlay) (sym t.1) ∙ e)
+      at_upper differ t = none_is_some other (cc (upper_none, upper_later, t.1, e))
 
       elsewhere : n ≢ number → (nat_eq n upper.filesystem ≡ false) × (n ≢ upper.filesystem)
           → IsMerged nat_eq later (filesystem_numbered nat_eq later n) other
@@ -108,7 +104,7 @@ module _ {fresh : Fresh ℕ} {world : World ℕ} {location : Location ℕ} {chan
           it.none
           (WholeLater.spoken (stack_of nat_eq world overlay upper)
           (merge_of nat_eq world (filesystem_at nat_eq world location) overlay upper) change
-          (ApartLater.whole it).tree it.asked) differ (sym (ap (λ f. f.overlay) same) ∙ e)).1
+          (ApartLater.whole it).tree it.asked) differ (cc (e))).1
 
   -- layers are directories of plain trees
   still_plain : (layer : Layer ℕ)
@@ -117,14 +113,12 @@ module _ {fresh : Fresh ℕ} {world : World ℕ} {location : Location ℕ} {chan
       (no_overlay (eqb_tells layer.filesystem upper.filesystem)) (directory live)
     where
       was_plain : is_plain_layer nat_eq world layer ≡ true
-      was_plain = ⊎_elim (λ same. ap (is_plain_layer nat_eq world) same
-          ∙ ApartLater.upper_plain it) (λ other. ApartLater.other_plain it layer other) live
+      was_plain = ⊎_elim (λ same. cc (ApartLater.upper_plain it)) (λ other. ApartLater.other_plain it layer other) live
 
       no_overlay : ((nat_eq layer.filesystem upper.filesystem ≡ true) × (layer.filesystem ≡ upper.filesystem))
           ⊎ ((nat_eq layer.filesystem upper.filesystem ≡ false) × (layer.filesystem ≢ upper.filesystem))
           → not (is_overlay (filesystem_numbered nat_eq later layer.filesystem)) ≡ true
-      no_overlay (inl t) = ap (λ n. not (is_overlay (filesystem_numbered nat_eq later n))) t.1
-          ∙ ap (λ f. not (is_overlay f)) upper_later ∙ ap (λ o. not (is_some o)) upper_none
+      no_overlay (inl t) = cc (t.1, upper_later, upper_none)
       no_overlay (inr t) = ap (λ f. not (is_overlay f))
           (ApartLater.stays it layer.filesystem (ApartLater.plain_elsewhere it layer was_plain) t.1)
           ∙ and_true_left (not (is_overlay (filesystem_numbered nat_eq world layer.filesystem))) _ was_plain
@@ -191,8 +185,7 @@ module _ {fresh : Fresh ℕ} {world : World ℕ} {location : Location ℕ} {chan
 
       at_upper : n ≢ number → (nat_eq n upper.filesystem ≡ true) × (n ≡ upper.filesystem)
           → IsReached (filesystem_numbered nat_eq later u.filesystem).files.tree u.directory
-      at_upper differ t = none_is_some v (sym upper_none ∙ sym (ap (λ (x : Filesystem ℕ). x.overlay) upper_later)
-          ∙ ap (λ k. (filesystem_numbered nat_eq later k).overlay) (sym t.1) ∙ e)
+      at_upper differ t = none_is_some v (cc (upper_none, upper_later, t.1, e))
 
       elsewhere : n ≢ number → (nat_eq n upper.filesystem ≡ false) × (n ≢ upper.filesystem)
           → IsReached (filesystem_numbered nat_eq later u.filesystem).files.tree u.directory
@@ -213,13 +206,12 @@ module _ {fresh : Fresh ℕ} {world : World ℕ} {location : Location ℕ} {chan
       old : (f : Filesystem ℕ) → Among f world.filesystems → (o : Option (Overlay ℕ)) → f.overlay ≡ o
           → overlay_or true test o ≡ true
       old f m None e = refl
-      old f m (Some v) e = holds f.number v (ap (λ x. x.overlay)
-          (ApartLater.own_number it f m) ∙ e)
+      old f m (Some v) e = holds f.number v (cc (ApartLater.own_number it f m))
 
       by : (f : Filesystem ℕ) → (f ≡ changed) ⊎ ((f ≡ changed_upper) ⊎ Among f world.filesystems)
           → of_overlay true test f ≡ true
-      by f (inl same) = ap (of_overlay true test) same ∙ ignores overlay _ ∙ holds number overlay it.is
-      by f (inr (inl same)) = ap (of_overlay true test) same ∙ ap (overlay_or true test) upper_none
+      by f (inl same) = cc (ignores overlay _, holds number overlay it.is)
+      by f (inr (inl same)) = cc (upper_none)
       by f (inr (inr m)) = old f m f.overlay refl
 
   pub overlay_invariants : OverlayInvariants nat_eq later

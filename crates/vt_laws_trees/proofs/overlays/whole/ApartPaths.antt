@@ -1,5 +1,5 @@
 -- What lies under a directory of a tree is led to from it.
-use Rattle.std.proofs.Common.{◌≡◌, refl, sym, ap, subst, ◌∙◌, true≢false, eqb-true, ⊎_elim, ℕ, zero, suc, nat_eq, Bool, true, false, cond, ◌&&◌, List, [], ◌∷◌, ◌++◌, length, Option, Some, None}
+use Rattle.std.proofs.Common.{◌≡◌, refl, ap, subst, eqb-true, ⊎_elim, ℕ, zero, suc, nat_eq, Bool, true, false, cond, ◌&&◌, List, [], ◌∷◌, ◌++◌, length, Option, Some, None}
 use Rattle.vt_spec.proofs.Common.{FileTree, IsDirectory, IsTree, ListsNumbers, and_true_left, and_true_right, any_among, chain, entry_at, entry_from, has_entry_to, is_among, is_directory_node, is_directory_under, is_file_under, is_under, led, led-append, named_parent, none_is_some, or_cases, parent_in, same_Some, when}
 use Rattle.vt_laws_trees.proofs.layers.directories.Lower.{led_below}
 use Rattle.vt_laws_trees.proofs.layers.locked.Apart.{under_itself}
@@ -27,7 +27,7 @@ module _ (files : FileTree ℕ) (tree : IsTree files.tree) (top : ℕ) where
       by false false h e = none_is_some b e
 
   by_chain : (most d : ℕ) → is_among nat_eq top (chain most (named_parent nat_eq files.tree) d) ≡ true → Led d
-  by_chain zero d h = ⊎_elim (λ e. ([], ap Some (eqb-true top d e))) (λ e. absurd (true≢false (sym e)))
+  by_chain zero d h = ⊎_elim (λ e. ([], ap Some (eqb-true top d e))) (λ e. absurd cc)
       (or_cases (nat_eq top d) false h)
   by_chain (suc most) d h = by (named_parent nat_eq files.tree d) refl h (λ b g. by_chain most b g)
     where
@@ -35,7 +35,7 @@ module _ (files : FileTree ℕ) (tree : IsTree files.tree) (top : ℕ) where
           → is_among nat_eq top (elim o [ None ↦ d ∷ [] | Some b ↦ d ∷ chain most (named_parent nat_eq files.tree) b ])
           ≡ true
           → ((b : ℕ) → is_among nat_eq top (chain most (named_parent nat_eq files.tree) b) ≡ true → Led b) → Led d
-      by None e h rest = ⊎_elim (λ f. ([], ap Some (eqb-true top d f))) (λ f. absurd (true≢false (sym f)))
+      by None e h rest = ⊎_elim (λ f. ([], ap Some (eqb-true top d f))) (λ f. absurd cc)
           (or_cases (nat_eq top d) false h)
       by (Some b) e h rest = ⊎_elim (λ f. ([], ap Some (eqb-true top d f)))
           (λ f. let name = entry_from files.tree tree b d (parent_entry d b e) in led_on b name.0 d (rest b f) name.1)
@@ -59,5 +59,4 @@ module _ (files : FileTree ℕ) (tree : IsTree files.tree) (top : ℕ) where
   pub led_under : ListsNumbers nat_eq files → IsDirectory files.tree top → (object : ℕ) → Led object
       → is_under nat_eq files top object ≡ true
   led_under numbers is object way = led_below files tree numbers top top way.0 object
-      (sym (ap (λ b. cond b (is_directory_under nat_eq files top top) (is_file_under nat_eq files top top)) is)
-      ∙ under_itself files top is) is way.1
+      (cc (under_itself files top is)) is way.1

@@ -1,6 +1,6 @@
 -- Names go on to lead to the directories of other layers in a change of an overlay.
 use Rattle.std.proofs.Common.{◌≡◌, ◌≢◌, refl, sym, ap, subst, ◌∙◌, true≢false, ⊎_elim, ◌⊎◌, inl, inr, ℕ, ◌+◌, ◌*◌, nat_eq, Bool, true, false, List, [], ◌∷◌, ◌++◌, Option, Some, None, is_some}
-use Rattle.vt_spec.proofs.Common.{Change, FileTree, Filesystem, Fresh, HasName, HasOwnParents, IsDirectory, IsReached, IsTree, Layer, Location, Lower, Merge, Move, Overlay, Real, Stack, Tree, Upper, World, and_true_right, directory_used, entries_in, entry_at, entry_from, entry_to, filesystem_numbered, has_entry_to, is_directory_node, is_plain_layer, led, led-append, none_is_some, odds, parent_in, reached_named, same_Some, stack_of, upper_directory_named, upper_object, upper_of, without_contents}
+use Rattle.vt_spec.proofs.Common.{Change, FileTree, Filesystem, Fresh, HasName, HasOwnParents, IsDirectory, IsReached, IsTree, Layer, Location, Lower, Merge, Move, Overlay, Real, Stack, Upper, World, and_true_right, directory_used, entries_in, entry_at, entry_from, entry_to, filesystem_numbered, has_entry_to, is_directory_node, is_plain_layer, led, led-append, none_is_some, odds, parent_in, reached_named, same_Some, stack_of, upper_directory_named, upper_object, upper_of, without_contents}
 use Rattle.vt_laws_trees.proofs.trees.TreesOfWorlds.{numbered_all}
 use Rattle.vt_laws_trees.proofs.layers.locked.Apart.{object_counts}
 use Rattle.vt_laws_trees.proofs.layers.locked.Paths.{layer_tree}
@@ -30,10 +30,10 @@ stays_named before after was conditions own number directory same named =
     above = parent_in number (after.tree.node number)
 
     still : IsDirectory after.tree number
-    still = ap is_directory_node same ∙ directory
+    still = cc (directory)
 
     from : above ≡ named.0
-    from = ap (parent_in number) same ∙ was.one_parent named.0 named.1 number named.2 directory
+    from = cc (was.one_parent named.0 named.1 number named.2 directory)
 
     by : (b : Bool) → has_entry_to nat_eq after.tree above number ≡ b → IsReached after.tree number
     by true e =
@@ -90,12 +90,11 @@ module _ {fresh : Fresh ℕ} {world : World ℕ} {location : Location ℕ} {chan
         by (Some (Upper object)) r f =
             ApartLater.clash it layer other
             upper.filesystem inode there (object_counts world it.conditions number overlay it.is upper it.has inode
-            (n, r ∙ ap (λ o. Some (Upper o)) (same_Some object inode f))) lies
+            (n, cc (same_Some object inode f))) lies
         by (Some (Lower depth path)) r f = none_is_some inode f
 
     new : (k : ℕ) → inode ≢ fresh k
-    new k e = true≢false (sym there ∙ ap (λ n. is_some (before.upper.tree.node n)) e
-        ∙ ap is_some (it.none upper.filesystem k))
+    new k e = cc (it.none upper.filesystem k)
 
     -- Where a move puts what it moves
     module _ (f : ℕ) (old : List ℕ) (t : ℕ) (to : List ℕ) (o : ℕ) (moves : Move f old t to o ≡ change) where
@@ -145,7 +144,7 @@ module _ {fresh : Fresh ℕ} {world : World ℕ} {location : Location ℕ} {chan
           (entries_in ((without_contents nat_eq m.upper (upper_directory_named m t to)).tree.node
           (upper_of m t))) ≢ Some inode
       spared m copied e =
-          ⊎_elim (λ entry. not_there (ap (λ (x : Merge ℕ). entry_at x.upper.tree (upper_of x t) to) copied ∙ entry))
+          ⊎_elim (λ entry. not_there (cc))
           (λ nothing. nothing) (told_emptied (λ y. ⊥) m.upper (upper_directory_named m t to) (upper_of m t) to inode e)
 
     -- so nothing of its inode changes

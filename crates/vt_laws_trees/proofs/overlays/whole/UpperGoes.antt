@@ -1,7 +1,7 @@
 -- A plain tree after a change that its call's rules let pass: it is a tree, and the directory of a layer in it is still
 -- reached.
-use Rattle.std.proofs.Common.{arith, ◌≡◌, ◌≢◌, refl, sym, ap, subst, ◌∙◌, true≢false, ℕ, nat_eq, false, List, [], ⊎_elim, inl, inr, Option, Some, is_some}
-use Rattle.vt_spec.proofs.Common.{AddName, Change, CopyUp, Directory, FileTree, HasName, HasOwnParents, IsDirectory, IsReached, IsTree, ListsNumbers, Make, Move, Node, Remove, SetAttr, SetBytes, SetMark, Tree, changed, changed_node, common_steps, directory_used, entries-node_without_entries, entries_in, entry_at, entry_named, eqb_tells, is_directory_node, is_sorted, name_cmp, node_with_attr, node_with_bytes, node_with_mark, node_without_entries, none_is_some, parent_in, reached_named, root-without_parent, ⊤}
+use Rattle.std.proofs.Common.{arith, ◌≡◌, ◌≢◌, refl, sym, ap, subst, ◌∙◌, ℕ, nat_eq, false, List, [], ⊎_elim, inl, inr, Option, Some, is_some}
+use Rattle.vt_spec.proofs.Common.{AddName, Change, CopyUp, FileTree, HasName, HasOwnParents, IsDirectory, IsReached, IsTree, ListsNumbers, Make, Move, Node, Remove, SetAttr, SetBytes, SetMark, Tree, changed, changed_node, common_steps, directory_used, entries-node_without_entries, entries_in, entry_at, eqb_tells, is_directory_node, node_with_attr, node_with_bytes, node_with_mark, node_without_entries, none_is_some, parent_in, reached_named, root-without_parent, ⊤}
 use Rattle.vt_spec.proofs.Trees.{directory_kept, entry_kept, used_differs}
 use Rattle.vt_laws_trees.specs.Trees.{IsProper, MayMake}
 use Rattle.vt_laws_trees.proofs.trees.ChangesKeepTrees.{bytes_keep_place, changes_keep_numbers, changes_keep_own_parents, changes_keep_trees, made_alike, numbers_stay}
@@ -40,7 +40,7 @@ pub stays_reached : (before after : Tree ℕ) (number : ℕ) → IsTree after �
     → IsReached before number → ((d : ℕ) (w : List ℕ) → entry_at before d w ≡ Some number → HasName after number)
     → IsReached after number
 stays_reached before after number conditions root is reached named =
-    ⊎_elim (λ same. ([], ap Some (root ∙ same))) (λ has. conditions.reached number is (named has.0 has.1 has.2))
+    ⊎_elim (λ same. ([], ap Some (cc))) (λ has. conditions.reached number is (named has.0 has.1 has.2))
     (reached_named before number reached)
 
 -- in a tree whose names are rearranged, what does not leave its name
@@ -154,8 +154,7 @@ module _ (files : FileTree ℕ) (r : ℕ) (conditions : IsTree files.tree)
   parent_same own o = grind (arith, common_steps)
 
   pub bare_there : entries_in (bare.tree.node r) ≡ []
-  bare_there = ap entries_in (changed_node_there files r node_without_entries)
-      ∙ entries-node_without_entries (files.tree.node r)
+  bare_there = cc (changed_node_there files r node_without_entries, entries-node_without_entries (files.tree.node r))
 
   pub bare_elsewhere : (d : ℕ) → d ≢ r → bare.tree.node d ≡ files.tree.node d
   bare_elsewhere d differ = elsewhere files r node_without_entries d differ
@@ -164,12 +163,12 @@ module _ (files : FileTree ℕ) (r : ℕ) (conditions : IsTree files.tree)
   pub bare_told : (d : ℕ) (n : List ℕ) (k : ℕ) → entry_at bare.tree d n ≡ Some k
       → (d ≢ r) × (entry_at files.tree d n ≡ Some k)
   bare_told d n k e = ⊎_elim
-      (λ t. none_is_some k (sym (ap (λ m. entry_at bare.tree m n) t.1 ∙ ap (entry_named n) bare_there) ∙ e))
-      (λ t. (t.1, sym (ap (λ o. entry_named n (entries_in o)) (bare_elsewhere d t.1)) ∙ e)) (eqb_tells d r)
+      (λ t. none_is_some k (cc (t.1, bare_there)))
+      (λ t. (t.1, cc (bare_elsewhere d t.1))) (eqb_tells d r)
 
   pub bare_kept : (d : ℕ) (n : List ℕ) (k : ℕ) → d ≢ r → entry_at files.tree d n ≡ Some k
       → entry_at bare.tree d n ≡ Some k
-  bare_kept d n k differ e = ap (λ o. entry_named n (entries_in o)) (bare_elsewhere d differ) ∙ e
+  bare_kept d n k differ e = cc (bare_elsewhere d differ)
 
   pub bare_kind : (k : ℕ) → is_directory_node (bare.tree.node k) ≡ is_directory_node (files.tree.node k)
   bare_kind k = part_stays files r node_without_entries is_directory_node without_entries_keeps.directory k
@@ -181,12 +180,12 @@ module _ (files : FileTree ℕ) (r : ℕ) (conditions : IsTree files.tree)
   bare_rearranged = record {
     directories = bare_kind;
     in_order = λ d. ⊎_elim
-        (λ t. ap (λ m. is_sorted name_cmp (entries_in (bare.tree.node m))) t.1 ∙ ap (is_sorted name_cmp) bare_there)
-        (λ t. ap (λ o. is_sorted name_cmp (entries_in o)) (bare_elsewhere d t.1) ∙ conditions.in_order d)
+        (λ t. cc (t.1, bare_there))
+        (λ t. cc (bare_elsewhere d t.1, conditions.in_order d))
         (eqb_tells d r);
     alive = λ d n k e. bare_used k ∙ conditions.alive d n k (bare_told d n k e).1;
     kept = λ d n k e is. ⊎_elim
-        (λ t. absurd (true≢false (sym is ∙ leaves n k (ap (λ m. entry_at files.tree m n) (sym t.1) ∙ e))))
+        (λ t. absurd (cc (leaves n k (ap (λ m. entry_at files.tree m n) (sym t.1) ∙ e))))
         (λ t. inr (bare_kept d n k t.1 e)) (eqb_tells d r);
     told = λ d n k e is. inr ((bare_told d n k e).1, λ nobody. nobody);
     decided = λ k. inr (λ nobody. nobody);
@@ -198,8 +197,8 @@ module _ (files : FileTree ℕ) (r : ℕ) (conditions : IsTree files.tree)
     stays_parent = λ k is stays. part_stays files r node_without_entries (parent_in k) (parent_same k) k;
     leaves_how = λ k is nobody. absurd nobody;
     root_stays = λ nobody. nobody;
-    fills = λ k empty. ⊎_elim (λ t. inl (ap (λ m. entries_in (bare.tree.node m)) t.1 ∙ bare_there))
-        (λ t. inl (ap entries_in (bare_elsewhere k t.1) ∙ empty)) (eqb_tells k r);
+    fills = λ k empty. ⊎_elim (λ t. inl (cc (t.1, bare_there)))
+        (λ t. inl (cc (bare_elsewhere k t.1))) (eqb_tells k r);
   }
 
   pub bare_tree : IsTree bare.tree

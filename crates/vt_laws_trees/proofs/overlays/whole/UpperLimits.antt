@@ -1,5 +1,5 @@
 -- Names, texts and files of the upper layer stay within their limits in each change of an overlay.
-use Rattle.std.proofs.Common.{◌≡◌, sym, ap, subst, ◌∙◌, ℕ, nat_eq, true, List, None, is_some}
+use Rattle.std.proofs.Common.{◌≡◌, sym, subst, ℕ, nat_eq, true, List, None, is_some}
 use Rattle.vt_spec.proofs.Common.{AddName, Change, CopyUp, Fresh, Make, Merge, Move, Node, Remove, SetAttr, SetBytes, SetMark, Stack, changed, content_with_parent, copied_up, directory_used, hides_directory, merge_changed, merge_with_moved, merge_with_new, merge_without_name, name_left_by, odds, odds-distinct, shown_in_lowers_at, upper_directory_named, upper_of, with_inode, with_moved, without_contents}
 use Rattle.vt_laws_trees.specs.Trees.Sizes.{IsFitChange, is_fit_name, is_fit_node, is_fit_tree}
 use Rattle.vt_laws_trees.proofs.trees.ChangesOfSizes.{changes_keep_sizes, inode_fits}
@@ -67,7 +67,7 @@ module _ (fresh : Fresh ℕ) (stack : Stack ℕ) (merge : Merge ℕ) (whole : Is
       (still_unused fresh whole distinct unused object may.is_there) there in
       let two = copied_up nat_eq (odds fresh) one d in
       name_sized two.upper (upper_of two d) w (upper_of two object) fit
-      (second.copied.sizes (ap is_fit_tree first.files ∙ f) (first.sizes f h))
+      (second.copied.sizes (cc (first.files)) (first.sizes f h))
   upper_sized (Remove d w object) may fit =
       let there = directory_used merge.files.tree d (has_entries merge.files.tree d w object may.named) in
       removed_sized (odds fresh) stack (copied fresh whole distinct unused d there)
@@ -91,7 +91,6 @@ module _ (fresh : Fresh ℕ) (stack : Stack ℕ) (merge : Merge ℕ) (whole : Is
 
 pub sizes_stay : SizesStay
 sizes_stay fresh stack merge change whole new asked fit f h = (
-  ap is_fit_tree (sym (files_changed fresh stack merge whole new change asked))
-      ∙ changes_keep_sizes merge.files change f fit,
+  cc (files_changed fresh stack merge whole new change asked, changes_keep_sizes merge.files change f fit),
   upper_sized fresh stack merge whole new f h change asked fit,
 )

@@ -1,5 +1,5 @@
 -- A new name in the upper layer: its tree goes on to be one.
-use Rattle.std.proofs.Common.{arith, ◌≡◌, ◌≢◌, refl, sym, ap, subst, ◌∙◌, true≢false, ℕ, nat_eq, Bool, true, false, List, [], ◌∷◌, ◌++◌, Some, None, is_some, option_and_then}
+use Rattle.std.proofs.Common.{arith, ◌≡◌, ◌≢◌, refl, sym, subst, ◌∙◌, true≢false, ℕ, nat_eq, Bool, true, false, List, [], ◌∷◌, ◌++◌, Some, None}
 use Rattle.vt_spec.proofs.Common.{AddName, FileTree, Fresh, IsDirectory, IsNewIn, IsReached, Make, Merge, Node, SetMark, Stack, Upper, changed, common_steps, content_with_parent, directory_no_whiteout, directory_used, entry_at, hides_directory, is_directory_node, is_kind_in, led, led-append, merge_with_link, merge_with_new, none_from_not_some, none_is_some, number_at_path, upper_of, with_mark}
 use Rattle.vt_spec.specs.declared.attributes.Kind.TheVariants.{White}
 use Rattle.vt_laws_trees.specs.Trees.{MayAddName, MayMake}
@@ -33,8 +33,7 @@ module _ {stack : Stack ℕ} {merge : Merge ℕ} (whole : IsWhole stack merge) (
       let found = above_named stack merge whole (way ++ w ∷ []) k
       (led-append merge.upper.tree stack.directory way w ud k up_there e) white in (
         found.0,
-        sym (last_name merge.files.tree merge.files.tree.root way w
-            ∙ ap (option_and_then (λ x. entry_at merge.files.tree x w)) there) ∙ found.1,
+        cc (last_name merge.files.tree merge.files.tree.root way w, found.1),
         found.2,
       )
 
@@ -68,7 +67,7 @@ make_over top files d w c node good is reached plain vacant fits =
         reached = freed_reached top files good d w plain d is reached;
         free = freed_free top files good d w plain;
       };
-      number_is_new = none_from_not_some (free.tree.node c) (freed_used top files good d w plain c ∙ ap is_some vacant);
+      number_is_new = none_from_not_some (free.tree.node c) (cc (freed_used top files good d w plain c));
       fits = fits;
     }) tt))
   where
@@ -79,8 +78,7 @@ make_over top files d w c node good is reached plain vacant fits =
     first = freed_goes top files good d w plain
 
     differ : d ≢ c
-    differ same = true≢false (sym (directory_used files.tree d is) ∙ ap (λ n. is_some (files.tree.node n)) same
-        ∙ ap is_some vacant)
+    differ same = cc (directory_used files.tree d is, vacant)
 
 -- a mark
 pub mark_goes : (top : ℕ) (files : FileTree ℕ) (b : Bool) (object : ℕ) → IsGood top files

@@ -20,12 +20,10 @@ with_over_without w k es h = same_entries name_cmp nat_list_cmp_total same_name-
     by : (q : List ℕ) (b : Bool) → eq_by_cmp name_cmp q w ≡ b
         → cond b (Some k) (entry_named q (without_entry w es)) ≡ cond b (Some k) (entry_named q es)
     by q true e = refl
-    by q false e = entry_named-without_entry q w es
-        ∙ ap (λ b. cond (not b) (entry_named q es) None) (other (bytes_eq q w) refl)
+    by q false e = cc (entry_named-without_entry q w es, other (bytes_eq q w) refl)
       where
         other : (b : Bool) → bytes_eq q w ≡ b → bytes_eq q w ≡ false
-        other true f = absurd (true≢false (sym (ap (λ x. eq_by_cmp name_cmp x w) ((bytes_decides q w).0 f)
-            ∙ ap is_eq (tied_itself nat_list_cmp_total w)) ∙ e))
+        other true f = cc ((bytes_decides q w).0 f, tied_itself nat_list_cmp_total w)
         other false f = f
 
 -- a name that is not there is not taken away
@@ -36,7 +34,7 @@ without_none w es h none =
     (λ q. entry_named-without_entry q w es ∙ by q (bytes_eq q w) refl)
   where
     by : (q : List ℕ) (b : Bool) → bytes_eq q w ≡ b → cond (not b) (entry_named q es) None ≡ entry_named q es
-    by q true e = sym (ap (λ x. entry_named x es) ((bytes_decides q w).0 e) ∙ none)
+    by q true e = sym (cc ((bytes_decides q w).0 e))
     by q false e = refl
 
 -- of inodes
@@ -58,8 +56,7 @@ same_tree one other root numbers nodes =
 pub unchanged_node : (files : FileTree ℕ) (number : ℕ) (change : Option (Node ℕ) → Option (Node ℕ))
     → change (files.tree.node number) ≡ files.tree.node number → changed_node nat_eq files number change ≡ files
 unchanged_node files number change same = same_tree (changed_node nat_eq files number change) files refl refl
-    (λ k. ⊎_elim (λ t. ap (λ b. cond b (change (files.tree.node number)) (files.tree.node k)) t.0 ∙ same
-    ∙ ap files.tree.node (sym t.1)) (λ t. ap (λ b. cond b (change (files.tree.node number)) (files.tree.node k)) t.0)
+    (λ k. ⊎_elim (λ t. cc (t.0, t.1)) (λ t. ap (λ b. cond b (change (files.tree.node number)) (files.tree.node k)) t.0)
     (eqb_tells k number))
 
 -- A name given is the name given in exchange
@@ -94,7 +91,7 @@ module _ (files : FileTree ℕ) (d : ℕ) (w : List ℕ)
           (cond b (Some node) (files.tree.node j))
       by j true e b f = grind (arith, common_steps, at_d, there, node_with_over_without, in_order)
       by j false e true f = refl
-      by j false e false f = elsewhere j (λ same. true≢false (sym (eq-eqb j d same) ∙ e))
+      by j false e false f = elsewhere j (λ same. cc (eq-eqb j d same))
 
 -- a name that is taken away is free
 pub without_name_free : (files : FileTree ℕ) (d : ℕ) (w : List ℕ)
@@ -150,7 +147,7 @@ module _ (top : ℕ) (files : FileTree ℕ) (good : IsGood top files) (d : ℕ) 
       by None e = subst (Goes top files) (sym (as_before e)) (goes_none top files good)
       by (Some r) e = subst (Goes top files) (as_removed r e) (goes_by top files (Remove d w r) good
           (record { named = e; empty = entries_in-no_directory (files.tree.node r) (plain r e) })
-          (λ same. true≢false (sym good.directory ∙ ap (λ n. is_directory_node (files.tree.node n)) same ∙ plain r e)))
+          (λ same. cc (good.directory, plain r e)))
 
   -- directories are still reached
   pub freed_reached : (number : ℕ) → IsDirectory files.tree number → IsReached files.tree number
@@ -162,8 +159,7 @@ module _ (top : ℕ) (files : FileTree ℕ) (good : IsGood top files) (d : ℕ) 
       by (Some r) e = subst (λ f. IsReached f.tree number) (as_removed r e)
           ((change_reaches files (Remove d w r) good.tree
           (record { named = e; empty = entries_in-no_directory (files.tree.node r) (plain r e) }) number
-          (λ same. true≢false (sym is ∙ ap (λ n. is_directory_node (files.tree.node n)) same
-          ∙ plain r e)) is reached).1)
+          (λ same. cc (plain r e)) is reached).1)
 
   pub freed_free : entry_at freed.tree d w ≡ None
   freed_free = without_name_free files d w

@@ -1,5 +1,5 @@
 -- A name is taken away in the upper layer, or exchanged: its tree goes on to be one.
-use Rattle.std.proofs.Common.{arith, ◌≡◌, ◌≢◌, refl, sym, ap, subst, ◌∙◌, true≢false, inr, ℕ, nat_eq, Bool, true, false, List, [], ◌∷◌, ◌++◌, Option, Some, None, is_some}
+use Rattle.std.proofs.Common.{arith, ◌≡◌, ◌≢◌, refl, sym, ap, subst, ◌∙◌, inr, ℕ, nat_eq, Bool, true, false, List, [], ◌∷◌, ◌++◌, Option, Some, None, is_some}
 use Rattle.vt_spec.proofs.Common.{FileTree, Fresh, IsDirectory, IsReached, Make, Merge, Node, Remove, Stack, Upper, changed, changed_node, common_steps, directory_no_whiteout, directory_used, entries_in, entry_at, entry_named, is_directory_node, led-append, merge_without_name, name_left_by, node_with_entry, node_with_parent, node_without_entries, node_without_entry, none_from_not_some, none_is_some, number_at_path, same_Some, shown_in_lowers_at, upper_directory_named, upper_of, whiteout_of, with_inode, with_name, without_contents, without_name, without_parent}
 use Rattle.vt_laws_trees.specs.Trees.{MayRemove}
 use Rattle.vt_laws_trees.specs.Layers.Layers.ChangesUpper.{StandsInUpper}
@@ -120,12 +120,10 @@ module _ {top : ℕ} {files : FileTree ℕ} (good : IsGood top files) {d : ℕ} 
   module _ (c : ℕ) (vacant : files.tree.node c ≡ None) (white : Node ℕ)
       (fits : Rattle.vt_spec.specs.Laws.Trees.IsNewIn d white) where
     d_differs : d ≢ c
-    d_differs same = true≢false (sym (directory_used files.tree d is) ∙ ap (λ n. is_some (files.tree.node n)) same
-        ∙ ap is_some vacant)
+    d_differs same = cc (directory_used files.tree d is)
 
     r_differs : c ≢ r
-    r_differs same = true≢false (sym (good.tree.alive d w r named) ∙ ap (λ n. is_some (files.tree.node n)) (sym same)
-        ∙ ap is_some vacant)
+    r_differs same = cc (good.tree.alive d w r named)
 
     d_gone : IsDirectory gone.tree d × IsReached gone.tree d
     d_gone = change_reaches emptied_first (Remove d w r) first.good.tree may d apart
@@ -196,7 +194,7 @@ removed_goes fresh stack merge d w object whole stands vacant may =
         ∙ has_entries merge.files.tree d w object may.named
 
     empty : (n : ℕ) → entry_at merge.files.tree d w ≡ Some n → entries_in (merge.files.tree.node n) ≡ []
-    empty n e = ap (λ k. entries_in (merge.files.tree.node k)) (same_Some n object (sym e ∙ may.named)) ∙ may.empty
+    empty n e = cc (same_Some n object (sym e ∙ may.named), may.empty)
 
     by : (o : Option ℕ) → upper_directory_named merge d w ≡ o → (b : Bool) → Goes stack.directory merge.upper
         (without_contents nat_eq (name_left_by nat_eq b fresh stack merge.upper (upper_of merge d) w) o)

@@ -1,5 +1,5 @@
 -- Names, texts and files of a plain tree stay within their limits in each part of a change.
-use Rattle.std.proofs.Common.{arith, ◌≡◌, refl, ap, ◌∙◌, ℕ, nat_eq, Bool, true, false, cond, ◌&&◌, List, [], ◌∷◌, map, Option, Some, None, is_some}
+use Rattle.std.proofs.Common.{arith, ◌≡◌, refl, ◌∙◌, ℕ, nat_eq, Bool, true, false, cond, ◌&&◌, List, [], ◌∷◌, map, Option, Some, None, is_some}
 use Rattle.vt_spec.proofs.Common.{AddName, Entries, FileTree, Fresh, ListsNumbers, Move, Node, SetMark, Stack, among_from_list_all, among_numbers, and_true_left, and_true_right, changed_node, common_steps, content_with_parent, copied_content, directory_used, entries_in, entry_at, entry_named, eq_by_cmp, has_fit_names, has_fit_text, is_no_larger, list_all, name_cmp, name_left_by, node_with_parent, node_without_entries, node_without_entry, none_is_some, whiteout_of, with_inode, with_mark, with_moved, with_name, without_contents, without_name}
 use Rattle.vt_spec.proofs.Nodes.{same_name}
 use Rattle.vt_laws_trees.specs.Trees.Sizes.{is_fit_name, is_fit_node, is_fit_tree}
@@ -33,7 +33,7 @@ name_fits files numbers h d w object e = by (entries_in (files.tree.node d))
       where
         at : (b : Bool) → eq_by_cmp name_cmp w entry.0 ≡ b → cond b (Some entry.1) (entry_named w entries) ≡ Some object
             → (entry_named w entries ≡ Some object → is_fit_name w ≡ true) → is_fit_name w ≡ true
-        at true f g rest = ap is_fit_name (same_name w entry.0 f) ∙ and_true_left (is_fit_name entry.0) _ k
+        at true f g rest = cc (same_name w entry.0 f, and_true_left (is_fit_name entry.0) _ k)
         at false f g rest = rest g
 
 -- the parts of a change

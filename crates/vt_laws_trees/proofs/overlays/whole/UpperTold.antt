@@ -1,5 +1,5 @@
 -- Where the names of a plain tree lead after each part of a change.
-use Rattle.std.proofs.Common.{arith, ◌≡◌, refl, sym, ap, ◌∙◌, ⊎_elim, inl, inr, ◌⊎◌, ℕ, nat_eq, Bool, true, false, List, [], Option, Some, None}
+use Rattle.std.proofs.Common.{arith, ◌≡◌, refl, ⊎_elim, inl, inr, ◌⊎◌, ℕ, nat_eq, Bool, true, false, List, [], Option, Some, None}
 use Rattle.vt_spec.proofs.Common.{FileTree, Fresh, Node, Stack, changed_node, common_steps, entries-node_with_mark, entries-node_with_parent, entries-node_without_entries, entries_in, entries_in-no_directory, entries_of, entry_at, entry_named, eqb_tells, is_directory-node_with_entry, name_left_by, node_other, node_set, node_with_mark, node_with_parent, node_without_entries, none_is_some, whiteout_of, with_inode, with_mark, with_moved, with_name, without_contents, without_name, without_parent}
 use Rattle.vt_laws_trees.proofs.trees.ChangesNames.{given_told, untaken_told}
 use Rattle.vt_laws_trees.proofs.trees.ChangesNodes.{changed_node_there, elsewhere}
@@ -26,7 +26,7 @@ pub told_stay : (P : ℕ → Type 0) (files : FileTree ℕ) (number : ℕ) (chan
     → ((o : Option (Node ℕ)) → entries_in (change o) ≡ entries_in o)
     → Told P files (changed_node nat_eq files number change)
 told_stay P files number change same d w y e =
-    inl (sym (ap (entry_named w) (entries_stay files number change same d)) ∙ e)
+    inl (cc (entries_stay files number change same d))
 
 -- a name that is given
 pub told_name : (P : ℕ → Type 0) (files : FileTree ℕ) (d : ℕ) (w : List ℕ) (k : ℕ) → P k

@@ -1,5 +1,5 @@
 -- Each call is answered alike in two worlds that are alike, where what is copied up is.
-use Rattle.std.proofs.Common.{◌≡◌, refl, sym, ap, subst, ◌∙◌, ℕ, nat_eq, Bool, true, false, not, ◌||◌, List, Option, Some, None, Ok, Err, is_ok, ok_or}
+use Rattle.std.proofs.Common.{◌≡◌, refl, sym, subst, ◌∙◌, ℕ, nat_eq, Bool, true, false, not, ◌||◌, List, Option, Some, None, Ok, Err, is_ok, ok_or}
 use Rattle.vt_spec.proofs.Common.{Call, Fresh, Judgement, LowerObjectsHaveOneName, Outcome, Permit, Task, TaskName, ToMountOverlay, World, after, apply, denial, filesystems_changed_by, finished, finished_by, judge_in, looks_of, only_looks, policy, task_called}
 use Rattle.vt_laws_rules.proofs.denials.Unchanged.{directive_changes_nothing}
 use Rattle.vt_laws_rules.proofs.given.GivenPermits.{permits_are_for_their_calls}
@@ -82,7 +82,7 @@ module _ (fresh : Fresh ℕ) (world : World ℕ) (plain : IsPlain world) (name :
     (other : mounts_overlay call ≡ false) where
   no_overlay : (task : Task ℕ) (permit : Permit ℕ) → IsFor (looks_of nat_eq world) task call permit
       → is_for_overlay permit ≡ false
-  no_overlay task (ToMountOverlay place overlay flags) for = sym (ap mounts_overlay for.2) ∙ other
+  no_overlay task (ToMountOverlay place overlay flags) for = cc (for.2)
   no_overlay task permit for = refl
 
   judged_plain : (task : Task ℕ) (judgement : Judgement ℕ) → judge_in nat_eq fresh world task call ≡ judgement

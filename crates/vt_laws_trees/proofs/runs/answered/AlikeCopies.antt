@@ -1,6 +1,6 @@
 -- A change of an overlay, with the copies that it needs, in two overlays that are the same but for the order of the
 -- numbers beside trees.
-use Rattle.std.proofs.Common.{arith, ◌≡◌, refl, sym, ap, subst, ◌∙◌, ◌⊎◌, ⊎_elim, true≢false, ℕ, nat_eq, ◌+◌, Bool, true, false, cond, List, [], ◌∷◌, ◌++◌, reverse, Option, Some, None, is_some, unwrap_or}
+use Rattle.std.proofs.Common.{arith, ◌≡◌, refl, sym, ap, subst, ◌∙◌, ◌⊎◌, ⊎_elim, ℕ, nat_eq, ◌+◌, Bool, true, false, cond, List, [], ◌∷◌, ◌++◌, reverse, Option, Some, None, is_some, unwrap_or}
 use Rattle.vt_spec.proofs.Common.{AddName, Change, CopyUp, FileTree, Fresh, IsPermutation-cons, Make, Merge, Move, Node, Remove, SameFiles, SetAttr, SetBytes, SetMark, Stack, Upper, a_name, changed_both, common_steps, content_with_parent, copied_content, copied_each, copied_up, copy_named, copy_of, copy_of_node, copy_parent, entries_in, entry_named, evens, hides_directory, is_directory_node, is_directory_shown, is_in_upper, line_by, line_to, merge_changed, merge_with_link, merge_with_moved, merge_with_new, merge_without_name, name_left, name_left_by, node_with_attr, node_with_bytes, node_with_entry, node_with_mark, node_without_entry, odds, shown_in_lowers_at, then_some, upper_directory_named, upper_object, upper_of, with_inode, with_mark, with_moved, with_name, with_real, without_contents, ⊤}
 use Rattle.vt_laws_rules.proofs.same.SameFiles.{ancestors_same, path_same}
 use Rattle.vt_laws_trees.proofs.runs.answered.AlikeFiles.{changed_alike, node_changed}
@@ -123,7 +123,7 @@ copy_alike one other same lines object copy node again alike =
     by None b is = same
     by (Some node) true is = same
     by (Some node) false is = ⊎_elim (λ named. node_alike one other same object copy named node)
-        (λ all. absurd (true≢false (sym (line_ends one.files one object (a_name nat_eq one.files object) all.0) ∙ is)))
+        (λ all. absurd (cc (line_ends one.files one object (a_name nat_eq one.files object) all.0)))
         (lines object)
 
 lines_after_copy : (one other : Merge ℕ) → LinesAlike one other → (object copy : ℕ) (seen again : Option (Node ℕ))

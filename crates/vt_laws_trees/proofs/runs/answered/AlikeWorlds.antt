@@ -1,5 +1,5 @@
 -- Worlds that are the same but for change numbers and the order of numbers beside trees, list by list.
-use Rattle.std.proofs.Common.{arith, ◌≡◌, refl, sym, ap, subst, ◌∙◌, ℕ, false, List, [], ◌∷◌, is_some}
+use Rattle.std.proofs.Common.{arith, ◌≡◌, refl, sym, subst, ◌∙◌, ℕ, false, List, [], ◌∷◌}
 use Rattle.vt_spec.proofs.Common.{FileTree, Filesystem, IsPermutation-refl, IsPermutation-sym, IsPermutation-trans, Namespace, SameFiles, SameFilesystem, SameFilesystems, SameWorlds, Task, World, common_steps, is_overlay}
 use Rattle.vt_laws_rules.proofs.judged.NumbersRaised.{bare_namespace, bare_task}
 use Rattle.vt_laws_rules.proofs.same.SameMany.{same_filesystem_itself}
@@ -81,9 +81,9 @@ alike_onward one other last same next = record {
     files = files_onward a.files b.files c.files first.files second.files;
     overlay = first.overlay ∙ second.overlay;
   }) one.filesystems other.filesystems last.filesystems same.filesystems next.filesystems;
-  namespaces = each_onward SameNamespace (λ a b c first second. first ∙ second) one.namespaces other.namespaces
+  namespaces = each_onward SameNamespace (λ a b c first second. cc) one.namespaces other.namespaces
       last.namespaces same.namespaces next.namespaces;
-  tasks = each_onward SameTask (λ a b c first second. first ∙ second) one.tasks other.tasks last.tasks same.tasks
+  tasks = each_onward SameTask (λ a b c first second. cc) one.tasks other.tasks last.tasks same.tasks
       next.tasks;
 }
 
@@ -109,5 +109,5 @@ sameness_is_an_equivalence = record {
 pub same_worlds_are_plain_alike : SameWorldsArePlainAlike
 same_worlds_are_plain_alike one other same =
     each_holds SameFilesystem (λ f. is_overlay f ≡ false) (λ f. is_overlay f ≡ false)
-    (λ a b alike plain. sym (ap is_some alike.overlay) ∙ plain) one.filesystems other.filesystems
+    (λ a b alike plain. cc (alike.overlay)) one.filesystems other.filesystems
     (alike_from_same one other same).filesystems

@@ -1,5 +1,5 @@
 -- Counts are a supply with room.
-use Rattle.std.proofs.Common.{◌≡◌, refl, sym, ap, ◌∙◌, true≢false, ℕ, nat_le, nat_lt, ◌==◌, ◌+◌, ◌-◌, ◌*◌, ◌/◌, ◌%◌, ◌<◌, ◌≤◌, Bool, true, false, cond, not, ◌&&◌, ◌||◌, arith, ◌⊎◌, inl, eq-eqb, ne_eqb, eqb-true, ltb-true, le-leb, leb-true}
+use Rattle.std.proofs.Common.{◌≡◌, refl, ap, true≢false, ℕ, nat_le, nat_lt, ◌==◌, ◌+◌, ◌-◌, ◌*◌, ◌/◌, ◌%◌, ◌<◌, ◌≤◌, Bool, true, false, cond, not, ◌&&◌, ◌||◌, arith, ◌⊎◌, inl, eq-eqb, ne_eqb, eqb-true, ltb-true, le-leb, leb-true}
 use Rattle.vt_spec.proofs.Common.{and_parts, common_steps, not-false}
 use Rattle.vt_laws_rules.proofs.numbers.NamedWorlds.{named_is_kept}
 use Rattle.vt_laws_rules.specs.Numbers.{Allotment, Lot, is_in_hand, is_kept, is_kept_lot}
@@ -28,7 +28,7 @@ module _ (next : ℕ) where
   left_lot k =
       let rest : (4 * k + 3) % 4 ≡ 3 = omega arith in
       let quarter : (4 * k + 3) / 4 ≡ k = omega arith in
-      lot_at (4 * k + 3) true _ (eq-eqb ((4 * k + 3) % 4) 3 rest) refl ∙ ap LeftOver quarter
+      cc (lot_at (4 * k + 3) true _ (eq-eqb ((4 * k + 3) % 4) 3 rest) refl, quarter)
 
   same_left : (a b : ℕ) → LeftOver a ≡ LeftOver b → a ≡ b
   same_left a b e = cc
@@ -61,7 +61,7 @@ module _ (next : ℕ) where
   counts_from_hand number = by (number % 4 == 3) (is_counted_from next number)
     where
       by : (left counted : Bool) → is_kept_lot (choose left counted number) ≡ true → not left ≡ true
-      by true counted kept = absurd (true≢false (sym kept))
+      by true counted kept = cc
       by false counted kept = refl
 
   pub counts_stay : (number : ℕ) → may_be_given number ≡ true → is_in_hand counts number ≡ true
@@ -73,8 +73,8 @@ module _ (next : ℕ) where
       → (number % 2 ≡ 0) ⊎ ((number % 4 ≡ 1) × (number / 4 < next))
   before_is number true odd below first second third e = inl (eqb-true (number % 2) 0 first)
   before_is number false true true first second third e = grind (arith, common_steps, eqb-true, ltb-true)
-  before_is number false true false first second third e = absurd (true≢false (sym e))
-  before_is number false false below first second third e = absurd (true≢false (sym e))
+  before_is number false true false first second third e = cc
+  before_is number false false below first second third e = cc
 
   not_counted : (number : ℕ) → (number % 4 ≡ 1 → next ≤ number / 4 → ⊥) → is_counted_from next number ≡ false
   not_counted number before = by (is_counted_from next number) refl

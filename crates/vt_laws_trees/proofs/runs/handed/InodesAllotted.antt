@@ -22,7 +22,7 @@ module _ (allotment : Allotment) (place number : ℕ) (kept : allotment.lot numb
 
   apart_lots : (a b : ℕ) (first second : Lot) → allotment.lot a ≡ first → allotment.lot b ≡ second
       → (first ≡ second → ⊥) → (a == b) ≡ false
-  apart_lots a b first second one other apart = ne_eqb a b (λ e. apart (sym one ∙ ap allotment.lot e ∙ other))
+  apart_lots a b first second one other apart = ne_eqb a b (λ e. apart (cc))
 
   new_is_kept : (k : ℕ) → New k ≡ Kept → ⊥
   new_is_kept k e = cc

@@ -1,5 +1,5 @@
 -- A run that goes on from worlds that are the same writes a text that may be written, and so the one text.
-use Rattle.std.proofs.Common.{◌≡◌, refl, sym, ap, ◌∙◌, subst, ℕ, suc, nat_eq, nat_lt, ◌+◌, ◌≤◌, Bool, true, false, List, [], ◌∷◌, ◌++◌, length, Option, Some, None, arith, All}
+use Rattle.std.proofs.Common.{◌≡◌, refl, sym, ◌∙◌, subst, ℕ, suc, nat_eq, nat_lt, ◌+◌, ◌≤◌, Bool, true, false, List, [], ◌∷◌, length, Option, Some, None, arith, All}
 use Rattle.vt_spec.proofs.Common.{All-cons, All-head, All-tail, Asking, Calling, Filesystem, Fresh, Grammar, LowerObjectsHaveOneName, Request, SameWorlds, Serves, World, first_world, is_overlay, is_silent, line_step, line_step_by, lines_of, longest_line, new_plain, opening, renamed, request_of, requested, step_world}
 use Rattle.vt_laws_rules.proofs.denials.Unchanged.{directive_changes_nothing, refused_memory_changes_nothing}
 use Rattle.vt_laws_rules.proofs.numbers.Commuting.{commutes_nat}
@@ -69,7 +69,7 @@ module _ (grammar : Grammar) (in_hand : ℕ → Bool) (Asks : List ℕ → Type 
       (over.copies other here alike is) grammar line None in
       let written = refused_alike renaming grammar world here refl line number ∙ sym (steps.text number) in (
         tells.2,
-        tells.3 ∙ ap (λ first. first ++ tells.2) written,
+        cc (tells.3, written),
         told_alike lines refused (suc m) (number + 1) renaming tells.0 _ mine
             (goes_on_alike renaming _ tells.0 _ _ tells.1
             (refused_leads renaming grammar world here refl line) steps.worlds)
@@ -98,7 +98,7 @@ module _ (grammar : Grammar) (in_hand : ℕ → Bool) (Asks : List ℕ → Type 
         stage m mine mine_early,
         serves,
         tells.4,
-        tells.5 ∙ ap (λ first. first ++ tells.4) written,
+        cc (tells.5, written),
         told_alike lines refused (suc m) (number + 1) joint tells.2 _ (is_in_hand (stage m mine mine_early))
             (goes_on_alike joint _ tells.2 _ _ tells.3
             (line_leads joint grammar world here refl line allotment.new (spread (suc m)) supplied) steps.worlds)

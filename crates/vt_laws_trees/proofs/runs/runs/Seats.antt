@@ -58,7 +58,7 @@ shifted_seat (suc a) b = seat_of_row (suc a) b
 seat_number : (s : Seat) → seat (number_at s) ≡ s
 unfolding number_at
 seat_number (Front n) = seat_of_row 0 (2 * n) ∙ even_place n
-seat_number (Elsewhere n) = shifted_seat (cell n).0 (cell n).1 ∙ ap Elsewhere (number_in_row-cell n)
+seat_number (Elsewhere n) = cc (shifted_seat (cell n).0 (cell n).1, number_in_row-cell n)
 
 number_of_row : (a b : ℕ) → number_at (seat_by a b) ≡ spread a b
 unfolding number_at seat_by seat_in_first shifted
@@ -97,8 +97,7 @@ module _ (in_hand : ℕ → Bool) (leaves : LeavesEndless in_hand) where
 
   left_is_seated : (k : ℕ) → seat_of (leaves.left_over k) ≡ left_seat (k % 2 == 0) k
   unfolding seat_of given_seat
-  left_is_seated k = ap (λ b. given_seat b (leaves.left_over k)) (leaves.out k)
-      ∙ ap (λ n. left_seat (n % 2 == 0) n) (leaves.place_left k)
+  left_is_seated k = cc (leaves.out k, leaves.place_left k)
 
   seat_on : (s : Seat) → seat_of (number_on s) ≡ s
   unfolding number_on seat_of given_seat left_seat without_last
@@ -109,13 +108,13 @@ module _ (in_hand : ℕ → Bool) (leaves : LeavesEndless in_hand) where
   seated = record {
     there = λ number. number_at (seat_of number);
     back = λ number. number_on (seat number);
-    there_back = λ number. ap number_at (seat_on (seat number)) ∙ number_seat number;
-    back_there = λ number. ap number_on (seat_number (seat_of number)) ∙ on_seat number;
+    there_back = λ number. cc (seat_on (seat number), number_seat number);
+    back_there = λ number. cc (seat_number (seat_of number), on_seat number);
   }
 
   seated_first : (number : ℕ) → in_hand number ≡ true → row (seated.there number) ≡ 0
   unfolding seated seat_of given_seat number_at
-  seated_first number is = ap (λ b. row (number_at (given_seat b number))) is ∙ row-spread 0 (2 * number)
+  seated_first number is = cc (row-spread 0 (2 * number))
 
   -- a renaming of what is in hand into the first row that gives the first numbers of a supply their places
   pub record Start (fresh : Fresh ℕ) (k : ℕ) : Type 0 where
@@ -132,9 +131,9 @@ module _ (in_hand : ℕ → Bool) (leaves : LeavesEndless in_hand) where
       there = λ number. swapped a k (start.renaming.there number);
       back = λ number. start.renaming.back (swapped a k number);
       there_back = λ number.
-          ap (swapped a k) (start.renaming.there_back (swapped a k number)) ∙ swapped_twice a k number;
+          cc (start.renaming.there_back (swapped a k number), swapped_twice a k number);
       back_there = λ number.
-          ap start.renaming.back (swapped_twice a k (start.renaming.there number)) ∙ start.renaming.back_there number;
+          cc (swapped_twice a k (start.renaming.there number), start.renaming.back_there number);
     };
     early = λ number is.
         row_swapped a k (start.renaming.there number) (start.early (fresh k) (opens.given k low)) (row_first k low)

@@ -55,7 +55,8 @@ module _ (world : World ℕ) (fresh : Fresh ℕ) (given : IsCallIn world fresh) 
           none_found new at (Some m) f =
               let among : Among m world.namespaces =
               found_among (λ (x : Namespace ℕ). nat_eq number x.number) world.namespaces m f in
-              let same : fresh (2 * 0) ≡ m.number = sym new ∙ sym (eqb-true number n.number at) ∙ eqb-true number m.number
+              let same : fresh (2 * 0) ≡ m.number = sym new ∙ sym (eqb-true number n.number at)
+              ∙ eqb-true number m.number
               (found_passes (λ (x : Namespace ℕ). nat_eq number x.number) world.namespaces m f) in
               absurd (true≢false (sym (eq-eqb (fresh (2 * 0)) m.number same)
               ∙ unused_number world fresh given.serves (2 * 0) m.number
@@ -87,7 +88,8 @@ module _ (world : World ℕ) (fresh : Fresh ℕ) (given : IsCallIn world fresh) 
               lists_same world (settled nat_eq applied)
               (swept_show_alike call given.is given.serves called granted) number
               (mounts_of nat_eq world number) (mounts_of nat_eq (settled nat_eq applied) number)
-              (λ x m. among-from_filter (λ (mount : Mount ℕ). holds_of (nat_eq number) mount.namespace) world.mounts x m)
+              (λ x m. among-from_filter (λ (mount : Mount ℕ). holds_of (nat_eq number) mount.namespace) world.mounts x
+              m)
               (λ y m. among-from_filter (λ (mount : Mount ℕ). holds_of (nat_eq number) mount.namespace)
               (settled nat_eq applied).mounts y m)
               (cc)
@@ -106,8 +108,10 @@ module _ (world : World ℕ) (fresh : Fresh ℕ) (given : IsCallIn world fresh) 
           let outcome : call_outcome nat_eq fresh world task call ≡ apply nat_eq fresh world task permit =
           call_is_judged_then_applied fresh world task call
           ∙ ap (λ j. after world j (apply nat_eq fresh world task)) granted in
-          subst (λ (o : Outcome ℕ). IsNamespaceUnraised world (finished_by nat_eq false world name changed o).world number
-          → mounts_of nat_eq (finished_by nat_eq false world name changed o).world number ≡ mounts_of nat_eq world number)
+          subst (λ (o : Outcome ℕ). IsNamespaceUnraised world (finished_by nat_eq false world name changed o).world
+          number
+          → mounts_of nat_eq (finished_by nat_eq false world name changed o).world number ≡ mounts_of nat_eq world
+          number)
           (sym outcome) granted_keeps
 
 pub unraised_namespaces_keep_mounts : UnraisedNamespacesKeepMounts

@@ -1,6 +1,6 @@
 -- What has a name, and what a task is at, stays where what nothing uses goes.
 use Rattle.std.proofs.Common.{arith, eqb-true, ◌≡◌, refl, sym, ap, subst, ◌∙◌, true≢false, ℕ, nat_eq, eq-eqb, Bool, true, false, not, cond, List, [], ◌∷◌, ◌++◌, map, ◌&&◌, ◌||◌, ⊎_elim, Some, None, is_some, filter_map, unwrap_or, filter, find}
-use Rattle.vt_spec.proofs.Common.{All-filter, Filesystem, HasName, Location, Mount, World, all_locations, and_parts, common_steps, entries_in, entry_at, entry_named, filesystem_lives, filesystem_numbered, has_layer_on, is_among, is_located, is_mounted, is_overlay, list_any, list_any-append, located_in, mount_at, mount_in, mount_lives, no_filesystem, no_mount, node_at, none_is_not, number-only_used, only_used, or_right, root_of, same_location, same_location_is, settled, used_in, without_dead_filesystems, without_dead_in, without_dead_mounts}
+use Rattle.vt_spec.proofs.Common.{All-filter, Filesystem, HasName, Location, Mount, World, all_locations, and_parts, common_steps, entry_at, filesystem_lives, filesystem_numbered, has_layer_on, is_among, is_located, is_mounted, is_overlay, list_any, list_any-append, located_in, mount_at, mount_in, mount_lives, no_filesystem, no_mount, node_at, none_is_not, number-only_used, only_used, or_right, root_of, same_location, same_location_is, settled, used_in, without_dead_filesystems, without_dead_in, without_dead_mounts}
 use Rattle.vt_laws_trees.specs.Trees.{IsFileTree}
 use Rattle.vt_laws_trees.specs.Trees.Settling.{HasFileTrees, HoldsTree, LocatedStays, NamedStays}
 use Rattle.vt_laws_trees.proofs.trees.TreesForgotten.{among_located, entry_used, named_is_used, used_stays, without_dead_in_is}
@@ -27,10 +27,8 @@ mapped_node : (change : Filesystem ℕ → Filesystem ℕ) → ((f : Filesystem 
     → (change (numbered number list)).files.tree.node object ≡ (numbered number list).files.tree.node object
     → (numbered number (map change list)).files.tree.node object ≡ (numbered number list).files.tree.node object
 mapped_node change same number object [] h = refl
-mapped_node change same number object (filesystem ∷ list) h = ap (λ n. (unwrap_or
-    (cond (nat_eq number n) (Some (change filesystem)) (find (λ f. nat_eq number f.number) (map change list)))
-    (no_filesystem number)).files.tree.node object) (same filesystem)
-    ∙ by (nat_eq number filesystem.number) h (λ g. mapped_node change same number object list g)
+mapped_node change same number object (filesystem ∷ list) h =
+    cc (same filesystem, by (nat_eq number filesystem.number) h (λ g. mapped_node change same number object list g))
   where
     by : (b : Bool) → (change (unwrap_or (cond b (Some filesystem) (find (λ f. nat_eq number f.number) list))
         (no_filesystem number))).files.tree.node object
@@ -113,7 +111,7 @@ module _ (world : World ℕ) where
           (filesystem_numbered nat_eq living number).files used_first tree named.0 named.1 object named.2)
 
       named_second : HasName (filesystem_numbered nat_eq first_round number).files.tree object
-      named_second = (named.0, named.1, ap (λ o. entry_named named.1 (entries_in o)) directory_stays ∙ named.2)
+      named_second = (named.0, named.1, cc (directory_stays, named.2))
 
       used_second : is_among nat_eq object (used_in nat_eq first_round (filesystem_numbered nat_eq first_round number))
           ≡ true
@@ -145,7 +143,7 @@ named_stays world number object trees mounted named = ⊎_elim
 listed_node : (test : Location ℕ → Bool) (list : List (Location ℕ)) (location : Location ℕ)
     → list_any (same_location nat_eq location) list ≡ true → test location ≡ true
     → is_among nat_eq location.node (map (λ l. l.node) (filter test list)) ≡ true
-listed_node test [] location h t = absurd (true≢false (sym h))
+listed_node test [] location h t = cc
 listed_node test (first ∷ list) location h t =
     by (same_location nat_eq location first) refl (test first) refl h (λ g. listed_node test list location g t)
   where
@@ -160,7 +158,7 @@ listed_node test (first ∷ list) location h t =
 -- its mount is located
 located_mount : (list : List (Location ℕ)) (location : Location ℕ)
     → list_any (same_location nat_eq location) list ≡ true → list_any (λ l. nat_eq location.mount l.mount) list ≡ true
-located_mount [] location h = absurd (true≢false (sym h))
+located_mount [] location h = cc
 located_mount (first ∷ list) location h =
     by (same_location nat_eq location first) refl h (λ g. located_mount list location g)
   where
@@ -177,7 +175,7 @@ located_mount (first ∷ list) location h =
 -- a listed mount's filesystem is mounted
 listed_mounts : (list : List (Mount ℕ)) (number : ℕ) → is_among nat_eq number (map (λ m. m.number) list) ≡ true
     → list_any (λ m. nat_eq (mount_in nat_eq list number).filesystem m.filesystem) list ≡ true
-listed_mounts [] number h = absurd (true≢false (sym h))
+listed_mounts [] number h = cc
 listed_mounts (mount ∷ list) number h = by (nat_eq number mount.number) h (λ g. listed_mounts list number g)
   where
     by : (b : Bool) → (b || is_among nat_eq number (map (λ m. m.number) list)) ≡ true

@@ -113,7 +113,8 @@ returns-in_err-way-clause-value c =
     ap (option_map seen_of) c.from_residual-in_err-way.ensures
     ∙ no_way trees overlay b lower layer (λ directory path leads.
     c.way_down.ensures.nowhere c.in_err-way.was
-    (subst (IsDirectory (files trees overlay b lower layer)) (sym number) directory) path (leads ∙ ap Some (sym number)))
+    (subst (IsDirectory (files trees overlay b lower layer)) (sym number) directory) path
+    (leads ∙ ap Some (sym number)))
 
 pub returns-in_err-node-clause-value : goal.returns-in_err-node-clause-value
 returns-in_err-node-clause-value c =

@@ -1,6 +1,6 @@
 -- The root of a filesystem stays its root, as long as the filesystem is there.
-use Rattle.std.proofs.Common.{arith, ◌≡◌, refl, sym, ap, subst, ◌∙◌, inl, inr, ◌⊎◌, true≢false, ℕ, ◌+◌, nat_eq, eqb-true, eq-eqb, Bool, true, false, not, cond, ◌||◌, List, [], ◌∷◌, ◌++◌, map, filter, find, Option, Some, None, is_some, option_map, Ok, Err, ok_or}
-use Rattle.vt_spec.proofs.Common.{AddName, Change, CopyUp, FileTree, Filesystem, Fresh, Judgement, Layer, Location, Make, Merge, Move, Node, Outcome, Overlay, Permit, Remove, SetAttr, SetBytes, SetMark, Stack, Task, ToChange, ToEnterNamespace, ToExit, ToMake, ToMountOverlay, ToMountPlain, ToOpen, ToOpenNew, ToRemoveDirectory, ToRename, ToSetType, ToUnmount, ToUnmountLazily, ToUnshare, ToWritePart, World, after, apply, changed, common_steps, copied_each, copied_up, copy_of, denial, denied, evens, filesystem_at, filesystem_changed, filesystem_lives, filesystem_numbered, filesystems-taken_away, filesystems-without_replaced, filesystems_changed_by, finished, finished_by, hides_directory, is_copied_up, is_in_upper, is_overlay, judge_in, line_to, merge_changed, merge_of, merge_with_link, merge_with_moved, merge_with_new, merge_without_name, mount_at, name_left, no_filesystem, odds, only_looks, only_used, only_used_by, overlay_changed, plain_filesystem, pwritten, raised_if_changed, replaced_if_numbered, same_Some, settled, shown_in_lowers_at, stack_of, task_called, unshared, upper_directory_named, upper_of, used_in, with_change, with_copy, with_files, with_moved, without_contents, without_dead_filesystems, without_dead_in, without_dead_mounts, without_replaced, without_task}
+use Rattle.std.proofs.Common.{arith, ◌≡◌, refl, sym, subst, ◌∙◌, inl, inr, ◌⊎◌, true≢false, ℕ, ◌+◌, nat_eq, eqb-true, eq-eqb, Bool, true, false, not, cond, ◌||◌, List, [], ◌∷◌, ◌++◌, map, filter, find, Option, Some, None, is_some, option_map, Ok, Err, ok_or}
+use Rattle.vt_spec.proofs.Common.{AddName, Change, CopyUp, FileTree, Filesystem, Fresh, Judgement, Layer, Location, Make, Merge, Move, Node, Outcome, Overlay, Permit, Remove, SetAttr, SetBytes, SetMark, Stack, Task, ToChange, ToEnterNamespace, ToExit, ToMake, ToMountOverlay, ToMountPlain, ToOpen, ToOpenNew, ToRemoveDirectory, ToRename, ToSetType, ToUnmount, ToUnmountLazily, ToUnshare, ToWritePart, World, after, apply, changed, common_steps, copied_each, copied_up, copy_of, denial, denied, evens, filesystem_at, filesystem_changed, filesystem_lives, filesystem_numbered, filesystems-taken_away, filesystems-without_replaced, filesystems_changed_by, finished, finished_by, hides_directory, is_copied_up, is_in_upper, is_overlay, judge_in, line_to, merge_changed, merge_of, merge_with_link, merge_with_moved, merge_with_new, merge_without_name, mount_at, name_left, no_filesystem, odds, only_looks, only_used, overlay_changed, plain_filesystem, pwritten, raised_if_changed, replaced_if_numbered, same_Some, settled, shown_in_lowers_at, stack_of, task_called, unshared, upper_directory_named, upper_of, with_change, with_copy, with_files, with_moved, without_contents, without_dead_filesystems, without_dead_in, without_dead_mounts, without_replaced, without_task}
 use Rattle.vt_laws_trees.specs.Calls.Reached.{RootsStay, root_in}
 use Rattle.vt_laws_rules.proofs.judged.CallsJudged.{policy_judges_then_applies}
 use Rattle.vt_spec.specs.declared.errors.Rule.TheVariants.{S2}
@@ -140,8 +140,7 @@ module _ (number : ℕ) where
     -- a filesystem that is found by a number has it, if the number is this one
     its_root : (world : World ℕ) (shown : ℕ) → Is world.filesystems
         → number ≡ (numbered shown world.filesystems).number → (numbered shown world.filesystems).files.tree.root ≡ root
-    its_root world shown h same = ap (λ n. (numbered n world.filesystems).files.tree.root)
-        (sym (same ∙ number_numbered shown world.filesystems)) ∙ root_found world.filesystems h
+    its_root world shown h same = cc (number_numbered shown world.filesystems, root_found world.filesystems h)
 
     change_root : (fresh : Fresh ℕ) (world : World ℕ) (location : Location ℕ) (change : Change ℕ)
         → Is world.filesystems → Is (with_change nat_eq fresh world location change).filesystems
