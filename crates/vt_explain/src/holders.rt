@@ -5,7 +5,7 @@ use crate::report::{Heads, Section};
 use std::alloc::AllocError;
 use vt_location::{Location, MountId, NamespaceId};
 use vt_ns::World;
-use vt_request::{Access, CallKind, TypeLine};
+use vt_request::{Access, CallKind, MountPlace, TypeLine};
 use vt_show::cells::Cell;
 use vt_show::columns::Table;
 use vt_show::names;
@@ -108,18 +108,23 @@ fn add_uses(look: &Look<'_, '_>, table: &mut Table, busy: &MountShown, written: 
             _ => !written,
         };
         if counts && one.at.mount == busy.mount.number {
-            table.add(&Cell::Mount(busy.place));
+            names::push_mount(&mut table.text, busy.place);
+            table.end_word();
             add_use(look, table, one);
         }
     }
 }
 
-// Adds the mounts of a list, which stand on what is busy.
-fn add_mounts(look: &Look<'_, '_>, table: &mut Table, busy: &Cell<'_>, ids: &[MountId]) {
+// Adds the mounts of a list, which stand on what is busy: a mount, or else a name.
+fn add_mounts(look: &Look<'_, '_>, table: &mut Table, busy: Option<MountPlace>, ids: &[MountId]) {
     for id in ids {
         if let Some(shown) = find(look.picture, *id) {
             if look.namespace.is_none() || look.namespace == shown.mount.namespace {
-                table.add(busy);
+                match busy {
+                    Some(place) => names::push_mount(&mut table.text, place),
+                    None => table.text.push("the name"),
+                }
+                table.end_word();
                 add_mount(table, shown);
             }
         }
@@ -163,14 +168,14 @@ pub fn add_holders(look: &Look<'_, '_>, section: &mut Section, end: Option<Locat
     match (look.call, find(look.picture, at.mount)) {
         (CallKind::Umount, Some(busy)) => {
             let children = look.world.all_mounts().children(busy.mount.number);
-            add_mounts(look, table, &Cell::Mount(busy.place), children);
+            add_mounts(look, table, Some(busy.place), children);
             add_uses(look, table, busy, false);
             add_copies(look, table, busy);
         }
         (CallKind::Remount, Some(busy)) => add_uses(look, table, busy, true),
         _ => {
             let ids = look.world.all_mounts().mounts_on(at.node);
-            add_mounts(look, table, &Cell::Text("the name"), ids);
+            add_mounts(look, table, None, ids);
         }
     }
 }

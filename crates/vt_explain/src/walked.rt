@@ -10,9 +10,8 @@ use vt_location::Location;
 use vt_looks::Look;
 use vt_node::copied_bytes;
 use vt_ns::World;
-use vt_show::cells::Cell;
 use vt_show::names;
-use vt_show::places::place_of;
+use vt_show::places::{place_of, push_place};
 use vt_spec::errors::{Deny, Rule};
 use vt_tasks::Task;
 use vt_text::path::PathText;
@@ -160,7 +159,8 @@ impl<'a> Walk<'a> {
         if walk.text.extend_from_slice(asked.text).is_err() {
             walk.section.table.text.fail();
         }
-        walk.section.table.add(&Cell::Text(word));
+        walk.section.table.text.push(word);
+        walk.section.table.end_word();
         walk.add_location(here);
         walk.section.table.end_row();
         walk
@@ -169,15 +169,18 @@ impl<'a> Walk<'a> {
     // Adds a location, what is there, and which of its bits count for the caller.
     fn add_location(&mut self, at: Location) {
         let table = &mut self.section.table;
-        table.add(&Cell::Place(self.view.world, at));
+        push_place(self.view.world, at, &mut table.text);
+        table.end_word();
         if let Some(node) = self.view.world.node(at) {
             let attr = node.attr();
             table.text.push(names::kind(node.kind()));
             table.text.push(" ");
-            table.add(&Cell::Octal(attr.mode.bits(), 1));
+            table.text.push_octal(attr.mode.bits(), 1);
+            table.end_word();
             table.text.push_number(u64::from(attr.uid));
             table.text.push(":");
-            table.add(&Cell::Number(u64::from(attr.gid)));
+            table.text.push_number(u64::from(attr.gid));
+            table.end_word();
             push_rights(&mut table.text, &self.view.who.cred, &attr, node.kind());
             table.end_word();
         }
@@ -213,7 +216,7 @@ impl<'a> Walk<'a> {
             _ => None,
         };
         if rule.is_some() {
-            self.section.table.add(&Cell::Text(""));
+            self.section.table.end_word();
             self.stop(rule);
             return;
         }
@@ -240,7 +243,8 @@ impl<'a> Walk<'a> {
             };
             if let Some(place) = place_of(self.view.world, mount) {
                 self.section.table.text.push(what);
-                self.section.table.add(&Cell::Mount(place));
+                names::push_mount(&mut self.section.table.text, place);
+                self.section.table.end_word();
             }
         }
         self.section.table.end_row();
@@ -289,10 +293,11 @@ impl<'a> Walk<'a> {
         };
         let top = self.view.world.topmost(at);
         if top != at {
-            self.section.table.add(&Cell::Text(""));
+            self.section.table.end_word();
             self.add_location(top);
-            let note = [Cell::Text("stands over it")];
-            self.section.table.add_row(&note);
+            self.section.table.text.push("stands over it");
+            self.section.table.end_word();
+            self.section.table.end_row();
             self.end = Some(top);
         }
     }
