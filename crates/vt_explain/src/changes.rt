@@ -4,9 +4,10 @@ use crate::report::{Heads, Section};
 use vt_check::draft::Draft;
 use vt_location::MountId;
 use vt_request::CallKind;
+use vt_show::cells::Cell;
 use vt_show::columns::Table;
-use vt_show::names;
-use vt_show::picture::{MountShown, NamespaceShown};
+use vt_show::names::{push_flags, push_mount, push_type};
+use vt_show::picture::{MountShown, Picture};
 
 pub static HEADS: Heads = Heads {
     title: "MOUNTS THAT COME (+), GO (-) AND CHANGE (~)",
@@ -19,108 +20,81 @@ pub static HEADS: Heads = Heads {
 #[derive(Clone, Copy)]
 pub struct Sides<'a> {
     pub call: CallKind,
-    pub before: &'a [NamespaceShown],
-    pub after: &'a [NamespaceShown],
+    pub before: &'a Picture,
+    pub after: &'a Picture,
     pub aim: Option<MountId>,
 }
 
-// Appends why an event reaches a mount, on which another comes or goes: it is meant, or receives.
-fn push_reached(text: &mut Draft, parent: &MountShown, aim: Option<MountId>) {
-    if Some(parent.mount.number) == aim {
+// Appends why a mount comes or goes that stands on another one: that comes or goes as well, is meant, or receives.
+fn push_why_by_parent(
+    text: &mut Draft,
+    parent: &MountShown,
+    other_side: &Picture,
+    as_well: &str,
+    aim: Option<MountId>,
+) {
+    if find(other_side, parent.mount.number).is_none() {
+        text.push("stands on ");
+        push_mount(text, parent.place);
+        text.push(as_well);
+    } else if Some(parent.mount.number) == aim {
         text.push("asked for");
-        return;
+    } else {
+        push_mount(text, parent.place);
+        text.push(" receives as ");
+        push_type(text, parent.kind);
     }
-    names::push_mount(text, parent.place);
-    text.push(" receives as ");
-    names::push_kind(text, parent.kind);
-}
-
-// Appends that a mount stands on one that comes or goes as well.
-fn push_on(text: &mut Draft, parent: &MountShown, what: &str) {
-    text.push("stands on ");
-    names::push_mount(text, parent.place);
-    text.push(what);
 }
 
 // Appends why a mount comes.
 fn push_why_it_comes(text: &mut Draft, sides: Sides<'_>, new: &MountShown) {
     if !has_namespace(sides.before, new.mount.namespace) {
         text.push("copied into the new namespace");
-        return;
+    } else if let Some(parent) = parent(sides.after, new) {
+        push_why_by_parent(text, parent, sides.before, ", which comes", sides.aim);
     }
-    let Some(parent) = parent(sides.after, new) else {
-        return;
-    };
-    if find(sides.before, parent.mount.number).is_none() {
-        push_on(text, parent, ", which comes");
-    } else {
-        push_reached(text, parent, sides.aim);
-    }
-}
-
-// Why a mount goes, where its own namespace, the call or its aim tells it, or nothing.
-fn why_it_goes(sides: Sides<'_>, old: &MountShown) -> &'static str {
-    if !has_namespace(sides.after, old.mount.namespace) {
-        return "its namespace ends";
-    }
-    if sides.call != CallKind::Umount && sides.call != CallKind::Lazy {
-        return "its mount point is removed";
-    }
-    if Some(old.mount.number) == sides.aim {
-        return "asked for";
-    }
-    ""
 }
 
 // Appends why a mount goes.
 fn push_why_it_goes(text: &mut Draft, sides: Sides<'_>, old: &MountShown) {
-    let why = why_it_goes(sides, old);
-    if !why.is_empty() {
-        text.push(why);
-        return;
+    if !has_namespace(sides.after, old.mount.namespace) {
+        text.push("its namespace ends");
+    } else if !matches!(sides.call, CallKind::Umount | CallKind::Lazy) {
+        text.push("its mount point is removed");
+    } else if Some(old.mount.number) == sides.aim {
+        text.push("asked for");
+    } else if let Some(parent) = parent(sides.before, old) {
+        push_why_by_parent(text, parent, sides.after, ", which goes", None);
     }
-    let Some(parent) = parent(sides.before, old) else {
-        return;
-    };
-    if find(sides.after, parent.mount.number).is_none() {
-        push_on(text, parent, ", which goes");
-    } else {
-        push_reached(text, parent, None);
-    }
-}
-
-// Begins to tell what a word of a mount was.
-fn begin_was(table: &mut Table) {
-    let begin = if table.written() == 0 { "was " } else { ", " };
-    table.text.push(begin);
 }
 
 // Appends what a mount was that has changed.
-fn push_what_it_was(table: &mut Table, old: &MountShown, new: &MountShown) {
+fn push_what_it_was(text: &mut Draft, old: &MountShown, new: &MountShown) {
+    let mut mark = "was ";
     if old.path() != new.path() {
-        begin_was(table);
-        table.text.push(old.path());
+        text.push(mark);
+        text.push(old.path());
+        mark = ", ";
     }
     if old.mount.flags != new.mount.flags {
-        begin_was(table);
-        names::push_flags(&mut table.text, old.mount.flags);
+        text.push(mark);
+        push_flags(text, old.mount.flags);
+        mark = ", ";
     }
     if old.kind != new.kind {
-        begin_was(table);
-        names::push_kind(&mut table.text, old.kind);
+        text.push(mark);
+        push_type(text, old.kind);
     }
 }
 
 // Adds a mount, without why it is told.
 fn add_mount(table: &mut Table, sign: &str, shown: &MountShown) {
-    table.add(sign);
-    names::push_mount(&mut table.text, shown.place);
+    table.text.push(sign);
     table.end_word();
-    table.add(shown.path());
-    names::push_flags(&mut table.text, shown.mount.flags);
+    table.add(&Cell::Mount(shown.place));
+    table.text.push(shown.path());
     table.end_word();
-    names::push_kind(&mut table.text, shown.kind);
-    table.end_word();
+    table.add_words(&[Cell::Flags(shown.mount.flags), Cell::Type(shown.kind)]);
 }
 
 // Ends the row of a mount: why it is told stands in it if there is something to tell.
@@ -131,42 +105,28 @@ fn end_mount(table: &mut Table) {
     table.end_row();
 }
 
-// Adds a mount that was there before, if it goes.
-fn add_old(table: &mut Table, sides: Sides<'_>, old: &MountShown) {
-    if find(sides.after, old.mount.number).is_none() {
-        add_mount(table, "-", old);
-        push_why_it_goes(&mut table.text, sides, old);
-        end_mount(table);
-    }
-}
-
-// Adds a mount that is there after the call, if it came or has changed.
-fn add_kept(table: &mut Table, sides: Sides<'_>, new: &MountShown) {
-    match find(sides.before, new.mount.number) {
-        Some(old) if old.mount == new.mount => {}
-        Some(old) => {
-            add_mount(table, "~", new);
-            push_what_it_was(table, old, new);
-            end_mount(table);
-        }
-        None => {
-            add_mount(table, "+", new);
-            push_why_it_comes(&mut table.text, sides, new);
-            end_mount(table);
-        }
-    }
-}
-
 /// Adds the mounts that come, go and change.
 pub fn add_changes(section: &mut Section, sides: Sides<'_>) {
-    for namespace in sides.before {
-        for old in &namespace.mounts {
-            add_old(&mut section.table, sides, old);
+    let table = &mut section.table;
+    for old in &sides.before.mounts {
+        if find(sides.after, old.mount.number).is_none() {
+            add_mount(table, "-", old);
+            push_why_it_goes(&mut table.text, sides, old);
+            end_mount(table);
         }
     }
-    for namespace in sides.after {
-        for new in &namespace.mounts {
-            add_kept(&mut section.table, sides, new);
+    for new in &sides.after.mounts {
+        match find(sides.before, new.mount.number) {
+            Some(old) if old.mount == new.mount => continue,
+            Some(old) => {
+                add_mount(table, "~", new);
+                push_what_it_was(&mut table.text, old, new);
+            }
+            None => {
+                add_mount(table, "+", new);
+                push_why_it_comes(&mut table.text, sides, new);
+            }
         }
+        end_mount(table);
     }
 }

@@ -9,20 +9,18 @@ use vt_request::{Answer, Call, CallKind, TaskName};
 use vt_script::{Calls, Version};
 use vt_spec::errors::Deny;
 
-// A descriptor that a line opened.
-#[derive(Drop)]
-struct Opening {
-    task: TaskName,
-    descriptor: u8,
-    // How many lines of the script are before it.
-    before: u64,
+// What a line of a task opened or mounted.
+#[derive(Clone, Copy)]
+enum Made {
+    Descriptor(u8),
+    Overlay(FilesystemId),
 }
 
-// An overlay that a line mounted.
+// A line that opened a descriptor or mounted an overlay.
 #[derive(Drop)]
-struct Mounting {
+struct Making {
     task: TaskName,
-    overlay: FilesystemId,
+    made: Made,
     // How many lines of the script are before it.
     before: u64,
 }
@@ -30,8 +28,7 @@ struct Mounting {
 /// The descriptors that the lines of a script opened and the overlays that they mounted, in the order of the lines.
 #[derive(Drop)]
 pub struct Earlier {
-    openings: Vec<Opening>,
-    mountings: Vec<Mounting>,
+    makings: Vec<Making>,
     // How many lines the script has.
     lines: u64,
     /// Whether an allocation failed, so that some are missing.
@@ -52,9 +49,12 @@ impl Earlier {
     pub fn line_of(&self, task: &TaskName, descriptor: u8, number: u64) -> Option<u64> {
         let first = number.saturating_sub(self.lines);
         let mut found = None;
-        for opening in &self.openings {
-            if opening.descriptor == descriptor && opening.task == *task {
-                found = Some(first.saturating_add(opening.before));
+        for making in &self.makings {
+            match making.made {
+                Made::Descriptor(opened) if opened == descriptor && making.task == *task => {
+                    found = Some(first.saturating_add(making.before));
+                }
+                _ => {}
             }
         }
         found
@@ -63,34 +63,15 @@ impl Earlier {
     /// The task that mounted an overlay, and the line, where the line after the script has this number.
     pub fn mounter_of(&self, overlay: FilesystemId, number: u64) -> Option<(&TaskName, u64)> {
         let first = number.saturating_sub(self.lines);
-        for mounting in &self.mountings {
-            if mounting.overlay == overlay {
-                return Some((&mounting.task, first.saturating_add(mounting.before)));
+        for making in &self.makings {
+            match making.made {
+                Made::Overlay(mounted) if mounted == overlay => {
+                    return Some((&making.task, first.saturating_add(making.before)));
+                }
+                _ => {}
             }
         }
         None
-    }
-
-    // Records what a line of a task opened.
-    fn record_opening(&mut self, task: TaskName, descriptor: u8) {
-        let opening = Opening {
-            task,
-            descriptor,
-            before: self.lines,
-        };
-        self.failed |= self.openings.push(opening).is_err();
-    }
-
-    // Records the overlay that a line of a task mounted.
-    fn record_mounting(&mut self, world: &World, task: TaskName) {
-        if let Some(overlay) = newest_filesystem(world, &task) {
-            let mounting = Mounting {
-                task,
-                overlay,
-                before: self.lines,
-            };
-            self.failed |= self.mountings.push(mounting).is_err();
-        }
     }
 
     // Answers the lines of a script, and records what they open and mount.
@@ -130,12 +111,23 @@ impl Teller<Kernel> for Earlier {
         kind: CallKind,
         outcome: &Result<Answer, Deny>,
     ) {
-        match outcome {
-            Ok(Answer::Opened(descriptor)) => self.record_opening(name, *descriptor),
+        let made = match outcome {
+            Ok(Answer::Opened(descriptor)) => Some(Made::Descriptor(*descriptor)),
             Ok(_) if kind == CallKind::MountOverlay => {
-                self.record_mounting(kernel.world(), name);
+                match newest_filesystem(kernel.world(), &name) {
+                    Some(overlay) => Some(Made::Overlay(overlay)),
+                    None => None,
+                }
             }
-            _ => {}
+            _ => None,
+        };
+        if let Some(made) = made {
+            let making = Making {
+                task: name,
+                made,
+                before: self.lines,
+            };
+            self.failed |= self.makings.push(making).is_err();
         }
     }
 
@@ -145,8 +137,7 @@ impl Teller<Kernel> for Earlier {
 /// What the lines of a script open and mount. They are answered once more, in a world of their own.
 pub fn earlier_lines(version: Version, alloc: Global, script: &[u8]) -> Earlier {
     let mut earlier = Earlier {
-        openings: Vec::new(alloc),
-        mountings: Vec::new(alloc),
+        makings: Vec::new(alloc),
         lines: 0,
         failed: false,
     };

@@ -6,6 +6,7 @@ use vt_check::check::Format;
 use vt_check::draft::Draft;
 use vt_layers::LayerOptions;
 use vt_location::Location;
+use vt_show::cells::Cell;
 use vt_show::columns::Table;
 use vt_spec::errors::Deny;
 use vt_text::path::PathText;
@@ -23,32 +24,23 @@ fn reached(view: View<'_>, path: &[u8]) -> Result<Location, Deny> {
     source_walk(view.world, view.who, &PathText::parse(path)?)
 }
 
-// Adds a layer, by its place from the top, and says whether the walk to it is granted.
-fn add_layer(view: View<'_>, table: &mut Table, place: u64, path: &[u8]) -> bool {
-    table.add_number(place);
-    table.text.push_bytes(path);
-    table.end_word();
-    let reached = reached(view, path);
-    match reached {
-        Ok(at) => view.places.push(at, &mut table.text),
-        Err(deny) => {
-            table.text.push("stopped by ");
-            table.text.push(deny.rule.name());
-        }
-    }
-    table.end_word();
-    table.end_row();
-    reached.is_ok()
-}
-
-// Adds the layers of these options up to the first one to which the walk is refused, and returns that one's path.
+// Adds the layers of these options, each by its place from the top, up to the first one to which the walk is refused,
+// and returns that one's path.
 fn add_layers<'a>(view: View<'_>, table: &mut Table, options: &'a [u8]) -> Option<&'a [u8]> {
     let mut paths = LayerOptions::known(options)?.lowers();
     let mut place: u64 = 0;
     while let Some(path) = paths.next() {
         place = place.saturating_add(1);
-        if !add_layer(view, table, place, path) {
-            return Some(path);
+        table.add(&Cell::Number(place));
+        table.text.push_bytes(path);
+        table.end_word();
+        match reached(view, path) {
+            Ok(at) => table.add_row(&[Cell::Place(view.world, at)]),
+            Err(deny) => {
+                table.text.push("stopped by ");
+                table.add_row(&[Cell::Text(deny.rule.name())]);
+                return Some(path);
+            }
         }
     }
     None
@@ -62,10 +54,9 @@ pub fn push_layers(
     format: Format,
     text: &mut Draft,
 ) -> Option<Walked> {
-    let mut section = Section::new(view.alloc, &HEADS);
+    let mut section = Section::new(view.world.alloc(), &HEADS);
     let refused = add_layers(view, &mut section.table, options);
     section.write(format, b"", text);
-    drop(section);
     let path = PathAsked {
         text: refused?,
         last: Last::Object,

@@ -13,7 +13,6 @@ mod lines;
 mod locks;
 mod mounters;
 mod mounts;
-mod receiving;
 mod report;
 mod rights;
 mod walked;

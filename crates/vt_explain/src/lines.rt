@@ -36,18 +36,14 @@ pub fn nearest_call(version: Version, alloc: Global, text: &[u8], number: u64) -
         let Some((line, after)) = first_line(rest) else {
             return nearest;
         };
-        if is_spoken(version, alloc, line) && is_nearer(here, nearest, number) {
+        let is_nearer = match nearest {
+            Some(other) => here.abs_diff(number) < other.abs_diff(number),
+            None => true,
+        };
+        if is_nearer && is_spoken(version, alloc, line) {
             nearest = Some(here);
         }
         rest = after;
     }
     nearest
-}
-
-// Whether a line is nearer to this number than another one.
-fn is_nearer(here: u64, other: Option<u64>, number: u64) -> bool {
-    match other {
-        Some(other) => here.abs_diff(number) < other.abs_diff(number),
-        None => true,
-    }
 }

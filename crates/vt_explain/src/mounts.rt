@@ -1,10 +1,11 @@
-//! Mounts among those of all namespaces.
+//! Mounts among those of all namespaces, and who receives from a peer group.
 use vt_location::{MountId, NamespaceId};
-use vt_show::picture::{MountShown, NamespaceShown};
+use vt_request::TypeLine;
+use vt_show::picture::{MountShown, Picture};
 
-// The mount of this number, if it is one of these.
-fn find_in(mounts: &[MountShown], id: MountId) -> Option<&MountShown> {
-    for shown in mounts {
+/// The mount of this number, if it is attached.
+pub fn find(picture: &Picture, id: MountId) -> Option<&MountShown> {
+    for shown in &picture.mounts {
         if shown.mount.number == id {
             return Some(shown);
         }
@@ -12,27 +13,14 @@ fn find_in(mounts: &[MountShown], id: MountId) -> Option<&MountShown> {
     None
 }
 
-/// The mount of this number, if it is attached in one of these namespaces.
-pub fn find(all: &[NamespaceShown], id: MountId) -> Option<&MountShown> {
-    for namespace in all {
-        if let Some(shown) = find_in(&namespace.mounts, id) {
-            return Some(shown);
-        }
-    }
-    None
-}
-
 /// The mount that one stands on.
-pub fn parent<'a>(all: &'a [NamespaceShown], shown: &MountShown) -> Option<&'a MountShown> {
-    match shown.mount.mount_point {
-        Some(point) => find(all, point.mount),
-        None => None,
-    }
+pub fn parent<'a>(picture: &'a Picture, shown: &MountShown) -> Option<&'a MountShown> {
+    find(picture, shown.mount.mount_point?.mount)
 }
 
-// Whether one of these mounts is in a namespace.
-fn are_in(mounts: &[MountShown], namespace: Option<NamespaceId>) -> bool {
-    for shown in mounts {
+/// Whether a namespace, which has a mount, is there.
+pub fn has_namespace(picture: &Picture, namespace: Option<NamespaceId>) -> bool {
+    for shown in &picture.mounts {
         if shown.mount.namespace == namespace {
             return true;
         }
@@ -40,12 +28,24 @@ fn are_in(mounts: &[MountShown], namespace: Option<NamespaceId>) -> bool {
     false
 }
 
-/// Whether a namespace, which has a mount, is one of these.
-pub fn has_namespace(all: &[NamespaceShown], namespace: Option<NamespaceId>) -> bool {
-    for shown in all {
-        if are_in(&shown.mounts, namespace) {
+/// Whether a mount of this type receives what happens in a peer group: it is a member, or a slave of it or of one that
+/// receives.
+pub fn receives(picture: &Picture, kind: TypeLine, group: usize) -> bool {
+    let mut next = match kind {
+        TypeLine::Shared { group, .. } => Some(group),
+        TypeLine::Slave { master } => Some(master),
+        TypeLine::Private | TypeLine::Unbindable => None,
+    };
+    for _ in &picture.groups {
+        if next == Some(group) {
             return true;
         }
+        // The groups are in the order of their numbers, which begin at 1.
+        let index = next.unwrap_or_default().saturating_sub(1);
+        next = match picture.groups.get(index) {
+            Some(line) if next.is_some() => line.master,
+            _ => None,
+        };
     }
     false
 }

@@ -36,48 +36,30 @@ impl Section {
         }
     }
 
-    // Adds a word of a row to its object; nothing where the row ends before it.
-    fn put_word(&self, object: &mut Object, member: &str, words: &[Word], column: usize) {
-        match words.get(column) {
-            Some(word) if word.column == column => {
-                let mut part = object.draft();
-                part.push_part(&self.table.text, word.begin, word.end);
-                object.put_draft(member, part);
-            }
-            _ => object.put(member, Ok(Value::Null)),
-        }
-    }
-
-    // Appends the row that begins these words, as an object and a newline.
+    // Appends the row that begins these words, as an object and a newline: null where the row ends before a column.
     fn push_object(&self, text: &mut Draft, words: &[Word]) {
         let mut object = Object::new(self.alloc);
         object.put_text("section", self.heads.section);
         for (column, member) in self.heads.members.iter().enumerate() {
-            self.put_word(&mut object, member, words, column);
-        }
-        object.push_line(text);
-    }
-
-    // Appends rows of these words, each as an object.
-    fn push_objects(&self, text: &mut Draft, words: &[Word]) {
-        for (index, word) in words.iter().enumerate() {
-            if word.column == 0 {
-                self.push_object(text, words.get(index..).unwrap_or_default());
+            match words.get(column) {
+                Some(word) if word.column == column => {
+                    let mut part = object.draft();
+                    part.push_part(&self.table.text, word.begin, word.end);
+                    object.put_draft(member, part);
+                }
+                _ => object.put(member, Ok(Value::Null)),
             }
         }
-    }
-
-    // The words behind the heads.
-    fn words(&self) -> &[Word] {
-        let heads = self.heads.words.len();
-        self.table.words.get(heads..).unwrap_or_default()
+        object.push_line(text);
     }
 
     /// Appends the table, if it has rows. In text what it is about stands behind its title.
     pub fn write(&self, format: Format, about: &[u8], text: &mut Draft) {
         // Without rows too it is told that an allocation failed.
         text.push_part(&self.table.text, 0, 0);
-        let words = self.words();
+        // The words behind the heads.
+        let heads = self.heads.words.len();
+        let words = self.table.words.get(heads..).unwrap_or_default();
         if words.is_empty() {
             return;
         }
@@ -88,7 +70,13 @@ impl Section {
                 text.push_bytes(about);
                 self.table.write(text);
             }
-            Format::Json => self.push_objects(text, words),
+            Format::Json => {
+                for (index, word) in words.iter().enumerate() {
+                    if word.column == 0 {
+                        self.push_object(text, words.get(index..).unwrap_or_default());
+                    }
+                }
+            }
         }
     }
 }

@@ -1,4 +1,5 @@
 //! Tables of text, each column as wide as its widest word.
+use crate::cells::{Cell, push_cell};
 use std::alloc::Global;
 use vt_check::draft::Draft;
 
@@ -36,19 +37,15 @@ impl Table {
             column: 0,
             begin: 0,
         };
-        table.add_heads(heads);
-        table
-    }
-
-    // Adds the words above the columns.
-    fn add_heads(&mut self, heads: &[&str]) {
         for head in heads {
-            if self.widths.push(0).is_err() {
-                self.text.fail();
+            if table.widths.push(0).is_err() {
+                table.text.fail();
             }
-            self.add(head);
+            table.text.push(*head);
+            table.end_word();
         }
-        self.end_row();
+        table.end_row();
+        table
     }
 
     /// How long the next word is so far.
@@ -79,27 +76,23 @@ impl Table {
         self.column = 0;
     }
 
-    /// Adds a word.
-    pub fn add(&mut self, word: &str) {
-        self.text.push(word);
+    /// Adds a word, or the end of one that was begun.
+    pub fn add(&mut self, word: &Cell<'_>) {
+        push_cell(&mut self.text, word);
         self.end_word();
     }
 
-    /// Adds a number.
-    pub fn add_number(&mut self, number: u64) {
-        self.text.push_number(number);
-        self.end_word();
-    }
-
-    // Appends what stands before the word of a column: a new line, or spaces behind a word of this length.
-    fn push_space(&self, text: &mut Draft, column: usize, length: usize) {
-        let Some(before) = column.checked_sub(1) else {
-            text.push("\n");
-            return;
-        };
-        if let Some(width) = self.widths.get(before) {
-            text.push_times(' ', (*width).saturating_sub(length).saturating_add(GAP));
+    /// Adds words.
+    pub fn add_words(&mut self, words: &[Cell<'_>]) {
+        for word in words {
+            self.add(word);
         }
+    }
+
+    /// Adds words, which end a row.
+    pub fn add_row(&mut self, words: &[Cell<'_>]) {
+        self.add_words(words);
+        self.end_row();
     }
 
     /// Appends the rows, behind a newline each, and a newline.
@@ -108,7 +101,13 @@ impl Table {
         text.push_part(&self.text, 0, 0);
         let mut length: usize = 0;
         for word in &self.words {
-            self.push_space(text, word.column, length);
+            match word.column.checked_sub(1) {
+                Some(before) => {
+                    let width = self.widths.get(before).copied().unwrap_or_default();
+                    text.push_times(' ', width.saturating_sub(length).saturating_add(GAP));
+                }
+                None => text.push("\n"),
+            }
             text.push_part(&self.text, word.begin, word.end);
             length = word.end.saturating_sub(word.begin);
         }

@@ -1,16 +1,15 @@
 //! The world that a script leads to, shown to people: tasks, mounts, peer groups and trees.
 #![tactic(auto)]
 
-mod branches;
+pub mod cells;
 pub mod columns;
 mod dot;
-mod groups;
-pub mod json;
-pub mod layers;
+mod mounts;
 pub mod names;
+pub mod overlays;
 pub mod picture;
 pub mod places;
 pub mod show;
-pub mod text;
-mod tree_text;
+pub mod tasks;
 pub mod tree_walk;
+mod trees;

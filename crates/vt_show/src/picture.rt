@@ -1,32 +1,11 @@
-//! What is shown of a world, with one number for each mount, peer group and filesystem.
-use crate::groups::GroupNumbers;
+//! The mounts of a world as they are shown, with one number for each mount, peer group and filesystem.
 use crate::names::GONE;
-use crate::places::{Place, Places};
+use crate::places::{place_of, root_of, target_of};
 use indexmap::IndexSet;
 use std::alloc::{AllocError, Global};
-use vt_location::{FilesystemId, Mount, MountId, NamespaceId};
+use vt_location::{FilesystemId, Mount, MountId, Propagation};
 use vt_ns::World;
-use vt_request::{Access, MountPlace, PeerLine, Spot, TypeLine};
-use vt_tasks::Task;
-
-/// An open file of a task.
-#[derive(Drop)]
-pub struct OpenShown {
-    pub number: u8,
-    pub access: Access,
-    pub place: Place,
-}
-
-/// A task.
-#[derive(Drop)]
-pub struct TaskShown<'a> {
-    pub task: &'a Task,
-    /// Its namespace, by its creation among those that did not end, from 1.
-    pub namespace: usize,
-    pub root: Place,
-    pub directory: Place,
-    pub files: Vec<OpenShown>,
-}
+use vt_request::{MountPlace, PeerLine, TypeLine};
 
 /// An attached mount.
 #[derive(Drop)]
@@ -40,8 +19,8 @@ pub struct MountShown {
     /// Its filesystem, by where that first stands among all mounts, from 1.
     pub filesystem: usize,
     pub is_overlay: bool,
-    /// Where in its filesystem the tree begins that it shows.
-    pub root: Spot,
+    /// Where in its filesystem the tree begins that it shows, or nothing where that is reached no longer.
+    pub root: Option<String>,
     /// Its type, with groups by their numbers in the list of peer groups.
     pub kind: TypeLine,
 }
@@ -56,207 +35,113 @@ impl MountShown {
     }
 }
 
-/// A namespace with its mounts, in the order of their attachment.
+/// The mounts of a world. It outlives the world.
 #[derive(Drop)]
-pub struct NamespaceShown {
-    /// By its creation among those that did not end, from 1.
-    pub number: usize,
+pub struct Picture {
+    /// The mounts of one namespace after those of another, each time in the order of their attachment.
     pub mounts: Vec<MountShown>,
-}
-
-/// A world, as it is shown.
-#[derive(Drop)]
-pub struct Picture<'a> {
-    pub world: &'a World,
-    pub tasks: Vec<TaskShown<'a>>,
-    pub namespaces: Vec<NamespaceShown>,
     pub groups: Vec<PeerLine>,
     /// The filesystems of attached mounts, in the order of their numbers.
     pub filesystems: IndexSet<FilesystemId>,
+    /// Whether an allocation failed, so that some are missing.
+    pub failed: bool,
+    // Where the mounts of each namespace begin.
+    starts: Vec<usize>,
 }
 
-impl TaskShown<'_> {
-    // Finds where its root, its directory and its open files are.
-    fn find(&mut self, places: &Places<'_>) -> Result<(), AllocError> {
-        self.root = places.place_of(self.task.root)?;
-        self.directory = places.place_of(self.task.directory)?;
-        for number in 0..=u8::MAX {
-            if let Some(file) = self.task.descriptors.get(number) {
-                self.files.push(OpenShown {
-                    number,
-                    access: file.access,
-                    place: places.place_of(file.location)?,
-                })?;
+impl Picture {
+    /// A picture without mounts.
+    pub fn new(alloc: Global) -> Self {
+        Picture {
+            mounts: Vec::new(alloc),
+            groups: Vec::new(alloc),
+            filesystems: IndexSet::new(alloc),
+            failed: false,
+            starts: Vec::new(alloc),
+        }
+    }
+
+    /// Adds the mounts of a world.
+    pub fn fill(&mut self, world: &World) {
+        self.failed |= self.add_all(world).is_err();
+    }
+
+    /// Nothing is left of it.
+    pub fn end(self) {}
+
+    // Adds the mounts of all namespaces, in the order in which those were made, and the peer groups.
+    fn add_all(&mut self, world: &World) -> Result<(), AllocError> {
+        let mut namespace: usize = 0;
+        for id in world.namespaces() {
+            namespace = namespace.saturating_add(1);
+            self.starts.push(self.mounts.len())?;
+            let mut place: usize = 0;
+            for mount in world.all_mounts().attached_in(*id) {
+                place = place.saturating_add(1);
+                self.add_mount(world, *mount, MountPlace { namespace, place })?;
             }
         }
+        self.groups = world.peers()?;
+        self.add_types();
         Ok(())
     }
-}
 
-// The number of a namespace, from 1.
-fn namespace_number(world: &World, id: NamespaceId) -> usize {
-    for (index, other) in world.namespaces().iter().enumerate() {
-        if *other == id {
-            return index.saturating_add(1);
-        }
-    }
-    1
-}
-
-impl<'a> Picture<'a> {
-    // The number of a filesystem, which is the next one where it is new.
-    fn filesystem(&mut self, id: FilesystemId) -> Result<usize, AllocError> {
-        self.filesystems.insert(id)?;
-        let index = self.filesystems.get_index_of(&id).unwrap_or_default();
-        Ok(index.saturating_add(1))
-    }
-
-    // Adds a mount to those of a namespace, if it is attached.
+    // Adds the mount at a place, without its peer group.
     fn add_mount(
         &mut self,
-        places: &Places<'_>,
-        groups: &GroupNumbers,
+        world: &World,
         id: MountId,
-        mounts: &mut Vec<MountShown>,
+        place: MountPlace,
     ) -> Result<(), AllocError> {
-        let (Some(place), Some(mount)) = (places.of(id), self.world.all_mounts().get(id)) else {
+        let Some(mount) = world.all_mounts().get(id) else {
             return Ok(());
         };
-        let parent = match mount.mount_point {
-            Some(point) => places.of(point.mount),
-            None => None,
-        };
-        let filesystem = self.filesystem(mount.root.filesystem)?;
-        let target = places.target(&mount)?;
-        mounts.push(MountShown {
+        let id = mount.root.filesystem;
+        self.filesystems.insert(id)?;
+        let index = self.filesystems.get_index_of(&id).unwrap_or_default();
+        self.mounts.push(MountShown {
             mount,
             place,
-            parent,
-            target,
-            filesystem,
-            is_overlay: self.world.store().is_overlay(mount.root.filesystem),
-            root: self.world.root_spot_of(&mount)?,
-            kind: groups.shown(mount.propagation),
+            parent: match mount.mount_point {
+                Some(point) => place_of(world, point.mount),
+                None => None,
+            },
+            target: target_of(world, &mount)?,
+            filesystem: index.saturating_add(1),
+            is_overlay: world.store().is_overlay(id),
+            root: root_of(world, &mount)?,
+            kind: match mount.propagation {
+                Propagation::Unbindable => TypeLine::Unbindable,
+                _ => TypeLine::Private,
+            },
         })?;
         Ok(())
     }
 
-    // Adds a namespace of this number, with its mounts.
-    fn add_namespace(
-        &mut self,
-        alloc: Global,
-        places: &Places<'_>,
-        groups: &GroupNumbers,
-        number: usize,
-        namespace: NamespaceId,
-    ) -> Result<(), AllocError> {
-        let mut mounts = Vec::new(alloc);
-        for id in self.world.all_mounts().attached_in(namespace) {
-            self.add_mount(places, groups, *id, &mut mounts)?;
-        }
-        self.namespaces.push(NamespaceShown { number, mounts })?;
-        Ok(())
-    }
-
-    // Adds the namespaces, in the order in which they were made.
-    fn add_namespaces(
-        &mut self,
-        alloc: Global,
-        places: &Places<'_>,
-        groups: &GroupNumbers,
-    ) -> Result<(), AllocError> {
-        for (index, id) in self.world.namespaces().iter().enumerate() {
-            self.add_namespace(alloc, places, groups, index.saturating_add(1), *id)?;
-        }
-        Ok(())
-    }
-
-    // Adds a task.
-    fn add_task(
-        &mut self,
-        alloc: Global,
-        places: &Places<'_>,
-        task: &'a Task,
-    ) -> Result<(), AllocError> {
-        let mut shown = TaskShown {
-            task,
-            namespace: namespace_number(self.world, task.namespace),
-            root: Place::Gone,
-            directory: Place::Gone,
-            files: Vec::new(alloc),
-        };
-        let found = shown.find(places);
-        self.tasks.push(shown)?;
-        found
-    }
-
-    // Adds the tasks, in the order in which they were forked.
-    fn add_tasks(&mut self, alloc: Global, places: &Places<'_>) -> Result<(), AllocError> {
-        for task in self.world.tasks().kept() {
-            self.add_task(alloc, places, task)?;
-        }
-        self.tasks.sort_by_key(|shown| shown.task.birth)?;
-        Ok(())
-    }
-
-    // Adds all that is shown by the places of mounts.
-    fn add_all(&mut self, alloc: Global, places: &Places<'_>) -> Result<(), AllocError> {
-        let groups = GroupNumbers::new(alloc, self.world, &self.groups)?;
-        let added = self.add_namespaces(alloc, places, &groups);
-        drop(groups);
-        added?;
-        self.add_tasks(alloc, places)
-    }
-}
-
-// A picture without tasks and namespaces.
-fn empty_picture<'a>(alloc: Global, world: &'a World) -> Result<Picture<'a>, AllocError> {
-    let groups = world.peers()?;
-    Ok(Picture {
-        world,
-        tasks: Vec::new(alloc),
-        namespaces: Vec::new(alloc),
-        groups,
-        filesystems: IndexSet::new(alloc),
-    })
-}
-
-// The picture by the places of mounts.
-fn picture_by<'a>(
-    alloc: Global,
-    world: &'a World,
-    places: &Places<'_>,
-) -> Result<Picture<'a>, AllocError> {
-    let mut picture = empty_picture(alloc, world)?;
-    match picture.add_all(alloc, places) {
-        Ok(()) => Ok(picture),
-        Err(_) => {
-            drop(picture);
-            Err(AllocError)
+    // Adds to each mount its peer group.
+    fn add_types(&mut self) {
+        for line in &self.groups {
+            let kind = TypeLine::Shared {
+                group: line.group,
+                master: line.master,
+            };
+            set_types(&mut self.mounts, &self.starts, &line.members, kind);
+            let kind = TypeLine::Slave { master: line.group };
+            set_types(&mut self.mounts, &self.starts, &line.slaves, kind);
         }
     }
-}
 
-/// What is shown of a world.
-pub fn picture_of<'a>(alloc: Global, world: &'a World) -> Result<Picture<'a>, AllocError> {
-    let places = Places::new(alloc, world)?;
-    let picture = picture_by(alloc, world, &places);
-    drop(places);
-    picture
-}
-
-impl Picture<'_> {
-    /// Keeps a task alone, with the mounts of its namespace and the peer groups that have one of them.
-    pub fn keep_task(&mut self, birth: u64, namespace: usize) {
-        self.tasks.retain(|shown| shown.task.birth == birth);
-        self.namespaces.retain(|shown| shown.number == namespace);
-        self.groups.retain(|line| is_in(line, namespace));
+    /// Keeps the mounts of a namespace alone, and the peer groups that have one of them.
+    pub fn keep(&mut self, namespace: usize) {
+        self.mounts
+            .retain(|shown| shown.place.namespace == namespace);
+        self.groups.retain(|line| {
+            has_one_in(&line.members, namespace) || has_one_in(&line.slaves, namespace)
+        });
     }
-}
 
-impl NamespaceShown {
-    // The first of its mounts that shows a filesystem.
-    fn mount_of(&self, id: FilesystemId) -> Option<&MountShown> {
+    /// The first mount that shows a filesystem.
+    pub fn mount_of(&self, id: FilesystemId) -> Option<&MountShown> {
         for shown in &self.mounts {
             if shown.mount.root.filesystem == id {
                 return Some(shown);
@@ -264,16 +149,38 @@ impl NamespaceShown {
         }
         None
     }
+
+    /// The number of a filesystem that a mount shows.
+    pub fn number_of(&self, id: FilesystemId) -> Option<usize> {
+        Some(self.mount_of(id)?.filesystem)
+    }
 }
 
-/// The first mount of these namespaces that shows a filesystem.
-pub fn mount_of(all: &[NamespaceShown], id: FilesystemId) -> Option<&MountShown> {
-    for namespace in all {
-        if let Some(shown) = namespace.mount_of(id) {
-            return Some(shown);
+/// The mounts of the first namespace of these, and the others.
+pub fn split_first(mounts: &[MountShown]) -> (&[MountShown], &[MountShown]) {
+    let mut namespace = 0;
+    let mut count: usize = 0;
+    for shown in mounts {
+        if count > 0 && shown.place.namespace != namespace {
+            break;
+        }
+        namespace = shown.place.namespace;
+        count = count.saturating_add(1);
+    }
+    let first = mounts.get(..count).unwrap_or_default();
+    (first, mounts.get(count..).unwrap_or_default())
+}
+
+// Sets the type of the mounts at these places.
+fn set_types(mounts: &mut [MountShown], starts: &[usize], places: &[MountPlace], kind: TypeLine) {
+    for at in places {
+        if let Some(start) = starts.get(at.namespace.saturating_sub(1)) {
+            let index = start.saturating_add(at.place.saturating_sub(1));
+            if let Some(shown) = mounts.get_mut(index) {
+                shown.kind = kind;
+            }
         }
     }
-    None
 }
 
 // Whether one of these mounts is in a namespace.
@@ -284,9 +191,4 @@ fn has_one_in(places: &[MountPlace], namespace: usize) -> bool {
         }
     }
     false
-}
-
-// Whether a mount of a namespace is a member or a slave of a peer group.
-fn is_in(line: &PeerLine, namespace: usize) -> bool {
-    has_one_in(&line.members, namespace) || has_one_in(&line.slaves, namespace)
 }

@@ -1,14 +1,22 @@
 //! A world shown, whole or of one task.
-use crate::picture::{Picture, picture_of};
-use crate::{dot, json, names, text};
+use crate::cells::{Cell, count_or_nothing, push_line};
+use crate::columns::Table;
+use crate::dot::push_graph;
+use crate::mounts::{push_mount_object, push_namespace};
+use crate::names;
+use crate::overlays::push_overlays;
+use crate::picture::{Picture, split_first};
+use crate::places::namespace_number;
+use crate::tasks::{push_task, push_task_object};
+use crate::trees::push_trees;
 use std::alloc::{AllocError, Global};
 use std::io::{self, Write};
 use vt_check::draft::Draft;
 use vt_ns::World;
-use vt_request::TaskName;
+use vt_tasks::Task;
 
 /// The form in which a world is written.
-#[derive(Clone, Copy, PartialEq, Eq)]
+#[derive(Clone, Copy)]
 pub enum Format {
     Text,
     Json,
@@ -27,66 +35,111 @@ pub struct Options<'a> {
 }
 
 // Whether a task has this name, as it is written.
-fn is_named(alloc: Global, task: &TaskName, name: &str) -> Result<bool, AllocError> {
+fn is_named(alloc: Global, task: &Task, name: &str) -> Result<bool, AllocError> {
     let mut text = Draft::new(alloc);
-    names::push_task(&mut text, task);
+    names::push_task(&mut text, &task.name);
     Ok(text.end()?.as_str() == name)
 }
 
-// Keeps the task of this name alone, and returns whether there is one.
-fn keep_task(alloc: Global, picture: &mut Picture<'_>, name: &str) -> Result<bool, AllocError> {
-    let mut kept = None;
-    for shown in &picture.tasks {
-        if is_named(alloc, &shown.task.name, name)? {
-            kept = Some((shown.task.birth, shown.namespace));
+// The tasks in the order in which they were forked: all, or the one of this name.
+fn tasks_shown<'a>(
+    alloc: Global,
+    world: &'a World,
+    name: Option<&str>,
+) -> Result<Vec<&'a Task>, AllocError> {
+    let mut tasks = Vec::new(alloc);
+    for task in world.tasks().kept() {
+        let is_shown = match name {
+            Some(name) => is_named(alloc, task, name)?,
+            None => true,
+        };
+        if is_shown {
+            tasks.push(task)?;
         }
     }
-    let Some((birth, namespace)) = kept else {
-        return Ok(false);
-    };
-    picture.keep_task(birth, namespace);
-    Ok(true)
+    tasks.sort_by_key(|task| task.birth)?;
+    Ok(tasks)
 }
 
-// What is written of a world.
+// Appends the peer groups as a table, if there are any.
+fn push_groups(alloc: Global, text: &mut Draft, picture: &Picture) {
+    if picture.groups.is_empty() {
+        return;
+    }
+    text.push("\nPEER GROUPS");
+    let mut table = Table::new(alloc, &["GROUP", "MASTER", "MEMBERS", "SLAVES"]);
+    for line in &picture.groups {
+        table.add_row(&[
+            Cell::Count(line.group),
+            count_or_nothing(line.master),
+            Cell::Mounts(&line.members),
+            Cell::Mounts(&line.slaves),
+        ]);
+    }
+    table.write(text);
+}
+
+// Appends a world as text, without the trees of its filesystems.
+fn push_world(text: &mut Draft, world: &World, tasks: &[&Task], picture: &Picture) {
+    for task in tasks {
+        push_task(world, text, *task);
+    }
+    let mut rest = picture.mounts.as_slice();
+    for _ in &picture.mounts {
+        let (mounts, after) = split_first(rest);
+        push_namespace(world, text, mounts);
+        rest = after;
+    }
+    push_overlays(text, world, picture, false);
+    push_groups(world.alloc(), text, picture);
+}
+
+// Appends a world as objects of JSON, without the trees of its filesystems.
+fn push_objects(text: &mut Draft, world: &World, tasks: &[&Task], picture: &Picture) {
+    let alloc = world.alloc();
+    for task in tasks {
+        push_task_object(world, text, *task);
+    }
+    for shown in &picture.mounts {
+        push_mount_object(alloc, text, shown);
+    }
+    push_overlays(text, world, picture, true);
+    for line in &picture.groups {
+        let cells = [
+            count_or_nothing(line.master),
+            Cell::Mounts(&line.members),
+            Cell::Count(line.group),
+            Cell::Mounts(&line.slaves),
+        ];
+        let members = ["master", "members", "peers", "slaves"];
+        push_line(alloc, text, &members, &cells);
+    }
+}
+
+// What is written of these tasks and of a picture, of which the namespace of one of them is kept alone if it is named.
 fn written(
-    alloc: Global,
-    picture: &Picture<'_>,
-    options: Options<'_>,
-) -> Result<String, AllocError> {
-    let mut text = Draft::new(alloc);
-    match options.format {
-        Format::Text => text::push_shown(alloc, &mut text, picture, options.files),
-        Format::Json => json::push_shown(alloc, &mut text, picture, options.files),
-        Format::Dot => dot::push_shown(&mut text, picture),
-    }
-    text.end()
-}
-
-// What is written of a picture, of which a task is kept alone if one is named; nothing where there is no such task.
-fn written_of(
-    alloc: Global,
-    picture: &mut Picture<'_>,
-    options: Options<'_>,
-) -> Result<Option<String>, AllocError> {
-    if let Some(name) = options.task {
-        if !keep_task(alloc, picture, name)? {
-            return Ok(None);
-        }
-    }
-    Ok(Some(written(alloc, picture, options)?))
-}
-
-// What is written of a world, or nothing where there is no such task.
-fn text_of(
-    alloc: Global,
     world: &World,
     options: Options<'_>,
-) -> Result<Option<String>, AllocError> {
-    let mut picture = picture_of(alloc, world)?;
-    let text = written_of(alloc, &mut picture, options);
-    drop(picture);
-    text
+    tasks: &[&Task],
+    picture: &mut Picture,
+) -> Result<String, AllocError> {
+    if let (Some(_), Some(task)) = (options.task, tasks.first()) {
+        picture.keep(namespace_number(world, task.namespace));
+    }
+    let mut text = Draft::new(world.alloc());
+    if picture.failed {
+        text.fail();
+    }
+    match options.format {
+        Format::Text => push_world(&mut text, world, tasks, picture),
+        Format::Json => push_objects(&mut text, world, tasks, picture),
+        Format::Dot => push_graph(&mut text, picture),
+    }
+    if options.files && !matches!(options.format, Format::Dot) {
+        let as_objects = matches!(options.format, Format::Json);
+        push_trees(&mut text, world, picture, as_objects);
+    }
+    text.end()
 }
 
 /// Writes a world, and returns whether there is such a task; where there is none, nothing is written.
@@ -96,11 +149,14 @@ pub fn show<W: Write>(
     options: Options<'_>,
     output: &mut W,
 ) -> io::Result<bool> {
-    match text_of(alloc, world, options)? {
-        Some(text) => {
-            output.write_all(text.as_bytes())?;
-            Ok(true)
-        }
-        None => Ok(false),
+    let tasks = tasks_shown(alloc, world, options.task)?;
+    if options.task.is_some() && tasks.is_empty() {
+        return Ok(false);
     }
+    let mut picture = Picture::new(alloc);
+    picture.fill(world);
+    let text = written(world, options, &tasks, &mut picture);
+    picture.end();
+    output.write_all(text?.as_bytes())?;
+    Ok(true)
 }
