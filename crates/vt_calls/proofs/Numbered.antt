@@ -81,9 +81,9 @@ ends_seen seen old new is held name call result it kept =
     (ends_numbered seen held name call new result it kept)
 
 -- a call that was done owes nothing of a world that was kept
-pub kept_where_done : {T E : Type 0} {A : Type 0} (result : Result T E) → is_ok result ≡ true → OnErr result A
-kept_where_done (Ok t) done = tt
-kept_where_done (Err e) done = absurd cc
+pub kept_where_done : {T E : Type 0} (A : Type 0) (result : Result T E) → is_ok result ≡ true → OnErr result A
+kept_where_done A (Ok t) done = tt
+kept_where_done A (Err e) done = absurd cc
 
 pub kept_always : {T E : Type 0} {A : Type 0} (result : Result T E) → A → OnErr result A
 kept_always (Ok t) kept = tt

@@ -50,6 +50,7 @@ impl From<ReadError> for Deny {
 
 /// The words of a call that has a path alone.
 #[tactic(auto, unfolding(crate::specs::Calls::lone_path))]
+#[inline(always)]
 fn lone_path<'a>(words: &mut Words<'a>) -> Option<&'a [u8]>
     ensures { option_map (λ path. path.now) result ≡ lone_path words.old }
 {

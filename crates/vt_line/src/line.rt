@@ -181,6 +181,7 @@ impl<'a> Line<'a> {
     /// Its paths and texts are lent: from `line`, or from `texts` where they have escapes. Refused by S1 where it is too
     /// long or not of the grammar, whatever memory there is, and by S5 where there is none for what the line's request
     /// keeps. A line without an answer does not allocate.
+    #[inline(always)]
     pub fn parse_as(
         version: Version,
         alloc: Global,

@@ -15,6 +15,7 @@ use vt_request::{Access, Call, Creation, DescriptorCall, LookCall, MakeCall, Wri
 use vt_spec::attributes::Mode;
 
 /// The words of `write PATH BYTES`.
+#[inline(always)]
 fn write_words<'a>(words: &mut Words<'a>) -> Option<(&'a [u8], &'a [u8])>
     ensures { option_map (λ w. Write w.0.now w.1.now) result ≡ call_worded One CallName.Write words.old }
 {

@@ -11,7 +11,7 @@ returns-then-is_ok-clause-ends c =
     let new : KernelValue = record { world = c.judged_call-answer.new.world; change = c.change_after-after.result } in
     ends_seen (the_view c.self.inside) _ new c.self.view_is c.judged_call-answer.ensures.held c.args.name.now (call_of c.args.call)
     c.judged_call-answer.result c.judged_call-answer.ensures.ends
-    (kept_where_done c.judged_call-answer.result (sym c.is_ok.ensures.value ∙ c.if-is_ok.true))
+    (kept_where_done _ c.judged_call-answer.result (sym c.is_ok.ensures.value ∙ c.if-is_ok.true))
 
 pub returns-clause-ends : goal.returns-clause-ends
 returns-clause-ends c =
