@@ -50,6 +50,7 @@ impl Calls for Kernel {
         })
     }
 
+    #[inline(always)]
     fn call(&mut self, name: &TaskName, call: Call<'_>) -> Result<Answer, Deny> {
         let after = change_after(&call, self.change);
         // By `?` the answer would be moved more often.
