@@ -11,7 +11,7 @@ use Rattle.vt_laws_mounts.specs.Mounts.Ending.{count_in, is_in}
 -- of mounts of two lists
 pub count-append : (one other : List (Mount ℕ)) (namespace : ℕ)
     → count_in (one ++ other) namespace ≡ count_in one namespace + count_in other namespace
-count-append one other namespace = ap length (filter-append (is_in namespace) one other)
+count-append one other namespace = ap length (filter-append _ one other)
     ∙ length-append (filter (is_in namespace) one) (filter (is_in namespace) other)
 
 -- of a first mount and the others
@@ -68,7 +68,7 @@ put_nowhere : (mounts : List (Mount ℕ)) (new : Mount ℕ)
     → with_mount nat_eq mounts new ≡ mounts
 put_nowhere [] new none = refl
 put_nowhere (mount ∷ rest) new none =
-    let parts = or_parts (nat_eq new.number mount.number) _ none in
+    let parts = or_parts _ _ none in
     λ i. cond (parts.0 i) new mount ∷ put_nowhere rest new parts.1 i
 
 -- one mount in the place of another of its number
@@ -78,8 +78,8 @@ module _ (new : Mount ℕ) (namespace : ℕ) where
       (mount_in nat_eq mounts new.number ∷ []) namespace ≡ count_in mounts namespace + count_in (new ∷ []) namespace
   one_counted [] own there = absurd (true≢false (sym there))
   one_counted (mount ∷ rest) own there =
-      let parts = or_parts (list_any (λ (other : Mount ℕ). nat_eq mount.number other.number) rest) _ own in
-      by (nat_eq new.number mount.number) refl parts.0 (λ later. one_counted rest parts.1 later) there
+      let parts = or_parts _ _ own in
+      by _ refl parts.0 (λ later. one_counted rest parts.1 later) there
     where
       by : (b : Bool) → nat_eq new.number mount.number ≡ b
           → list_any (λ (other : Mount ℕ). nat_eq mount.number other.number) rest ≡ false
@@ -201,8 +201,7 @@ module _ (world : World ℕ) (place : Location ℕ) where
     pushed_counted : (list : List (Mount ℕ)) (namespace : ℕ)
         → count_in (map (pushed_up nat_eq world new graft parts) list) namespace ≡ count_in list namespace
     pushed_counted list namespace =
-        count-map (pushed_up nat_eq world new graft parts) (λ (mount : Mount ℕ). mount) pushed_stays list namespace
-        ∙ ap (λ all. count_in all namespace) (map_same_mounts list)
+        count-map _ _ pushed_stays list _ ∙ ap (λ all. count_in all namespace) (map_same_mounts list)
 
     -- the copies at a part are in its namespace
     copies_counted : (namespace : ℕ) (part : Mount ℕ) → count_in (copies_at nat_eq world new graft parts part) namespace
@@ -216,8 +215,7 @@ module _ (world : World ℕ) (place : Location ℕ) where
     rest_counted : (namespace : ℕ) (rest : List (Mount ℕ))
         → count_in (flat_map (copies_at nat_eq world new graft parts) rest) namespace
         ≡ count_in rest namespace * length tree
-    rest_counted namespace rest = count-flat (copies_at nat_eq world new graft parts) (length tree) namespace
-        (copies_counted namespace) rest
+    rest_counted namespace rest = count-flat _ _ _ (copies_counted _) rest
 
   -- Copies
 
@@ -255,7 +253,7 @@ module _ (world : World ℕ) (place : Location ℕ) where
     -- a mount that moves keeps its number
     keeps_number : (mount : Mount ℕ) → (there_now mount).number ≡ mount.number
     keeps_number mount = ap (λ b. cond b mount.number (new.copy (mount_at nat_eq world place).number mount.number))
-        (eq-eqb (mount_at nat_eq world place).number place.mount (number-mount_in world.mounts place.mount))
+        (eq-eqb (mount_at nat_eq world place).number place.mount (number-mount_in _ _))
 
     -- at the destination the mounts themselves come
     come : copies_at nat_eq world new (graft new true tree) parts (mount_at nat_eq world place) ≡ map there_now tree
@@ -298,7 +296,7 @@ module _ (world : World ℕ) (place : Location ℕ) where
             → list_any (λ (other : Mount ℕ). nat_eq mount.number other.number) list ≡ false
         none_has [] none = refl
         none_has (other ∷ list) none =
-            let parts = or_parts (nat_eq mount.number other.number) _ none in
+            let parts = or_parts _ _ none in
             λ i. parts.0 i || none_has list parts.1 i
 
     module _ (own : OneNumberAMount world.mounts) (apart : OneNumberAMount tree)

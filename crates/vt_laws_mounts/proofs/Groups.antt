@@ -10,7 +10,7 @@ module _ (world : World ℕ) where
   -- who is a member of a group stays one, and no other becomes one
   pub group-inherited : (kind : Propagation ℕ) → group_of (inherited nat_eq world kind) ≡ group_of kind
   group-inherited (Shared group) = refl
-  group-inherited (Slave above) = no_group_of_heir (heir nat_eq world (Some above))
+  group-inherited (Slave above) = no_group_of_heir _
   group-inherited Private = refl
   group-inherited Unbindable = refl
 

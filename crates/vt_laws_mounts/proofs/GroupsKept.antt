@@ -1,13 +1,13 @@
 -- Groups live on through changes of mounts.
 use Rattle.std.proofs.Common.{arith, ◌≡◌, refl, sym, ap, subst, ◌∙◌, true, false, Bool, List, None, Option, Some, [], eq-eqb, eqb-true, filter, find, is_some, length, map, not, true≢false, ℕ, ⊎_elim, ◌++◌, ◌||◌, ◌∷◌, nat_eq, if◌then◌else◌}
-use Rattle.vt_spec.proofs.Common.{Among, Lives, Mount, Private, Propagation, Shared, Slave, Unbindable, World, after_going, among-append, among-append_left, among-filter, among-from_filter, among-from_map, among-map, among_from_list_all, and-false, any_among, any_from_among, common_steps, copied_mount, deepest_first, evens, folded, going, group_of, groups_up, has_master, has_members, has_no_master, head_among, heir, holds_of, inherited, inheriting, is_among, is_going, is_in_ended, is_lost_group, is_member_of, is_nowhere_or_attached, list_any, lost_a_group, mount_at, mount_lives, mount_numbered, mount_tree, mounts_of, none_among, not-false, number-mount_in, numbers_by, odds, or_parts, pivoted, pivoted_mount, regrouped, regrouped_by, replaced_if_same, same_Some, settled, slave_of_heir, source_of, tail_among, then_some, unmounted, unmounted_if_there, unshared, with_flags, with_mount}
+use Rattle.vt_spec.proofs.Common.{Among, Lives, Mount, Private, Propagation, Shared, Slave, Unbindable, World, after_going, among-append, among-append_left, among-filter, among-from_filter, among-from_map, among-map, among_from_list_all, and-false, any_among, any_from_among, common_steps, copied_mount, deepest_first, evens, folded, going, group_of, groups_up, has_master, has_members, has_no_master, head_among, heir, holds_of, inherited, is_among, is_going, is_in_ended, is_lost_group, is_member_of, is_nowhere_or_attached, list_any, lost_a_group, mount_at, mount_lives, mount_numbered, mount_tree, mounts_of, none_among, not-false, number-mount_in, numbers_by, odds, or_parts, pivoted, pivoted_mount, regrouped, regrouped_by, replaced_if_same, same_Some, settled, slave_of_heir, source_of, tail_among, then_some, unmounted, unmounted_if_there, unshared, with_flags, with_mount}
 use Rattle.vt_laws_mounts.proofs.GroupsUp.{EndsUp, LivesIn, Up, groups_live_by, lives_in, way_up}
 use Rattle.vt_laws_mounts.proofs.GroupsUp.EndsUp.{at_top, goes_up}
 use Rattle.vt_laws_mounts.proofs.GroupsUp.Up.{above, here}
 use Rattle.vt_laws_mounts.specs.Mounts.Receivers.{GroupsLive}
 use Rattle.vt_laws_mounts.specs.Mounts.Invariants.{KeptByEndedNamespaces, KeptByInheritance, KeptByLazyUnmount, KeptByPivot, KeptByTakingAway, KeptByUnmount, KeptByUnshare, SettlingKeepsGroups, FlagsKeepGroups}
 use Rattle.vt_laws_mounts.proofs.mounts.MountsReplaced.{found_itself, replaced_elsewhere, replaced_there}
-use Rattle.vt_laws_mounts.proofs.ends.Unmounting.{going_is_detached, middle, staying_is_placed}
+use Rattle.vt_laws_mounts.proofs.ends.Unmounting.{going_is_detached, staying_is_placed}
 use Rattle.vt_laws_mounts.proofs.Groups.{members-inherited}
 
 -- what is found passes, and is there
@@ -61,8 +61,7 @@ module _ (world : World ℕ) where
   inherits_live group (at_top it e) other (here same) has = has_no_master same has (ap (heir nat_eq world) e)
   inherits_live group (at_top it e) other (above same next end f way) has =
       absurd (true≢false (sym (ap is_some f) ∙ ap is_some e))
-  inherits_live group (goes_up it next e rest) other (here same) has =
-      by (heir nat_eq world (Some next)) refl (inherits_live next rest)
+  inherits_live group (goes_up it next e rest) other (here same) has = by _ refl (inherits_live next rest)
     where
       by : (found : Option ℕ) → heir nat_eq world (Some next) ≡ found
           → ((o : ℕ) → Up world.master next o → members o ≡ true → Lives members inherited_master o)
@@ -83,7 +82,7 @@ module _ (world : World ℕ) where
     where
       kept : not (members next) ≡ false
       kept =
-          let member = any_among (is_member_of nat_eq it) world.mounts has in
+          let member = any_among _ _ has in
           let shared = member_shared it member.0 member.2 in
           sym (ap (is_lost_group nat_eq world) (ap (λ k. then_some (source_of k) world.master) shared ∙ e))
           ∙ (or_parts (is_lost_group nat_eq world (source_of member.0.propagation))
@@ -92,16 +91,15 @@ module _ (world : World ℕ) where
 
   pub regrouped_live : ((mount : Mount ℕ) → Among mount world.mounts → (source : ℕ)
       → source_of mount.propagation ≡ Some source → EndsUp world.master source) → GroupsLive (regrouped nat_eq world)
-  regrouped_live ends = by (list_any (lost_a_group nat_eq world) world.mounts) refl
+  regrouped_live ends = by _ refl
     where
       source_lives : (mount : Mount ℕ) → Among mount world.mounts → (kind : Propagation ℕ) → mount.propagation ≡ kind
           → (source : ℕ) → source_of (inherited nat_eq world kind) ≡ Some source → Lives members inherited_master source
       source_lives mount m (Shared group) e source f =
           let same : group ≡ source = same_Some group source f in
-          subst (Lives members inherited_master) same
-          (inherits_live group (ends mount m group (ap source_of e)) group (here group)
-          (any_from_among (is_member_of nat_eq group) world.mounts mount m (shared_member group mount e)))
-      source_lives mount m (Slave first) e source f = slave (heir nat_eq world (Some first)) refl f
+          subst (Lives members inherited_master) same (inherits_live group (ends mount m group (ap source_of e)) group
+          (here group) (any_from_among _ _ mount m (shared_member group mount e)))
+      source_lives mount m (Slave first) e source f = slave _ refl f
         where
           slave : (found : Option ℕ) → heir nat_eq world (Some first) ≡ found
               → source_of (slave_of_heir (heir nat_eq world (Some first))) ≡ Some source
@@ -117,13 +115,11 @@ module _ (world : World ℕ) where
 
       by : (b : Bool) → list_any (lost_a_group nat_eq world) world.mounts ≡ b → GroupsLive (regrouped_by nat_eq b world)
       by true e = groups_live_by (regrouped_by nat_eq true world) (λ mount m source f.
-          let from = among-from_map (inheriting nat_eq world) world.mounts mount m in
-          lives_weaker members (has_members nat_eq (map (inheriting nat_eq world) world.mounts)) inherited_master
-          (λ group has. members-inherited world world.mounts group ∙ has) source
-          (source_lives from.0 from.1 from.0.propagation refl source
-          (sym (ap (λ x. source_of x.propagation) from.2) ∙ f)))
+          let from = among-from_map _ _ mount m in
+          lives_weaker _ _ _ (λ group has. members-inherited world world.mounts group ∙ has) source
+          (source_lives from.0 from.1 _ refl source (sym (ap (λ x. source_of x.propagation) from.2) ∙ f)))
       by false e = groups_live_by world (λ mount m source f.
-          let unlost = none_among (lost_a_group nat_eq world) world.mounts e in
+          let unlost = none_among _ _ e in
           lives_unlost unlost source (ends mount m source f)
           (not-false _ (sym (ap (is_lost_group nat_eq world) f) ∙ (or_parts _ _ (unlost mount m)).0)))
 
@@ -131,17 +127,16 @@ module _ (world : World ℕ) where
 masters_end_in : (world : World ℕ) → GroupsLive world → (mount : Mount ℕ) → Among mount world.mounts → (source : ℕ)
     → source_of mount.propagation ≡ Some source → EndsUp world.master source
 masters_end_in world live mount m source e =
-    lives_end (has_members nat_eq world.mounts) world.master world.master (λ group has. refl) source
-    (lives_in world live mount m source e)
+    lives_end _ _ _ (λ group has. refl) source (lives_in world live mount m source e)
 
 pub inheritance_keeps_groups : KeptByInheritance GroupsLive
 inheritance_keeps_groups world live = regrouped_live world (masters_end_in world live)
 
 pub taking_away_keeps_groups : KeptByTakingAway GroupsLive
-taking_away_keeps_groups world gone live = regrouped_live (middle world gone) (λ mount m source e.
-    let from = among-from_map (after_going nat_eq world gone) world.mounts mount m in
+taking_away_keeps_groups world gone live = regrouped_live _ (λ mount m source e.
+    let from = among-from_map _ _ mount m in
     masters_end_in world live from.0 from.1 source
-    (by from.0 (is_going nat_eq gone from.0.number) refl source (sym (ap (λ x. source_of x.propagation) from.2) ∙ e)))
+    (by from.0 _ refl source (sym (ap (λ x. source_of x.propagation) from.2) ∙ e)))
   where
     by : (mount : Mount ℕ) (b : Bool) → is_going nat_eq gone mount.number ≡ b → (source : ℕ)
         → source_of (after_going nat_eq world gone mount).propagation ≡ Some source
@@ -161,8 +156,7 @@ ended_namespaces_keep_groups world live =
 lazy_keeps : (mounts : List (Mount ℕ)) (world : World ℕ) → GroupsLive world
     → GroupsLive (folded (unmounted_if_there nat_eq) world mounts)
 lazy_keeps [] world live = live
-lazy_keeps (mount ∷ mounts) world live = lazy_keeps mounts (unmounted_if_there nat_eq world mount)
-    (by (is_some (mount_numbered nat_eq world mount.number).namespace))
+lazy_keeps (mount ∷ mounts) world live = lazy_keeps mounts _ (by _)
   where
     by : (b : Bool) → GroupsLive (if b then unmounted nat_eq world mount.number else world)
     by true = unmount_keeps_groups world mount.number live
@@ -216,8 +210,7 @@ lives_with_members : (members : ℕ → Bool) (master : ℕ → Option ℕ) (gro
 lives_with_members members master group (has_no_master it has f) =
     has_no_master it has (ap (λ b. if b then master it else None) has ∙ f)
 lives_with_members members master group (has_master it next has f later) =
-    has_master it next has (ap (λ b. if b then master it else None) has ∙ f)
-    (lives_with_members members master next later)
+    has_master it next has (ap (λ b. if b then master it else None) has ∙ f) (lives_with_members _ master next later)
 
 pub settling_keeps_groups : SettlingKeepsGroups
 settling_keeps_groups world nowhere live = groups_live_by (settled nat_eq world) (λ mount m source e.

@@ -46,9 +46,7 @@ module _ (group : ℕ → ℕ) where
       )) (λ l.
       let t =
       new_for_one (with_master nat_eq master (group first.number) (master_after first.propagation)) rest mount l in
-      (t.0, inr t.1, t.2, t.3)) m) (λ t. (t.0, inr t.1, t.2, t.3))
-      (new_or_old (with_master nat_eq master (group first.number) (master_after first.propagation)) rest
-      (group mount.number))
+      (t.0, inr t.1, t.2, t.3)) m) (λ t. (t.0, inr t.1, t.2, t.3)) (new_or_old _ rest _)
 
 module _ (world : World ℕ) (group : ℕ → ℕ) (word : TypeWord) (named : List (Mount ℕ)) (live : GroupsLive world)
     (none : (number : ℕ) → has_members nat_eq world.mounts (group number) ≡ false)
@@ -59,9 +57,7 @@ module _ (world : World ℕ) (group : ℕ → ℕ) (word : TypeWord) (named : Li
 
   other_master : (one : ℕ) → has_members nat_eq world.mounts one ≡ true → after_all one ≡ world.master one
   unfolding IsNewMaster
-  other_master one has = ⊎_elim (λ kept. kept)
-      (λ t. absurd (cc (t.2, none t.0.number)))
-      (new_or_old group world.master named one)
+  other_master one has = ⊎_elim (λ kept. kept) (λ t. absurd (cc (t.2, none t.0.number))) (new_or_old group _ named one)
 
   still_ends : (one : ℕ) → LivesIn world one → EndsUp after_all one
   still_ends one (has_no_master it has e) = at_top it (other_master it has ∙ e)
@@ -70,8 +66,8 @@ module _ (world : World ℕ) (group : ℕ → ℕ) (word : TypeWord) (named : Li
   new_ends : (mount : Mount ℕ) → Among mount named → EndsUp after_all (group mount.number)
   unfolding IsNewMaster
   new_ends mount m =
-      let t = new_for_one group world.master named mount m in
-      by t.0 t.1 t.0.propagation refl t.3
+      let t = new_for_one group _ named mount m in
+      by t.0 t.1 _ refl t.3
     where
       by : (x : Mount ℕ) → Among x named → (kind : Propagation ℕ) → x.propagation ≡ kind
           → after_all (group mount.number) ≡ master_after x.propagation → EndsUp after_all (group mount.number)

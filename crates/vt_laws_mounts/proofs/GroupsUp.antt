@@ -26,14 +26,14 @@ module _ (master : ℕ → Option ℕ) where
 
   pub way_up : (n source group : ℕ) → is_among nat_eq group (chain n master source) ≡ true → Up master source group
   way_up n source group h =
-      along_chain master (Up master source) (λ g lower e way. snoc source lower g way e) n source group (here source) h
+      along_chain master _ (λ g lower e way. snoc source lower g way e) n source group (here source) h
 
   module _ (members : ℕ → Bool) where
     pub lives_by_chain : (n group : ℕ) → list_all members (chain n master group) ≡ true
         → is_some (master (last_or group (chain n master group))) ≡ false → Lives members master group
     lives_by_chain zero group all e =
-        has_no_master group (and_parts (members group) true all).0 (none_from_not_some (master group) e)
-    lives_by_chain (suc n) group all e = by (master group) refl (lives_by_chain n)
+        has_no_master group (and_parts (members group) true all).0 (none_from_not_some _ e)
+    lives_by_chain (suc n) group all e = by _ refl (lives_by_chain n)
       where
         by : (found : Option ℕ) → master group ≡ found → ((next : ℕ) → list_all members (chain n master next) ≡ true
             → is_some (master (last_or next (chain n master next))) ≡ false → Lives members master next)
@@ -168,13 +168,12 @@ pub lives_in : (world : World ℕ) → GroupsLive world → (mount : Mount ℕ) 
     → source_of mount.propagation ≡ Some source → LivesIn world source
 lives_in world live mount m source e =
     let t = groups_live_at world live mount m source e in
-    lives_by_chain world.master (has_members nat_eq world.mounts) (length world.mounts) source t.0 (not-true _ t.1)
+    lives_by_chain _ _ _ source t.0 (not-true _ t.1)
 
 pub groups_live_by : (world : World ℕ)
     → ((mount : Mount ℕ) → Among mount world.mounts → (source : ℕ) → source_of mount.propagation ≡ Some source
     → LivesIn world source) → GroupsLive world
-groups_live_by world lives = list_all_from_among (has_living_groups nat_eq world) world.mounts
-    (λ mount m. by mount m (source_of mount.propagation) refl)
+groups_live_by world lives = list_all_from_among _ _ (λ mount m. by mount m _ refl)
   where
     one : (source : ℕ) → LivesIn world source
         → (list_all (has_members nat_eq world.mounts) (groups_up world source) && masters_end nat_eq world source)
@@ -182,8 +181,7 @@ groups_live_by world lives = list_all_from_among (has_living_groups nat_eq world
     one source life =
         let members = has_members nat_eq world.mounts in
         let few : length (way world.master members source life) ≤ length world.mounts =
-        fewer_groups (way world.master members source life) world.mounts (way_apart world.master members source life)
-        (way_members world.master members source life) in
+        fewer_groups _ _ (way_apart _ _ source life) (way_members _ _ source life) in
         grind (arith, common_steps, and_from, all_on_way, ends_within)
 
     by : (mount : Mount ℕ) → Among mount world.mounts → (found : Option ℕ) → source_of mount.propagation ≡ found

@@ -79,9 +79,9 @@ module _ {world : World ℕ} {new : Copies ℕ} (place : Location ℕ) (moves : 
       has_master it next (stay it has) (old_master place moves serve own it has ∙ e) (still_lives next later)
 
   destination_lives : (source : ℕ) → source_of destination.propagation ≡ Some source → LivesIn world source
-  destination_lives source e = ⊎_elim (λ there. lives_in world live destination there source e)
+  destination_lives source e = ⊎_elim (λ there. lives_in world live _ there source e)
       (λ none. absurd (true≢false (sym (ap is_some e) ∙ ap (λ (x : Mount ℕ). is_some (source_of x.propagation)) none)))
-      (found_or_none world.mounts place.mount)
+      (found_or_none _ _)
 
   part_lives : (part : Mount ℕ) → Among part parts → (source : ℕ) → source_of part.propagation ≡ Some source
       → LivesIn world source
@@ -114,30 +114,30 @@ module _ {world : World ℕ} {new : Copies ℕ} (place : Location ℕ) (moves : 
       → kind_at world new place moves mounts part origin ≡ Shared group → has_members nat_eq after.mounts group ≡ true
   has_copy part origin m n group e =
       let copy = copied part origin m n in
-      any_from_among (is_member_of nat_eq group) after.mounts copy.0 copy.1 (shared_member group copy.0 (copy.2 ∙ e))
+      any_from_among _ _ copy.0 copy.1 (shared_member group copy.0 (copy.2 ∙ e))
 
   -- the image of the destination's group lives: a group that the mount is in, or a new one, below the master of a slave
   lives_there : (group : ℕ) → group_of destination.propagation ≡ Some group → (origin : Mount ℕ)
       → Among origin mounts → LivesIn after (image_of origin group)
-  lives_there group e origin m = subst (LivesIn after) (sym (image_in origin group e)) (by origin.propagation refl)
+  lives_there group e origin m = subst (LivesIn after) (sym (image_in origin group e)) (by _ refl)
     where
       member : (kind : Propagation ℕ) → origin.propagation ≡ kind
           → type_on_shared (new.image group origin.number) kind ≡ Shared (new.image group origin.number)
           → has_members nat_eq after.mounts (new.image group origin.number) ≡ true
-      member kind f is = has_copy destination origin (inl refl) m (new.image group origin.number)
+      member kind f is = has_copy _ origin (inl refl) m _
           (there destination origin (at_destination place moves serve own)
           ∙ twig_in origin group e ∙ ap (type_on_shared (new.image group origin.number)) f ∙ is)
 
       by : (kind : Propagation ℕ) → origin.propagation ≡ kind → LivesIn after
           (unwrap_or (group_of (type_on_shared (new.image group origin.number) kind)) (new.image group origin.number))
       by (Shared one) f = still_lives one (sourced origin m one (ap source_of f))
-      by (Slave master) f = has_master (new.image group origin.number) master (member (Slave master) f refl)
-          (master_there place moves serve own origin m group e (Slave master) f refl)
+      by (Slave master) f = has_master (new.image group origin.number) master (member _ f refl)
+          (master_there place moves serve own origin m group e _ f refl)
           (still_lives master (sourced origin m master (ap source_of f)))
-      by Private f = has_no_master (new.image group origin.number) (member Private f refl)
-          (master_there place moves serve own origin m group e Private f refl)
-      by Unbindable f = has_no_master (new.image group origin.number) (member Unbindable f refl)
-          (master_there place moves serve own origin m group e Unbindable f refl)
+      by Private f = has_no_master (new.image group origin.number) (member _ f refl)
+          (master_there place moves serve own origin m group e _ f refl)
+      by Unbindable f = has_no_master (new.image group origin.number) (member _ f refl)
+          (master_there place moves serve own origin m group e _ f refl)
 
   -- the image of another group does where those of the groups up its masters do
   abbrev HigherLive : ℕ → Mount ℕ → Type 0
@@ -196,14 +196,13 @@ module _ {world : World ℕ} {new : Copies ℕ} (place : Location ℕ) (moves : 
   -- what a copy hears of lives
   copy_lives : (part origin : Mount ℕ) → Among part parts → Among origin mounts → (source : ℕ)
       → source_of (kind_at world new place moves mounts part origin) ≡ Some source → LivesIn after source
-  copy_lives part origin m n source e = by (is_destination nat_eq tree part.number) refl
+  copy_lives part origin m n source e = by _ refl
     where
       of_twig : (found : Option ℕ) → group_of destination.propagation ≡ found
           → source_of (twig origin).propagation ≡ Some source → LivesIn after source
       of_twig None g h =
           still_lives source (sourced origin n source (sym (ap (λ o. source_of (type_at new o origin)) g) ∙ h))
-      of_twig (Some group) g h = subst (LivesIn after) (image_in origin group g
-          ∙ shared_source (new.image group origin.number) origin.propagation source
+      of_twig (Some group) g h = subst (LivesIn after) (image_in origin group g ∙ shared_source _ _ source
           (sym (ap source_of (twig_in origin group g)) ∙ h)) (lives_there group g origin n)
 
       of_slave : (master : ℕ) → part.propagation ≡ Slave master
@@ -213,23 +212,22 @@ module _ {world : World ℕ} {new : Copies ℕ} (place : Location ℕ) (moves : 
           ∙ ap (λ o. is_some (source_of (slave_of_heir (option_map (image_of origin) o)))) g))
       of_slave master f h (Some other) g =
           let t = found_passes (has_members nat_eq parts) (groups_up world master) other g in
-          subst (LivesIn after) (same_Some (image_of origin other) source
-          (sym (ap (λ o. source_of (slave_of_heir (option_map (image_of origin) o))) g) ∙ h))
-          (image_lives master (part_lives part m master (ap source_of f)) other
-          (way_up world.master (length world.mounts) master other t.1) t.0 origin n)
+          subst (LivesIn after) (same_Some _ source (sym (ap (λ o. source_of
+          (slave_of_heir (option_map (image_of origin) o))) g) ∙ h)) (image_lives master
+          (part_lives part m master (ap source_of f)) other (way_up _ _ master other t.1) t.0 origin n)
 
       of_copy : (kind : Propagation ℕ) → part.propagation ≡ kind
           → source_of (kind_elsewhere origin kind) ≡ Some source → LivesIn after source
-      of_copy (Shared group) f h = subst (LivesIn after) (same_Some (image_of origin group) source h)
+      of_copy (Shared group) f h = subst (LivesIn after) (same_Some _ source h)
           (image_lives group (part_lives part m group (ap source_of f)) group (here group)
           (takes_part_in place moves serve own part group m (ap group_of f)) origin n)
-      of_copy (Slave master) f h = of_slave master f h (find (has_members nat_eq parts) (groups_up world master)) refl
+      of_copy (Slave master) f h = of_slave master f h _ refl
       of_copy Private f h = absurd (true≢false (sym (ap is_some h)))
       of_copy Unbindable f h = absurd (true≢false (sym (ap is_some h)))
 
       by : (b : Bool) → is_destination nat_eq tree part.number ≡ b → LivesIn after source
-      by true f = of_twig (group_of destination.propagation) refl (sym (ap source_of (there part origin f)) ∙ e)
-      by false f = of_copy part.propagation refl (sym (ap source_of (away part origin f)) ∙ e)
+      by true f = of_twig _ refl (sym (ap source_of (there part origin f)) ∙ e)
+      by false f = of_copy _ refl (sym (ap source_of (away part origin f)) ∙ e)
 
   pub groups_live_after :
       ((mount : Mount ℕ) → Among mount after.mounts → IsOldOrCopy world new place moves mounts mount) → GroupsLive after

@@ -30,7 +30,7 @@ made_for_one master (first ∷ rest) entry m = ⊎_elim (λ kept.
       ap (λ (x : ℕ × Option ℕ). x.0) e,
       cc (kept, eq-eqb entry.0 first.0 (ap (λ (x : ℕ × Option ℕ). x.0) e)),
     )) (λ later. let t = made_for_one (masters_with nat_eq master first) rest entry later in (t.0, inr t.1, t.2, t.3))
-    m) (λ t. (t.0, inr t.1, t.2, t.3)) (made_or_old (masters_with nat_eq master first) rest entry.0)
+    m) (λ t. (t.0, inr t.1, t.2, t.3)) (made_or_old _ rest _)
 
 module _ {world : World ℕ} {new : Copies ℕ} (place : Location ℕ) (moves : Bool) {mounts : List (Mount ℕ)}
     (serve : ServeAsImages world (parts_of nat_eq world place) mounts new) (own : OneNumberAMount mounts) where
@@ -130,10 +130,8 @@ module _ {world : World ℕ} {new : Copies ℕ} (place : Location ℕ) (moves : 
   pub old_master : (group : ℕ) → has_members nat_eq world.mounts group ≡ true → after.master group ≡ world.master group
   old_master group has = ⊎_elim (λ kept. kept) (λ t.
       let from = made_are_images t.0 t.1 in
-      absurd (true≢false (sym has ∙ ap (has_members nat_eq world.mounts) (t.2 ∙ from.2.2)
-      ∙ unused_members world (new.image from.2.0 from.0.number)
-      (serve.unused from.2.0 from.0.number from.2.1 (is_one_of mounts from.0 from.1)))))
-      (made_or_old world.master all_made group)
+      absurd (true≢false (sym has ∙ ap (has_members nat_eq world.mounts) (t.2 ∙ from.2.2) ∙ unused_members world _
+      (serve.unused from.2.0 from.0.number from.2.1 (is_one_of mounts from.0 from.1))))) (made_or_old _ _ group)
 
   -- and the image of a group that is made has its own
   pub new_master : (group : ℕ) (origin : Mount ℕ) → has_members nat_eq parts group ≡ true → Among origin mounts
@@ -158,7 +156,7 @@ module _ {world : World ℕ} {new : Copies ℕ} (place : Location ℕ) (moves : 
       (among-map twig mounts origin n) e)
 
   pub at_destination : is_destination nat_eq tree destination.number ≡ true
-  at_destination = eq-eqb destination.number place.mount (number-mount_in world.mounts place.mount)
+  at_destination = eq-eqb destination.number place.mount (number-mount_in _ _)
 
   -- the master of a group that a mount of the tree makes at the destination
   pub master_there : (origin : Mount ℕ) → Among origin mounts → (group : ℕ)
@@ -192,8 +190,7 @@ module _ {world : World ℕ} {new : Copies ℕ} (place : Location ℕ) (moves : 
       let same = image_elsewhere group origin lacks in
       let shared : part.propagation ≡ Shared group = member_shared group part has in
       let made : Among (image nat_eq new destination (twig origin) group, above) all_made =
-      made_at part origin m n (made_pair origin group)
-      (ap (λ b. if b then twig_master (twig origin) else made_elsewhere origin (group_of part.propagation))
-      (is_elsewhere part group m has lacks) ∙ ap (λ k. made_elsewhere origin (group_of k)) shared
-      ∙ ap (λ b. when (not b) (made_pair origin group)) lacks) in
+      made_at part origin m n _ (ap (λ b. if b then twig_master (twig origin) else made_elsewhere origin
+      (group_of part.propagation)) (is_elsewhere part group m has lacks) ∙ ap (λ k. made_elsewhere origin (group_of k))
+      shared ∙ ap (λ b. when (not b) (made_pair origin group)) lacks) in
       grind (arith, common_steps, new_master, takes_part_in)

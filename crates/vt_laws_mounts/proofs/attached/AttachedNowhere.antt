@@ -1,6 +1,6 @@
 -- A mount outside every namespace stays nowhere where a tree of mounts is attached in one.
-use Rattle.std.proofs.Common.{arith, ◌≡◌, refl, true, false, nat_eq, ℕ, Bool, List, None, Option, Some, [], flat_map, is_some, map, ⊎_elim, ◌++◌, ◌∷◌}
-use Rattle.vt_spec.proofs.Common.{Among, Copies, Location, Mount, World, added_mounts, among-append, among-folded_mounts, among-from_filter, among-from_flat_map, among-from_map, among_from_list_all, and_parts, attached_by, bind_tree, common_steps, copies_at, copy_at, holds_of, is_nowhere_or_attached, list_all_from_among, mount_at, moved_tree, new_mount, pushed_onto, receiver_stood_on, rest_of, same_location, stands_at, with_moved_mounts, with_new_filesystem}
+use Rattle.std.proofs.Common.{arith, ◌≡◌, refl, true, false, nat_eq, ℕ, Bool, List, None, Option, Some, [], flat_map, is_some, map, ⊎_elim, ◌∷◌}
+use Rattle.vt_spec.proofs.Common.{Among, Copies, Location, Mount, World, added_mounts, among-append, among-folded_mounts, among-from_filter, among-from_flat_map, among-from_map, among_from_list_all, and_parts, attached_by, bind_tree, common_steps, copies_at, holds_of, is_nowhere_or_attached, list_all_from_among, mount_at, moved_tree, new_mount, pushed_onto, receiver_stood_on, rest_of, same_location, stands_at, with_moved_mounts, with_new_filesystem}
 use Rattle.vt_laws_mounts.specs.Mounts.Attached.{BindsKeepNowhere, MovesKeepNowhere, NewMountsKeepNowhere}
 use Rattle.vt_laws_mounts.specs.Mounts.Invariants.{NowhereOrAttached}
 use Rattle.vt_laws_mounts.proofs.mounts.MountsAttached.{arriving, graft, moved_ones, parts, push, supplied}
@@ -21,7 +21,7 @@ module _ (world : World ℕ) (new : Copies ℕ) (place : Location ℕ) (moves : 
   copy_fits : (part copy : Mount ℕ) → is_some part.namespace ≡ true → Among copy (copies part) → IsFit copy
   copy_fits part copy e m =
       let tree = graft world new place moves mounts in
-      let from = among-from_map (copy_at nat_eq world new tree part_list part) tree.twigs copy m in
+      let from = among-from_map _ _ copy m in
       grind (arith, common_steps)
 
   taker_attached : (part : Mount ℕ) → Among part (rest_of part_list) → is_some part.namespace ≡ true
@@ -29,7 +29,7 @@ module _ (world : World ℕ) (new : Copies ℕ) (place : Location ℕ) (moves : 
 
   -- what is pushed up stood at a place
   push_fits : (mount : Mount ℕ) → IsFit mount → IsFit (push world new place moves mounts mount)
-  push_fits mount e = by (receiver_stood_on nat_eq (graft world new place moves mounts) part_list mount) refl
+  push_fits mount e = by _ refl
     where
       is_there : {A : Type 0} (test : A → Bool) (found : Option A) → holds_of test found ≡ true → is_some found ≡ true
       is_there test None h = cc
@@ -61,15 +61,12 @@ module _ (world : World ℕ) (new : Copies ℕ) (place : Location ℕ) (moves : 
       let old = map (push world new place moves mounts) (moved_ones world new place moves mounts) in
       let added = added_mounts moves (arriving world new place moves mounts) in
       let rest = flat_map copies (rest_of part_list) in
-      list_all_from_among is_nowhere_or_attached ((old ++ added) ++ rest) (λ mount m.
-      ⊎_elim (λ front.
-      ⊎_elim (λ pushed.
-      let from =
-      among-from_map (push world new place moves mounts) (moved_ones world new place moves mounts) mount pushed in
+      list_all_from_among _ _ (λ mount m. ⊎_elim (λ front. ⊎_elim (λ pushed.
+      let from = among-from_map _ _ mount pushed in
       cc (from.2, push_fits from.0 (moved_fits moves from.0 from.1))) (added_fits moves mount)
       (among-append old added mount front)) (λ later.
-      let from = among-from_flat_map copies (rest_of part_list) mount later in
-      copy_fits from.0 mount (taker_attached from.0 from.1) from.2) (among-append (old ++ added) rest mount m))
+      let from = among-from_flat_map copies _ mount later in
+      copy_fits from.0 mount (taker_attached from.0 from.1) from.2) (among-append _ rest mount m))
 
 pub binds_keep_nowhere : BindsKeepNowhere
 binds_keep_nowhere world fresh source place recursive nowhere attached =

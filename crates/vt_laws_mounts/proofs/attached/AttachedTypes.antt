@@ -1,7 +1,7 @@
 -- The types of mounts where a tree of mounts is attached: each mount that was there keeps its type, or moves and takes
 -- that of the tree, and each mount of the tree has a copy at each part.
 use Rattle.std.proofs.Common.{arith, ◌≡◌, refl, sym, ap, subst, ◌∙◌, true, false, nat_eq, ℕ, Bool, List, None, Option, Some, [], eq-eqb, eqb-true, flat_map, inl, inr, map, ⊎_elim, ◌++◌, ◌∷◌, ◌⊎◌}
-use Rattle.vt_spec.proofs.Common.{Among, Copies, Graft, Location, Mount, Propagation, Shared, Twig, World, added_mounts, among-append, among-append_left, among-append_right, among-flat_map, among-folded_mounts, among-from_flat_map, among-from_map, among-map, among_numbers, any_among, any_from_among, attached_by, common_steps, copies_at, copy_at, copy_number, folded, graft_of, group_of, is_among, is_member_of, mount_at, mount_in, number-mount_in, parts_of, pushed_up, replaced_if_same, rest_of, twig_of, type_at, type_at_part, type_on_shared, with_mount, with_moved_mounts}
+use Rattle.vt_spec.proofs.Common.{Among, Copies, Graft, Location, Mount, Propagation, Shared, Twig, World, added_mounts, among-append, among-append_left, among-append_right, among-flat_map, among-folded_mounts, among-from_flat_map, among-from_map, among-map, among_numbers, any_among, any_from_among, attached_by, common_steps, copies_at, copy_at, copy_number, folded, graft_of, group_of, is_among, is_member_of, mount_at, mount_in, number-mount_in, parts_of, pushed_up, rest_of, twig_of, type_at, type_at_part, type_on_shared, with_mount, with_moved_mounts}
 use Rattle.vt_laws_mounts.specs.Mounts.Attaching.{OneNumberAMount, numbers_of}
 use Rattle.vt_laws_mounts.proofs.attached.AttachedGroups.{HasCopies, IsOldOrCopy, MembersStay, kind_at}
 use Rattle.vt_laws_mounts.proofs.GroupsKept.{member_shared, shared_member}
@@ -15,12 +15,12 @@ module _ (new : Mount ℕ) where
   put_there : (mounts : List (Mount ℕ)) (old : Mount ℕ) → Among old mounts → nat_eq new.number old.number ≡ true
       → Among new (with_mount nat_eq mounts new)
   put_there mounts old m e = subst (λ x. Among x (with_mount nat_eq mounts new)) (replaced_there new old e)
-      (among-map (replaced_if_same nat_eq new) mounts old m)
+      (among-map _ mounts old m)
 
   left_there : (mounts : List (Mount ℕ)) (old : Mount ℕ) → Among old mounts → nat_eq new.number old.number ≡ false
       → Among old (with_mount nat_eq mounts new)
   left_there mounts old m e = subst (λ x. Among x (with_mount nat_eq mounts new)) (replaced_elsewhere new old e)
-      (among-map (replaced_if_same nat_eq new) mounts old m)
+      (among-map _ mounts old m)
 
 -- a mount is there still, or one with its number in its place
 abbrev IsThereOrPut : List (Mount ℕ) → List (Mount ℕ) → Mount ℕ → Type 0
@@ -29,8 +29,7 @@ IsThereOrPut mounts copies old = (mount : Mount ℕ) × Among mount (folded (wit
 
 there_or_put : (mounts copies : List (Mount ℕ)) (old : Mount ℕ) → Among old mounts → IsThereOrPut mounts copies old
 there_or_put mounts [] old m = (old, m, inl refl)
-there_or_put mounts (copy ∷ copies) old m =
-    by (nat_eq copy.number old.number) refl (there_or_put (with_mount nat_eq mounts copy) copies)
+there_or_put mounts (copy ∷ copies) old m = by _ refl (there_or_put (with_mount nat_eq mounts copy) copies)
   where
     by : (b : Bool) → nat_eq copy.number old.number ≡ b → ((x : Mount ℕ) → Among x (with_mount nat_eq mounts copy)
         → IsThereOrPut (with_mount nat_eq mounts copy) copies x) → IsThereOrPut mounts (copy ∷ copies) old
@@ -55,11 +54,9 @@ each_is_put : (mounts copies : List (Mount ℕ)) (copy : Mount ℕ) → Among co
     → is_among nat_eq copy.number (numbers_of mounts) ≡ true → IsPut mounts copies copy
 each_is_put mounts [] copy m there = absurd m
 each_is_put mounts (first ∷ rest) copy m there = ⊎_elim (λ same.
-    let old = among-from_map (λ (x : Mount ℕ). x.number) mounts copy.number
-    (among_numbers (numbers_of mounts) copy.number there) in
+    let old = among-from_map _ mounts _ (among_numbers _ _ there) in
     let number : first.number ≡ old.0.number = ap (λ (x : Mount ℕ). x.number) (sym same) ∙ old.2 in
-    let t = there_or_put (with_mount nat_eq mounts first) rest first
-    (put_there first mounts old.0 old.1 (eq-eqb first.number old.0.number number)) in
+    let t = there_or_put _ rest first (put_there first mounts old.0 old.1 (eq-eqb first.number old.0.number number)) in
     let back : first.number ≡ copy.number = ap (λ (x : Mount ℕ). x.number) (sym same) in (
       t.0,
       t.1,
@@ -117,12 +114,11 @@ module _ (world : World ℕ) (new : Copies ℕ) (place : Location ℕ) (moves : 
   push_type mount = (push_keeps world new tree parts mount).propagation
 
   copy_among : (part origin : Mount ℕ) → Among origin mounts → Among (made part (twig origin)) (copies part)
-  copy_among part origin m = among-map (made part) tree.twigs (twig origin) (among-map twig mounts origin m)
+  copy_among part origin m = among-map _ _ _ (among-map twig mounts origin m)
 
   -- a pushed one
   pushed_among : (mount : Mount ℕ) → Among mount (movers moves) → Among (push mount) after.mounts
-  pushed_among mount m = among-append_left (old ++ added) rest (push mount)
-      (among-append_left old added (push mount) (among-map push (movers moves) mount m))
+  pushed_among mount m = among-append_left _ rest _ (among-append_left old added _ (among-map push _ mount m))
 
   -- copies at receivers, and at the destination
   copied_there : (part origin : Mount ℕ) → Among part (rest_of parts) → Among origin mounts
@@ -139,7 +135,7 @@ module _ (world : World ℕ) (new : Copies ℕ) (place : Location ℕ) (moves : 
       × (copy.propagation ≡ kind_at world new place moves mounts part origin)
       × (copy.number ≡ copy_number nat_eq new tree part.number origin.number)
   of_copy part copy m =
-      let from = among-from_map (made part) tree.twigs copy m in
+      let from = among-from_map _ _ copy m in
       let origin = among-from_map twig mounts from.0 from.1 in (
         origin.0,
         origin.1,
@@ -153,25 +149,25 @@ module _ (world : World ℕ) (new : Copies ℕ) (place : Location ℕ) (moves : 
   is_copy part copy m n = let from = of_copy part copy n in inr (part, from.0, m, from.1, from.2)
 
   moved_or_old : (b : Bool) (mount : Mount ℕ) → Among mount (movers b) → IsOldOrCopy world new place moves mounts mount
-  moved_or_old true mount m = ⊎_elim (λ l. inl (mount, l, refl)) (is_copy destination mount (inl refl))
-      (among-folded_mounts world.mounts (copies destination) mount m)
+  moved_or_old true mount m = ⊎_elim (λ l. inl (mount, l, refl)) (is_copy _ mount (inl refl))
+      (among-folded_mounts _ _ mount m)
   moved_or_old false mount m = inl (mount, m, refl)
 
   added_copies : (b : Bool) (mount : Mount ℕ) → Among mount (added_mounts b (copies destination))
       → IsOldOrCopy world new place moves mounts mount
   added_copies true mount m = absurd m
-  added_copies false mount m = is_copy destination mount (inl refl) m
+  added_copies false mount m = is_copy _ mount (inl refl) m
 
   pub old_or_copies : (mount : Mount ℕ) → Among mount after.mounts → IsOldOrCopy world new place moves mounts mount
   old_or_copies mount m = ⊎_elim (λ front.
       ⊎_elim (λ pushed.
-      let from = among-from_map push (movers moves) mount pushed in
+      let from = among-from_map push _ mount pushed in
       let same : mount.propagation ≡ from.0.propagation =
       ap (λ (x : Mount ℕ). x.propagation) from.2 ∙ push_type from.0 in
       ⊎_elim (λ l. inl (l.0, l.1, same ∙ l.2)) (λ l. inr (l.0, l.1, l.2, l.3, same ∙ l.4))
       (moved_or_old moves from.0 from.1)) (added_copies moves mount) (among-append old added mount front)) (λ later.
-      let from = among-from_flat_map copies (rest_of parts) mount later in
-      is_copy from.0 mount (inr from.1) from.2) (among-append (old ++ added) rest mount m)
+      let from = among-from_flat_map copies _ mount later in
+      is_copy from.0 mount (inr from.1) from.2) (among-append _ rest mount m)
 
 -- Where nothing moves
 module _ (world : World ℕ) (new : Copies ℕ) (place : Location ℕ) (mounts : List (Mount ℕ)) where
@@ -200,9 +196,8 @@ module _ (world : World ℕ) (new : Copies ℕ) (place : Location ℕ) (mounts :
           let front = old world new place false mounts in
           let arrived = copies world new place false mounts (mount_at nat_eq world place) in (
             one,
-            among-append_left (front ++ arrived) (rest world new place false mounts) one
-                (among-append_right front arrived one
-                (copy_among world new place false mounts (mount_at nat_eq world place) origin n)),
+            among-append_left _ _ one (among-append_right front _ one (copy_among world new place false mounts
+                (mount_at nat_eq world place) origin n)),
             refl,
           )
 
@@ -255,10 +250,9 @@ module _ (world : World ℕ) (new : Copies ℕ) (place : Location ℕ) (mounts :
       at_place =
           let destination = mount_at nat_eq world place in
           let copy = made world new place true mounts destination (twig world new place true mounts origin) in
-          let number : copy.number ≡ origin.number = keeps_number world new place mounts origin.number in
-          let t = each_is_put world.mounts arriving copy (copy_among world new place true mounts destination origin n)
-          (ap (λ k. is_among nat_eq k (numbers_of world.mounts)) number
-          ∙ is_one_of world.mounts origin (moving origin n)) in
+          let number : copy.number ≡ origin.number = keeps_number world new place mounts _ in
+          let t = each_is_put _ _ copy (copy_among world new place true mounts destination origin n)
+          (ap (λ k. is_among nat_eq k (numbers_of world.mounts)) number ∙ is_one_of _ origin (moving origin n)) in
           let from = arrives t.0 t.2 in
           let same : from.0 ≡ origin =
           sym (found_itself mounts own from.0 from.1) ∙ ap (mount_in nat_eq mounts) (sym from.3 ∙ t.3 ∙ number)

@@ -31,7 +31,7 @@ module _ (mounts : List (Mount ℕ)) where
   over_among : (n : ℕ) (here : Location ℕ) (x : Mount ℕ) → Among x mounts → here.mount ≡ x.number
       → (y : Mount ℕ) × Among y mounts × ((last_or here (chain n cover here)).mount ≡ y.number)
   over_among zero here x m e = (x, m, e)
-  over_among (suc n) here x m e = by (child_at nat_eq mounts here) refl (over_among n)
+  over_among (suc n) here x m e = by _ refl (over_among n)
     where
       by : (child : Option (Mount ℕ)) → child_at nat_eq mounts here ≡ child
           → ((place : Location ℕ) (z : Mount ℕ) → Among z mounts → place.mount ≡ z.number
@@ -40,12 +40,11 @@ module _ (mounts : List (Mount ℕ)) where
       by None f later =
           (x, m, ap (λ l. (last_or here l).mount) (chain_ends cover n here (ap (option_map root_of) f)) ∙ e)
       by (Some child) f later =
-          let t = later (root_of child) child (found_in (stands_at nat_eq here) mounts child f).0 refl in (
+          let t = later (root_of child) child (found_in _ mounts child f).0 refl in (
             t.0,
             t.1,
-            ap (λ (l : Location ℕ). l.mount)
-                (ap (last_or here) (chain_goes_on cover n here (root_of child) (ap (option_map root_of) f))
-                ∙ last_of_chain cover n (root_of child) here) ∙ t.2,
+            ap (λ (l : Location ℕ). l.mount) (ap (last_or here) (chain_goes_on cover n here _
+                (ap (option_map root_of) f)) ∙ last_of_chain cover n _ here) ∙ t.2,
           )
 
 -- what stands at a receiver goes onto a copy
@@ -124,22 +123,20 @@ module _ (world : World ℕ) (new : Copies ℕ) (place : Location ℕ) (mounts :
   found_old number is = found_attached world new place false mounts number is
 
   copy_among : (part origin : Mount ℕ) → Among origin mounts → Among (copy part origin) (copies part)
-  copy_among part origin m = among-map (made part) tree.twigs (twig origin) (among-map twig mounts origin m)
+  copy_among part origin m = among-map _ _ _ (among-map twig mounts origin m)
 
   copy_after : (part origin : Mount ℕ) → Among part parts → Among origin mounts → Among (copy part origin) after.mounts
   copy_after part origin m n =
       let old = map push world.mounts in
       let first = copies destination in
       let rest = flat_map copies (rest_of parts) in
-      ⊎_elim (λ e. among-append_left (old ++ first) rest (copy part origin)
-      (among-append_right old first (copy part origin)
+      ⊎_elim (λ e. among-append_left _ rest _ (among-append_right old first _
       (subst (λ x. Among (copy part origin) (copies x)) e (copy_among part origin n))))
-      (λ later. among-append_right (old ++ first) rest (copy part origin)
-      (among-flat_map copies (rest_of parts) part (copy part origin) later (copy_among part origin n))) m
+      (λ later. among-append_right _ rest _ (among-flat_map copies _ part _ later (copy_among part origin n))) m
 
   found_copy : (part origin : Mount ℕ) → Among part parts → Among origin mounts
       → mount_numbered nat_eq after (copy part origin).number ≡ copy part origin
-  found_copy part origin m n = found_itself after.mounts one_after (copy part origin) (copy_after part origin m n)
+  found_copy part origin m n = found_itself _ one_after _ (copy_after part origin m n)
 
   -- the copies at a part that stands
   module _ (part : Mount ℕ) (is_part : Among part parts) (stands : Stands nat_eq after part.number)
@@ -158,8 +155,7 @@ module _ (world : World ℕ) (new : Copies ℕ) (place : Location ℕ) (mounts :
     copies_stand number (from_top first rest list) origin m same = top_stands origin m
         (ap (λ (ms : List (Mount ℕ)). holds_of (same_origin (twig origin)) (first_of_list (map twig ms))) list
         ∙ eq-eqb origin.number first.number same)
-    copies_stand number (from_parent other on l f later) origin m same =
-        by (is_top nat_eq tree origin.number) refl (copies_stand on.mount later)
+    copies_stand number (from_parent other on l f later) origin m same = by _ refl (copies_stand _ later)
       where
         by : (b : Bool) → is_top nat_eq tree origin.number ≡ b
             → ((x : Mount ℕ) → Among x mounts → x.number ≡ on.mount → Stands nat_eq after (copy part x).number)
@@ -169,14 +165,13 @@ module _ (world : World ℕ) (new : Copies ℕ) (place : Location ℕ) (mounts :
             let found = found_copy part origin is_part m in
             let it : other ≡ origin = sym (found_itself mounts own other l) ∙ ap (mount_in nat_eq mounts) (sym same)
             ∙ found_itself mounts own origin m in
-            let parent = hanging mounts on.mount later in
+            let parent = hanging mounts _ later in
             let place_is : origin.mount_point ≡ Some on = ap (λ (x : Mount ℕ). x.mount_point) (sym it) ∙ f in
             on_parent (copy part origin).number (mount_point_on_copy nat_eq new tree part.number on)
-            (ap (λ (x : Mount ℕ). x.mount_point) found ∙ ap (λ b. Some (landing part origin.mount_point b)) e
-            ∙ ap (λ p. Some (landing part p false)) place_is) (ap (λ (x : Mount ℕ). x.namespace) found
-            ∙ sym (ap (λ k. (mount_numbered nat_eq after k).namespace)
-            (ap (copy_number nat_eq new tree part.number) (sym parent.2))
-            ∙ ap (λ (x : Mount ℕ). x.namespace) (found_copy part parent.0 is_part parent.1)))
+            (ap (λ (x : Mount ℕ). x.mount_point) found ∙ ap (λ b. Some (landing part origin.mount_point b)) e ∙ ap
+            (λ p. Some (landing part p false)) place_is) (ap (λ (x : Mount ℕ). x.namespace) found ∙ sym
+            (ap (λ k. (mount_numbered nat_eq after k).namespace) (ap (copy_number nat_eq new tree part.number)
+            (sym parent.2)) ∙ ap (λ (x : Mount ℕ). x.namespace) (found_copy part _ is_part parent.1)))
             (subst (Stands nat_eq after) (ap (copy_number nat_eq new tree part.number) parent.2)
             (parent_stands parent.0 parent.1 parent.2))
 
@@ -244,7 +239,7 @@ module _ (world : World ℕ) (new : Copies ℕ) (place : Location ℕ) (mounts :
           (hangs origin.0 origin.1) origin.0 origin.1 refl))
 
   number_is : (mount : Mount ℕ) → Among mount world.mounts → is_mount world mount.number ≡ true
-  number_is mount m = is_one_of world.mounts mount m
+  number_is mount m = is_one_of _ mount m
 
   pub all_stand_after : NowhereOrAttached world → AllStand world → AllStand after
   all_stand_after nowhere all =

@@ -1,6 +1,6 @@
 -- A tree of mounts that is attached leaves at most one mount at a place.
-use Rattle.std.proofs.Common.{◌≡◌, refl, sym, ap, subst, ◌∙◌, true, false, nat_eq, ℕ, Bool, List, None, Option, Some, [], append_assoc, arith, eq-eqb, eqb-true, flat_map, inl, inr, is_some, length, map, option_map, suc, true≢false, zero, ⊎_elim, ◌&&◌, ◌++◌, ◌<◌, ◌∷◌, ◌⊎◌, if◌then◌else◌, unwrap_or}
-use Rattle.vt_spec.proofs.Common.{Among, Copies, Graft, Location, Mount, Stands, Twig, World, among-append_left, among-append_right, among-flat_map, among-from_flat_map, among-from_map, among-map, among_from_all, any_pair, at_root, attached_by, chain, chain_ends, chain_goes_on, child_at, common_steps, copies_at, copy_at, false_from_ne_true, first_of_list, graft_of, group_of, holds_of, is_among_numbers, is_top, last_of_chain, last_or, length-map, list_any, mount_at, mount_in, mount_numbered, mount_point_on_copy, nat_eq_false_turned, none_from_among, number-mount_in, numbers_in_use, on_parent, or_from, pair-map, parts_of, pushed_onto, pushed_up, receiver_stood_on, rest_of, root_of, same_Some, same_location, same_location_is, same_option, share_a_mount_point, stands_at, top_of_copies, twig_of}
+use Rattle.std.proofs.Common.{◌≡◌, refl, sym, ap, subst, ◌∙◌, true, false, nat_eq, ℕ, Bool, List, None, Option, Some, [], append_assoc, arith, eq-eqb, eqb-true, flat_map, inl, inr, is_some, length, map, option_map, suc, true≢false, zero, ⊎_elim, ◌&&◌, ◌<◌, ◌∷◌, ◌⊎◌, if◌then◌else◌, unwrap_or}
+use Rattle.vt_spec.proofs.Common.{Among, Copies, Graft, Location, Mount, Stands, Twig, World, among-append_left, among-append_right, among-flat_map, among-from_flat_map, among-from_map, among-map, among_from_all, any_pair, at_root, attached_by, chain, chain_ends, chain_goes_on, child_at, common_steps, copies_at, copy_at, false_from_ne_true, first_of_list, graft_of, group_of, holds_of, is_among_numbers, is_top, last_of_chain, last_or, length-map, mount_at, mount_in, mount_numbered, mount_point_on_copy, nat_eq_false_turned, none_from_among, number-mount_in, numbers_in_use, on_parent, or_from, pair-map, parts_of, pushed_onto, pushed_up, receiver_stood_on, rest_of, root_of, same_Some, same_location, same_location_is, same_option, share_a_mount_point, stands_at, top_of_copies, twig_of}
 use Rattle.vt_laws_mounts.specs.Mounts.Attaching.{OneNumberAMount, is_mount, numbers_of}
 use Rattle.vt_laws_mounts.specs.Mounts.Invariants.{NowhereOrAttached}
 use Rattle.vt_laws_mounts.specs.Mounts.Copies.{ServeAsCopies}
@@ -39,7 +39,7 @@ stand_together a b p e f = one_place_of_two p a b e f
 -- of the mounts of a list no two have one place
 pub two_of : (mounts : List (Mount ℕ)) → OneMountAMountPoint mounts → (a b : Mount ℕ) → Among a mounts → Among b mounts
     → nat_eq a.number b.number ≡ false → test a b ≡ false
-two_of mounts places a b m n differ = false_from_ne_true (test a b) (λ h.
+two_of mounts places a b m n differ = false_from_ne_true _ (λ h.
     let t = one_place a b h in
     let same : a ≡ b = one_stander mounts places a b m n t.0 t.1 t.2 in
     true≢false (sym (eq-eqb a.number b.number (ap (λ (x : Mount ℕ). x.number) same)) ∙ differ))
@@ -59,7 +59,7 @@ module _ (list : List (Mount ℕ)) where
   ends_or_covers : (n : ℕ) (here : Location ℕ)
       → (child_at nat_eq list (end_of n here) ≡ None) ⊎ Covers list n here (end_of n here)
   ends_or_covers zero here = inr (none here)
-  ends_or_covers (suc n) here = by (child_at nat_eq list here) refl (ends_or_covers n)
+  ends_or_covers (suc n) here = by _ refl (ends_or_covers n)
     where
       by : (child : Option (Mount ℕ)) → child_at nat_eq list here ≡ child
           → ((place : Location ℕ) → (child_at nat_eq list (end_of n place) ≡ None)
@@ -71,8 +71,7 @@ module _ (list : List (Mount ℕ)) where
           inl (ap (child_at nat_eq list) end ∙ e)
       by (Some child) e later =
           let end : end_of (suc n) here ≡ end_of n (root_of child) =
-          ap (last_or here) (chain_goes_on (cover list) n here (root_of child) (ap (option_map root_of) e))
-          ∙ last_of_chain (cover list) n (root_of child) here in
+          ap (last_or here) (chain_goes_on _ n here _ (ap (option_map root_of) e)) ∙ last_of_chain _ n _ here in
           ⊎_elim (λ done. inl (ap (child_at nat_eq list) end ∙ done)) (λ steps.
           inr (next n here (end_of (suc n) here) child e (subst (Covers list n (root_of child)) (sym end) steps)))
           (later (root_of child))
@@ -81,26 +80,25 @@ module _ (list : List (Mount ℕ)) where
       → child_at nat_eq list end ≡ Some child → Covers list (suc n) here (root_of child)
   one_more n here end child (none it) e = next zero it (root_of child) child e (none (root_of child))
   one_more n here end child (next k it last first f steps) e =
-      next (suc k) it (root_of child) first f (one_more k (root_of first) last child steps e)
+      next (suc k) it (root_of child) first f (one_more k _ last child steps e)
 
   visited : (n : ℕ) (here end : Location ℕ) → Covers list n here end → List ℕ
   visited n here end (none it) = []
-  visited n here end (next k it last child e steps) = child.number ∷ visited k (root_of child) last steps
+  visited n here end (next k it last child e steps) = child.number ∷ visited k _ last steps
 
   visited_length : (n : ℕ) (here end : Location ℕ) (steps : Covers list n here end)
       → length (visited n here end steps) ≡ n
   unfolding visited
   visited_length n here end (none it) = refl
-  visited_length n here end (next k it last child e steps) = ap suc (visited_length k (root_of child) last steps)
+  visited_length n here end (next k it last child e steps) = ap suc (visited_length k _ last steps)
 
   visited_there : (n : ℕ) (here end : Location ℕ) (steps : Covers list n here end) (number : ℕ)
       → Among number (visited n here end steps) → Among number (numbers_of list)
   unfolding visited
   visited_there n here end (none it) number m = absurd m
   visited_there n here end (next k it last child e steps) number m = ⊎_elim
-      (λ same. subst (λ x. Among x (numbers_of list)) (sym same)
-      (among-map (λ (mount : Mount ℕ). mount.number) list child (found_in (stands_at nat_eq it) list child e).0))
-      (visited_there k (root_of child) last steps number) m
+      (λ same. subst (λ x. Among x (numbers_of list)) (sym same) (among-map _ list child (found_in _ list child e).0))
+      (visited_there k _ last steps number) m
 
   module _ (world : World ℕ) (one : OneNumberAMount world.mounts) (all : AllStand world)
       (are_there : (mount : Mount ℕ) → Among mount list → Among mount world.mounts) where
@@ -110,7 +108,7 @@ module _ (list : List (Mount ℕ)) where
     cover_rank : (here : Location ℕ) (child : Mount ℕ) → child_at nat_eq list here ≡ Some child
         → depth_of child.number ≡ suc (depth_of here.mount)
     cover_rank here child e =
-        let found = found_in (stands_at nat_eq here) list child e in
+        let found = found_in _ list child e in
         grind (arith, common_steps, rank_child, found_itself, stands_there)
 
     visited_deeper : (n : ℕ) (here end : Location ℕ) (steps : Covers list n here end) (number : ℕ)
@@ -125,17 +123,14 @@ module _ (list : List (Mount ℕ)) where
     unfolding visited
     visited_apart n here end (none it) = refl
     visited_apart n here end (next k it last child e steps) =
-        or_from (list_any (nat_eq child.number) (visited k (root_of child) last steps))
-        (any_pair nat_eq (visited k (root_of child) last steps))
-        (none_from_among (nat_eq child.number) (visited k (root_of child) last steps) (λ number m.
-        false_from_ne_true (nat_eq child.number number) (λ same.
+        or_from _ _ (none_from_among _ _ (λ number m. false_from_ne_true _ (λ same.
         let level : depth_of child.number ≡ depth_of number = ap depth_of (eqb-true child.number number same) in
-        let further : depth_of child.number < depth_of number = visited_deeper k (root_of child) last steps number m in
-        absurd (omega (arith, level, further))))) (visited_apart k (root_of child) last steps)
+        let further : depth_of child.number < depth_of number = visited_deeper k _ last steps number m in
+        absurd (omega (arith, level, further))))) (visited_apart k _ last steps)
 
     -- nothing covers what is topmost
     pub topmost_free : (here : Location ℕ) → child_at nat_eq list (end_of (length list) here) ≡ None
-    topmost_free here = by (child_at nat_eq list (end_of (length list) here)) refl
+    topmost_free here = by _ refl
       where
         by : (child : Option (Mount ℕ)) → child_at nat_eq list (end_of (length list) here) ≡ child
             → child_at nat_eq list (end_of (length list) here) ≡ None
@@ -143,12 +138,11 @@ module _ (list : List (Mount ℕ)) where
         by (Some child) e = ⊎_elim (λ done. done) (λ steps.
             let n = suc (length list) in
             let end = root_of child in
-            let more = one_more (length list) here (end_of (length list) here) child steps e in
-            let few = fewer_numbers (visited n here end more) (numbers_of list)
-            (visited_apart n here end more) (visited_there n here end more) in
+            let more = one_more _ here _ child steps e in
+            let few = fewer_numbers _ _ (visited_apart n here end more) (visited_there n here end more) in
             let long = visited_length n here end more in
             let size = length-map list (λ (mount : Mount ℕ). mount.number) in
-            absurd (omega (arith, few, long, size))) (ends_or_covers (length list) here)
+            absurd (omega (arith, few, long, size))) (ends_or_covers _ here)
 
 module _ (world : World ℕ) (new : Copies ℕ) (place : Location ℕ) (mounts : List (Mount ℕ))
     (serve : ServeAsCopies world (parts_of nat_eq world place) mounts new) (own : OneNumberAMount mounts)
@@ -206,7 +200,7 @@ module _ (world : World ℕ) (new : Copies ℕ) (place : Location ℕ) (mounts :
   copied : (part x : Mount ℕ) → Among x (copies part)
       → (origin : Mount ℕ) × Among origin mounts × (x ≡ copy part origin)
   copied part x m =
-      let from = among-from_map (made part) tree.twigs x m in
+      let from = among-from_map _ _ x m in
       let origin = among-from_map twig mounts from.0 from.1 in
       (origin.0, origin.1, from.2 ∙ ap (made part) origin.2)
 
@@ -215,9 +209,8 @@ module _ (world : World ℕ) (new : Copies ℕ) (place : Location ℕ) (mounts :
       let old = map push world.mounts in
       let first = copies (mount_at nat_eq world place) in
       let rest = flat_map copies (rest_of parts) in
-      ⊎_elim (λ e. among-append_left (old ++ first) rest x
-      (among-append_right old first x (subst (λ y. Among x (copies y)) e n)))
-      (λ later. among-append_right (old ++ first) rest x (among-flat_map copies (rest_of parts) part x later n)) m
+      ⊎_elim (λ e. among-append_left _ rest x (among-append_right old first x (subst (λ y. Among x (copies y)) e n)))
+      (λ later. among-append_right _ rest x (among-flat_map copies _ part x later n)) m
 
   -- Where a copy stands: the top at the part's place, another one on the copy of what its origin stands on
   data CopyPlace (part origin : Mount ℕ) : Type 0 where
@@ -233,7 +226,7 @@ module _ (world : World ℕ) (new : Copies ℕ) (place : Location ℕ) (mounts :
       ap (λ (ms : List (Mount ℕ)). holds_of (same_origin (twig origin)) (first_of_list (map twig ms))) is_tree
 
   copy_mount_point_of : (part origin : Mount ℕ) → Among origin mounts → CopyPlace part origin
-  copy_mount_point_of part origin m = by (nat_eq origin.number top.number) refl origin.number (hangs origin m) refl
+  copy_mount_point_of part origin m = by _ refl _ (hangs origin m) refl
     where
       placed : (b : Bool) → nat_eq origin.number top.number ≡ b
           → (copy part origin).mount_point ≡ Some (landing part origin.mount_point b)
@@ -253,20 +246,18 @@ module _ (world : World ℕ) (new : Copies ℕ) (place : Location ℕ) (mounts :
           let it : other ≡ origin =
           sym (found_itself mounts own other l) ∙ ap (mount_in nat_eq mounts) is ∙ found_itself mounts own origin m in
           let place_is : origin.mount_point ≡ Some on = ap (λ (x : Mount ℕ). x.mount_point) (sym it) ∙ f in
-          let parent = hanging mounts on.mount later in
+          let parent = hanging mounts _ later in
           on_copy on parent.0 e place_is parent.1 parent.2
           (placed false e ∙ ap (λ p. Some (landing part p false)) place_is)
 
   -- the number of a copy is that of no mount that was there
   copy_is_new : (part origin : Mount ℕ) → Among part parts → Among origin mounts → (number : ℕ)
       → is_mount world number ≡ true → nat_eq number (new.copy part.number origin.number) ≡ false
-  copy_is_new part origin m n number is =
-      false_from_ne_true (nat_eq number (new.copy part.number origin.number)) (λ same.
-      let found = found_there world.mounts number is in
+  copy_is_new part origin m n number is = false_from_ne_true _ (λ same.
+      let found = found_there _ number is in
       let used : Among number (numbers_in_use world) =
-      subst (λ k. Among k (numbers_in_use world)) (number-mount_in world.mounts number)
-      (number_in_use world (mount_numbered nat_eq world number) found) in
-      true≢false (sym (is_among_numbers (numbers_in_use world) (new.copy part.number origin.number)
+      subst (λ k. Among k (numbers_in_use world)) (number-mount_in _ number) (number_in_use world _ found) in
+      true≢false (sym (is_among_numbers _ _
       (subst (λ k. Among k (numbers_in_use world)) (eqb-true number (new.copy part.number origin.number) same) used))
       ∙ serve.unused part.number origin.number (is_one_of parts part m) (is_one_of mounts origin n)))
 
@@ -278,8 +269,8 @@ module _ (world : World ℕ) (new : Copies ℕ) (place : Location ℕ) (mounts :
 
   part_there : (part : Mount ℕ) → Among part parts → is_mount world part.number ≡ true
   part_there part m = ⊎_elim (λ e. subst (λ n. is_mount world n ≡ true)
-      (sym (ap (λ (x : Mount ℕ). x.number) e ∙ number-mount_in world.mounts place.mount)) there)
-      (λ later. is_one_of world.mounts part (taker_there world place part later)) m
+      (sym (ap (λ (x : Mount ℕ). x.number) e ∙ number-mount_in _ _)) there)
+      (λ later. is_one_of _ part (taker_there world place part later)) m
 
   -- copies at two parts
   apart_at_two : (p q x y : Mount ℕ) → Among p parts → Among q parts → same_number p q ≡ false → Among x (copies p)
@@ -308,17 +299,15 @@ module _ (world : World ℕ) (new : Copies ℕ) (place : Location ℕ) (mounts :
         by (at_part e f) (at_part g h) = absurd (true≢false
             (sym (eq-eqb a.number b.number (eqb-true a.number top.number e ∙ sym (eqb-true b.number top.number g)))
             ∙ differ))
-        by (at_part e f) (on_copy on parent g h there_is same d) =
-            differ_by_mount (copy part a) (copy part b) (place_at part) (place_upon part on) f d
-            (subst (λ k. nat_eq part.number (new.copy part.number k) ≡ false) same
-            (copy_is_new part parent m there_is part.number (part_there part m)))
+        by (at_part e f) (on_copy on parent g h there_is same d) = differ_by_mount (copy part a) (copy part b)
+            (place_at part) (place_upon part on) f d (subst (λ k. nat_eq part.number (new.copy part.number k) ≡ false)
+            same (copy_is_new part parent m there_is _ (part_there part m)))
         by (on_copy on parent e f there_is same c) (at_part g h) =
             differ_by_mount (copy part a) (copy part b) (place_upon part on) (place_at part) c h
-            (nat_eq_false_turned part.number (new.copy part.number on.mount)
-            (subst (λ k. nat_eq part.number (new.copy part.number k) ≡ false) same
-            (copy_is_new part parent m there_is part.number (part_there part m))))
+            (nat_eq_false_turned _ _ (subst (λ k. nat_eq part.number (new.copy part.number k) ≡ false) same
+            (copy_is_new part parent m there_is _ (part_there part m))))
         by (on_copy on parent e f there_is same c) (on_copy at other g h there_too same_too d) =
-            false_from_ne_true (test (copy part a) (copy part b)) (λ both.
+            false_from_ne_true _ (λ both.
             let t = one_place (copy part a) (copy part b) both in
             let left : place_upon part on ≡ t.0 = same_Some _ t.0 (sym c ∙ t.1) in
             let right : place_upon part at ≡ t.0 = same_Some _ t.0 (sym d ∙ t.2) in
@@ -336,14 +325,14 @@ module _ (world : World ℕ) (new : Copies ℕ) (place : Location ℕ) (mounts :
             true≢false (sym (stand_together a b on f place_is) ∙ spread a b i j e g differ))
 
     copies_spread : (part : Mount ℕ) → Among part parts → any_pair test (copies part) ≡ false
-    copies_spread part m = pair-map same_origin test (made part) tree.twigs (λ a b k l differ.
+    copies_spread part m = pair-map _ test _ _ (λ a b k l differ.
         let x = among-from_map twig mounts a k in
         let y = among-from_map twig mounts b l in
         subst (λ z. test (made part z) (made part b) ≡ false) (sym x.2)
         (subst (λ z. test (copy part x.0) (made part z) ≡ false) (sym y.2) (two_at_one part m x.0 y.0 x.1 y.1
         (subst (λ z. nat_eq x.0.number z.origin.number ≡ false) y.2
         (subst (λ z. nat_eq z.origin.number b.origin.number ≡ false) x.2 differ)))))
-        (pair-map same_number same_origin twig mounts (λ a b k l differ. differ) own)
+        (pair-map _ _ twig mounts (λ a b k l differ. differ) own)
 
     all_copies_spread : any_pair test (flat_map copies parts) ≡ false
     all_copies_spread = pair-flat_map test copies parts (parts_apart world place one) copies_spread apart_at_two
@@ -359,20 +348,19 @@ module _ (world : World ℕ) (new : Copies ℕ) (place : Location ℕ) (mounts :
     top_in = subst (Among top) (sym is_tree) (inl refl)
 
     top_copy : (part : Mount ℕ) → Among (copy part top) (copies part)
-    top_copy part = among-map (made part) tree.twigs (twig top) (among-map twig mounts top top_in)
+    top_copy part = among-map _ _ _ (among-map twig mounts top top_in)
 
     push_case : (mount : Mount ℕ) → PushCase mount
-    push_case mount = by (receiver_stood_on nat_eq tree parts mount) refl
+    push_case mount = by _ refl
       where
         by : (found : Option (Mount ℕ)) → receiver_stood_on nat_eq tree parts mount ≡ found → PushCase mount
         by None e = stays (ap (pushed_onto nat_eq world new tree parts mount) e) e
         by (Some receiver) e =
-            let found = found_in (λ part. stands_at nat_eq (place_at part) mount) (rest_of parts) receiver e in
-            let onto = top_among (copies receiver) place (copy receiver top) (top_copy receiver) in
+            let found = found_in _ _ _ e in
+            let onto = top_among _ place _ (top_copy receiver) in
             let of = copied receiver onto.0 onto.1 in
-            goes receiver of.0 found.0 of.1 (stands_there (place_at receiver) mount found.1)
-            (ap (λ (x : Mount ℕ). x.mount_point) (ap (pushed_onto nat_eq world new tree parts mount) e))
-            (onto.2 ∙ ap (λ (x : Mount ℕ). x.number) of.2)
+            goes receiver of.0 found.0 of.1 (stands_there _ mount found.1) (ap (λ (x : Mount ℕ). x.mount_point)
+            (ap (pushed_onto nat_eq world new tree parts mount) e)) (onto.2 ∙ ap (λ (x : Mount ℕ). x.number) of.2)
 
     -- what has a place stands on a mount that is there
     on_is_there : (mount : Mount ℕ) → Among mount world.mounts → (on : Location ℕ) → mount.mount_point ≡ Some on
@@ -405,25 +393,25 @@ module _ (world : World ℕ) (new : Copies ℕ) (place : Location ℕ) (mounts :
                   ∙ ap (same_option (same_location nat_eq) (Some (top_at receiver))) e,
             )
             at (Some on) e =
-                let fresh_one = copy_is_new receiver origin (inr r) o on.mount (on_is_there x k on e) in
+                let fresh_one = copy_is_new _ origin (inr r) o _ (on_is_there x k on e) in
                 let elsewhere : nat_eq on.mount (top_at receiver).mount ≡ false =
                 ap (nat_eq on.mount) same ∙ fresh_one in (
                   ap (λ (z : Mount ℕ). test z (push y)) keeps
                       ∙ differ_by_mount x (push y) on (top_at receiver) e f elsewhere,
                   ap (λ (z : Mount ℕ). test (push y) z) keeps ∙ differ_by_mount (push y) x (top_at receiver) on f e
-                      (nat_eq_false_turned on.mount (top_at receiver).mount elsewhere),
+                      (nat_eq_false_turned _ _ elsewhere),
                 )
 
         by : PushCase a → PushCase b → test (push a) (push b) ≡ false
         by (stays e f) (stays g h) = ap (λ (z : Mount ℕ). test z (push b)) e ∙ ap (test a) g ∙ differ
-        by (stays e f) (goes receiver origin r o g h same) = (mixed a b m e receiver origin r o h same).0
-        by (goes receiver origin r o e f same) (stays g h) = (mixed b a n g receiver origin r o f same).1
+        by (stays e f) (goes receiver origin r o g h same) = (mixed a b m e _ origin r o h same).0
+        by (goes receiver origin r o e f same) (stays g h) = (mixed b a n g _ origin r o f same).1
         by (goes receiver origin r o e f same) (goes other second t u g h same_too) =
             grind (arith, common_steps, eqb-true, true≢false, stand_together, differ_by_mount, two_parts)
 
     -- nothing stands on the topmost copy
     free_top : (part : Mount ℕ) → Among part parts → child_at nat_eq (copies part) (top_at part) ≡ None
-    free_top part m = by (copies part) refl (top_copy part)
+    free_top part m = by _ refl (top_copy part)
       where
         by : (list : List (Mount ℕ)) → copies part ≡ list → Among (copy part top) list
             → child_at nat_eq list (top_of_copies nat_eq list place) ≡ None
@@ -498,8 +486,8 @@ module _ (world : World ℕ) (new : Copies ℕ) (place : Location ℕ) (mounts :
         let old = map push world.mounts in
         let first = copies (mount_at nat_eq world place) in
         let rest = flat_map copies (rest_of parts) in
-        ap (any_pair test) (append_assoc old first rest) ∙ pair-append test old (first ++ rest)
-        (pair-map test test push world.mounts (two_old places) places) all_copies_spread (λ x y m n.
-        let from = among-from_map push world.mounts x m in
+        ap (any_pair test) (append_assoc old first rest) ∙ pair-append test old _
+        (pair-map test test push _ (two_old places) places) all_copies_spread (λ x y m n.
+        let from = among-from_map push _ x m in
         let part = among-from_flat_map copies parts y n in
         subst (λ z. test z y ≡ false) (sym from.2) (old_and_copy free from.0 from.1 part.0 y part.1 part.2))

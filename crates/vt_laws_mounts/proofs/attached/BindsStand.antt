@@ -1,6 +1,6 @@
 -- Binds, new mounts and moves: each mount goes on standing, with a number of its own.
 use Rattle.std.proofs.Common.{arith, ◌≡◌, refl, sym, ap, subst, true, false, nat_eq, ℕ, Bool, List, [], eq-eqb, eqb-true, filter, flat_map, inl, inr, length, suc, true≢false, zero, ⊎_elim, ◌∷◌, ◌⊎◌}
-use Rattle.vt_spec.proofs.Common.{Among, Filesystem, Location, Mount, Stands, World, all_from_among, among-flat_map, among-from_filter, among-from_flat_map, among_from_all, at_root, bind_tree, bindable_children, bindable_tree, bound, children, common_steps, moved_tree, new_mount, number-mount_in, on_parent, parts_of, stands_on, stands_under, with_new_filesystem}
+use Rattle.vt_spec.proofs.Common.{Among, Filesystem, Location, Mount, Stands, World, all_from_among, among-flat_map, among-from_filter, among-from_flat_map, among_from_all, at_root, bind_tree, bindable_children, bindable_tree, bound, children, common_steps, moved_tree, new_mount, number-mount_in, on_parent, parts_of, stands_under, with_new_filesystem}
 use Rattle.vt_laws_mounts.specs.Mounts.Standing.{AllStand, BindsKeepNumbers, BindsKeepMountPoints, BindsKeepStanding, MovesKeepNumbers, NewMountsKeepNumbers, NewMountsKeepMountPoints, NewMountsKeepStanding}
 use Rattle.vt_laws_mounts.proofs.attached.Attaching.{Hangs, all_stand_after}
 use Rattle.vt_laws_mounts.proofs.attached.Attaching.Hangs.{from_parent, from_top}
@@ -29,10 +29,10 @@ module _ (world : World ℕ) (whole : List (Mount ℕ)) where
   tree_hangs (suc fuel) mount hung all x m = ⊎_elim (λ e. subst (λ (y : Mount ℕ). Hangs whole y.number) (sym e) hung)
       (λ later.
       let below = bindable_children nat_eq world.mounts mount.number in
-      let from = among-from_flat_map (bindable_tree nat_eq fuel world.mounts) below x later in
+      let from = among-from_flat_map _ below x later in
       let within : (y : Mount ℕ) → Among y (bindable_tree nat_eq fuel world.mounts from.0) → Among y whole =
-      λ y n. all y (inr (among-flat_map (bindable_tree nat_eq fuel world.mounts) below from.0 y from.1 n)) in
-      tree_hangs fuel from.0 (child_hangs mount.number from.0 (bindable_child world mount.number from.0 from.1)
+      λ y n. all y (inr (among-flat_map _ below from.0 y from.1 n)) in
+      tree_hangs fuel from.0 (child_hangs _ from.0 (bindable_child world _ from.0 from.1)
       (within from.0 (first_of_tree fuel from.0)) hung) within x from.2) m
 
 one_hangs : (mount x : Mount ℕ) → Among x (mount ∷ []) → Hangs (mount ∷ []) x.number
@@ -41,7 +41,7 @@ one_hangs mount x m = ⊎_elim
 
 bind_hangs : (world : World ℕ) (source : Location ℕ) (recursive : Bool) (x : Mount ℕ)
     → Among x (bind_tree nat_eq world source recursive) → Hangs (bind_tree nat_eq world source recursive) x.number
-bind_hangs world source false x m = one_hangs (bound nat_eq world source) x m
+bind_hangs world source false x m = one_hangs _ x m
 bind_hangs world source true x m =
     let whole = bind_tree nat_eq world source true in
     let fuel = length world.mounts in
@@ -49,14 +49,13 @@ bind_hangs world source true x m =
     let chosen = filter (stands_under nat_eq world source) under in
     let top : Hangs whole (bound nat_eq world source).number =
     from_top (bound nat_eq world source) (flat_map (bindable_tree nat_eq fuel world.mounts) chosen) refl in
-    let at_source : Hangs whole source.mount = subst (Hangs whole) (number-mount_in world.mounts source.mount) top in
+    let at_source : Hangs whole source.mount = subst (Hangs whole) (number-mount_in _ _) top in
     ⊎_elim (λ e. subst (λ (y : Mount ℕ). Hangs whole y.number) (sym e) top) (λ later.
-    let from = among-from_flat_map (bindable_tree nat_eq fuel world.mounts) chosen x later in
-    let child = (among-from_filter (stands_under nat_eq world source) under from.0 from.1).0 in
+    let from = among-from_flat_map _ chosen x later in
+    let child = (among-from_filter _ under from.0 from.1).0 in
     let within : (y : Mount ℕ) → Among y (bindable_tree nat_eq fuel world.mounts from.0) → Among y whole =
-    λ y n. inr (among-flat_map (bindable_tree nat_eq fuel world.mounts) chosen from.0 y from.1 n) in
-    tree_hangs world whole fuel from.0
-    (child_hangs world whole source.mount from.0 (bindable_child world source.mount from.0 child)
+    λ y n. inr (among-flat_map _ chosen from.0 y from.1 n) in
+    tree_hangs world whole fuel from.0 (child_hangs world whole _ from.0 (bindable_child world _ from.0 child)
     (within from.0 (first_of_tree world whole fuel from.0)) at_source) within x from.2) m
 
 bind_top : (world : World ℕ) (source : Location ℕ) (recursive : Bool)
@@ -92,7 +91,7 @@ stands_with_filesystem : (world : World ℕ) (filesystem : Filesystem ℕ) (numb
     → Stands nat_eq (with_new_filesystem world filesystem) number
 stands_with_filesystem world filesystem number (at_root it e) = at_root it e
 stands_with_filesystem world filesystem number (on_parent it place e f stands) =
-    on_parent it place e f (stands_with_filesystem world filesystem place.mount stands)
+    on_parent it place e f (stands_with_filesystem world _ _ stands)
 
 all_stand_with_filesystem : (world : World ℕ) (filesystem : Filesystem ℕ) → AllStand world
     → AllStand (with_new_filesystem world filesystem)
@@ -118,10 +117,9 @@ bindable_there : (world : World ℕ) (fuel : ℕ) (mount x : Mount ℕ)
     → Among x (bindable_tree nat_eq fuel world.mounts mount) → (x ≡ mount) ⊎ Among x world.mounts
 bindable_there world zero mount x m = ⊎_elim inl (λ none. absurd none) m
 bindable_there world (suc fuel) mount x m = ⊎_elim inl (λ later.
-    let from = among-from_flat_map (bindable_tree nat_eq fuel world.mounts)
-    (bindable_children nat_eq world.mounts mount.number) x later in
-    let child = bindable_child world mount.number from.0 from.1 in
-    let there = (among-from_filter (stands_on nat_eq mount.number) world.mounts from.0 child).0 in
+    let from = among-from_flat_map _ _ x later in
+    let child = bindable_child world _ from.0 from.1 in
+    let there = (among-from_filter _ _ from.0 child).0 in
     inr (⊎_elim (λ e. subst (λ y. Among y world.mounts) (sym e) there) (λ l. l)
     (bindable_there world fuel from.0 x from.2))) m
 
@@ -135,19 +133,18 @@ pub bind_there_or_source : (world : World ℕ) (source : Location ℕ) (recursiv
 bind_there_or_source world source false origin m = ⊎_elim inl (λ none. absurd none) m
 bind_there_or_source world source true origin m = ⊎_elim inl (λ later.
     let under = bindable_children nat_eq world.mounts source.mount in
-    let from = among-from_flat_map (bindable_tree nat_eq (length world.mounts) world.mounts)
-    (filter (stands_under nat_eq world source) under) origin later in
-    let child = (among-from_filter (stands_under nat_eq world source) under from.0 from.1).0 in
-    let kept = bindable_child world source.mount from.0 child in
-    let there = (among-from_filter (stands_on nat_eq source.mount) world.mounts from.0 kept).0 in
+    let from = among-from_flat_map _ _ origin later in
+    let child = (among-from_filter _ under from.0 from.1).0 in
+    let kept = bindable_child world _ from.0 child in
+    let there = (among-from_filter _ _ from.0 kept).0 in
     inr (⊎_elim (λ e. subst (λ y. Among y world.mounts) (sym e) there) (λ l. l)
-    (bindable_there world (length world.mounts) from.0 origin from.2))) m
+    (bindable_there world _ from.0 origin from.2))) m
 
 bind_there : (world : World ℕ) (source : Location ℕ) (recursive : Bool) (x : Mount ℕ)
     → Among x (bind_tree nat_eq world source recursive)
     → nat_eq x.number (bound nat_eq world source).number ≡ false → Among x world.mounts
-bind_there world source recursive x m differ = ⊎_elim (λ e. absurd (not_itself x (bound nat_eq world source) differ e))
-    (λ l. l) (bind_there_or_source world source recursive x m)
+bind_there world source recursive x m differ = ⊎_elim (λ e. absurd (not_itself x _ differ e))
+    (λ l. l) (bind_there_or_source world source _ x m)
 
 pub binds_keep_places : BindsKeepMountPoints
 binds_keep_places world fresh source place recursive serves one nowhere all there free places =
@@ -155,10 +152,9 @@ binds_keep_places world fresh source place recursive serves one nowhere all ther
     let top = bind_top world source recursive in
     places_after world (supplied world fresh place mounts) place mounts
     (supplies_serve_as_copies world fresh (parts_of nat_eq world place) mounts serves)
-    (binds_take_each_once world source recursive one all) one there (bind_hangs world source recursive)
-    (bound nat_eq world source) top.0 top.1 nowhere all (λ a b m n not_top nor_top differ.
-    two_of world.mounts places a b (bind_there world source recursive a m not_top)
-    (bind_there world source recursive b n nor_top) differ) places free
+    (binds_take_each_once world source recursive one all) one there (bind_hangs world source recursive) _ top.0 top.1
+    nowhere all (λ a b m n not_top nor_top differ. two_of _ places a b (bind_there world source _ a m not_top)
+    (bind_there world source _ b n nor_top) differ) places free
 
 pub new_mounts_keep_places : NewMountsKeepMountPoints
 new_mounts_keep_places world fresh place filesystem flags serves one nowhere all there free places =

@@ -25,7 +25,7 @@ named_sum n node (first ∷ rest) =
 found_same : (ones others : List (Filesystem ℕ)) → SameFilesystems ones others → (k : ℕ)
     → SameFilesystem (unwrap_or (find (λ f. nat_eq k f.number) ones) (no_filesystem k))
     (unwrap_or (find (λ f. nat_eq k f.number) others) (no_filesystem k))
-found_same [] [] same k = same_filesystem_itself (no_filesystem k)
+found_same [] [] same k = same_filesystem_itself _
 found_same [] (other ∷ others) same k = absurd same
 found_same (one ∷ ones) [] same k = absurd same
 found_same (one ∷ ones) (other ∷ others) same k = grind (arith, common_steps, found_same ones others same.1 k)
@@ -93,18 +93,15 @@ any_same_worlds_count_alike one other k inodes same counted = record {
     g = filesystem_numbered nat_eq other k
 
     alike : SameFilesystem f g
-    alike = found_same one.filesystems other.filesystems same.filesystems k
+    alike = found_same _ _ same.filesystems k
 
     named_alike : (n : ℕ) → times_in n (named_by g.files.tree.node f.files.numbers)
         ≡ times_in n (named_by g.files.tree.node g.files.numbers)
-    named_alike n = named_sum n g.files.tree.node f.files.numbers ∙ sym (sum_by-IsPermutation (λ d. times_in n
-        (targets_in (g.files.tree.node d))) f.files.numbers g.files.numbers alike.files.numbers)
+    named_alike n = named_sum n g.files.tree.node f.files.numbers ∙ sym (sum_by-IsPermutation _ _ _ alike.files.numbers)
         ∙ sym (named_sum n g.files.tree.node g.files.numbers)
 
     times_alike : (n : ℕ) → times_in n f.files.numbers ≡ times_in n g.files.numbers
-    times_alike n = times_sum n f.files.numbers ∙ sym
-        (sum_by-IsPermutation (one_if n) f.files.numbers g.files.numbers alike.files.numbers)
-        ∙ sym (times_sum n g.files.numbers)
+    times_alike n = times_sum n _ ∙ sym (sum_by-IsPermutation _ _ _ alike.files.numbers) ∙ sym (times_sum n _)
 
 pub same_worlds_count_alike : SameWorldsCountAlike
 same_worlds_count_alike one other k inodes same plain counted =

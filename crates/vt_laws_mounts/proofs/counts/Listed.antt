@@ -9,7 +9,7 @@ use Rattle.vt_laws_mounts.specs.Counts.Numbers.{SameNumbersArePermuted}
 pub none_times : (n : ℕ) (list : List ℕ) → is_among nat_eq n list ≡ false → times_in n list ≡ 0
 none_times n [] e = refl
 none_times n (first ∷ rest) e =
-    let parts = or_parts (nat_eq n first) (is_among nat_eq n rest) e in
+    let parts = or_parts _ _ e in
     let here : one_if n first ≡ 0 = ap (λ b. cond b 1 0) parts.0 in
     let later = none_times n rest parts.1 in omega arith
 
@@ -20,7 +20,7 @@ once_times n (first ∷ rest) e = grind (arith, common_steps, one_if, none_times
 
 pub once_or_none : (n : ℕ) (list : List ℕ) → any_pair nat_eq list ≡ false
     → times_in n list ≡ cond (is_among nat_eq n list) 1 0
-once_or_none n list e = by (is_among nat_eq n list) refl
+once_or_none n list e = by _ refl
   where
     by : (b : Bool) → is_among nat_eq n list ≡ b → times_in n list ≡ cond b 1 0
     by true f = let some = among_times n list f in let few = once_times n list e in omega arith
@@ -29,7 +29,7 @@ once_or_none n list e = by (is_among nat_eq n list) refl
 -- and a list in which each stands once has no repeats
 pub no_repeats : (list : List ℕ) → ((n : ℕ) → times_in n list ≤ 1) → any_pair nat_eq list ≡ false
 no_repeats [] few = refl
-no_repeats (first ∷ rest) few = by (is_among nat_eq first rest) refl
+no_repeats (first ∷ rest) few = by _ refl
     (no_repeats rest (λ n. let all : one_if n first + times_in n rest ≤ 1 = few n in omega arith))
   where
     by : (b : Bool) → is_among nat_eq first rest ≡ b → any_pair nat_eq rest ≡ false
@@ -60,8 +60,8 @@ permuted [] [] same = IsPermutation-refl []
 permuted [] (first ∷ rest) same =
     let own : one_if first first ≡ 1 = ap (λ b. cond b 1 0) (eq-eqb first first refl) in
     let none : 0 ≡ one_if first first + times_in first rest = same first in absurd (omega arith)
-permuted (first ∷ rest) other same = IsPermutation-trans (first ∷ rest) (first ∷ removed first other) other
-    (IsPermutation-cons first rest (removed first other) (permuted rest (removed first other) (λ n.
+permuted (first ∷ rest) other same = IsPermutation-trans _ _ other
+    (IsPermutation-cons first rest (removed first other) (permuted rest _ (λ n.
     let all : one_if n first + times_in n (removed first other) ≡ times_in n other =
     times_removed first n other found in
     let both : one_if n first + times_in n rest ≡ times_in n other = same n in omega arith)))

@@ -51,11 +51,10 @@ unmount_keeps_mounts world one kept childless =
     let mount = mount_numbered nat_eq world one in
     let gone = going nat_eq world mount in
     taken_keeps world gone kept (unmount_leaves_one_mount_a_place world one (apart_in world kept) childless).by_place
-    (taken_stand world gone kept.one_number kept.standing
-    (lands_by_places world gone kept.one_number kept.standing (λ x place m e goes.
-    ⊎_elim (λ itself. absurd (none_stands world one childless x place m e (itself ∙ number-mount_in world.mounts one)))
-    (λ t. cc (t.3, found_itself world.mounts kept.one_number t.0 t.1, t.4))
-    (goes_or_may world mount place.mount goes))))
+    (taken_stand world gone kept.one_number kept.standing (lands_by_places world gone kept.one_number kept.standing
+    (λ x place m e goes. ⊎_elim (λ itself. absurd (none_stands world one childless x place m e
+    (itself ∙ number-mount_in _ one))) (λ t. cc (t.3, found_itself world.mounts kept.one_number t.0 t.1, t.4))
+    (goes_or_may world mount _ goes))))
 
 pub trees_keep_mounts : TreesKeepMounts
 trees_keep_mounts world tops kept =
@@ -71,8 +70,7 @@ replaced_keeps_mounts world (Some object) kept = points_keep_mounts world object
 
 pub ended_namespaces_keep_mounts : EndedNamespacesKeepMounts
 ended_namespaces_keep_mounts world kept =
-    let taken =
-    closed_keeps world (in_ended world) (ended_closed world (places_end_in world kept) kept.one_number) kept in
+    let taken = closed_keeps world _ (ended_closed world (places_end_in world kept) kept.one_number) kept in
     let left = taken_away nat_eq world (in_ended world) in
     let end = namespaces_ended nat_eq world in
     grind (arith, common_steps, all_from_among, stands_alike, among_from_all)

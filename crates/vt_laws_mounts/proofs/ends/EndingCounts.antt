@@ -1,6 +1,6 @@
 -- What namespaces have left of their mounts where some are taken away.
 use Rattle.std.proofs.Common.{◌≡◌, refl, sym, ap, subst, ◌∙◌, true, false, nat_eq, ℕ, Bool, List, None, Option, Some, [], arith, filter, flat_map, inl, inr, is_some, length, map, not, option_map, zero, suc, true≢false, ⊎_elim, ◌&&◌, ◌∷◌, ◌≤◌, ◌⊎◌, le-leb}
-use Rattle.vt_spec.proofs.Common.{Among, Location, Mount, Namespace, World, after_going, all_from_among, among-from_filter, among-from_flat_map, among-from_map, among_from_contains, among_from_list_all, among_numbers, and-false, any_among, children, common_steps, contains_from_among, filter_here, filter_skip, going, has_tasks, holds_of, inheriting, is_going, is_in_ended, is_point, is_root_mount, list_all_from_among, list_any, mount_at, mount_in, mount_numbered, mount_point_left, mount_tree, mounts_on, number-mount_in, points_of, stands_on, taken_away, tree_from}
+use Rattle.vt_spec.proofs.Common.{Among, Location, Mount, Namespace, World, after_going, all_from_among, among-from_filter, among-from_flat_map, among-from_map, among_from_contains, among_from_list_all, among_numbers, and-false, any_among, common_steps, contains_from_among, filter_here, filter_skip, has_tasks, holds_of, inheriting, is_going, is_in_ended, is_point, is_root_mount, list_all_from_among, list_any, mount_at, mount_in, mount_numbered, mount_point_left, mount_tree, mounts_on, number-mount_in, points_of, taken_away, tree_from}
 use Rattle.vt_laws_mounts.specs.Mounts.Invariants.{OneNumberEach}
 use Rattle.vt_laws_mounts.specs.Mounts.Ending.{ByEndedNamespaces, ByPoints, ByReplaced, ByTrees, ByUnmount, EndedNamespacesKeepRootMounts, HasNoMoreMounts, IsOutOrStays, PointsKeepRootMounts, ReplacedKeepsRootMounts, TakesNoMountsIn, TreesKeepRootMounts, UnmountKeepsRootMounts, root_mounts_in, is_in}
 use Rattle.vt_laws_mounts.proofs.Groups.{mounts-regrouped}
@@ -33,7 +33,7 @@ module _ (world : World ℕ) (gone : List ℕ) where
   after_it mount = inheriting nat_eq (middle world gone) (after_going nat_eq world gone mount)
 
   mounts_after : (taken_away nat_eq world gone).mounts ≡ map after_it world.mounts
-  mounts_after = mounts-regrouped (middle world gone) ∙ map_map world.mounts
+  mounts_after = mounts-regrouped _ ∙ map_map _
     where
       map_map : (mounts : List (Mount ℕ))
           → map (inheriting nat_eq (middle world gone)) (map (after_going nat_eq world gone) mounts)
@@ -53,8 +53,8 @@ module _ (world : World ℕ) (gone : List ℕ) where
       (λ same. cc) (namespace_after mount))))
 
   pub taken_takes_none_in : TakesNoMountsIn world (taken_away nat_eq world gone)
-  taken_takes_none_in = all_from_among (IsOutOrStays world) (taken_away nat_eq world gone).mounts (λ mount m.
-      let from = among-from_map after_it world.mounts mount (subst (Among mount) mounts_after m) in
+  taken_takes_none_in = all_from_among _ _ (λ mount m.
+      let from = among-from_map _ _ mount (subst (Among mount) mounts_after m) in
       by mount from.0 from.1 from.2 (namespace_after from.0))
     where
       by : (mount old : Mount ℕ) → Among old world.mounts → mount ≡ after_it old
@@ -105,18 +105,19 @@ same_mount world one a b m n same = cc (found_itself world.mounts one a m, found
 pub unmount_keeps_roots : UnmountKeepsRootMounts
 unmount_keeps_roots world one each placed namespace =
     let itself = mount_numbered nat_eq world one in
-    taken_keeps_roots world (going nat_eq world itself) namespace (λ mount m goes.
-    inl (⊎_elim (λ same. cc (found_itself world.mounts each mount m, number-mount_in world.mounts one))
-    (λ t. cc (same_mount world each mount t.0 m t.1 t.3, t.4))
-    (goes_or_may world itself mount.number goes)))
+    taken_keeps_roots world _ _ (λ mount m goes. inl (⊎_elim (λ same. cc (
+      found_itself world.mounts each mount m,
+      number-mount_in world.mounts one,
+    )) (λ t. cc (same_mount world each mount t.0 m t.1 t.3, t.4))
+    (goes_or_may world itself _ goes)))
 
 -- what lies in a tree is its top, or stands at a place
 pub tree_placed : (depth : ℕ) (mounts : List (Mount ℕ)) (top x : Mount ℕ) → Among x (tree_from nat_eq depth mounts top)
     → (x ≡ top) ⊎ (Among x mounts × (is_some x.mount_point ≡ true))
 tree_placed zero mounts top x m = ⊎_elim inl (λ none. absurd none) m
 tree_placed (suc depth) mounts top x m = ⊎_elim inl (λ later.
-    let from = among-from_flat_map (tree_from nat_eq depth mounts) (children nat_eq mounts top.number) x later in
-    let child = among-from_filter (stands_on nat_eq top.number) mounts from.0 from.1 in
+    let from = among-from_flat_map _ _ x later in
+    let child = among-from_filter _ mounts from.0 from.1 in
     ⊎_elim (λ same. inr (
       subst (λ z. Among z mounts) (sym same) child.0,
       cc (same, placed from.0.mount_point child.1),
@@ -131,16 +132,12 @@ pub trees_keep_roots : TreesKeepRootMounts
 trees_keep_roots world tops each placed namespace =
     let trees = flat_map (mount_tree nat_eq world.mounts) tops in
     let gone = map (λ (mount : Mount ℕ). mount.number) trees in
-    taken_keeps_roots world gone namespace (λ mount m goes.
-    let from = among-from_map (λ (x : Mount ℕ). x.number) trees mount.number (among_numbers gone mount.number goes) in
-    let tree = among-from_flat_map (mount_tree nat_eq world.mounts) tops from.0 from.1 in
-    inl (⊎_elim (λ same.
-    ap (λ x. is_some x.mount_point) (sym (found_itself world.mounts each mount m)
-    ∙ ap (mount_in nat_eq world.mounts) (from.2 ∙ ap (λ x. x.number) same))
-    ∙ among_from_list_all (λ (x : Mount ℕ). is_some
-    (mount_numbered nat_eq world x.number).mount_point) tops placed tree.0 tree.1)
-    (λ t. cc (same_mount world each mount from.0 m t.0 from.2, t.1))
-    (tree_placed (length world.mounts) world.mounts tree.0 from.0 tree.2)))
+    taken_keeps_roots world gone _ (λ mount m goes.
+    let from = among-from_map _ trees _ (among_numbers gone _ goes) in
+    let tree = among-from_flat_map _ tops from.0 from.1 in
+    inl (⊎_elim (λ same. ap (λ x. is_some x.mount_point) (sym (found_itself _ each mount m) ∙ ap
+    (mount_in nat_eq world.mounts) (from.2 ∙ ap (λ x. x.number) same)) ∙ among_from_list_all _ tops placed tree.0
+    tree.1) (λ t. cc (same_mount world each mount from.0 m t.0 from.2, t.1)) (tree_placed _ _ tree.0 from.0 tree.2)))
 
 pub points_keep_roots : PointsKeepRootMounts
 points_keep_roots world location each = trees_keep_roots world (mounts_on nat_eq world location) each
@@ -179,11 +176,10 @@ ended_namespaces_keep_roots world listed each there tasks =
 
 -- The counts of each change
 pub unmount_has_no_more : ByUnmount HasNoMoreMounts
-unmount_has_no_more world one = taken_has_no_more world (going nat_eq world (mount_numbered nat_eq world one))
+unmount_has_no_more world one = taken_has_no_more world _
 
 pub trees_have_no_more : ByTrees HasNoMoreMounts
-trees_have_no_more world tops =
-    taken_has_no_more world (map (λ (mount : Mount ℕ). mount.number) (flat_map (mount_tree nat_eq world.mounts) tops))
+trees_have_no_more world tops = taken_has_no_more world _
 
 pub points_have_no_more : ByPoints HasNoMoreMounts
 points_have_no_more world location = trees_have_no_more world (mounts_on nat_eq world location)
@@ -193,18 +189,17 @@ replaced_has_no_more world None namespace = le-leb _ _ (omega arith)
 replaced_has_no_more world (Some object) namespace = points_have_no_more world object namespace
 
 pub ended_namespaces_have_no_more : ByEndedNamespaces HasNoMoreMounts
-ended_namespaces_have_no_more world = taken_has_no_more world (in_ended world)
+ended_namespaces_have_no_more world = taken_has_no_more world _
 
 pub stays_in : (world : World ℕ) → TakesNoMountsIn world world
 stays_in world = all_from_among (IsOutOrStays world) world.mounts (λ mount m.
-    inr (mount, contains_from_among world.mounts mount m, refl, refl))
+    inr (mount, contains_from_among _ mount m, refl, refl))
 
 pub unmount_takes_none_in : ByUnmount TakesNoMountsIn
-unmount_takes_none_in world one = taken_takes_none_in world (going nat_eq world (mount_numbered nat_eq world one))
+unmount_takes_none_in world one = taken_takes_none_in world _
 
 pub trees_take_none_in : ByTrees TakesNoMountsIn
-trees_take_none_in world tops = taken_takes_none_in world (map (λ (mount : Mount ℕ). mount.number)
-    (flat_map (mount_tree nat_eq world.mounts) tops))
+trees_take_none_in world tops = taken_takes_none_in world _
 
 pub points_take_none_in : ByPoints TakesNoMountsIn
 points_take_none_in world location = trees_take_none_in world (mounts_on nat_eq world location)
@@ -214,4 +209,4 @@ replaced_takes_none_in world None = stays_in world
 replaced_takes_none_in world (Some object) = points_take_none_in world object
 
 pub ended_namespaces_take_none_in : ByEndedNamespaces TakesNoMountsIn
-ended_namespaces_take_none_in world = taken_takes_none_in world (in_ended world)
+ended_namespaces_take_none_in world = taken_takes_none_in world _

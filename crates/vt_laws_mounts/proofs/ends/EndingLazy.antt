@@ -59,8 +59,7 @@ module _ (start : World ℕ) (at_first : MountInvariants nat_eq start) (one : �
       → (number : ℕ) → is_among nat_eq number (numbers_of (mount ∷ left)) ≡ true → rank_of number ≤ rank_of mount.number
   no_deeper mount left order its number m = ⊎_elim (λ same. let equal = ap rank_of same in omega (arith, equal))
       (λ later.
-      let from =
-      among-from_map (λ (x : Mount ℕ). x.number) left number (among_numbers (numbers_of left) number later) in
+      let from = among-from_map _ left number (among_numbers _ number later) in
       let x = from.0 in
       let first : depth_of nat_eq start mount ≡ suc (rank_of mount.number) =
       cc (its mount (inl refl), depth_by_rank start at_first.one_number at_first.standing mount.number) in
@@ -68,12 +67,11 @@ module _ (start : World ℕ) (at_first : MountInvariants nat_eq start) (one : �
       cc (its x (inr from.1), depth_by_rank start at_first.one_number at_first.standing x.number) in
       let equal : rank_of number ≡ rank_of x.number = ap rank_of from.2 in
       let below = order.0 x from.1 in
-      omega (arith, first, second, equal, below)) (among_cases number mount.number (numbers_of left) m)
+      omega (arith, first, second, equal, below)) (among_cases number _ _ m)
 
   module _ (world : World ℕ) (mount : Mount ℕ) (left : List (Mount ℕ)) (way : IsUnderWay world (mount ∷ left)) where
     pub childless : has_child nat_eq world mount.number ≡ false
-    childless = none_from_among (stands_on nat_eq mount.number) world.mounts
-        (λ x m. false_from_ne_true _ (λ on. none x m x.mount_point refl on))
+    childless = none_from_among _ _ (λ x m. false_from_ne_true _ (λ on. none x m _ refl on))
       where
         none : (x : Mount ℕ) → Among x world.mounts → (place : Option (Location ℕ)) → x.mount_point ≡ place
             → stands_on nat_eq mount.number x ≡ true → ⊥
@@ -81,14 +79,14 @@ module _ (start : World ℕ) (at_first : MountInvariants nat_eq start) (one : �
         none x m (Some p) e on =
             let same : mount.number ≡ p.mount =
             eqb-true mount.number p.mount (cc) in
-            let found = found_itself world.mounts way.kept.one_number x m in
+            let found = found_itself _ way.kept.one_number x m in
             let over = way.over x.number p (cc (found)) in
             let high = over.1 in
             let equal : rank_of mount.number ≡ rank_of p.mount = ap rank_of same in
-            let lies = further_in start one mount.number x.number (way.lies mount (inl refl))
+            let lies = further_in start one _ _ (way.lies mount (inl refl))
             (subst (λ k. LiesIn start k x.number) (sym same) over.0) in
             ⊎_elim (λ later.
-            let low = no_deeper mount left way.order way.itself x.number later in
+            let low = no_deeper mount left way.order way.itself _ later in
             absurd (omega (arith, low, high, equal)))
             (λ gone. cc (found))
             (way.done x.number lies)
@@ -101,26 +99,23 @@ module _ (start : World ℕ) (at_first : MountInvariants nat_eq start) (one : �
         → StoodOver rest.mount number
     falls_over number rest (direct at e) = way.over number at e
     falls_over number rest (down place below fall goes e) =
-        further below.mount place.mount number (way.over place.mount below e) (falls_over number place fall)
+        further _ _ number (way.over place.mount below e) (falls_over number place fall)
 
     over_then : (number : ℕ) (place : Location ℕ)
         → (mount_numbered nat_eq (taken_away nat_eq world gone) number).mount_point ≡ Some place
         → StoodOver place.mount number
-    over_then number place e = falls_over number place (stood world gone (mount_numbered nat_eq world number) place
-        (cc (taken world gone number))).1
+    over_then number place e = falls_over number place (stood world gone _ place (cc (taken world gone number))).1
 
     -- of a mount without a place nothing is left to do
     done_then : (after : World ℕ) → (mount_numbered nat_eq after mount.number).mount_point ≡ None
         → ((number : ℕ) → (mount_numbered nat_eq world number).mount_point ≡ None
         → (mount_numbered nat_eq after number).mount_point ≡ None) → (number : ℕ) → LiesIn start one number
         → (is_among nat_eq number (numbers_of left) ≡ true) ⊎ ((mount_numbered nat_eq after number).mount_point ≡ None)
-    done_then after here stays number lies = ⊎_elim (λ later.
-        ⊎_elim (λ same. inr (cc)) inl
-        (among_cases number mount.number (numbers_of left) later)) (λ none. inr (stays number none))
-        (way.done number lies)
+    done_then after here stays number lies = ⊎_elim (λ later. ⊎_elim (λ same. inr (cc)) inl
+        (among_cases number _ _ later)) (λ none. inr (stays number none)) (way.done number lies)
 
     pub next : IsUnderWay (unmounted_if_there nat_eq world mount) left
-    next = by (is_some (mount_numbered nat_eq world mount.number).namespace) refl
+    next = by _ refl
       where
         by : (b : Bool) → is_some (mount_numbered nat_eq world mount.number).namespace ≡ b
             → IsUnderWay (if b then unmounted nat_eq world mount.number else world) left
@@ -145,8 +140,7 @@ module _ (start : World ℕ) (at_first : MountInvariants nat_eq start) (one : �
   all_events : (left : List (Mount ℕ)) (world : World ℕ) → IsUnderWay world left
       → MountInvariants nat_eq (folded (unmounted_if_there nat_eq) world left)
   all_events [] world way = way.kept
-  all_events (mount ∷ left) world way =
-      all_events left (unmounted_if_there nat_eq world mount) (next world mount left way)
+  all_events (mount ∷ left) world way = all_events left _ (next world mount left way)
 
   pub begun : IsUnderWay start (taken_in_turn start one)
   begun = record {
@@ -161,5 +155,4 @@ module _ (start : World ℕ) (at_first : MountInvariants nat_eq start) (one : �
   }
 
 pub lazy_unmount_keeps_mounts : LazyUnmountKeepsMounts
-lazy_unmount_keeps_mounts world one kept =
-    all_events world kept one (taken_in_turn world one) world (begun world kept one)
+lazy_unmount_keeps_mounts world one kept = all_events world kept one _ world (begun world kept one)

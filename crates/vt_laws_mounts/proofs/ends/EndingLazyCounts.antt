@@ -1,6 +1,6 @@
 -- What namespaces have left of their mounts after a lazy unmount.
 use Rattle.std.proofs.Common.{◌≡◌, refl, ◌∙◌, true, false, nat_eq, ℕ, Bool, List, None, [], arith, inl, inr, is_some, length, ⊎_elim, ◌∷◌, ◌⊎◌, ◌≤◌, le-leb, leb-true, if◌then◌else◌}
-use Rattle.vt_spec.proofs.Common.{Among, Mount, World, all_from_among, among_from_all, among_from_contains, common_steps, folded, going, mount_numbered, mounts_of, number-mount_in, taken_away, unmounted, unmounted_if_there}
+use Rattle.vt_spec.proofs.Common.{Among, Mount, World, all_from_among, among_from_all, among_from_contains, common_steps, folded, mount_numbered, mounts_of, number-mount_in, taken_away, unmounted, unmounted_if_there}
 use Rattle.vt_laws_mounts.specs.Mounts.Invariants.{OneNumberEach}
 use Rattle.vt_laws_mounts.specs.Mounts.Ending.{ByLazyUnmount, HasNoMoreMounts, IsOutOrStays, KeepsRootMounts, LazyUnmountKeepsRootMounts, TakesNoMountsIn, root_mounts_in}
 use Rattle.vt_laws_mounts.proofs.ends.EndingCounts.{stays_in, tree_placed, unmount_has_no_more, unmount_keeps_roots, unmount_takes_none_in}
@@ -73,8 +73,7 @@ all_keep_roots : (mounts : List (Mount ℕ)) (world : World ℕ) → OneNumberEa
     → ((mount : Mount ℕ) → Among mount mounts → IsPlacedOrOut world mount.number)
     → KeepsRootMounts world (folded (unmounted_if_there nat_eq) world mounts)
 all_keep_roots [] world each placed namespace = refl
-all_keep_roots (mount ∷ mounts) world each placed namespace =
-    by (is_some (mount_numbered nat_eq world mount.number).namespace) refl (all_keep_roots mounts)
+all_keep_roots (mount ∷ mounts) world each placed namespace = by _ refl (all_keep_roots mounts)
   where
     by : (b : Bool) → is_some (mount_numbered nat_eq world mount.number).namespace ≡ b
         → ((left : World ℕ) → OneNumberEach left → ((x : Mount ℕ) → Among x mounts → IsPlacedOrOut left x.number)
@@ -86,12 +85,10 @@ all_keep_roots (mount ∷ mounts) world each placed namespace =
         let there : is_some (mount_numbered nat_eq world mount.number).mount_point ≡ true =
         ⊎_elim (λ f. f) (λ none. absurd cc) (placed mount (inl refl)) in
         later (unmounted nat_eq world mount.number) (unmount_keeps_numbers world mount.number each)
-        (λ x m. placed_or_out_then world (going nat_eq world (mount_numbered nat_eq world mount.number)) x.number
+        (λ x m. placed_or_out_then world _ _
         (placed x (inr m))) namespace ∙ unmount_keeps_roots world mount.number each there namespace
 
 pub lazy_unmount_keeps_roots : LazyUnmountKeepsRootMounts
-lazy_unmount_keeps_roots world one each placed = all_keep_roots (taken_in_turn world one) world each (λ mount m.
-    inl (⊎_elim (λ top. cc (number-mount_in world.mounts one))
-    (λ t. cc (found_itself world.mounts each mount t.0, t.1))
-    (tree_placed (length world.mounts) world.mounts (mount_numbered nat_eq world one) mount
-    (from_tree world one mount m))))
+lazy_unmount_keeps_roots world one each placed = all_keep_roots _ world each
+    (λ mount m. inl (⊎_elim (λ top. cc (number-mount_in world.mounts one))
+    (λ t. cc (found_itself world.mounts each mount t.0, t.1)) (tree_placed _ _ _ mount (from_tree world one mount m))))

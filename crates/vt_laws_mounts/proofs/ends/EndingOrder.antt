@@ -42,20 +42,18 @@ module _ (world : World ℕ) where
   pub all_in_order : (mounts sorted : List (Mount ℕ)) → AreDeepestFirst sorted
       → AreDeepestFirst (all_inserted sorted mounts)
   all_in_order [] sorted order = order
-  all_in_order (mount ∷ mounts) sorted order =
-      all_in_order mounts (insert mount sorted) (inserted_in_order mount sorted order)
+  all_in_order (mount ∷ mounts) sorted order = all_in_order mounts _ (inserted_in_order mount sorted order)
 
   pub among_all_inserted : (mounts sorted : List (Mount ℕ)) (x : Mount ℕ) → Among x (all_inserted sorted mounts)
       → Among x sorted ⊎ Among x mounts
   among_all_inserted [] sorted x m = inl m
-  among_all_inserted (mount ∷ mounts) sorted x m = ⊎_elim
-      (λ first. ⊎_elim (λ e. inr (inl e)) inl (among_inserted mount sorted x first)) (λ later. inr (inr later))
-      (among_all_inserted mounts (insert mount sorted) x m)
+  among_all_inserted (mount ∷ mounts) sorted x m = ⊎_elim (λ first. ⊎_elim (λ e. inr (inl e)) inl
+      (among_inserted mount sorted x first)) (λ later. inr (inr later)) (among_all_inserted mounts _ x m)
 
   pub all_inserted_among : (mounts sorted : List (Mount ℕ)) (x : Mount ℕ) → Among x sorted ⊎ Among x mounts
       → Among x (all_inserted sorted mounts)
   all_inserted_among [] sorted x m = ⊎_elim (λ l. l) (λ none. absurd none) m
-  all_inserted_among (mount ∷ mounts) sorted x m = all_inserted_among mounts (insert mount sorted) x (⊎_elim
+  all_inserted_among (mount ∷ mounts) sorted x m = all_inserted_among mounts _ x (⊎_elim
       (λ l. inl (inserted_among mount sorted x (inr l)))
       (λ l. ⊎_elim (λ e. inl (inserted_among mount sorted x (inl e))) inr l) m)
 
@@ -69,20 +67,18 @@ module _ (world : World ℕ) where
   in_order number = all_in_order (tree_of number) [] tt
 
   pub from_tree : (number : ℕ) (x : Mount ℕ) → Among x (taken_in_turn number) → Among x (tree_of number)
-  from_tree number x m = ⊎_elim (λ none. absurd none) (λ l. l) (among_all_inserted (tree_of number) [] x m)
+  from_tree number x m = ⊎_elim (λ none. absurd none) (λ l. l) (among_all_inserted _ [] x m)
 
   module _ (one : OneNumberEach world) (all : AllStand world) where
     -- each of them lies in the tree
     pub lies_in_it : (number : ℕ) (x : Mount ℕ) → Among x (taken_in_turn number) → LiesIn world number x.number
-    lies_in_it number x m = subst (λ k. LiesIn world k x.number) (number-mount_in world.mounts number)
-        (lies_in_tree world one all (length world.mounts) (mount_numbered nat_eq world number) x (from_tree number x m))
+    lies_in_it number x m = subst (λ k. LiesIn world k x.number) (number-mount_in _ number)
+        (lies_in_tree world one all _ _ x (from_tree number x m))
 
     pub is_itself : (number : ℕ) (x : Mount ℕ) → Among x (taken_in_turn number)
         → mount_numbered nat_eq world x.number ≡ x
-    is_itself number x m = ⊎_elim (λ top.
-        cc (top, number-mount_in world.mounts number))
-        (λ there. found_itself world.mounts one x there)
-        (tree_among (length world.mounts) world.mounts (mount_numbered nat_eq world number) x (from_tree number x m))
+    is_itself number x m = ⊎_elim (λ top. cc (top, number-mount_in world.mounts number))
+        (λ there. found_itself _ one x there) (tree_among _ _ _ x (from_tree number x m))
 
     -- and each that lies in the tree is one of them
     abbrev numbers_under : ℕ → List ℕ

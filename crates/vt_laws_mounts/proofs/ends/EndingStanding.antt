@@ -50,8 +50,8 @@ module _ (world : World ℕ) (gone : List ℕ) where
               (true≢false (sym (ap is_some f) ∙ ap is_some e))),
         )
     stands_later number (on_parent it on e f stands) =
-        let deeper = stands_later on.mount stands in
-        let itself : Stands nat_eq later it = by (is_going nat_eq gone it) refl deeper.1 in (
+        let deeper = stands_later _ stands in
+        let itself : Stands nat_eq later it = by _ refl deeper.1 in (
           itself,
           λ place rest same fall. fallen it place rest same fall itself (λ below g more.
               let l = deeper.1 below rest (ap (λ (p : Location ℕ). p.mount) (same_Some below on (sym g ∙ e))) more in
@@ -65,10 +65,9 @@ module _ (world : World ℕ) (gone : List ℕ) where
         by false stays deeper =
             let landed = land it on stays e in
             let l = deeper on landed.0 refl landed.1 in
-            on_parent it landed.0
-            (place_fallen world gone ((standing_is_computed world one).0 all) it on landed.0 stays e landed.1)
-            ((kept_by_number world gone it stays).namespace ∙ f ∙ l.1
-            ∙ sym (kept_by_number world gone landed.0.mount (rest_stays on landed.0 landed.1)).namespace) l.0
+            on_parent it landed.0 (place_fallen world gone ((standing_is_computed world one).0 all) it on _ stays e
+            landed.1) ((kept_by_number world gone it stays).namespace ∙ f ∙ l.1 ∙ sym
+            (kept_by_number world gone _ (rest_stays on _ landed.1)).namespace) l.0
 
     pub taken_stand : AllStand later
     taken_stand = all_from_among (λ (mount : Mount ℕ). Stands nat_eq later mount.number) later.mounts
@@ -78,21 +77,19 @@ module _ (world : World ℕ) (gone : List ℕ) where
   pub lands_by_places : OneNumberEach world → AllStand world
       → ((x : Mount ℕ) (place : Location ℕ) → Among x world.mounts → x.mount_point ≡ Some place
       → is_going nat_eq gone place.mount ≡ true → is_some (mount_at nat_eq world place).mount_point ≡ true) → AllLand
-  lands_by_places one all placed number place stays e =
-      from place.mount (stand world one all place.mount) number place e refl
+  lands_by_places one all placed number place stays e = from _ (stand world one all _) number place e refl
     where
       from : (below : ℕ) → Stands nat_eq world below → (above : ℕ) (at : Location ℕ)
           → (before_it above).mount_point ≡ Some at
           → at.mount ≡ below → (rest : Location ℕ) × FallsTo world gone at rest
-      from below (at_root it f) above at g same = by (is_going nat_eq gone at.mount) refl
+      from below (at_root it f) above at g same = by _ refl
         where
           by : (b : Bool) → is_going nat_eq gone at.mount ≡ b → (rest : Location ℕ) × FallsTo world gone at rest
-          by true goes =
-              absurd (true≢false (sym (placed (before_it above) at (placed_among world.mounts above at g) g goes)
-              ∙ ap (λ n. is_some (before_it n).mount_point) same ∙ ap is_some f))
+          by true goes = absurd (true≢false (sym (placed (before_it above) at (placed_among _ above at g) g goes) ∙ ap
+              (λ n. is_some (before_it n).mount_point) same ∙ ap is_some f))
           by false rest = (at, rests at rest)
-      from below (on_parent it on f same_namespace stands) above at g same = by (is_going nat_eq gone at.mount) refl
-          (from on.mount stands at.mount on (ap (λ n. (before_it n).mount_point) same ∙ f) refl)
+      from below (on_parent it on f same_namespace stands) above at g same = by _ refl
+          (from _ stands _ on (ap (λ n. (before_it n).mount_point) same ∙ f) refl)
         where
           by : (b : Bool) → is_going nat_eq gone at.mount ≡ b → ((rest : Location ℕ) × FallsTo world gone on rest)
               → (rest : Location ℕ) × FallsTo world gone at rest
@@ -101,10 +98,9 @@ module _ (world : World ℕ) (gone : List ℕ) where
 
   -- and where what goes takes all that stands on it with it
   pub lands_by_closed : AreClosed world gone → AllLand
-  lands_by_closed closed number place stays e = by (is_going nat_eq gone place.mount) refl
+  lands_by_closed closed number place stays e = by _ refl
     where
       by : (b : Bool) → is_going nat_eq gone place.mount ≡ b → (rest : Location ℕ) × FallsTo world gone place rest
-      by true goes =
-          absurd (true≢false (sym (closed (before_it number) place (placed_among world.mounts number place e) e goes)
-          ∙ ap (is_going nat_eq gone) (number-mount_in world.mounts number) ∙ stays))
+      by true goes = absurd (true≢false (sym (closed (before_it number) place (placed_among _ number place e) e goes)
+          ∙ ap (is_going nat_eq gone) (number-mount_in _ number) ∙ stays))
       by false rest = (place, rests place rest)

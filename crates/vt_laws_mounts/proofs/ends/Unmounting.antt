@@ -30,30 +30,26 @@ module _ (world : World ℕ) (gone : List ℕ) where
 
   pub taken : (number : ℕ) → mount_numbered nat_eq (taken_away nat_eq world gone) number ≡ inheriting nat_eq middle
       (after_going nat_eq world gone (mount_numbered nat_eq world number))
-  taken number = ap (λ mounts. mount_in nat_eq mounts number) (mounts-regrouped middle)
-      ∙ found-map (inheriting nat_eq middle) (λ mount. refl) middle.mounts number refl ∙ ap (inheriting nat_eq middle)
-      (found-map (after_going nat_eq world gone) (number-after_going world gone) world.mounts number
+  taken number = ap (λ mounts. mount_in nat_eq mounts number) (mounts-regrouped middle) ∙ found-map _ (λ mount. refl) _
+      number refl ∙ ap (inheriting nat_eq middle) (found-map _ (number-after_going world gone) _ number
       (none_after number))
 
   pub numbers_taken : map (λ mount. mount.number) (taken_away nat_eq world gone).mounts
       ≡ map (λ mount. mount.number) world.mounts
-  numbers_taken = ap (map (λ mount. mount.number)) (mounts-regrouped middle)
-      ∙ numbers-map (inheriting nat_eq middle) (λ mount. refl) middle.mounts
-      ∙ numbers-map (after_going nat_eq world gone) (number-after_going world gone) world.mounts
+  numbers_taken = ap (map (λ mount. mount.number)) (mounts-regrouped middle) ∙ numbers-map _ (λ mount. refl) _
+      ∙ numbers-map _ (number-after_going world gone) _
 
   -- what goes, by the number of what is found
   taken_going : (number : ℕ) → is_going nat_eq gone (mount_numbered nat_eq world number).number ≡ true
       → mount_numbered nat_eq (taken_away nat_eq world gone) number ≡ detached (mount_numbered nat_eq world number)
-  taken_going number e = taken number
-      ∙ ap (inheriting nat_eq middle) (going_is_detached (mount_numbered nat_eq world number) e)
+  taken_going number e = taken number ∙ ap (inheriting nat_eq middle) (going_is_detached _ e)
 
   taken_staying : (number : ℕ) → is_going nat_eq gone (mount_numbered nat_eq world number).number ≡ false
       → mount_numbered nat_eq (taken_away nat_eq world gone) number ≡ inheriting nat_eq middle
       (record (mount_numbered nat_eq world number) {
         mount_point = option_map (mount_point_left nat_eq world gone) (mount_numbered nat_eq world number).mount_point;
       })
-  taken_staying number e = taken number
-      ∙ ap (inheriting nat_eq middle) (staying_is_placed (mount_numbered nat_eq world number) e)
+  taken_staying number e = taken number ∙ ap (inheriting nat_eq middle) (staying_is_placed _ e)
 
   -- Places
 
@@ -108,7 +104,7 @@ module _ (world : World ℕ) (gone : List ℕ) where
 
   goes_so : (number : ℕ) (b : Bool) → is_going nat_eq gone number ≡ b
       → is_going nat_eq gone (before_it number).number ≡ b
-  goes_so number b e = ap (is_going nat_eq gone) (number-mount_in world.mounts number) ∙ e
+  goes_so number b e = ap (is_going nat_eq gone) (number-mount_in _ number) ∙ e
 
   pub detached_by_number : (number : ℕ) → is_going nat_eq gone number ≡ true → left number ≡ detached (before_it number)
   detached_by_number number e = taken_going number (goes_so number true e)
@@ -127,14 +123,13 @@ module _ (world : World ℕ) (gone : List ℕ) where
   pub place_kept : (number : ℕ) (place : Location ℕ) → is_going nat_eq gone number ≡ false
       → (before_it number).mount_point ≡ Some place
       → is_going nat_eq gone place.mount ≡ false → (left number).mount_point ≡ Some place
-  place_kept number place e at stays =
-      place_by_number number place e at ∙ ap Some (left_at_rest (length world.mounts) place stays)
+  place_kept number place e at stays = place_by_number number place e at ∙ ap Some (left_at_rest _ place stays)
 
   pub place_fallen : ChainsEnd world → (number : ℕ) (place rest : Location ℕ) → is_going nat_eq gone number ≡ false
       → (before_it number).mount_point ≡ Some place → FallsTo world gone place rest
       → (left number).mount_point ≡ Some rest
   place_fallen ends number place rest e at fall = place_by_number number place e at
-      ∙ ap Some (falls_to_rest (length world.mounts) place rest (ends_below ends place) fall)
+      ∙ ap Some (falls_to_rest _ place rest (ends_below ends place) fall)
 
   pub root_stays : (number : ℕ) → (before_it number).mount_point ≡ None → (left number).mount_point ≡ None
   root_stays number at = grind (arith, common_steps, taken number, going_is_detached, staying_is_placed)
@@ -151,7 +146,7 @@ module _ (world : World ℕ) (gone : List ℕ) where
   pub type_kept : (number : ℕ) → is_going nat_eq gone number ≡ false
       → has_its_master (taken_away nat_eq world gone) (before_it number).propagation ≡ true
       → (left number).propagation ≡ (before_it number).propagation
-  type_kept number e has = type_by_number number e ∙ by (before_it number).propagation has
+  type_kept number e has = type_by_number number e ∙ by _ has
     where
       by : (kind : Propagation ℕ) → has_its_master (taken_away nat_eq world gone) kind ≡ true
           → inherited nat_eq middle kind ≡ kind
@@ -163,11 +158,10 @@ module _ (world : World ℕ) (gone : List ℕ) where
   pub slave_inherits : (number master : ℕ) → is_going nat_eq gone number ≡ false
       → (before_it number).propagation ≡ Slave master → (left number).propagation ≡ slave_of_heir
       (find (has_members nat_eq (taken_away nat_eq world gone).mounts) (groups_up world master))
-  slave_inherits number master e slave = type_by_number number e ∙ ap (inherited nat_eq middle) slave
-      ∙ ap (λ n. slave_of_heir (find (has_members nat_eq middle.mounts) (chain n world.master master)))
+  slave_inherits number master e slave = type_by_number number e ∙ ap (inherited nat_eq middle) slave ∙ ap
+      (λ n. slave_of_heir (find (has_members nat_eq middle.mounts) (chain n world.master master)))
       (length-map world.mounts (after_going nat_eq world gone)) ∙ ap slave_of_heir
-      (find_agrees (has_members nat_eq middle.mounts) (has_members nat_eq (taken_away nat_eq world gone).mounts)
-      (λ group. sym (members_of_middle group)) (groups_up world master))
+      (find_agrees _ _ (λ group. sym (members_of_middle group)) _)
 
   pub master_kept : (group master : ℕ) → world.master group ≡ Some master
       → has_members nat_eq (taken_away nat_eq world gone).mounts master ≡ true
@@ -182,33 +176,31 @@ abbrev gone_with : World ℕ → ℕ → List ℕ
 gone_with world one = going nat_eq world (mount_numbered nat_eq world one)
 
 pub unmount_keeps_the_order : UnmountKeepsTheOrder
-unmount_keeps_the_order world one = numbers_taken world (gone_with world one)
+unmount_keeps_the_order world one = numbers_taken world _
 
 pub what_goes_is_detached : WhatGoesIsDetached
-what_goes_is_detached world one number e = detached_by_number world (gone_with world one) number e
+what_goes_is_detached world one number e = detached_by_number world _ number e
 
 pub what_stays_keeps : WhatStaysKeeps
-what_stays_keeps world one number e = kept_by_number world (gone_with world one) number e
+what_stays_keeps world one number e = kept_by_number world _ number e
 
 pub what_stays_keeps_its_place : WhatStaysKeepsItsMountPoint
-what_stays_keeps_its_place world one number place e at stays =
-    place_kept world (gone_with world one) number place e at stays
+what_stays_keeps_its_place world one number place e at stays = place_kept world _ number place e at stays
 
 pub root_mounts_stay : RootMountsStay
-root_mounts_stay world one number at = root_stays world (gone_with world one) number at
+root_mounts_stay world one number at = root_stays world _ number at
 
 pub what_covered_falls : WhatCoveredFalls
-what_covered_falls world one number place rest ends e at fall =
-    place_fallen world (gone_with world one) ends number place rest e at fall
+what_covered_falls world one number place rest ends e at fall = place_fallen world _ ends number place rest e at fall
 
 pub what_stays_keeps_its_type : WhatStaysKeepsItsType
-what_stays_keeps_its_type world one number e has = type_kept world (gone_with world one) number e has
+what_stays_keeps_its_type world one number e has = type_kept world _ number e has
 
 pub slaves_are_inherited : SlavesAreInherited
-slaves_are_inherited world one number master e slave = slave_inherits world (gone_with world one) number master e slave
+slaves_are_inherited world one number master e slave = slave_inherits world _ number master e slave
 
 pub groups_keep_their_masters : GroupsKeepTheirMasters
-groups_keep_their_masters world one group master e h = master_kept world (gone_with world one) group master e h
+groups_keep_their_masters world one group master e h = master_kept world _ group master e h
 
 pub unmount_is_of_mounts : UnmountIsOfMounts
-unmount_is_of_mounts world one = all_but_mounts world (gone_with world one)
+unmount_is_of_mounts world one = all_but_mounts world _

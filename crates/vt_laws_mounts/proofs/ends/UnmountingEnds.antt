@@ -1,6 +1,6 @@
 -- Mounts that end with something else, and lazy unmounts.
 use Rattle.std.proofs.Common.{arith, ◌≡◌, refl, sym, ap, subst, ◌∙◌, true, false, Bool, List, None, Some, [], is_some, map, nat_eq, true≢false, ⊎_elim, ◌∷◌, ◌⊎◌, ℕ, inr, inl, filter_map, if◌then◌else◌}
-use Rattle.vt_spec.proofs.Common.{Among, Mount, Private, Propagation, Shared, Slave, Unbindable, World, among-filter, among-filter_map, among-map, child_at, children, common_steps, deepest_first, detached, filter_none, folded, found_or_none, goes_at, going, going_at, going_from, group_of, head_among, is_among, is_among_numbers, is_going, is_shared, list_any, may_go, mount_at, mount_numbered, mount_tree, number-mount_in, only_cover, receivers, receives, source_of, stands_on, taken_away, unmounted, unmounted_if_there}
+use Rattle.vt_spec.proofs.Common.{Among, Mount, Private, Propagation, Shared, Slave, Unbindable, World, among-filter, among-filter_map, among-map, child_at, children, common_steps, deepest_first, detached, filter_none, folded, found_or_none, goes_at, going_at, going_from, group_of, head_among, is_among, is_among_numbers, is_going, is_shared, list_any, may_go, mount_at, mount_numbered, mount_tree, number-mount_in, only_cover, receivers, source_of, stands_on, taken_away, unmounted, unmounted_if_there}
 use Rattle.vt_laws_mounts.specs.Mounts.Unmounting.{KeepsAllButMounts, KeepsAllButMountPointAndType}
 use Rattle.vt_laws_mounts.specs.Mounts.Ends.{LazyDetachesOrKeeps, LazyIsOfMounts, OthersAreKept, OthersKeepTheirMountPoints, OthersKeepTheirTypes, TakenAreDetached, TheMountItselfGoes}
 use Rattle.vt_laws_mounts.proofs.ends.Unmounting.{all_but_mounts, detached_by_number, going_is_detached, kept_by_number, place_kept, staying_is_placed, taken, type_kept}
@@ -58,13 +58,11 @@ all_events : (before : Mount ℕ) (number : ℕ) (mounts : List (Mount ℕ)) (wo
     → DetachedOrKept before (mount_numbered nat_eq world number)
     → DetachedOrKept before (mount_numbered nat_eq (folded (unmounted_if_there nat_eq) world mounts) number)
 all_events before number [] world r = r
-all_events before number (mount ∷ mounts) world r =
-    all_events before number mounts (unmounted_if_there nat_eq world mount)
-    (by (is_some (mount_numbered nat_eq world mount.number).namespace))
+all_events before number (mount ∷ mounts) world r = all_events before number mounts _ (by _)
   where
     by : (b : Bool) → DetachedOrKept before
         (mount_numbered nat_eq (if b then unmounted nat_eq world mount.number else world) number)
-    by true = then_event before world (going nat_eq world (mount_numbered nat_eq world mount.number)) number r
+    by true = then_event before world _ number r
     by false = r
 
 pub lazy_detaches_or_keeps : LazyDetachesOrKeeps
@@ -76,8 +74,8 @@ all_of_mounts : (mounts : List (Mount ℕ)) (world : World ℕ)
     → KeepsAllButMounts world (folded (unmounted_if_there nat_eq) world mounts)
 all_of_mounts [] world = record { filesystems = refl; namespaces = refl; tasks = refl; change = refl }
 all_of_mounts (mount ∷ mounts) world =
-    let first = by (is_some (mount_numbered nat_eq world mount.number).namespace) in
-    let later = all_of_mounts mounts (unmounted_if_there nat_eq world mount) in
+    let first = by _ in
+    let later = all_of_mounts mounts _ in
     record {
       filesystems = later.filesystems ∙ first.filesystems;
       namespaces = later.namespaces ∙ first.namespaces;
@@ -86,7 +84,7 @@ all_of_mounts (mount ∷ mounts) world =
     }
   where
     by : (b : Bool) → KeepsAllButMounts world (if b then unmounted nat_eq world mount.number else world)
-    by true = all_but_mounts world (going nat_eq world (mount_numbered nat_eq world mount.number))
+    by true = all_but_mounts world _
     by false = record { filesystems = refl; namespaces = refl; tasks = refl; change = refl }
 
 pub lazy_is_of_mounts : LazyIsOfMounts
@@ -96,7 +94,7 @@ lazy_is_of_mounts world one =
 -- The mount itself
 pub the_mount_itself_goes : TheMountItselfGoes
 the_mount_itself_goes world one place one_each at childless =
-    ap (λ ns. is_going nat_eq ns one) (ap (going_at nat_eq world itself) at) ∙ by parent.propagation refl
+    ap (λ ns. is_going nat_eq ns one) (ap (going_at nat_eq world itself) at) ∙ by _ refl
   where
     itself : Mount ℕ
     itself = mount_numbered nat_eq world one
@@ -105,46 +103,41 @@ the_mount_itself_goes world one place one_each at childless =
     parent = mount_at nat_eq world place
 
     number : itself.number ≡ one
-    number = number-mount_in world.mounts one
+    number = number-mount_in _ one
 
     alone : is_among nat_eq one (itself.number ∷ []) ≡ true
-    alone = head_among one itself.number [] (sym number)
+    alone = head_among one _ [] (sym number)
 
     -- nothing stands on it
     empty : (list : List (Mount ℕ)) → list_any (stands_on nat_eq one) list ≡ false → children nat_eq list one ≡ []
-    empty list h = filter_none (stands_on nat_eq one) list h
+    empty list h = filter_none _ list h
 
     may : may_go nat_eq world itself ≡ true
     may = ap (λ n. only_cover nat_eq itself (children nat_eq world.mounts n)) number
         ∙ ap (only_cover nat_eq itself) (empty world.mounts childless)
 
     itself_among : Among itself world.mounts
-    itself_among =
-        ⊎_elim (λ m. m) (λ none. absurd (true≢false (sym (ap is_some at) ∙ ap (λ m. is_some m.mount_point) none)))
-        (found_or_none world.mounts one)
+    itself_among = ⊎_elim (λ m. m) (λ none. absurd (true≢false (sym (ap is_some at) ∙ ap (λ m. is_some m.mount_point)
+        none))) (found_or_none _ one)
 
     at_parent : child_at nat_eq world.mounts (record { mount = parent.number; node = place.node }) ≡ Some itself
-    at_parent = ap (λ n. child_at nat_eq world.mounts (record { mount = n; node = place.node }))
-        (number-mount_in world.mounts place.mount)
-        ∙ found_at_its_place world.mounts one_each itself itself_among place at
+    at_parent = ap (λ n. child_at nat_eq world.mounts (record { mount = n; node = place.node })) (number-mount_in _ _)
+        ∙ found_at_its_place _ one_each itself itself_among place at
 
     parent_among : (group : ℕ) → parent.propagation ≡ Shared group → Among parent world.mounts
     parent_among group e = ⊎_elim (λ m. m) (λ none. absurd (true≢false (sym (ap (λ k. is_some (group_of k)) e)
-        ∙ ap (λ m. is_some (group_of m.propagation)) none))) (found_or_none world.mounts place.mount)
+        ∙ ap (λ m. is_some (group_of m.propagation)) none))) (found_or_none _ _)
 
     by : (kind : Propagation ℕ) → parent.propagation ≡ kind
         → is_going nat_eq (going_from nat_eq world itself place (is_shared parent.propagation)) one ≡ true
-    by (Shared group) e = ap (λ k. is_going nat_eq (going_from nat_eq world itself place (is_shared k)) one) e
-        ∙ ap (λ rs. is_among nat_eq one (map (λ (gone : Mount ℕ). gone.number)
-        (filter_map (goes_at nat_eq world place.node) rs))) (receivers_of_shared world parent group e)
-        ∙ is_among_numbers _ one (subst (λ n. Among n (map (λ (gone : Mount ℕ). gone.number)
-        (filter_map (goes_at nat_eq world place.node) (receivers nat_eq world group)))) number
-        (among-map (λ (gone : Mount ℕ). gone.number)
-        (filter_map (goes_at nat_eq world place.node) (receivers nat_eq world group)) itself
-        (among-filter_map (goes_at nat_eq world place.node) (receivers nat_eq world group) parent itself
-        (among-filter (receives nat_eq world group) world.mounts parent (parent_among group e)
-        (receives_from_source world group parent (ap source_of e)))
-        (child_goes_so world place.node parent itself at_parent may))))
+    by (Shared group) e = ap (λ k. is_going nat_eq (going_from nat_eq world itself place (is_shared k)) one) e ∙ ap
+        (λ rs. is_among nat_eq one (map (λ (gone : Mount ℕ). gone.number) (filter_map (goes_at nat_eq world place.node)
+        rs))) (receivers_of_shared world parent group e) ∙ is_among_numbers _ one
+        (subst (λ n. Among n (map (λ (gone : Mount ℕ). gone.number) (filter_map (goes_at nat_eq world place.node)
+        (receivers nat_eq world group)))) number (among-map _ _ itself
+        (among-filter_map _ _ parent itself (among-filter _ _ parent (parent_among group e)
+        (receives_from_source world group parent (ap source_of e))) (child_goes_so world _ parent itself at_parent
+        may))))
     by (Slave above) e = ap (λ k. is_going nat_eq (going_from nat_eq world itself place (is_shared k)) one) e ∙ alone
     by Private e = ap (λ k. is_going nat_eq (going_from nat_eq world itself place (is_shared k)) one) e ∙ alone
     by Unbindable e = ap (λ k. is_going nat_eq (going_from nat_eq world itself place (is_shared k)) one) e ∙ alone

@@ -32,37 +32,33 @@ module _ (world : World ℕ) where
 
 module _ (world : World ℕ) (live : GroupsLive world) (mount : Mount ℕ) where
   is_named : (number : ℕ) → is_going nat_eq (going nat_eq world mount) number ≡ true → Goes world mount number
-  is_named number h = by mount.mount_point refl
+  is_named number h = by _ refl
     where
       itself : Goes world mount mount.number → Among number (mount.number ∷ []) → Goes world mount number
-      itself goes m = subst (Goes world mount) (sym (only_one number mount.number m)) goes
+      itself goes m = subst (Goes world mount) (sym (only_one number _ m)) goes
 
       listed : (numbers : List ℕ) → going nat_eq world mount ≡ numbers → Among number numbers
-      listed numbers e = among_numbers numbers number (sym (ap (λ ns. is_going nat_eq ns number) e) ∙ h)
+      listed numbers e = among_numbers _ number (sym (ap (λ ns. is_going nat_eq ns number) e) ∙ h)
 
       shared : (place : Location ℕ) (group : ℕ) → mount.mount_point ≡ Some place
           → (mount_at nat_eq world place).propagation ≡ Shared group → Among number (map (λ gone. gone.number)
           (filter_map (goes_at nat_eq world place.node) (receivers nat_eq world group))) → Goes world mount number
       shared place group e f m =
-          let gone : (x : Mount ℕ)
-          × Among x (filter_map (goes_at nat_eq world place.node) (receivers nat_eq world group))
-          × (number ≡ x.number) = among-from_map (λ gone. gone.number)
-          (filter_map (goes_at nat_eq world place.node) (receivers nat_eq world group)) number m in
-          let heard : (x : Mount ℕ) × Among x (receivers nat_eq world group)
-          × (goes_at nat_eq world place.node x ≡ Some gone.0) =
-          among-from_filter_map (goes_at nat_eq world place.node) (receivers nat_eq world group) gone.0 gone.1 in
+          let gone : (x : Mount ℕ) × Among x (filter_map (goes_at nat_eq world place.node)
+          (receivers nat_eq world group)) × (number ≡ x.number) = among-from_map _ _ number m in
+          let heard : (x : Mount ℕ) × Among x (receivers nat_eq world group) × (goes_at nat_eq world place.node x ≡ Some
+          gone.0) = among-from_filter_map _ _ gone.0 gone.1 in
           let child : (child_at nat_eq world.mounts (record { mount = heard.0.number; node = place.node })
           ≡ Some gone.0) × (may_go nat_eq world gone.0 ≡ true) = child_goes world place.node heard.0 gone.0 heard.2 in
           let hears : Contains world.mounts heard.0 × Receives world group heard.0 =
-          (receivers_receive world group heard.0 live).0 (contains_from_among _ heard.0 heard.1) in
+          (receivers_receive world group heard.0 live).0 (contains_from_among _ _ heard.1) in
           subst (Goes world mount) (sym gone.2)
           (at_receiver place group heard.0 gone.0 e f hears.0 hears.1 child.0 child.1)
 
       at_place : (place : Location ℕ) → mount.mount_point ≡ Some place → (kind : Propagation ℕ)
           → (mount_at nat_eq world place).propagation ≡ kind → Goes world mount number
-      at_place place e kind f =
-          on kind f (listed (going_from nat_eq world mount place (is_shared kind)) (ap (going_at nat_eq world mount) e
-          ∙ ap (λ k. going_from nat_eq world mount place (is_shared k)) f))
+      at_place place e kind f = on kind f (listed _ (ap (going_at nat_eq world mount) e ∙ ap
+          (λ k. going_from nat_eq world mount place (is_shared k)) f))
         where
           on : (k : Propagation ℕ) → (mount_at nat_eq world place).propagation ≡ k
               → Among number (going_from nat_eq world mount place (is_shared k)) → Goes world mount number
@@ -72,8 +68,8 @@ module _ (world : World ℕ) (live : GroupsLive world) (mount : Mount ℕ) where
           on Unbindable g m = itself (alone place e (ap is_shared g)) m
 
       by : (place : Option (Location ℕ)) → mount.mount_point ≡ place → Goes world mount number
-      by None e = itself (from_nowhere e) (listed (mount.number ∷ []) (ap (going_at nat_eq world mount) e))
-      by (Some place) e = at_place place e (mount_at nat_eq world place).propagation refl
+      by None e = itself (from_nowhere e) (listed _ (ap (going_at nat_eq world mount) e))
+      by (Some place) e = at_place place e _ refl
 
   goes_so_named : (number : ℕ) → Goes world mount number → is_going nat_eq (going nat_eq world mount) number ≡ true
   goes_so_named number (from_nowhere e) =
@@ -105,10 +101,8 @@ umount_granted : (fresh : Fresh ℕ) (world : World ℕ) (task : Task ℕ) (path
     → IsGranted nat_eq (looks_of nat_eq world) (overfills nat_eq fresh world task) task (Umount path) permit
     → (apply nat_eq fresh world task permit).world.mounts ≡ (unmounted nat_eq world here.location.mount).mounts
 umount_granted fresh world task path here permit ends (unmounts _ reached admin end passed) =
-    ap (λ (here : Here ℕ). (unmounted nat_eq world here.location.mount).mounts)
-    (one_end (directory_walk nat_eq (looks_of nat_eq world) task path) reached here end ends)
+    ap (λ (here : Here ℕ). (unmounted nat_eq world here.location.mount).mounts) (one_end _ _ here end ends)
 
 pub umount_unmounts : UmountUnmounts
-umount_unmounts fresh world name task path here is ends =
-    leaves_mounts fresh world name task (Umount path) (unmounted nat_eq world here.location.mount).mounts Done refl
+umount_unmounts fresh world name task path here is ends = leaves_mounts fresh world name task _ _ Done refl
     (λ permit. umount_granted fresh world task path here permit ends) is

@@ -1,6 +1,6 @@
 -- A namespace that ends leaves at most one mount at a place in the others.
 use Rattle.std.proofs.Common.{arith, ◌≡◌, refl, sym, ap, ◌∙◌, true, false, zero, suc, nat_eq, ℕ, List, None, Option, Some, eqb-true, filter, is_some, map, not, option_map, true≢false}
-use Rattle.vt_spec.proofs.Common.{Among, Location, Mount, World, among-filter, among-from_filter, among-from_map, among-map, among_from_list_all, among_numbers, and_parts, chain, chain_ends, chain_goes_on, common_steps, is_among_numbers, is_in_ended, last_of_chain, last_or, last_parent, mount_at, not-true, same_option, stands_in_its_namespace}
+use Rattle.vt_spec.proofs.Common.{Among, Location, Mount, World, among-filter, among-from_filter, among-from_map, among-map, among_from_list_all, among_numbers, and_parts, chain, chain_ends, chain_goes_on, common_steps, is_among_numbers, is_in_ended, last_of_chain, last_or, last_parent, mount_at, not-true, same_option}
 use Rattle.vt_laws_mounts.specs.Mounts.Invariants.{EndedNamespacesLeaveOneMountAMountPoint, OneNumberEach}
 use Rattle.vt_laws_mounts.specs.Mounts.Unmounting.{ChainsEnd}
 use Rattle.vt_laws_mounts.proofs.ends.UnmountingTrees.{AreClosed, closed_keeps_apart}
@@ -31,8 +31,8 @@ module _ (world : World ℕ) (ends : ChainsEnd world) where
   parts mount m =
       let both : (not (is_some (last_parent nat_eq world mount).mount_point) ≡ true)
       × (same_option nat_eq mount.namespace (last_parent nat_eq world mount).namespace ≡ true) =
-      and_parts _ _ (among_from_list_all (stands_in_its_namespace nat_eq world) world.mounts ends mount m) in
-      (not-true _ both.0, one_namespace mount.namespace (last_parent nat_eq world mount).namespace both.1)
+      and_parts _ _ (among_from_list_all _ _ ends mount m) in
+      (not-true _ both.0, one_namespace _ _ both.1)
 
   -- a mount is in the namespace of the one that it stands on
   pub same_namespace : (x : Mount ℕ) (place : Location ℕ) → Among x world.mounts → x.mount_point ≡ Some place

@@ -1,6 +1,6 @@
 -- An unmount leaves at most one mount at a place.
-use Rattle.std.proofs.Common.{arith, ◌≡◌, refl, sym, ap, subst, ◌∙◌, true, false, zero, suc, Bool, List, None, Option, Some, [], eq-eqb, is_some, length, nat_eq, option_map, ⊎_elim, ◌∷◌, ◌⊎◌, ℕ, inl, inr, filter_map, if◌then◌else◌}
-use Rattle.vt_spec.proofs.Common.{Among, Location, Mount, World, after_going, among-filter, among-from_filter_map, among-from_map, among_numbers, any_pair, chain, chain_ends, chain_goes_on, children, common_steps, false_from_ne_true, goes_at, going, going_at, going_from, holds_of, inheriting, is_going, is_shared, last_of_chain, last_or, may_go, mount_at, mount_in, mount_numbered, mount_point_left, mount_point_of_parent, none_among, number-mount_in, only_cover, pair-map, receivers_of, same_Some, share_a_mount_point, stands_at, stands_on, taken_away}
+use Rattle.std.proofs.Common.{arith, ◌≡◌, refl, sym, ap, subst, ◌∙◌, true, false, zero, suc, Bool, List, None, Option, Some, [], eq-eqb, is_some, nat_eq, option_map, ⊎_elim, ◌∷◌, ◌⊎◌, ℕ, inl, inr, filter_map, if◌then◌else◌}
+use Rattle.vt_spec.proofs.Common.{Among, Location, Mount, World, after_going, among-filter, among-from_filter_map, among-from_map, among_numbers, any_pair, chain, chain_ends, chain_goes_on, common_steps, false_from_ne_true, goes_at, going, going_at, going_from, holds_of, inheriting, is_going, last_of_chain, last_or, may_go, mount_at, mount_in, mount_numbered, mount_point_left, mount_point_of_parent, none_among, number-mount_in, only_cover, pair-map, receivers_of, same_Some, share_a_mount_point, stands_at, stands_on, taken_away}
 use Rattle.vt_laws_mounts.specs.Mounts.Invariants.{AreApart, OneMountEachMountPoint, UnmountLeavesOneMountAMountPoint}
 use Rattle.vt_laws_mounts.proofs.ends.UnmountingGoes.{child_goes}
 use Rattle.vt_laws_mounts.proofs.mounts.MountsPlaces.{one_place_of_two, one_stander, place_of_both, stands_there}
@@ -21,7 +21,7 @@ module _ (world : World ℕ) (gone : List ℕ) where
   falls_down : (a : Mount ℕ) (n : ℕ) (place : Location ℕ) → Falls world gone a place
       → Falls world gone a (last_or place (chain n (mount_point_of_parent nat_eq world gone) place))
   falls_down a zero place fall = fall
-  falls_down a (suc n) place fall = by (mount_point_of_parent nat_eq world gone place) refl (falls_down a n)
+  falls_down a (suc n) place fall = by _ refl (falls_down a n)
     where
       step : (next : Location ℕ) (b : Bool) → is_going nat_eq gone place.mount ≡ b
           → (if b then (mount_at nat_eq world place).mount_point else None) ≡ Some next → Falls world gone a next
@@ -37,15 +37,14 @@ module _ (world : World ℕ) (gone : List ℕ) where
   -- where a mount stands after the event
   pub stood : (a : Mount ℕ) (rest : Location ℕ) → (after_going nat_eq world gone a).mount_point ≡ Some rest
       → (is_going nat_eq gone a.number ≡ false) × Falls world gone a rest
-  stood a rest e = by (is_going nat_eq gone a.number) refl
+  stood a rest e = by _ refl
     where
       at : (place : Option (Location ℕ)) → a.mount_point ≡ place
           → option_map (mount_point_left nat_eq world gone) place ≡ Some rest → Falls world gone a rest
       at None f g = cc
       at (Some place) f g =
-          let same : mount_point_left nat_eq world gone place ≡ rest =
-          same_Some (mount_point_left nat_eq world gone place) rest g in
-          subst (Falls world gone a) same (falls_down a (length world.mounts) place (direct place f))
+          let same : mount_point_left nat_eq world gone place ≡ rest = same_Some _ rest g in
+          subst (Falls world gone a) same (falls_down a _ place (direct place f))
 
       by : (b : Bool) → is_going nat_eq gone a.number ≡ b
           → (is_going nat_eq gone a.number ≡ false) × Falls world gone a rest
@@ -65,21 +64,19 @@ module _ (world : World ℕ) (gone : List ℕ) (apart_all : AreApart world)
   stander : (a : Mount ℕ) (place : Location ℕ) → Among a world.mounts → Falls world gone a place
       → (x : Mount ℕ) × Among x world.mounts × (x.mount_point ≡ Some place)
   stander a place m (direct rest e) = (a, m, e)
-  stander a place m (down at rest fall goes under) =
-      (mount_at nat_eq world at, placed_among world.mounts at.mount rest under, under)
+  stander a place m (down at rest fall goes under) = (mount_at nat_eq world at, placed_among _ _ rest under, under)
 
   -- two that stand on a mount that goes stand at one place
   one_root : (x y : Mount ℕ) (p q : Location ℕ) → Among x world.mounts → Among y world.mounts → x.mount_point ≡ Some p
       → y.mount_point ≡ Some q → is_going nat_eq gone p.mount ≡ true → q.mount ≡ p.mount → p ≡ q
   one_root x y p q m n e f goes same =
       let under = mount_at nat_eq world p in
-      let number : under.number ≡ p.mount = number-mount_in world.mounts p.mount in
+      let number : under.number ≡ p.mount = number-mount_in _ _ in
       let on_it : (z : Mount ℕ) (r : Location ℕ) → z.mount_point ≡ Some r → r.mount ≡ p.mount
       → stands_on nat_eq under.number z ≡ true = λ z r g h. ap (holds_of (λ place. nat_eq under.number place.mount)) g
       ∙ eq-eqb under.number r.mount (number ∙ sym h) in
-      let both : x ≡ y = one_child_alone under (children nat_eq world.mounts under.number) (may x p m e goes) x y
-      (among-filter (stands_on nat_eq under.number) world.mounts x m (on_it x p e refl))
-      (among-filter (stands_on nat_eq under.number) world.mounts y n (on_it y q f same)) in
+      let both : x ≡ y = one_child_alone under _ (may x p m e goes) x y (among-filter _ _ x m (on_it x p e refl))
+      (among-filter _ _ y n (on_it y q f same)) in
       same_Some p q (cc)
 
   -- what stays is no mount that goes
@@ -92,13 +89,11 @@ module _ (world : World ℕ) (gone : List ℕ) (apart_all : AreApart world)
       → is_going nat_eq gone b.number ≡ false
       → (r : Location ℕ) → Falls world gone a r → (q : Location ℕ) → Falls world gone b q → q ≡ r → a ≡ b
   one_falls a b m n stays also r (direct rest e) q (direct end f) same =
-      one_stander world.mounts apart_all.by_place a b m n rest e (cc)
-  one_falls a b m n stays also r (direct rest e) q (down at end fall goes under) same = absurd (not_both a at stays goes
-      (one_stander world.mounts apart_all.by_place (mount_at nat_eq world at) a
-      (placed_among world.mounts at.mount end under) m end under (cc)))
-  one_falls a b m n stays also r (down at rest fall goes under) q (direct end f) same = absurd (not_both b at also goes
-      (one_stander world.mounts apart_all.by_place (mount_at nat_eq world at) b
-      (placed_among world.mounts at.mount rest under) n rest under (cc)))
+      one_stander _ apart_all.by_place a b m n rest e (cc)
+  one_falls a b m n stays also r (direct rest e) q (down at end fall goes under) same = absurd
+      (not_both a at stays goes (one_stander _ apart_all.by_place _ a (placed_among _ _ end under) m end under (cc)))
+  one_falls a b m n stays also r (down at rest fall goes under) q (direct end f) same = absurd
+      (not_both b at also goes (one_stander _ apart_all.by_place _ b (placed_among _ _ rest under) n rest under (cc)))
   one_falls a b m n stays also r (down at rest fall goes under) q (down at_too end fall_too goes_too under_too) same =
       let on_one : mount_at nat_eq world at ≡ mount_at nat_eq world at_too =
       one_stander world.mounts apart_all.by_place (mount_at nat_eq world at) (mount_at nat_eq world at_too)
@@ -141,7 +136,7 @@ pub goes_or_may : (world : World ℕ) (mount : Mount ℕ) (number : ℕ)
     → is_going nat_eq (going nat_eq world mount) number ≡ true → (number ≡ mount.number)
     ⊎ ((child : Mount ℕ) × Among child world.mounts × (may_go nat_eq world child ≡ true) × (number ≡ child.number)
     × (is_some child.mount_point ≡ true))
-goes_or_may world mount number h = by mount.mount_point refl
+goes_or_may world mount number h = by _ refl
   where
     alone : Among number (mount.number ∷ []) → (number ≡ mount.number)
         ⊎ ((child : Mount ℕ) × Among child world.mounts × (may_go nat_eq world child ≡ true) × (number ≡ child.number)
@@ -149,7 +144,7 @@ goes_or_may world mount number h = by mount.mount_point refl
     alone m = inl (⊎_elim (λ e. e) (λ none. absurd none) m)
 
     listed : (numbers : List ℕ) → going nat_eq world mount ≡ numbers → Among number numbers
-    listed numbers e = among_numbers numbers number (cc (h))
+    listed numbers e = among_numbers _ number (cc (h))
 
     on : (place : Location ℕ) (b : Bool) → Among number (going_from nat_eq world mount place b)
         → (number ≡ mount.number)
@@ -169,10 +164,8 @@ goes_or_may world mount number h = by mount.mount_point refl
     by : (place : Option (Location ℕ)) → mount.mount_point ≡ place → (number ≡ mount.number)
         ⊎ ((child : Mount ℕ) × Among child world.mounts × (may_go nat_eq world child ≡ true) × (number ≡ child.number)
         × (is_some child.mount_point ≡ true))
-    by None e = alone (listed (mount.number ∷ []) (ap (going_at nat_eq world mount) e))
-    by (Some place) e = on place (is_shared (mount_at nat_eq world place).propagation)
-        (listed (going_from nat_eq world mount place (is_shared (mount_at nat_eq world place).propagation))
-        (ap (going_at nat_eq world mount) e))
+    by None e = alone (listed _ (ap (going_at nat_eq world mount) e))
+    by (Some place) e = on place _ (listed _ (ap (going_at nat_eq world mount) e))
 
 pub unmount_leaves_one_mount_a_place : UnmountLeavesOneMountAMountPoint
 unmount_leaves_one_mount_a_place world one apart_all childless = record {

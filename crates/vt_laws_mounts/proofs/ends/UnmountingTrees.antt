@@ -1,6 +1,6 @@
 -- Mounts that go with all that stands on them leave at most one mount at a place.
 use Rattle.std.proofs.Common.{◌≡◌, refl, sym, ap, subst, ◌∙◌, true, zero, suc, nat_eq, ℕ, List, Option, Some, arith, eq-eqb, eqb-true, flat_map, inl, inr, is_some, length, map, option_map, true≢false, ⊎_elim, ◌⊎◌}
-use Rattle.vt_spec.proofs.Common.{Among, Location, Mount, World, after_going, among-filter, among-flat_map, among-from_filter, among-from_flat_map, among-from_map, among-map, among_from_list_all, among_numbers, and_parts, any_pair, chain, chain_goes_on, children, common_steps, false_from_ne_true, holds_of, inheriting, is_among_numbers, is_going, last_of_chain, last_or, mount_at, mount_numbered, mount_tree, not-true, pair-map, share_a_mount_point, stands_in_its_namespace, stands_on, taken_away, tree_from}
+use Rattle.vt_spec.proofs.Common.{Among, Location, Mount, World, after_going, among-filter, among-flat_map, among-from_filter, among-from_flat_map, among-from_map, among-map, among_from_list_all, among_numbers, and_parts, any_pair, chain, chain_goes_on, common_steps, false_from_ne_true, holds_of, inheriting, is_among_numbers, is_going, last_of_chain, last_or, mount_at, mount_numbered, mount_tree, not-true, pair-map, share_a_mount_point, stands_on, taken_away, tree_from}
 use Rattle.vt_laws_mounts.specs.Mounts.Invariants.{AreApart, OneNumberEach, TreesLeaveOneMountAMountPoint}
 use Rattle.vt_laws_mounts.specs.Mounts.Unmounting.{ChainsEnd}
 use Rattle.vt_laws_mounts.proofs.mounts.MountsReplaced.{found_itself}
@@ -50,7 +50,7 @@ module _ (world : World ℕ) where
   one_more n mount end place (arrived it) e =
       down zero it (mount_at nat_eq world place) place e (arrived (mount_at nat_eq world place))
   one_more n mount end place (down k it last at f later) e =
-      down (suc k) it (mount_at nat_eq world place) at f (one_more k (mount_at nat_eq world at) last place later e)
+      down (suc k) it (mount_at nat_eq world place) at f (one_more k _ last place later e)
 
   -- so its places do not end sooner
   not_ended : (n k : ℕ) (mount end : Mount ℕ) → Reaches k mount end → k ≡ suc n
@@ -58,15 +58,13 @@ module _ (world : World ℕ) where
   not_ended n k mount end (arrived it) e = absurd (omega (arith, e))
   not_ended zero k mount end (down j it last at f later) e = ap is_some f
   not_ended (suc n) k mount end (down j it last at f later) e = ap (λ m. is_some m.mount_point)
-      (ap (last_or it) (chain_goes_on mount_below n it (mount_at nat_eq world at)
-      (ap (option_map (mount_at nat_eq world)) f)) ∙ last_of_chain mount_below n (mount_at nat_eq world at) it)
-      ∙ not_ended n j (mount_at nat_eq world at) last later (omega (arith, e))
+      (ap (last_or it) (chain_goes_on _ n it _ (ap (option_map (mount_at nat_eq world)) f)) ∙ last_of_chain _ n _ it)
+      ∙ not_ended n j _ last later (omega (arith, e))
 
   module _ (one : OneNumberEach world) (ends : ChainsEnd world) where
     ended : (mount end : Mount ℕ) → Among mount world.mounts → Reaches (suc (length world.mounts)) mount end → ⊥
-    ended mount end m r = true≢false (sym (not_ended (length world.mounts) (suc (length world.mounts)) mount end r refl)
-        ∙ not-true _ (and_parts _ _ (among_from_list_all
-        (stands_in_its_namespace nat_eq world) world.mounts ends mount m)).0)
+    ended mount end m r = true≢false (sym (not_ended _ _ mount end r refl) ∙ not-true _
+        (and_parts _ _ (among_from_list_all _ _ ends mount m)).0)
 
     -- what stands on a mount of a tree is in it, or lies so deep
     in_tree : (depth : ℕ) (top under x : Mount ℕ) (place : Location ℕ)
@@ -80,17 +78,13 @@ module _ (world : World ℕ) where
         (down zero x (mount_at nat_eq world place) place e (arrived (mount_at nat_eq world place))))
     in_tree (suc depth) top under x place m n e same = ⊎_elim (λ f.
         let number : place.mount ≡ top.number = cc in
-        inl (inr (among-flat_map (tree_from nat_eq depth world.mounts) (children nat_eq world.mounts top.number) x x
-        (among-filter (stands_on nat_eq top.number) world.mounts x n (ap (holds_of (λ p. nat_eq top.number p.mount)) e
+        inl (inr (among-flat_map _ _ x x (among-filter _ _ x n (ap (holds_of (λ p. nat_eq top.number p.mount)) e
         ∙ eq-eqb top.number place.mount (sym number))) (top_among depth x)))) (λ later.
-        let from = among-from_flat_map (tree_from nat_eq depth world.mounts)
-        (children nat_eq world.mounts top.number) under later in
-        let child = among-from_filter (stands_on nat_eq top.number) world.mounts from.0 from.1 in
-        ⊎_elim (λ found. inl (inr (among-flat_map (tree_from nat_eq depth world.mounts)
-        (children nat_eq world.mounts top.number) from.0 x from.1 found))) (λ deep. inr
-        (deeper depth x from.0 child.0 child.1
-        (subst (Reaches (suc depth) x) (found_itself world.mounts one from.0 child.0) deep)))
-        (in_tree depth from.0 under x place from.2 n e same)) m
+        let from = among-from_flat_map _ _ under later in
+        let child = among-from_filter _ _ from.0 from.1 in
+        ⊎_elim (λ found. inl (inr (among-flat_map _ _ from.0 x from.1 found)))
+        (λ deep. inr (deeper depth x from.0 child.0 child.1 (subst (Reaches (suc depth) x)
+        (found_itself _ one from.0 child.0) deep))) (in_tree depth from.0 under x place from.2 n e same)) m
       where
         top_among : (d : ℕ) (z : Mount ℕ) → Among z (tree_from nat_eq d world.mounts z)
         top_among zero z = inl refl
@@ -104,16 +98,10 @@ module _ (world : World ℕ) where
         → AreClosed world (map (λ (mount : Mount ℕ). mount.number) (flat_map (mount_tree nat_eq world.mounts) tops))
     trees_closed tops x place m e goes =
         let numbers = map (λ (mount : Mount ℕ). mount.number) (flat_map (mount_tree nat_eq world.mounts) tops) in
-        let gone =
-        among-from_map (λ (mount : Mount ℕ). mount.number) (flat_map (mount_tree nat_eq world.mounts) tops) place.mount
-        (among_numbers numbers place.mount goes) in
-        let tree = among-from_flat_map (mount_tree nat_eq world.mounts) tops gone.0 gone.1 in
-        ⊎_elim (λ found.
-        is_among_numbers numbers x.number
-        (among-map (λ (mount : Mount ℕ). mount.number) (flat_map (mount_tree nat_eq world.mounts) tops) x
-        (among-flat_map (mount_tree nat_eq world.mounts) tops tree.0 x tree.1 found)))
-        (λ deep. absurd (ended x (mount_numbered nat_eq world tree.0.number) m deep))
-        (in_tree (length world.mounts) tree.0 gone.0 x place tree.2 m e gone.2)
+        let gone = among-from_map _ _ _ (among_numbers _ _ goes) in
+        let tree = among-from_flat_map _ tops gone.0 gone.1 in
+        ⊎_elim (λ found. is_among_numbers _ _ (among-map _ _ x (among-flat_map _ tops tree.0 x tree.1 found)))
+        (λ deep. absurd (ended x _ m deep)) (in_tree _ tree.0 gone.0 x place tree.2 m e gone.2)
 
 pub trees_leave_one_mount_a_place : TreesLeaveOneMountAMountPoint
 trees_leave_one_mount_a_place world tops ends both =

@@ -29,9 +29,8 @@ module _ {A : Type 0} where
       → (x : A) → Among x xs → unwrap_or (find (λ y. nat_eq (number x) (number y)) xs) default ≡ x
   found_by number default [] one x m = absurd m
   found_by number default (first ∷ rest) one x m =
-      let parts = or_parts (list_any (λ b. nat_eq (number first) (number b)) rest)
-      (any_pair (λ (a b : A). nat_eq (number a) (number b)) rest) one in
-      by parts.0 (nat_eq (number x) (number first)) refl m (λ n. found_by number default rest parts.1 x n)
+      let parts = or_parts _ _ one in
+      by parts.0 _ refl m (λ n. found_by number _ rest parts.1 x n)
     where
       by : list_any (λ b. nat_eq (number first) (number b)) rest ≡ false → (b : Bool)
           → nat_eq (number x) (number first) ≡ b → Among x (first ∷ rest)
@@ -39,7 +38,7 @@ module _ {A : Type 0} where
           → unwrap_or (cond b (Some first) (find (λ y. nat_eq (number x) (number y)) rest)) default ≡ x
       by others true e n next = ⊎_elim (λ same. sym same) (λ later. absurd (true≢false
           (sym (eq-eqb (number first) (number x) (sym (eqb-true (number x) (number first) e)))
-          ∙ none_among (λ y. nat_eq (number first) (number y)) rest others x later))) n
+          ∙ none_among _ rest others x later))) n
       by others false e n next =
           ⊎_elim (λ same. absurd (cc (eq-eqb (number x) (number first) (ap number same)))) next n
 
@@ -128,8 +127,8 @@ held_number number (Some one) e = ap Some (sym (eqb-true number one e))
 -- a number among numbers
 pub among_numbers : (number : ℕ) (numbers : List ℕ) → is_among nat_eq number numbers ≡ true → Among number numbers
 among_numbers number numbers h =
-    let t : (x : ℕ) × Among x numbers × (nat_eq number x ≡ true) = any_among (nat_eq number) numbers h in
+    let t : (x : ℕ) × Among x numbers × (nat_eq number x ≡ true) = any_among _ _ h in
     subst (λ n. Among n numbers) (sym (eqb-true number t.0 t.2)) t.1
 
 pub is_among_numbers : (number : ℕ) (numbers : List ℕ) → Among number numbers → is_among nat_eq number numbers ≡ true
-is_among_numbers number numbers m = any_from_among (nat_eq number) numbers number m (eq-eqb number number refl)
+is_among_numbers number numbers m = any_from_among _ _ number m (eq-eqb number number refl)

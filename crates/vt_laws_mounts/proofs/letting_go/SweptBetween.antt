@@ -19,7 +19,7 @@ follows false false h = refl
 objects_more : (some more : ℕ → Bool) (number : ℕ) (g : Filesystem ℕ) → ((k : ℕ) → some k ≡ true → more k ≡ true)
     → (object : ℕ) → Among object (objects_of_overlay nat_eq number (without_all more g))
     → Among object (objects_of_overlay nat_eq number (without_all some g))
-objects_more some more number g within object = over g.overlay
+objects_more some more number g within object = over _
   where
     over : (o : Option (Overlay ℕ)) → Among object (overlay_or [] (λ overlay.
         cond (holds_of (λ layer. nat_eq number layer.filesystem) overlay.upper)
@@ -29,7 +29,7 @@ objects_more some more number g within object = over g.overlay
         (filter_map (λ k. upper_object (overlay.real k)) (filter (λ k. not (some k)) g.files.numbers)) [])
         (option_map (reals_without some) o))
     over None m = absurd m
-    over (Some overlay) m = here (holds_of (λ layer. nat_eq number layer.filesystem) overlay.upper) m
+    over (Some overlay) m = here _ m
       where
         left : (k : ℕ) (a : Bool) → some k ≡ a → not (more k) ≡ true → some k ≡ false
         left k false e stays = e
@@ -44,13 +44,11 @@ objects_more some more number g within object = over g.overlay
             let from = among-from_filter_map (λ k. upper_object (cond (more k) None (overlay.real k)))
             (filter (λ k. not (more k)) g.files.numbers) object n in
             let listed = among-from_filter (λ k. not (more k)) g.files.numbers from.0 from.1 in
-            let stays = left from.0 (some from.0) refl listed.1 in
+            let stays = left from.0 _ refl listed.1 in
             among-filter_map (λ k. upper_object (cond (some k) None (overlay.real k)))
-            (filter (λ k. not (some k)) g.files.numbers) from.0 object
-            (among-filter (λ k. not (some k)) g.files.numbers from.0 listed.0 (ap not stays))
-            (ap (λ b. upper_object (cond b None (overlay.real from.0))) stays
-            ∙ sym (ap (λ b. upper_object (cond b None (overlay.real from.0))) (not-true (more from.0) listed.1))
-            ∙ from.2)
+            (filter (λ k. not (some k)) g.files.numbers) from.0 object (among-filter _ _ from.0 listed.0 (ap not stays))
+            (ap (λ b. upper_object (cond b None (overlay.real from.0))) stays ∙ sym
+            (ap (λ b. upper_object (cond b None (overlay.real from.0))) (not-true (more from.0) listed.1)) ∙ from.2)
 
 -- What a change makes of a world that was not swept before, and of one that was: the same mounts are in use then, with
 -- the same groups, and what is mounted or located then was so before.
@@ -139,7 +137,7 @@ module _ (world : World ℕ) (once_mounts again_mounts : List (Mount ℕ)) (once
   layers-swept f = layers-second world (after_first world f) ∙ layers-first world f
 
   first_sweep : (settled nat_eq world).filesystems ≡ map swept first_living.filesystems
-  first_sweep = map_twice (after_second world) (after_first world) first_living.filesystems
+  first_sweep = map_twice _ _ _
 
   same_mounted : (number : ℕ) → is_mounted nat_eq (without_dead_mounts nat_eq again) number
       ≡ is_mounted nat_eq (without_dead_mounts nat_eq once) number
@@ -167,11 +165,9 @@ module _ (world : World ℕ) (once_mounts again_mounts : List (Mount ℕ)) (once
   same_lives f = grind (arith, common_steps, number-swept f, same_mounted f.number, same_layered f.number)
 
   same_filesystems : again_living.filesystems ≡ map swept once_living.filesystems
-  same_filesystems = ap (filter (filesystem_lives nat_eq (without_dead_mounts nat_eq again))) first_sweep
-      ∙ filter-map (filesystem_lives nat_eq
-      (without_dead_mounts nat_eq again)) {q = lives_last} swept first_living.filesystems same_lives ∙ ap (map swept)
-      (filter_twice lives_last lives_first lives_last
-      (λ f. follows (lives_last f) (lives_first f) (lived_first f)) world.filesystems)
+  same_filesystems = ap (filter (filesystem_lives nat_eq (without_dead_mounts nat_eq again))) first_sweep ∙ filter-map _
+      {q = lives_last} swept first_living.filesystems same_lives ∙ ap (map swept)
+      (filter_twice _ _ _ (λ f. follows _ _ (lived_first f)) _)
 
   -- what lives in the end lived before
   was_living : (f : Filesystem ℕ) → Among f once_living.filesystems → Among f first_living.filesystems
@@ -180,7 +176,7 @@ module _ (world : World ℕ) (once_mounts again_mounts : List (Mount ℕ)) (once
       among-filter lives_first world.filesystems f from.0 (lived_first f from.1)
 
   of_world : (f : Filesystem ℕ) → Among f once_living.filesystems → Among f world.filesystems
-  of_world f m = (among-from_filter lives_last world.filesystems f m).0
+  of_world f m = (among-from_filter _ _ f m).0
 
   -- Inodes: what is at a place in the end was at one before
   was_located_in : (f : Filesystem ℕ) (number : ℕ) → Among number (located_in nat_eq once_living f.number)
@@ -209,10 +205,8 @@ module _ (world : World ℕ) (once_mounts again_mounts : List (Mount ℕ)) (once
   swept_twice : (used later : List ℕ) (f : Filesystem ℕ) → Among f world.filesystems
       → ((number : ℕ) → is_among nat_eq number later ≡ true → is_among nat_eq number used ≡ true)
       → only_used_of nat_eq later (only_used_of nat_eq used f) ≡ only_used_of nat_eq later f
-  swept_twice used later f m within = ap (only_used_of nat_eq later) (left_of used f numbers has)
-      ∙ left_of later (without_all went f) (numbers_without went f numbers) reals_left
-      ∙ without_both went goes goes (λ number.
-      by number (is_among nat_eq number later) refl (is_among nat_eq number used) refl) f
+  swept_twice used later f m within = ap (only_used_of nat_eq later) (left_of used f numbers has) ∙ left_of later _
+      (numbers_without went f numbers) reals_left ∙ without_both went goes goes (λ number. by number _ refl _ refl) f
       ∙ sym (left_of later f numbers has)
     where
       numbers : ListsNumbers nat_eq f.files
@@ -424,13 +418,9 @@ module _ (world : World ℕ) (once_mounts again_mounts : List (Mount ℕ)) (once
   overlay_left_so f m is = grind (arith, common_steps, overlay_alike f m is, second_leaves, overlay-left)
 
   same_swept : (settled nat_eq again).filesystems ≡ (settled nat_eq once).filesystems
-  same_swept = ap (λ fs. map (after_second again) (map (after_first again) fs)) same_filesystems
-      ∙ ap (map (after_second again)) (map_twice (after_first again) swept once_living.filesystems)
-      ∙ map_twice (after_second again) (λ f. after_first again (swept f)) once_living.filesystems
-      ∙ map_alike (λ f. after_second again (after_first again (swept f)))
-      (λ f. after_second once (after_first once f)) once_living.filesystems
-      (λ f m. ⊎_elim (overlay_left_so f m) (plain_alike f m) (cases_Bool (is_overlay f)))
-      ∙ sym (map_twice (after_second once) (after_first once) once_living.filesystems)
+  same_swept = ap (λ fs. map (after_second again) (map (after_first again) fs)) same_filesystems ∙ ap
+      (map (after_second again)) (map_twice _ swept _) ∙ map_twice _ _ _ ∙ map_alike _ _ _
+      (λ f m. ⊎_elim (overlay_left_so f m) (plain_alike f m) (cases_Bool _)) ∙ sym (map_twice _ _ _)
 
   -- a sweep before the change makes no difference after the sweep that follows it
   pub one_sweep_after_both : settled nat_eq again ≡ settled nat_eq once

@@ -28,7 +28,6 @@ named_among files conditions number named = is_among_numbers number (named_in fi
 -- an inode other than the root that has no name has no entries
 pub unnamed_is_empty : (files : FileTree ℕ) → IsListedTree files → (number : ℕ) → number ≢ files.tree.root
     → is_among nat_eq number (named_in files) ≡ false → targets_in (files.tree.node number) ≡ []
-unnamed_is_empty files conditions number root unnamed = ⊎_elim
-    (λ is. ap (map (λ e. e.1)) (conditions.tree.unnamed_empty number is root
-    (λ named. cc (named_among files conditions number named))))
-    (λ isnt. no_targets (files.tree.node number) isnt) (cases_Bool (is_directory_node (files.tree.node number)))
+unnamed_is_empty files conditions number root unnamed = ⊎_elim (λ is. ap (map (λ e. e.1))
+    (conditions.tree.unnamed_empty number is root (λ named. cc (named_among files conditions number named))))
+    (λ isnt. no_targets _ isnt) (cases_Bool _)

@@ -1,5 +1,5 @@
 -- Mounts stay apart, by number and by place.
-use Rattle.std.proofs.Common.{arith, ◌≡◌, refl, ap, ◌∙◌, true, false, nat_eq, ℕ, Bool, List, [], eqb-true, is_some, map, ◌∷◌, ⊎_elim, ◌++◌, if◌then◌else◌}
+use Rattle.std.proofs.Common.{arith, ◌≡◌, refl, ap, ◌∙◌, true, false, nat_eq, ℕ, Bool, List, [], eqb-true, map, ◌∷◌, ⊎_elim, ◌++◌, if◌then◌else◌}
 use Rattle.vt_spec.proofs.Common.{Among, Mount, World, among-append, among-from_map, among_from_list_all, any_pair, common_steps, copied_mount, deepest_first, evens, folded, inheriting, is_nowhere_or_attached, list_all_from_among, mount_at, mount_in, mount_lives, mount_numbered, mount_tree, mounts_of, named_mounts, number-mount_in, numbers_by, odds, pair-filter, pair-map, replaced_if_same, share_a_mount_point, unmounted, unmounted_if_there, with_mount}
 use Rattle.vt_laws_mounts.specs.Mounts.Invariants.{AreApart, KeptByFlags, KeptByInheritance, KeptByLazyUnmount, KeptBySettling, KeptByType, NowhereOrAttached, OneNumberEach, FlagsKeepNowhere, KeptByUnshare}
 use Rattle.vt_laws_mounts.specs.Mounts.MountPoints.{OneMountAMountPoint}
@@ -13,9 +13,7 @@ use Rattle.vt_laws_mounts.proofs.Groups.{mounts-regrouped}
 places_same : (f : Mount ℕ → Mount ℕ) (mounts : List (Mount ℕ))
     → ((mount : Mount ℕ) → Among mount mounts → (f mount).mount_point ≡ mount.mount_point)
     → OneMountAMountPoint mounts → OneMountAMountPoint (map f mounts)
-places_same f mounts same one = pair-map (share_a_mount_point nat_eq) (share_a_mount_point nat_eq) f mounts
-    (λ a b m n differ.
-    cc (same a m, same b n, differ)) one
+places_same f mounts same one = pair-map _ _ f mounts (λ a b m n differ. cc (same a m, same b n, differ)) one
 
 -- a mount in the place of the one with its number, at the same place
 replaced_same_place : (mounts : List (Mount ℕ)) → OneNumberAMount mounts → (new : Mount ℕ)
@@ -29,9 +27,8 @@ flags_keep_apart world here flags both =
     let new = record (mount_at nat_eq world here) { flags = flags } in
     record {
       by_number = flags_keep_numbers world here flags both.by_number;
-      by_place = places_same (replaced_if_same nat_eq new) world.mounts
-          (replaced_same_place world.mounts both.by_number new (ap (λ n. (mount_in nat_eq world.mounts n).mount_point)
-          (number-mount_in world.mounts here.mount))) both.by_place;
+      by_place = places_same _ _ (replaced_same_place _ both.by_number new
+          (ap (λ n. (mount_in nat_eq world.mounts n).mount_point) (number-mount_in _ _))) both.by_place;
     }
 
 pub types_keep_apart : KeptByType AreApart
@@ -64,8 +61,7 @@ settling_keeps_apart world both = record {
 lazy_numbers : (mounts : List (Mount ℕ)) (world : World ℕ) → OneNumberEach world
     → OneNumberEach (folded (unmounted_if_there nat_eq) world mounts)
 lazy_numbers [] world e = e
-lazy_numbers (mount ∷ mounts) world e = lazy_numbers mounts (unmounted_if_there nat_eq world mount)
-    (by (is_some (mount_numbered nat_eq world mount.number).namespace))
+lazy_numbers (mount ∷ mounts) world e = lazy_numbers mounts _ (by _)
   where
     by : (b : Bool) → OneNumberEach (if b then unmounted nat_eq world mount.number else world)
     by true = unmount_keeps_numbers world mount.number e
@@ -78,8 +74,7 @@ lazy_keeps_numbers world one e =
 lazy_nowhere : (mounts : List (Mount ℕ)) (world : World ℕ) → NowhereOrAttached world
     → NowhereOrAttached (folded (unmounted_if_there nat_eq) world mounts)
 lazy_nowhere [] world e = e
-lazy_nowhere (mount ∷ mounts) world e = lazy_nowhere mounts (unmounted_if_there nat_eq world mount)
-    (by (is_some (mount_numbered nat_eq world mount.number).namespace))
+lazy_nowhere (mount ∷ mounts) world e = lazy_nowhere mounts _ (by _)
   where
     by : (b : Bool) → NowhereOrAttached (if b then unmounted nat_eq world mount.number else world)
     by true = unmount_keeps_nowhere world mount.number e
@@ -103,7 +98,7 @@ pub flags_keep_nowhere : FlagsKeepNowhere
 flags_keep_nowhere world here flags one e =
     let new = record (mount_at nat_eq world here) { flags = flags } in
     list_all_from_among is_nowhere_or_attached (with_mount nat_eq world.mounts new) (λ mount m.
-    let from = among-from_map (replaced_if_same nat_eq new) world.mounts mount m in
+    let from = among-from_map _ _ mount m in
     cc (from.2, by from.0 from.1 (nat_eq new.number from.0.number) refl))
   where
     by : (old : Mount ℕ) → Among old world.mounts → (b : Bool)

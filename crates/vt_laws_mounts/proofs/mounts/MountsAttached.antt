@@ -82,7 +82,7 @@ module _ (world : World ℕ) (new : Copies ℕ) (place : Location ℕ) (moves : 
   numbers_moved = grind (arith, common_steps, numbers-folded)
 
   numbers_pushed : numbers_of (map push moved_ones) ≡ numbers_of world.mounts
-  numbers_pushed = numbers-map push push_number moved_ones ∙ numbers_moved
+  numbers_pushed = numbers-map push push_number _ ∙ numbers_moved
 
   pub numbers_attached : numbers_of (attached_by nat_eq world new place moves mounts).mounts
       ≡ numbers_of world.mounts ++ numbers_of others
@@ -94,8 +94,8 @@ module _ (world : World ℕ) (new : Copies ℕ) (place : Location ℕ) (moves : 
       → mount_numbered nat_eq (attached_by nat_eq world new place moves mounts) number
       ≡ push (mount_in nat_eq moved_ones number)
   found_attached number there = ap (λ ms. mount_in nat_eq ms number) in_front
-      ∙ found-append (map push moved_ones) others number (ap (is_among nat_eq number) numbers_pushed ∙ there)
-      ∙ found-map push push_number moved_ones number (none_pushed world new graft parts number)
+      ∙ found-append _ others number (ap (is_among nat_eq number) numbers_pushed ∙ there)
+      ∙ found-map push push_number _ number (none_pushed world new graft parts number)
 
   pub push_leaves : (mount : Mount ℕ) → stands_at_a_receiver world place mount ≡ false → push mount ≡ mount
   push_leaves mount h = none_pushes world new graft parts mount h
@@ -120,8 +120,7 @@ attach_keeps_mounts world fresh place mounts number there =
 pub attach_leaves_mounts : AttachLeavesMounts
 attach_leaves_mounts world fresh place mounts number there h =
     let new = supplied world fresh place mounts in
-    found_attached world new place false mounts number there
-    ∙ push_leaves world new place false mounts (mount_numbered nat_eq world number) h
+    found_attached world new place false mounts number there ∙ push_leaves world new place false mounts _ h
 
 -- What moves
 
@@ -132,7 +131,7 @@ module _ (world : World ℕ) (new : Copies ℕ) (place : Location ℕ) (mounts :
   -- at the destination a mount that moves keeps its number
   pub keeps_number : (origin : ℕ) → copy_number nat_eq new move (mount_at nat_eq world place).number origin ≡ origin
   keeps_number origin = ap (λ b. if b then origin else new.copy (mount_at nat_eq world place).number origin)
-      (eq-eqb (mount_at nat_eq world place).number place.mount (number-mount_in world.mounts place.mount))
+      (eq-eqb (mount_at nat_eq world place).number place.mount (number-mount_in _ _))
 
   -- each mount that arrives is one that moves, with all that it shows
   pub arrives : (copy : Mount ℕ) → Among copy (arriving world new place true mounts)
@@ -141,11 +140,10 @@ module _ (world : World ℕ) (new : Copies ℕ) (place : Location ℕ) (mounts :
 
   pub stays_put : (number : ℕ) → is_among nat_eq number (numbers_of mounts) ≡ false
       → mount_in nat_eq (moved_ones world new place true mounts) number ≡ mount_numbered nat_eq world number
-  stays_put number other = found-folded_other world.mounts (arriving world new place true mounts) number (λ copy m.
+  stays_put number other = found-folded_other _ _ number (λ copy m.
       let from = arrives copy m in
-      nat_eq_false_turned number copy.number (ap (nat_eq number) from.2.number
-      ∙ none_among (nat_eq number) (numbers_of mounts) other from.0.number
-      (among-map (λ (mount : Mount ℕ). mount.number) mounts from.0 from.1)))
+      nat_eq_false_turned number _ (ap (nat_eq number) from.2.number ∙ none_among _ _ other _
+      (among-map _ mounts from.0 from.1)))
 
 pub move_keeps_mounts : MoveKeepsMounts
 move_keeps_mounts world fresh place mounts number there other =
@@ -159,9 +157,8 @@ move_keeps_mounts world fresh place mounts number there other =
 pub move_leaves_mounts : MoveLeavesMounts
 move_leaves_mounts world fresh place mounts number there other h =
     let new = supplied world fresh place mounts in
-    found_attached world new place true mounts number there
-    ∙ ap (push world new place true mounts) (stays_put world new place mounts number other)
-    ∙ push_leaves world new place true mounts (mount_numbered nat_eq world number) h
+    found_attached world new place true mounts number there ∙ ap (push world new place true mounts)
+    (stays_put world new place mounts number other) ∙ push_leaves world new place true mounts _ h
 
 -- one that moves shows the same
 shows_itself : (mount : Mount ℕ) → KeepsWhatItShows mount mount

@@ -17,8 +17,7 @@ same_root a b e = ap (λ p. not (is_some p)) e
 pub as_many_mounts : (world after : World ℕ) (f : Mount ℕ → Mount ℕ) → after.mounts ≡ map f world.mounts
     → ((mount : Mount ℕ) → Among mount world.mounts → (f mount).namespace ≡ mount.namespace)
     → (namespace : ℕ) → mounts_of nat_eq after namespace ≡ map f (mounts_of nat_eq world namespace)
-as_many_mounts world after f changed inside namespace = ap (filter (is_in namespace)) changed
-    ∙ filter-map (is_in namespace) (is_in namespace) f world.mounts
+as_many_mounts world after f changed inside namespace = ap (filter (is_in namespace)) changed ∙ filter-map _ _ f _
     (λ mount m. ap (holds_of (nat_eq namespace)) (inside mount m))
 
 -- and those that keep their places, too, as many root mounts

@@ -25,9 +25,8 @@ all_locations_raised name (task ∷ tasks) =
 lives_then : (before world : World ℕ) (name : TaskName) (changed : List ℕ) (mount : Mount ℕ)
     → mount_lives nat_eq world mount
     ≡ mount_lives nat_eq (numbers_raised nat_eq before name changed (settled nat_eq world)) mount
-lives_then before world name changed mount =
-    ap (λ locations. is_some mount.namespace || list_any (λ location. nat_eq mount.number location.mount) locations)
-    (sym (all_locations_raised name world.tasks))
+lives_then before world name changed mount = ap (λ locations. is_some mount.namespace || list_any
+    (λ location. nat_eq mount.number location.mount) locations) (sym (all_locations_raised name _))
 
 living_then : (before world : World ℕ) (name : TaskName) (changed : List ℕ)
     → HasLiving (numbers_raised nat_eq before name changed (settled nat_eq world)) world.mounts
@@ -65,9 +64,7 @@ module _ (fresh : Fresh ℕ) (world : World ℕ) (name : TaskName) (task : Task 
 
   -- a call is answered as its outcome is
   pub answered : (policy nat_eq fresh world name call).answer ≡ (call_outcome nat_eq fresh world task call).answer
-  answered = ap (λ o. o.answer) policy_is
-      ∙ answer_stays (only_looks call || not (is_ok (call_outcome nat_eq fresh world task call).answer))
-      (call_outcome nat_eq fresh world task call)
+  answered = ap (λ o. o.answer) policy_is ∙ answer_stays _ _
 
   -- where it is granted, and does not only look, the dead mounts are gone
   pub settles : (answer : Answer) → only_looks call ≡ false → (policy nat_eq fresh world name call).answer ≡ Ok answer

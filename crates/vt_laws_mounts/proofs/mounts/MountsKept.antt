@@ -1,6 +1,6 @@
 -- Conditions of a world that changes of mounts keep.
 use Rattle.std.proofs.Common.{arith, ◌≡◌, refl, ap, ◌∙◌, true, List, filter, map, true≢false, ℕ, nat_eq}
-use Rattle.vt_spec.proofs.Common.{Mount, World, after_going, all-filter, all-map, common_steps, going, inheriting, is_in_ended, is_nowhere_or_attached, list_all, mount_at, mount_lives, mount_numbered, number-pivoted_mount, pair-filter, pivoted, pivoted_mount, regrouped, taken_away, with_flags, with_type}
+use Rattle.vt_spec.proofs.Common.{Mount, World, after_going, all-filter, all-map, common_steps, going, inheriting, is_in_ended, is_nowhere_or_attached, list_all, mount_at, mount_lives, mount_numbered, number-pivoted_mount, pair-filter, pivoted, pivoted_mount, regrouped, with_flags}
 use Rattle.vt_laws_mounts.proofs.mounts.MountsReplaced.{one_number_by_numbers, numbers-with_mount}
 use Rattle.vt_laws_mounts.specs.Mounts.Invariants.{KeptByEndedNamespaces, KeptByFlags, KeptByInheritance, KeptByPivot, KeptBySettling, KeptByTakingAway, KeptByType, KeptByUnmount, NowhereOrAttached, OneNumberEach}
 use Rattle.vt_laws_mounts.proofs.ends.Unmounting.{middle, numbers_taken}
@@ -15,8 +15,7 @@ numbers_regrouped world =
     cc (mounts-regrouped world, numbers-map (inheriting nat_eq world) (λ mount. refl) world.mounts)
 
 pub taking_away_keeps_numbers : KeptByTakingAway OneNumberEach
-taking_away_keeps_numbers world gone e =
-    one_number_by_numbers world.mounts (taken_away nat_eq world gone).mounts (numbers_taken world gone) e
+taking_away_keeps_numbers world gone e = one_number_by_numbers _ _ (numbers_taken world gone) e
 
 pub unmount_keeps_numbers : KeptByUnmount OneNumberEach
 unmount_keeps_numbers world one e =
@@ -27,13 +26,11 @@ ended_namespaces_keep_numbers world e =
     taking_away_keeps_numbers world (map (λ mount. mount.number) (filter (is_in_ended nat_eq world) world.mounts)) e
 
 pub inheritance_keeps_numbers : KeptByInheritance OneNumberEach
-inheritance_keeps_numbers world e =
-    one_number_by_numbers world.mounts (regrouped nat_eq world).mounts (numbers_regrouped world) e
+inheritance_keeps_numbers world e = one_number_by_numbers _ _ (numbers_regrouped world) e
 
 pub types_keep_numbers : KeptByType OneNumberEach
 types_keep_numbers world fresh one word recursive e =
-    one_number_by_numbers world.mounts (with_type nat_eq fresh world one word recursive).mounts
-    (numbers_with_type world fresh one word recursive) e
+    one_number_by_numbers _ _ (numbers_with_type world fresh one word _) e
 
 pub flags_keep_numbers : KeptByFlags OneNumberEach
 flags_keep_numbers world here flags e =

@@ -1,6 +1,6 @@
 -- Calls that are of no mount leave the mounts as they were.
 use Rattle.std.proofs.Common.{arith, ◌≡◌, refl, sym, ℕ, nat_eq, Bool, true, false, true≢false, List, [], ◌∷◌}
-use Rattle.vt_spec.proofs.Common.{Bind, Call, Change, CopyUp, Exit, Fresh, Lazy, Location, MountOverlay, MountPlain, MoveMount, Permit, PivotRoot, Remount, Rename, Rmdir, SetBytes, SetMark, SetType, Setns, Task, Umount, Unshare, World, apply, bytes_in, common_steps, evens, file_mode, is_copied_up, linking, looks_of, making, new_file, node_at, object_there, odds, overfills, overwritten, pwritten, removing, with_change, with_copy}
+use Rattle.vt_spec.proofs.Common.{Bind, Call, Change, Exit, Fresh, Lazy, Location, MountOverlay, MountPlain, MoveMount, Permit, PivotRoot, Remount, Rename, Rmdir, SetBytes, SetMark, SetType, Setns, Task, Umount, Unshare, World, apply, common_steps, evens, file_mode, is_copied_up, linking, looks_of, making, new_file, object_there, odds, overfills, pwritten, removing, with_change, with_copy}
 use Rattle.vt_laws_mounts.specs.Mounts.FileCalls.{FileCallsLeaveMounts, is_of_no_mount}
 use Rattle.vt_laws_mounts.proofs.mounts.MountsGranted.{policy_leaves}
 use Rattle.vt_laws_rules.proofs.given.CallsGranted.{call_holds}
@@ -14,14 +14,13 @@ module _ (world : World ℕ) where
 
   copied_leaves : (b : Bool) (fresh : Fresh ℕ) (file : Location ℕ)
       → (with_copy nat_eq b fresh world file).mounts ≡ world.mounts
-  copied_leaves true fresh file = mounts-with_change fresh file (CopyUp file.node)
+  copied_leaves true fresh file = mounts-with_change fresh file _
   copied_leaves false fresh file = refl
 
   pwritten_leaves : (fresh : Fresh ℕ) (file : Location ℕ) (offset : ℕ) (bytes : List ℕ)
       → (pwritten nat_eq fresh world file offset bytes).mounts ≡ world.mounts
   pwritten_leaves fresh file offset [] = refl
-  pwritten_leaves fresh file offset (byte ∷ bytes) = mounts-with_change fresh file (SetBytes file.node
-      (overwritten offset (byte ∷ bytes) (bytes_in (node_at nat_eq world file))))
+  pwritten_leaves fresh file offset (byte ∷ bytes) = mounts-with_change fresh file _
 
   -- each way in which a call is granted
   granted_leaves : (fresh : Fresh ℕ) (task : Task ℕ) (call : Call) (permit : Permit ℕ) → is_of_no_mount call ≡ true

@@ -15,11 +15,9 @@ pub pair-append : {A : Type 0} (test : A → A → Bool) (xs ys : List A) → an
     → ((x y : A) → Among x xs → Among y ys → test x y ≡ false) → any_pair test (xs ++ ys) ≡ false
 pair-append test [] ys e f cross = f
 pair-append test (x ∷ xs) ys e f cross =
-    let parts : (list_any (test x) xs ≡ false) × (any_pair test xs ≡ false) =
-    or_parts (list_any (test x) xs) (any_pair test xs) e in
-    or_from (list_any (test x) (xs ++ ys)) (any_pair test (xs ++ ys)) (none_from_among (test x) (xs ++ ys) (λ y m.
-    ⊎_elim (λ l. none_among (test x) xs parts.0 y l) (λ r. cross x y (inl refl) r) (among-append xs ys y m)))
-    (pair-append test xs ys parts.1 f (λ a b m n. cross a b (inr m) n))
+    let parts : (list_any (test x) xs ≡ false) × (any_pair test xs ≡ false) = or_parts _ _ e in
+    or_from _ _ (none_from_among _ _ (λ y m. ⊎_elim (λ l. none_among _ xs parts.0 y l) (λ r. cross x y (inl refl) r)
+    (among-append xs ys y m))) (pair-append test xs ys parts.1 f (λ a b m n. cross a b (inr m) n))
 
 -- the numbers that a mount uses are in use
 pub mount_uses : (world : World ℕ) (mount : Mount ℕ) → Among mount world.mounts → (number : ℕ)
@@ -33,23 +31,21 @@ mount_uses world mount m number used =
 
 pub number_in_use : (world : World ℕ) (mount : Mount ℕ) → Among mount world.mounts
     → Among mount.number (numbers_in_use world)
-number_in_use world mount m = mount_uses world mount m mount.number (inl refl)
+number_in_use world mount m = mount_uses world mount m _ (inl refl)
 
 -- so it is none that is handed in
 pub number_is_old : (world : World ℕ) (fresh : Fresh ℕ) → Serves nat_eq world fresh → (number : ℕ)
     → Among number (numbers_of world.mounts) → (k : ℕ) → nat_eq number (fresh k) ≡ false
-number_is_old world fresh serves number m k =
-    nat_eq_false_turned (fresh k) number (false_from_ne_true (nat_eq (fresh k) number) (λ same.
-    let from = among-from_map (λ (mount : Mount ℕ). mount.number) world.mounts number m in
-    true≢false (sym (is_among_numbers (numbers_in_use world) (fresh k)
-    (subst (λ n. Among n (numbers_in_use world)) (sym (eqb-true (fresh k) number same ∙ from.2))
-    (number_in_use world from.0 from.1))) ∙ serves.unused k)))
+number_is_old world fresh serves number m k = nat_eq_false_turned _ number (false_from_ne_true _ (λ same.
+    let from = among-from_map _ _ number m in
+    true≢false (sym (is_among_numbers _ _ (subst (λ n. Among n (numbers_in_use world))
+    (sym (eqb-true (fresh k) number same ∙ from.2)) (number_in_use world from.0 from.1))) ∙ serves.unused k)))
 
 -- What is found at the place of a number in a list
 place_found : {A : Type 0} (p : A → Bool) (k : ℕ) (xs : List A) (a : A) → Among a xs → p a ≡ true
     → (i : ℕ) × (x : A) × (index_from p k xs ≡ Some (i + k)) × (slice_get xs i ≡ Some x) × (p x ≡ true)
 place_found p k [] a m e = absurd m
-place_found p k (y ∷ ys) a m e = by (p y) refl (place_found p (k + 1) ys a)
+place_found p k (y ∷ ys) a m e = by _ refl (place_found p (k + 1) ys a)
   where
     by : (b : Bool) → p y ≡ b
         → (Among a ys → p a ≡ true → (i : ℕ) × (x : _) × (index_from p (k + 1) ys ≡ Some (i + (k + 1)))
@@ -70,10 +66,10 @@ indexed : (mounts : List (Mount ℕ)) (number : ℕ) → IsOneOf mounts number
     → (k : ℕ) × (mount : Mount ℕ) × (index_of nat_eq mounts number ≡ k) × (slice_get mounts k ≡ Some mount)
     × (mount.number ≡ number)
 indexed mounts number one =
-    let there = any_among (nat_eq number) (numbers_of mounts) one in
-    let from = among-from_map (λ (mount : Mount ℕ). mount.number) mounts there.0 there.1 in
+    let there = any_among _ _ one in
+    let from = among-from_map _ mounts _ there.1 in
     let same : nat_eq number from.0.number ≡ true = ap (nat_eq number) (sym from.2) ∙ there.2 in
-    let t = place_found (λ (mount : Mount ℕ). nat_eq number mount.number) 0 mounts from.0 from.1 same in
+    let t = place_found _ 0 mounts from.0 from.1 same in
     (t.0, t.1, ap (λ found. unwrap_or found 0) t.2 ∙ omega arith, t.3, sym (eqb-true number t.1.number t.4))
 
 pub one_index : (mounts : List (Mount ℕ)) (a b : ℕ) → IsOneOf mounts a → IsOneOf mounts b
@@ -97,8 +93,8 @@ indexed_group : (parts : List (Mount ℕ)) (group : ℕ) → has_members nat_eq 
     → (k : ℕ) × (part : Mount ℕ) × (index_of_group nat_eq parts group ≡ k) × (slice_get parts k ≡ Some part)
     × (is_member_of nat_eq group part ≡ true)
 indexed_group parts group has =
-    let there = any_among (is_member_of nat_eq group) parts has in
-    let t = place_found (is_member_of nat_eq group) 0 parts there.0 there.1 there.2 in
+    let there = any_among _ parts has in
+    let t = place_found _ 0 parts _ there.1 there.2 in
     (t.0, t.1, ap (λ found. unwrap_or found 0) t.2 ∙ omega arith, t.3, t.4)
 
 one_index_of_groups : (parts : List (Mount ℕ)) (group other : ℕ) → has_members nat_eq parts group ≡ true
@@ -175,16 +171,14 @@ pub pair-flat_map : (test : Mount ℕ → Mount ℕ → Bool) (f : Mount ℕ →
     → Among a (f x) → Among b (f y) → test a b ≡ false) → any_pair test (flat_map f xs) ≡ false
 pair-flat_map test f [] h own cross = refl
 pair-flat_map test f (x ∷ xs) h own cross =
-    let parts : (list_any (same_number x) xs ≡ false) × (any_pair same_number xs ≡ false) =
-    or_parts (list_any (same_number x) xs) (any_pair same_number xs) h in
-    pair-append test (f x) (flat_map f xs) (own x (inl refl))
+    let parts : (list_any (same_number x) xs ≡ false) × (any_pair same_number xs ≡ false) = or_parts _ _ h in
+    pair-append test _ _ (own x (inl refl))
     (pair-flat_map test f xs parts.1 (λ y m. own y (inr m)) (λ y z a b m n. cross y z a b (inr m) (inr n))) (λ a b m n.
     let from = among-from_flat_map f xs b n in
-    cross x from.0 a b (inl refl) (inr from.1) (none_among (same_number x) xs parts.0 from.0 from.1) m from.2)
+    cross x from.0 a b (inl refl) (inr from.1) (none_among _ xs parts.0 from.0 from.1) m from.2)
 
 pub is_one_of : (mounts : List (Mount ℕ)) (mount : Mount ℕ) → Among mount mounts → IsOneOf mounts mount.number
-is_one_of mounts mount m =
-    is_among_numbers (numbers_of mounts) mount.number (among-map (λ (other : Mount ℕ). other.number) mounts mount m)
+is_one_of mounts mount m = is_among_numbers _ _ (among-map _ mounts mount m)
 
 module _ (world : World ℕ) (place : Location ℕ) where
   takers_apart : OneNumberAMount world.mounts → (group : Option ℕ) → any_pair same_number
@@ -239,15 +233,14 @@ module _ {world : World ℕ} {new : Copies ℕ} (place : Location ℕ) (moves : 
   two_copies x y a b m n c d differ k l =
       let s = copied_from x c a k in
       let t = copied_from y d b l in
-      false_from_ne_true (nat_eq a.number b.number) (λ same.
+      false_from_ne_true _ (λ same.
       let at : (x.number ≡ y.number) × (s.0.number ≡ t.0.number) =
       serve.apart x.number s.0.number y.number t.0.number (is_one_of parts x m) (is_one_of mounts s.0 s.1)
       (is_one_of parts y n) (is_one_of mounts t.0 t.1) (sym s.2 ∙ eqb-true a.number b.number same ∙ t.2) in
       true≢false (sym (eq-eqb x.number y.number at.0) ∙ differ))
 
   copies_apart : (part : Mount ℕ) → Among part parts → IsCopied part → any_pair same_number (copies part) ≡ false
-  copies_apart part m copied = pair-map same_origin same_number (made part) tree.twigs
-      (λ a b k l differ. false_from_ne_true (same_number (made part a) (made part b)) (λ same.
+  copies_apart part m copied = pair-map _ _ _ _ (λ a b k l differ. false_from_ne_true _ (λ same.
       let number : (t : Twig ℕ) → (made part t).number ≡ new.copy part.number t.origin.number =
       λ t. ap (λ b. if b then t.origin.number else new.copy part.number t.origin.number) copied in
       let from_a = among-from_map twig mounts a k in
@@ -259,13 +252,13 @@ module _ {world : World ℕ} {new : Copies ℕ} (place : Location ℕ) (moves : 
       serve.apart part.number a.origin.number part.number b.origin.number part_one (origin a from_a.0 from_a.2 from_a.1)
       part_one (origin b from_b.0 from_b.2 from_b.1) (sym (number a) ∙ eqb-true _ _ same ∙ number b) in
       true≢false (sym (eq-eqb a.origin.number b.origin.number at.1) ∙ differ)))
-      (pair-map same_number same_origin twig mounts (λ a b k l differ. differ) own)
+      (pair-map _ _ twig mounts (λ a b k l differ. differ) own)
 
   all_apart : (list : List (Mount ℕ)) → any_pair same_number list ≡ false
       → ((part : Mount ℕ) → Among part list → Among part parts × IsCopied part)
       → any_pair same_number (flat_map copies list) ≡ false
   all_apart list apart_too each =
-      pair-flat_map same_number copies list apart_too (λ part m. let e = each part m in copies_apart part e.0 e.1)
+      pair-flat_map _ copies list apart_too (λ part m. let e = each part m in copies_apart part e.0 e.1)
       (λ x y a b m n differ k l. let e = each x m in let f = each y n in two_copies x y a b e.0 f.0 e.1 f.1 differ k l)
 
   -- no copy has the number of a mount that was there
@@ -275,11 +268,10 @@ module _ {world : World ℕ} {new : Copies ℕ} (place : Location ℕ) (moves : 
       let from = among-from_flat_map copies list copy n in
       let e = each from.0 from.1 in
       let t = copied_from from.0 e.1 copy from.2 in
-      nat_eq_false_turned copy.number old.number (false_from_ne_true (nat_eq copy.number old.number) (λ same.
-      true≢false (sym (is_among_numbers (numbers_in_use world) (new.copy from.0.number t.0.number)
-      (subst (λ number. Among number (numbers_in_use world)) (sym (sym t.2 ∙ eqb-true copy.number old.number same))
-      (number_in_use world old m)))
-      ∙ serve.unused from.0.number t.0.number (is_one_of parts from.0 e.0) (is_one_of mounts t.0 t.1))))
+      nat_eq_false_turned _ _ (false_from_ne_true _ (λ same. true≢false
+      (sym (is_among_numbers _ _ (subst (λ number. Among number (numbers_in_use world))
+      (sym (sym t.2 ∙ eqb-true copy.number old.number same)) (number_in_use world old m))) ∙ serve.unused from.0.number
+      t.0.number (is_one_of parts from.0 e.0) (is_one_of mounts t.0 t.1))))
 
   finish : (list : List (Mount ℕ)) → any_pair same_number list ≡ false
       → ((part : Mount ℕ) → Among part list → Among part parts × IsCopied part)
@@ -312,7 +304,7 @@ copies_keep_numbers world new place true mounts serve own one = finish place tru
 pub attach_keeps_numbers : AttachKeepsNumbers
 attach_keeps_numbers world fresh place moves mounts serves own one =
     copies_keep_numbers world (copies_from nat_eq fresh (parts_of nat_eq world place) mounts) place moves mounts
-    (copies_serve world fresh serves (parts_of nat_eq world place) mounts) own one
+    (copies_serve world fresh serves _ mounts) own one
 
 -- Copies of a namespace
 pub unshare_keeps_numbers : UnshareKeepsNumbers

@@ -4,9 +4,7 @@ use Rattle.vt_spec.proofs.Common.{Among, Location, Mount, all_from_among, and_fr
 use Rattle.vt_laws_mounts.specs.Mounts.MountPoints.{OneMountAMountPoint, StandsAloneAtItsMountPoint}
 
 pub same_location_itself : (place : Location ℕ) → same_location nat_eq place place ≡ true
-same_location_itself place =
-    and_from (nat_eq place.mount place.mount) (nat_eq place.node place.node) (eq-eqb place.mount place.mount refl)
-    (eq-eqb place.node place.node refl)
+same_location_itself place = and_from _ _ (eq-eqb place.mount place.mount refl) (eq-eqb place.node place.node refl)
 
 -- a mount that stands at a place has it
 pub stands_there : (place : Location ℕ) (mount : Mount ℕ) → stands_at nat_eq place mount ≡ true

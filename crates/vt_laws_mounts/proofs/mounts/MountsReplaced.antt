@@ -19,12 +19,11 @@ module _ (new : Mount ℕ) where
   -- the other mounts are found as they were
   pub found-with_mount_other : (mounts : List (Mount ℕ)) (number : ℕ) → nat_eq new.number number ≡ false
       → mount_in nat_eq (with_mount nat_eq mounts new) number ≡ mount_in nat_eq mounts number
-  found-with_mount_other mounts number e =
-      found-map (replaced_if_same nat_eq new) number_replaced mounts number (replaced_elsewhere (no_mount number) e)
-      ∙ replaced_elsewhere (mount_in nat_eq mounts number) (ap (nat_eq new.number) (number-mount_in mounts number) ∙ e)
+  found-with_mount_other mounts number e = found-map _ number_replaced mounts number (replaced_elsewhere _ e)
+      ∙ replaced_elsewhere _ (ap (nat_eq new.number) (number-mount_in mounts number) ∙ e)
 
   pub numbers-with_mount : (mounts : List (Mount ℕ)) → numbers_of (with_mount nat_eq mounts new) ≡ numbers_of mounts
-  numbers-with_mount mounts = numbers-map (replaced_if_same nat_eq new) number_replaced mounts
+  numbers-with_mount mounts = numbers-map _ number_replaced mounts
 
   -- where a mount has its number, it is found itself
   pub found-with_mount_itself : (mounts : List (Mount ℕ)) → is_among nat_eq new.number (numbers_of mounts) ≡ true
@@ -76,7 +75,7 @@ pub pair_by_numbers : (mounts : List (Mount ℕ))
     → any_pair (λ (a b : Mount ℕ). nat_eq a.number b.number) mounts ≡ any_pair nat_eq (numbers_of mounts)
 pair_by_numbers [] = refl
 pair_by_numbers (mount ∷ mounts) =
-    ap (λ b. b || any_pair (λ (a b : Mount ℕ). nat_eq a.number b.number) mounts) (any_by_numbers mount.number mounts)
+    ap (λ b. b || any_pair (λ (a b : Mount ℕ). nat_eq a.number b.number) mounts) (any_by_numbers _ mounts)
     ∙ ap (λ b. list_any (nat_eq mount.number) (numbers_of mounts) || b) (pair_by_numbers mounts)
 
 pub one_number_by_numbers : (before later : List (Mount ℕ)) → numbers_of later ≡ numbers_of before

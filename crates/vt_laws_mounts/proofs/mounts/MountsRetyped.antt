@@ -11,15 +11,13 @@ use Rattle.vt_laws_mounts.specs.Mounts.Attaching.{is_mount, numbers_of}
 pub flags_are_set : FlagsAreSet
 flags_are_set world here flags there =
     let one = mount_at nat_eq world here in
-    let number : one.number ≡ here.mount = number-mount_in world.mounts here.mount in
+    let number : one.number ≡ here.mount = number-mount_in _ _ in
     let new = record one { flags = flags } in
-    ap (mount_in nat_eq (with_mount nat_eq world.mounts new)) (sym number)
-    ∙ found-with_mount_itself new world.mounts (cc (number))
+    ap (mount_in nat_eq (with_mount nat_eq world.mounts new)) (sym number) ∙ found-with_mount_itself new _ (cc (number))
 
 pub flags_are_of_one : FlagsAreOfOne
 flags_are_of_one world here flags number other =
-    found-with_mount_other (record (mount_at nat_eq world here) { flags = flags }) world.mounts number
-    (cc (number-mount_in world.mounts here.mount))
+    found-with_mount_other _ _ number (cc (number-mount_in world.mounts here.mount))
 
 -- Types
 all_but_type_itself : (mount : Mount ℕ) → KeepsAllButType mount mount
@@ -49,22 +47,18 @@ module _ (world : World ℕ) (group : ℕ → ℕ) (word : TypeWord) (named : Li
   retype_keeps mount = grind (arith, common_steps, all_but_type_itself)
 
   pub numbers-retyped : numbers_of next_world.mounts ≡ numbers_of world.mounts
-  numbers-retyped =
-      ap numbers_of (mounts-regrouped between) ∙ numbers-map (inheriting nat_eq between) (λ mount. refl) between.mounts
-      ∙ numbers-map retype (λ mount. (retype_keeps mount).number) world.mounts
+  numbers-retyped = ap numbers_of (mounts-regrouped _) ∙ numbers-map _ (λ mount. refl) _ ∙ numbers-map retype
+      (λ mount. (retype_keeps mount).number) _
 
   pub retyped_found : (number : ℕ) → is_mount world number ≡ true → mount_numbered nat_eq next_world number
       ≡ inheriting nat_eq between (retype (mount_numbered nat_eq world number))
-  retyped_found number there = ap (λ mounts. mount_in nat_eq mounts number) (mounts-regrouped between)
-      ∙ found-map (inheriting nat_eq between) (λ mount. refl) between.mounts number refl
-      ∙ ap (inheriting nat_eq between)
-      (found-map_there retype (λ mount. (retype_keeps mount).number) world.mounts number there)
+  retyped_found number there = ap (λ mounts. mount_in nat_eq mounts number) (mounts-regrouped _) ∙ found-map _
+      (λ mount. refl) _ number refl ∙ ap (inheriting nat_eq between) (found-map_there retype
+      (λ mount. (retype_keeps mount).number) _ number there)
 
   retyped_missing : (number : ℕ) → is_mount world number ≡ false
       → mount_numbered nat_eq next_world number ≡ mount_numbered nat_eq world number
-  retyped_missing number missing =
-      none_numbered next_world.mounts number (cc (numbers-retyped))
-      ∙ sym (none_numbered world.mounts number missing)
+  retyped_missing number missing = none_numbered _ number (cc (numbers-retyped)) ∙ sym (none_numbered _ number missing)
 
   pub keeps_all_but_type : (number : ℕ)
       → KeepsAllButType (mount_numbered nat_eq world number) (mount_numbered nat_eq next_world number)
@@ -74,8 +68,7 @@ module _ (world : World ℕ) (group : ℕ → ℕ) (word : TypeWord) (named : Li
   named_by_number : (number : ℕ)
       → is_named (mount_numbered nat_eq world number) ≡ is_among nat_eq number (numbers_of named)
   named_by_number number =
-      ap (λ n. list_any (λ (other : Mount ℕ). nat_eq n other.number) named) (number-mount_in world.mounts number)
-      ∙ by named
+      ap (λ n. list_any (λ (other : Mount ℕ). nat_eq n other.number) named) (number-mount_in _ number) ∙ by named
     where
       by : (list : List (Mount ℕ))
           → list_any (λ (other : Mount ℕ). nat_eq number other.number) list ≡ is_among nat_eq number (numbers_of list)
@@ -111,19 +104,14 @@ abbrev pub groups_by : World ℕ → Fresh ℕ → ℕ → Bool → ℕ → ℕ
 groups_by world fresh number recursive = numbers_by nat_eq fresh (named_mounts nat_eq world number recursive)
 
 pub type_is_all_that_changes : TypeIsAllThatChanges
-type_is_all_that_changes world fresh number word recursive other =
-    keeps_all_but_type world (groups_by world fresh number recursive) word
-    (named_mounts nat_eq world number recursive) other
+type_is_all_that_changes world fresh number word recursive other = keeps_all_but_type world _ word _ other
 
 pub types_are_of_mounts : TypesAreOfMounts
-types_are_of_mounts world fresh number word recursive =
-    retyping_is_of_mounts world (groups_by world fresh number recursive) word
-    (named_mounts nat_eq world number recursive)
+types_are_of_mounts world fresh number word recursive = retyping_is_of_mounts world _ word _
 
 pub type_is_of_the_named : TypeIsOfTheNamed
 type_is_of_the_named world fresh number word recursive other unnamed has =
-    type_of_unnamed world (groups_by world fresh number recursive) word (named_mounts nat_eq world number recursive)
-    other unnamed has
+    type_of_unnamed world _ word _ other unnamed has
 
 pub type_is_taken : TypeIsTaken
 type_is_taken world fresh number word recursive other there chosen has =
@@ -152,5 +140,4 @@ alone_is_private world fresh number one there shared no_master none =
 
 pub numbers_with_type : (world : World ℕ) (fresh : Fresh ℕ) (number : ℕ) (word : TypeWord) (recursive : Bool)
     → numbers_of (with_type nat_eq fresh world number word recursive).mounts ≡ numbers_of world.mounts
-numbers_with_type world fresh number word recursive =
-    numbers-retyped world (groups_by world fresh number recursive) word (named_mounts nat_eq world number recursive)
+numbers_with_type world fresh number word recursive = numbers-retyped world _ word _

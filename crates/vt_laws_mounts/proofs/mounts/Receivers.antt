@@ -1,5 +1,5 @@
 -- What the policy takes for the receivers of a group is what receives from it.
-use Rattle.std.proofs.Common.{arith, ◌≡◌, refl, sym, ap, subst, ◌∙◌, ⊎_elim, ℕ, zero, suc, nat_eq, Bool, true, false, true≢false, [], ◌∷◌, length, Option, Some, None, is_some, ◌↔◌}
+use Rattle.std.proofs.Common.{arith, ◌≡◌, refl, sym, ap, subst, ◌∙◌, ⊎_elim, ℕ, zero, suc, nat_eq, Bool, true, false, true≢false, [], ◌∷◌, Option, Some, None, is_some, ◌↔◌}
 use Rattle.vt_spec.proofs.Common.{Among, Mount, Private, Propagation, Receives, Shared, Slave, Unbindable, World, all_from_among, among-filter, among-from_filter, among_cases, among_from_all, among_from_contains, among_from_list_all, chain, chain_ends, chain_goes_on, common_steps, contains_from_among, further_down, groups_up, has_members, head_among, holds_of, is_among, last_of_chain, last_or, list_all, member, not-true, receivers_of, receives, same_Some, slave, source_of, tail_among}
 use Rattle.vt_spec.specs.Machine.Invariants.{has_living_groups, masters_end}
 use Rattle.vt_laws_mounts.specs.Mounts.Receivers.{GroupsLive, IsClosed, ReceiversAreClosed, ReceiversAreLeast, ReceiversReceive, ReceivesIsComputed}
@@ -15,16 +15,14 @@ module _ (master : ℕ → Option ℕ) where
       → (n source group : ℕ) → P source → is_among nat_eq group (chain n master source) ≡ true → P group
   along_chain P up zero source group p h =
       ⊎_elim (λ e. subst P (sym e) p) (λ none. absurd (true≢false (sym none))) (among_cases group source [] h)
-  along_chain P up (suc n) source group p h =
-      by (master source) refl (λ above q later. along_chain P up n above group q later)
+  along_chain P up (suc n) source group p h = by _ refl (λ above q later. along_chain P up n above group q later)
     where
       by : (found : Option ℕ) → master source ≡ found
           → ((above : ℕ) → P above → is_among nat_eq group (chain n master above) ≡ true → P group) → P group
       by None e next = ⊎_elim (λ same. subst P (sym same) p) (λ none. absurd (true≢false (sym none)))
           (among_cases group source [] (sym (ap (is_among nat_eq group) (chain_ends master n source e)) ∙ h))
       by (Some above) e next = ⊎_elim (λ same. subst P (sym same) p) (λ later. next above (up above source e p) later)
-          (among_cases group source (chain n master above)
-          (sym (ap (is_among nat_eq group) (chain_goes_on master n source above e)) ∙ h))
+          (among_cases group source _ (sym (ap (is_among nat_eq group) (chain_goes_on master n source above e)) ∙ h))
 
   -- the end of a chain has no master
   abbrev Ends : ℕ → ℕ → Type 0
@@ -44,8 +42,7 @@ module _ (master : ℕ → Option ℕ) where
   chain_is_closed zero source lower group ends above h =
       ⊎_elim (λ same. absurd (no_end source group (ap master (sym same) ∙ above) ends))
       (λ none. absurd (true≢false (sym none))) (among_cases lower source [] h)
-  chain_is_closed (suc n) source lower group ends above h =
-      by (master source) refl (λ next. chain_is_closed n next lower group)
+  chain_is_closed (suc n) source lower group ends above h = by _ refl (λ next. chain_is_closed n next lower group)
     where
       by : (found : Option ℕ) → master source ≡ found
           → ((next : ℕ) → Ends n next → master lower ≡ Some group → is_among nat_eq lower (chain n master next) ≡ true
@@ -59,11 +56,11 @@ module _ (master : ℕ → Option ℕ) where
           chain_goes_on master n source next e in
           let last : last_or source (chain (suc n) master source) ≡ last_or next (chain n master next) =
           ap (last_or source) longer ∙ last_of_chain master n next source in
-          ap (is_among nat_eq group) longer ∙ tail_among group source (chain n master next) (⊎_elim (λ same.
+          ap (is_among nat_eq group) longer ∙ tail_among group source _ (⊎_elim (λ same.
           let it : next ≡ group = same_Some next group (sym e ∙ ap master (sym same) ∙ above) in
           subst (λ g. is_among nat_eq g (chain n master next) ≡ true) it (start_among n next))
           (λ later. go next (sym (ap (λ g. is_some (master g)) last) ∙ ends) above later)
-          (among_cases lower source (chain n master next) (sym (ap (is_among nat_eq lower) longer) ∙ h)))
+          (among_cases lower source _ (sym (ap (is_among nat_eq lower) longer) ∙ h)))
 
 -- the group or master of a mount, and the groups up the masters, have members and come to an end
 pub groups_live_at : (world : World ℕ) → GroupsLive world → (mount : Mount ℕ) → Among mount world.mounts → (source : ℕ)
@@ -86,13 +83,12 @@ module _ (world : World ℕ) where
 
   pub receives_soundly : (group : ℕ) (mount : Mount ℕ) → receives nat_eq world group mount ≡ true
       → Receives world group mount
-  receives_soundly group mount h = by mount.propagation refl
+  receives_soundly group mount h = by _ refl
     where
       from : (source : ℕ) → source_of mount.propagation ≡ Some source → Receives world source mount
           → Receives world group mount
-      from source e r = along_chain world.master (λ g. Receives world g mount)
-          (λ above lower up here. further_down above lower mount up here)
-          (length world.mounts) source group r (sym (receives_by_source group source mount e) ∙ h)
+      from source e r = along_chain _ _ (λ above lower up here. further_down above lower mount up here) _ source group r
+          (sym (receives_by_source group source mount e) ∙ h)
 
       none : source_of mount.propagation ≡ None → Receives world group mount
       none e = absurd (true≢false (sym h ∙ ap (holds_of (λ s. is_among nat_eq group (groups_up world s))) e))
@@ -105,8 +101,7 @@ module _ (world : World ℕ) where
 
   pub receives_from_source : (group : ℕ) (mount : Mount ℕ) → source_of mount.propagation ≡ Some group
       → receives nat_eq world group mount ≡ true
-  receives_from_source group mount e =
-      receives_by_source group group mount e ∙ start_among world.master (length world.mounts) group
+  receives_from_source group mount e = receives_by_source group group mount e ∙ start_among _ _ group
 
   receives_further_down : GroupsLive world → (group lower : ℕ) (mount : Mount ℕ) → Among mount world.mounts
       → world.master lower ≡ Some group

@@ -50,16 +50,16 @@ module _ (world : World ℕ) where
   -- how many places there are below a mount, and the mounts that have one
   depth : (number : ℕ) → Stand number → ℕ
   depth number (at_root it e) = 0
-  depth number (on_parent it place e f stands) = suc (depth place.mount stands)
+  depth number (on_parent it place e f stands) = suc (depth _ stands)
 
   way : (number : ℕ) → Stand number → List ℕ
   way number (at_root it e) = []
-  way number (on_parent it place e f stands) = it ∷ way place.mount stands
+  way number (on_parent it place e f stands) = it ∷ way _ stands
 
   way_length : (number : ℕ) (stands : Stand number) → length (way number stands) ≡ depth number stands
   unfolding depth way
   way_length number (at_root it e) = refl
-  way_length number (on_parent it place e f stands) = ap suc (way_length place.mount stands)
+  way_length number (on_parent it place e f stands) = ap suc (way_length _ stands)
 
   same_depth : (a : ℕ) (x : Stand a) (b : ℕ) (y : Stand b) → a ≡ b → depth a x ≡ depth b y
   unfolding depth
@@ -75,19 +75,18 @@ module _ (world : World ℕ) where
   unfolding depth way
   on_way number (at_root it e) other m = absurd m
   on_way number (on_parent it place e f stands) other m = ⊎_elim
-      (λ same. subst (λ k. (x : Stand k) × (depth k x ≤ suc (depth place.mount stands))) (sym same)
+      (λ same. subst (λ k. (x : Stand k) × (depth k x ≤ suc (depth _ stands))) (sym same)
       (on_parent it place e f stands, omega arith)) (λ later.
-      let t : (x : Stand other) × (depth other x ≤ depth place.mount stands) = on_way place.mount stands other later in
+      let t : (x : Stand other) × (depth other x ≤ depth place.mount stands) = on_way _ stands other later in
       (t.0, omega (arith, t.1))) m
 
   way_apart : (number : ℕ) (stands : Stand number) → any_pair nat_eq (way number stands) ≡ false
   unfolding depth way
   way_apart number (at_root it e) = refl
-  way_apart number (on_parent it place e f stands) =
-      or_from (list_any (nat_eq it) (way place.mount stands)) (any_pair nat_eq (way place.mount stands))
-      (false_from_ne_true (list_any (nat_eq it) (way place.mount stands)) (λ h.
+  way_apart number (on_parent it place e f stands) = or_from (list_any (nat_eq it) (way place.mount stands)) _
+      (false_from_ne_true (list_any (nat_eq it) (way _ stands)) (λ h.
       let t : (x : Stand it) × (depth it x ≤ depth place.mount stands) =
-      on_way place.mount stands it (among_numbers (way place.mount stands) it h) in
+      on_way place.mount stands it (among_numbers (way _ stands) it h) in
       let same : depth it t.0 ≡ suc (depth place.mount stands) =
       same_depth it t.0 it (on_parent it place e f stands) refl in
       absurd (omega (arith, t.1, same)))) (way_apart place.mount stands)
@@ -97,14 +96,12 @@ module _ (world : World ℕ) where
   unfolding way
   way_there number (at_root it e) other m = absurd m
   way_there number (on_parent it place e f stands) other m = ⊎_elim
-      (λ same. subst (λ k. Among k (numbers_of world.mounts)) (number-mount_in world.mounts it ∙ sym same)
-      (among-map (λ (mount : Mount ℕ). mount.number) world.mounts (mount_of it) (placed_among world.mounts it place e)))
-      (way_there place.mount stands other) m
+      (λ same. subst (λ k. Among k (numbers_of world.mounts)) (number-mount_in _ it ∙ sym same)
+      (among-map _ _ _ (placed_among _ it place e))) (way_there _ stands other) m
 
   not_deep : (number : ℕ) (stands : Stand number) → depth number stands ≤ length world.mounts
   not_deep number stands =
-      let few = fewer_numbers (way number stands) (numbers_of world.mounts) (way_apart number stands)
-      (way_there number stands) in
+      let few = fewer_numbers _ _ (way_apart number stands) (way_there number stands) in
       let one = way_length number stands in
       let two = length-map world.mounts (λ (mount : Mount ℕ). mount.number) in
       omega (arith, few, one, two)
@@ -148,9 +145,8 @@ module _ (world : World ℕ) where
   -- the other way round
   namespace_below : OneNumberEach world → ChainsEnd world → (number : ℕ) (place : Location ℕ)
       → (mount_of number).mount_point ≡ Some place → (mount_of number).namespace ≡ (mount_of place.mount).namespace
-  namespace_below one ends number place e = ⊎_elim
-      (λ there. same_namespace world ends (mount_of number) place (placed_among world.mounts number place e) e there)
-      (λ none. missing none) (found_or_none world.mounts place.mount)
+  namespace_below one ends number place e = ⊎_elim (λ there. same_namespace world ends _ place
+      (placed_among _ number place e) e there) (λ none. missing none) (found_or_none _ _)
     where
       alone : (k : ℕ) (x : Mount ℕ) → below x ≡ None → last_in k x ≡ x
       alone zero x f = refl
@@ -161,11 +157,10 @@ module _ (world : World ℕ) where
       missing none =
           let x = mount_of number in
           let parent = mount_of place.mount in
-          let long = length_from_among world.mounts x (placed_among world.mounts number place e) in
+          let long = length_from_among _ x (placed_among _ number place e) in
           let both : (not (is_some (last_parent nat_eq world x).mount_point) ≡ true)
           × (same_option nat_eq x.namespace (last_parent nat_eq world x).namespace ≡ true) = and_parts _ _
-          (among_from_list_all (stands_in_its_namespace nat_eq world) world.mounts ends x
-          (placed_among world.mounts number place e)) in
+          (among_from_list_all _ _ ends x (placed_among _ number place e)) in
           let end : last_parent nat_eq world x ≡ parent = ap (λ k. last_in k x) long.1
           ∙ ap (last_or x) (chain_goes_on below long.0 x parent (ap (option_map (mount_at nat_eq world)) e))
           ∙ last_of_chain below long.0 parent x
@@ -174,12 +169,12 @@ module _ (world : World ℕ) where
 
   stands_by_test : OneNumberEach world → ChainsEnd world → (n number : ℕ)
       → is_some (last_in n (mount_of number)).mount_point ≡ false → Stand number
-  stands_by_test one ends zero number h = at_root number (no_place (mount_of number).mount_point h)
+  stands_by_test one ends zero number h = at_root number (no_place _ h)
     where
       no_place : (place : Option (Location ℕ)) → is_some place ≡ false → place ≡ None
       no_place None e = refl
       no_place (Some place) e = absurd (true≢false e)
-  stands_by_test one ends (suc n) number h = by (mount_of number).mount_point refl (stands_by_test one ends n)
+  stands_by_test one ends (suc n) number h = by _ refl (stands_by_test one ends n)
     where
       by : (place : Option (Location ℕ)) → (mount_of number).mount_point ≡ place
           → ((other : ℕ) → is_some (last_in n (mount_of other)).mount_point ≡ false → Stand other) → Stand number
@@ -193,11 +188,10 @@ module _ (world : World ℕ) where
           ∙ last_of_chain below n parent x)) ∙ h))
 
   standing_by_test : OneNumberEach world → ChainsEnd world → AllStand world
-  standing_by_test one ends = all_from_among (λ (mount : Mount ℕ). Stand mount.number) world.mounts (λ mount m.
-      let itself : mount_of mount.number ≡ mount = found_itself world.mounts one mount m in
-      stands_by_test one ends (length world.mounts) mount.number
-      (subst (λ x. is_some (last_parent nat_eq world x).mount_point ≡ false) (sym itself) (not-true _
-      (and_parts _ _ (among_from_list_all (stands_in_its_namespace nat_eq world) world.mounts ends mount m)).0)))
+  standing_by_test one ends = all_from_among _ _ (λ mount m.
+      let itself : mount_of mount.number ≡ mount = found_itself _ one mount m in
+      stands_by_test one ends _ _ (subst (λ x. is_some (last_parent nat_eq world x).mount_point ≡ false) (sym itself)
+      (not-true _ (and_parts _ _ (among_from_list_all _ _ ends mount m)).0)))
 
 pub standing_is_computed : StandingIsComputed
 standing_is_computed world one = (test_of_standing world one, standing_by_test world one)
@@ -211,12 +205,11 @@ pub data LiesIn (world : World ℕ) : ℕ → ℕ → Type 0 where
 module _ (world : World ℕ) where
   pub further_in : (a b c : ℕ) → LiesIn world a b → LiesIn world b c → LiesIn world a c
   further_in a b c first (itself it) = first
-  further_in a b c first (under it number place e way) = under a number place e (further_in a it place.mount first way)
+  further_in a b c first (under it number place e way) = under a number place e (further_in a it _ first way)
 
 pub bindable_child : (world : World ℕ) (number : ℕ) (child : Mount ℕ)
     → Among child (bindable_children nat_eq world.mounts number) → Among child (children nat_eq world.mounts number)
-bindable_child world number child m = (among-from_filter (λ (y : Mount ℕ). not (is_unbindable y.propagation))
-    (children nat_eq world.mounts number) child m).0
+bindable_child world number child m = (among-from_filter _ _ child m).0
 
 module _ (world : World ℕ) (one : OneNumberEach world) (all : AllStand world) where
   pub stand : (number : ℕ) → Stands nat_eq world number
@@ -230,13 +223,13 @@ module _ (world : World ℕ) (one : OneNumberEach world) (all : AllStand world) 
 
   pub rank_bounded : (number : ℕ) → rank number ≤ length world.mounts
   unfolding rank
-  rank_bounded number = not_deep world number (stand number)
+  rank_bounded number = not_deep world number _
 
   pub rank_child : (number : ℕ) (place : Location ℕ) → (mount_numbered nat_eq world number).mount_point ≡ Some place
       → rank number ≡ suc (rank place.mount)
   unfolding depth rank
   rank_child number place e = same_depth world number (stand number) number
-      (on_parent number place e (by (stand number)) (stand place.mount)) refl
+      (on_parent number place e (by (stand number)) (stand _)) refl
     where
       by : Stands nat_eq world number
           → (mount_numbered nat_eq world number).namespace ≡ (mount_numbered nat_eq world place.mount).namespace
@@ -276,10 +269,9 @@ module _ (world : World ℕ) (one : OneNumberEach world) (all : AllStand world) 
       (λ none. absurd none) m
   lies_in_tree (suc fuel) mount x m = ⊎_elim
       (λ e. subst (λ (y : Mount ℕ). LiesIn world mount.number y.number) (sym e) (itself mount.number)) (λ later.
-      let from = among-from_flat_map (tree_from nat_eq fuel world.mounts)
-      (children nat_eq world.mounts mount.number) x later in
+      let from = among-from_flat_map _ _ x later in
       let child = child_lies mount from.0 from.1 in
-      further_in world mount.number from.0.number x.number (under mount.number from.0.number child.0 child.1
+      further_in world _ _ _ (under mount.number from.0.number child.0 child.1
       (subst (LiesIn world mount.number) (sym child.2) (itself mount.number))) (lies_in_tree fuel from.0 x from.2)) m
 
   child_rank : (mount child : Mount ℕ) → Among child (children nat_eq world.mounts mount.number)
@@ -295,22 +287,19 @@ module _ (world : World ℕ) (one : OneNumberEach world) (all : AllStand world) 
       (lie : (child x : Mount ℕ) → Among child chosen → Among x (trees child) → LiesIn world child.number x.number)
       (own : (child : Mount ℕ) → Among child chosen → OneNumberAMount (trees child)) where
     chosen_once : OneNumberAMount (mount ∷ flat_map trees chosen)
-    chosen_once =
-        or_from (list_any (same_number mount) (flat_map trees chosen)) (any_pair same_number (flat_map trees chosen))
-        (none_from_among (same_number mount) (flat_map trees chosen) (λ x m.
+    chosen_once = or_from _ _ (none_from_among _ _ (λ x m.
         let from = among-from_flat_map trees chosen x m in
         let child = child_rank mount from.0 (are_children from.0 from.1) in
-        false_from_ne_true (nat_eq mount.number x.number) (λ same.
+        false_from_ne_true _ (λ same.
         let level : rank mount.number ≡ rank x.number = ap rank (eqb-true mount.number x.number same) in
         ⊎_elim (λ equal.
         let l : rank from.0.number ≡ rank x.number = ap rank equal in
         absurd (omega (arith, l, level, child))) (λ further. absurd (omega (arith, further, level, child)))
-        (lies_deeper from.0.number x.number (lie from.0 x from.1 from.2)))))
-        (pair-flat_map same_number trees chosen distinct own (λ a b x y m n differ k l.
-        false_from_ne_true (same_number x y) (λ same.
+        (lies_deeper _ _ (lie from.0 x from.1 from.2))))) (pair-flat_map _ trees chosen distinct own
+        (λ a b x y m n differ k l. false_from_ne_true _ (λ same.
         let level : rank a.number ≡ rank b.number =
         child_rank mount a (are_children a m) ∙ sym (child_rank mount b (are_children b n)) in
-        let equal : a.number ≡ b.number = one_above a.number b.number x.number (lie a x m k)
+        let equal : a.number ≡ b.number = one_above _ _ _ (lie a x m k)
         (subst (LiesIn world b.number) (sym (eqb-true x.number y.number same)) (lie b y n l)) level in
         cc (eq-eqb a.number b.number equal, differ))))
 
@@ -329,10 +318,9 @@ module _ (world : World ℕ) (one : OneNumberEach world) (all : AllStand world) 
       (λ none. absurd none) m
   bindable_in_tree (suc fuel) mount x m = ⊎_elim
       (λ e. subst (λ (y : Mount ℕ). LiesIn world mount.number y.number) (sym e) (itself mount.number)) (λ later.
-      let from = among-from_flat_map (bindable_tree nat_eq fuel world.mounts)
-      (bindable_children nat_eq world.mounts mount.number) x later in
-      let child = child_lies mount from.0 (bindable_child world mount.number from.0 from.1) in
-      further_in world mount.number from.0.number x.number (under mount.number from.0.number child.0 child.1
+      let from = among-from_flat_map _ _ x later in
+      let child = child_lies mount from.0 (bindable_child world _ from.0 from.1) in
+      further_in world _ _ _ (under mount.number from.0.number child.0 child.1
       (subst (LiesIn world mount.number) (sym child.2) (itself mount.number))) (bindable_in_tree fuel from.0 x from.2))
       m
 
@@ -365,8 +353,7 @@ module _ (world : World ℕ) (one : OneNumberEach world) (all : AllStand world) 
       (λ child x m k. bindable_in_tree fuel child x k) (λ child m. bindable_once fuel child)
 
 pub trees_have_each_once : TreesHaveEachOnce
-trees_have_each_once world number one all =
-    each_once world one all (length world.mounts) (mount_numbered nat_eq world number)
+trees_have_each_once world number one all = each_once world one all _ _
 
 pub binds_take_each_once : BindsTakeEachOnce
-binds_take_each_once world source recursive one all = bind_once world one all source recursive
+binds_take_each_once world source recursive one all = bind_once world one all source _

@@ -32,11 +32,8 @@ placed_there mounts number placed = ⊎_elim (λ l. l)
 
 attached_there : (mounts : List (Mount ℕ)) (number : ℕ) → is_some (mount_in nat_eq mounts number).namespace ≡ true
     → is_among nat_eq number (numbers_of mounts) ≡ true
-attached_there mounts number attached = ⊎_elim
-    (λ l. subst (λ n. is_among nat_eq n (numbers_of mounts) ≡ true) (number-mount_in mounts number)
-    (is_one_of mounts (mount_in nat_eq mounts number) l))
-    (λ none. absurd cc)
-    (found_or_none mounts number)
+attached_there mounts number attached = ⊎_elim (λ l. subst (λ n. is_among nat_eq n (numbers_of mounts) ≡ true)
+    (number-mount_in mounts number) (is_one_of mounts _ l)) (λ none. absurd cc) (found_or_none mounts number)
 
 module _ (world : World ℕ) where
   -- each of a tree hangs on another of it
@@ -48,11 +45,11 @@ module _ (world : World ℕ) where
   tree_hangs whole (suc fuel) mount hung all x m = ⊎_elim
       (λ e. subst (λ (y : Mount ℕ). Hangs whole y.number) (sym e) hung) (λ later.
       let below = children nat_eq world.mounts mount.number in
-      let from = among-from_flat_map (tree_from nat_eq fuel world.mounts) below x later in
+      let from = among-from_flat_map _ below x later in
       let within : (y : Mount ℕ) → Among y (tree_from nat_eq fuel world.mounts from.0) → Among y whole =
-      λ y n. all y (inr (among-flat_map (tree_from nat_eq fuel world.mounts) below from.0 y from.1 n)) in
-      tree_hangs whole fuel from.0 (child_hangs world whole mount.number from.0 from.1
-      (within from.0 (top_among_tree fuel world.mounts from.0)) hung) within x from.2) m
+      λ y n. all y (inr (among-flat_map _ below from.0 y from.1 n)) in
+      tree_hangs whole fuel from.0 (child_hangs world whole _ from.0 from.1
+      (within from.0 (top_among_tree fuel _ from.0)) hung) within x from.2) m
 
   module _ (invariants : MountInvariants nat_eq world) where
     -- a tree is in one namespace
@@ -73,9 +70,8 @@ module _ (world : World ℕ) where
         → Among x (tree_from nat_eq fuel world.mounts mount) → x.namespace ≡ mount.namespace
     tree_namespace zero mount x there m = ⊎_elim (λ e. ap (λ (y : Mount ℕ). y.namespace) e) (λ none. absurd none) m
     tree_namespace (suc fuel) mount x there m = ⊎_elim (λ e. ap (λ (y : Mount ℕ). y.namespace) e) (λ later.
-        let from =
-        among-from_flat_map (tree_from nat_eq fuel world.mounts) (children nat_eq world.mounts mount.number) x later in
-        let child = (among-from_filter (stands_on nat_eq mount.number) world.mounts from.0 from.1).0 in
+        let from = among-from_flat_map _ _ x later in
+        let child = (among-from_filter _ _ from.0 from.1).0 in
         tree_namespace fuel from.0 x child from.2 ∙ child_namespace mount from.0 there from.1) m
 
     -- what stands on a mount of a tree is in it

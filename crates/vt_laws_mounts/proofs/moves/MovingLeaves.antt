@@ -20,15 +20,11 @@ pub found_folded : (mounts copies : List (Mount ℕ)) → OneNumberAMount copies
     → mount_in nat_eq (folded (with_mount nat_eq) mounts copies) copy.number ≡ copy
 found_folded mounts [] own copy m is = absurd m
 found_folded mounts (first ∷ copies) own copy m is =
-    let parted : (list_any (same_number first) copies ≡ false) × OneNumberAMount copies =
-    or_parts (list_any (same_number first) copies) (any_pair same_number copies) own in
-    ⊎_elim (λ e.
-    subst (λ x. mount_in nat_eq (folded (with_mount nat_eq) mounts (first ∷ copies)) x.number ≡ x) (sym e)
-    (found-folded_other (with_mount nat_eq mounts first) copies first.number (λ other n.
-    nat_eq_false_turned first.number other.number (none_among (same_number first) copies parted.0 other n))
-    ∙ found-with_mount_itself first mounts
-    (subst (λ (x : Mount ℕ). is_among nat_eq x.number (numbers_of mounts) ≡ true) e is))) (λ later.
-    found_folded (with_mount nat_eq mounts first) copies parted.1 copy later
+    let parted : (list_any (same_number first) copies ≡ false) × OneNumberAMount copies = or_parts _ _ own in
+    ⊎_elim (λ e. subst (λ x. mount_in nat_eq (folded (with_mount nat_eq) mounts (first ∷ copies)) x.number ≡ x) (sym e)
+    (found-folded_other _ copies _ (λ other n. nat_eq_false_turned _ _ (none_among _ copies parted.0 other n))
+    ∙ found-with_mount_itself first mounts (subst (λ (x : Mount ℕ). is_among nat_eq x.number (numbers_of mounts) ≡ true)
+    e is))) (λ later. found_folded (with_mount nat_eq mounts first) copies parted.1 copy later
     (cc (numbers-with_mount first mounts))) m
 
 -- two of a list, told apart by their numbers
@@ -87,18 +83,17 @@ module _ (world : World ℕ) (new : Copies ℕ) (place : Location ℕ) (mounts :
   left = record world { mounts = moved_ones world new place true mounts }
 
   arrived_number : (twig : Twig ℕ) → (made twig).number ≡ twig.origin.number
-  arrived_number it = keeps_number world new place mounts it.origin.number
+  arrived_number it = keeps_number world new place mounts _
 
   arrive_apart : OneNumberAMount (arriving world new place true mounts)
-  arrive_apart = pair-map same_origin same_number made tree.twigs (λ a b m n differ.
-      cc (arrived_number b, arrived_number a, differ))
-      (pair-map same_number same_origin twig mounts (λ a b m n differ. differ) may.own)
+  arrive_apart = pair-map same_origin same_number made tree.twigs (λ a b m n differ. cc
+      (arrived_number b, arrived_number a, differ)) (pair-map _ _ twig mounts (λ a b m n differ. differ) may.own)
 
   pub same_numbers : numbers_of left.mounts ≡ numbers_of world.mounts
   same_numbers = numbers_moved world new place true mounts
 
   pub one_left : OneNumberAMount left.mounts
-  one_left = one_number_by_numbers world.mounts left.mounts same_numbers may.one
+  one_left = one_number_by_numbers _ _ same_numbers may.one
 
   pub found_arrived : (origin : Mount ℕ) → Among origin mounts
       → mount_numbered nat_eq left origin.number ≡ arrived origin
@@ -120,23 +115,21 @@ module _ (world : World ℕ) (new : Copies ℕ) (place : Location ℕ) (mounts :
   -- a mount that moves, by its number
   mover : (number : ℕ) → is_moved mounts number ≡ true
       → (origin : Mount ℕ) × Among origin mounts × (number ≡ origin.number)
-  mover number e =
-      among-from_map (λ (mount : Mount ℕ). mount.number) mounts number (among_numbers (numbers_of mounts) number e)
+  mover number e = among-from_map _ mounts number (among_numbers _ number e)
 
   left_case : (mount : Mount ℕ) → Among mount left.mounts → LeftCase mount
-  left_case mount m = by (is_moved mounts mount.number) refl
+  left_case mount m = by _ refl
     where
       itself : mount_numbered nat_eq left mount.number ≡ mount
-      itself = found_itself left.mounts one_left mount m
+      itself = found_itself _ one_left mount m
 
       by : (b : Bool) → is_moved mounts mount.number ≡ b → LeftCase mount
       by true e =
-          let origin = mover mount.number e in
+          let origin = mover _ e in
           came origin.0 origin.1
           (cc (itself, origin.2, found_arrived origin.0 origin.1))
-      by false e = stayed (subst (λ x. Among x world.mounts) (sym (found_stayed mount.number e) ∙ itself)
-          (found_there world.mounts mount.number
-          (cc (same_numbers, is_one_of left.mounts mount m))))
+      by false e = stayed (subst (λ x. Among x world.mounts) (sym (found_stayed _ e) ∙ itself)
+          (found_there _ _ (cc (same_numbers, is_one_of left.mounts mount m))))
 
   pub nowhere_left : NowhereOrAttached left
   nowhere_left = grind (arith, common_steps, list_all_from_among, left_case, among_from_list_all)
@@ -159,17 +152,17 @@ module _ (world : World ℕ) (new : Copies ℕ) (place : Location ℕ) (mounts :
   top_place : (origin : Mount ℕ) → nat_eq origin.number may.top.number ≡ true
       → (arrived origin).mount_point ≡ Some place
   top_place origin e = placed origin true e
-      ∙ ap (λ (k : ℕ). Some (record { mount = k; node = place.node })) (number-mount_in world.mounts place.mount)
+      ∙ ap (λ (k : ℕ). Some (record { mount = k; node = place.node })) (number-mount_in _ _)
 
   other_place : (origin : Mount ℕ) → nat_eq origin.number may.top.number ≡ false → (on : Location ℕ)
       → origin.mount_point ≡ Some on → (arrived origin).mount_point ≡ Some on
   other_place origin e on f = placed origin false e ∙ ap (λ p. Some (landing p false)) f
-      ∙ ap (λ (k : ℕ). Some (record { mount = k; node = on.node })) (keeps_number world new place mounts on.mount)
+      ∙ ap (λ (k : ℕ). Some (record { mount = k; node = on.node })) (keeps_number world new place mounts _)
 
   is_top_of : (first : Mount ℕ) (rest : List (Mount ℕ)) → mounts ≡ first ∷ rest → (number : ℕ) → number ≡ first.number
       → nat_eq number may.top.number ≡ true
   is_top_of first rest list number e =
-      let same : first ≡ may.top = same_Some first may.top (ap first_of_list (sym list ∙ may.is_tree)) in
+      let same : first ≡ may.top = same_Some first _ (ap first_of_list (sym list ∙ may.is_tree)) in
       eq-eqb number may.top.number (cc)
 
   same_mover : (a b : Mount ℕ) → Among a mounts → Among b mounts → a.number ≡ b.number → a ≡ b
@@ -185,8 +178,8 @@ module _ (world : World ℕ) (new : Copies ℕ) (place : Location ℕ) (mounts :
   arrived_place : (origin : Mount ℕ) → Among origin mounts → (number : ℕ) → Hangs mounts number → number ≡ origin.number
       → ArrivedPlace origin
   arrived_place origin m number (from_top first rest list) is =
-      let e = is_top_of first rest list origin.number (sym is) in at_place e (top_place origin e)
-  arrived_place origin m number (from_parent other on l f later) is = by (nat_eq origin.number may.top.number) refl
+      let e = is_top_of first rest list _ (sym is) in at_place e (top_place origin e)
+  arrived_place origin m number (from_parent other on l f later) is = by _ refl
     where
       by : (b : Bool) → nat_eq origin.number may.top.number ≡ b → ArrivedPlace origin
       by true e = at_place e (top_place origin e)
@@ -199,14 +192,12 @@ module _ (world : World ℕ) (new : Copies ℕ) (place : Location ℕ) (mounts :
   stayed_stands : (number : ℕ) → Stands nat_eq world number → is_moved mounts number ≡ false → Stands nat_eq left number
   stayed_stands number (at_root it e) other =
       at_root it (cc (found_stayed it other))
-  stayed_stands number (on_parent it on e f stands) other =
-      by (is_moved mounts on.mount) refl (stayed_stands on.mount stands)
+  stayed_stands number (on_parent it on e f stands) other = by _ refl (stayed_stands _ stands)
     where
       by : (b : Bool) → is_moved mounts on.mount ≡ b
           → (is_moved mounts on.mount ≡ false → Stands nat_eq left on.mount) → Stands nat_eq left it
-      by true g parent_stands = absurd (true≢false
-          (sym (may.closed (mount_numbered nat_eq world it) on (placed_among world.mounts it on e) e g)
-          ∙ ap (is_moved mounts) (number-mount_in world.mounts it) ∙ other))
+      by true g parent_stands = absurd (true≢false (sym (may.closed (mount_numbered nat_eq world it) on
+          (placed_among _ it on e) e g) ∙ ap (is_moved mounts) (number-mount_in _ it) ∙ other))
       by false g parent_stands = on_parent it on (cc (found_stayed it other))
           (cc (found_stayed it other, found_stayed on.mount g)) (parent_stands g)
 
@@ -223,10 +214,8 @@ module _ (world : World ℕ) (new : Copies ℕ) (place : Location ℕ) (mounts :
 
   moved_stands : (number : ℕ) → Hangs mounts number → (origin : Mount ℕ) → Among origin mounts
       → origin.number ≡ number → Stands nat_eq left origin.number
-  moved_stands number (from_top first rest list) origin m same =
-      top_stands origin m (is_top_of first rest list origin.number same)
-  moved_stands number (from_parent other on l f later) origin m same =
-      by (nat_eq origin.number may.top.number) refl (moved_stands on.mount later)
+  moved_stands number (from_top first rest list) origin m same = top_stands origin m (is_top_of first rest list _ same)
+  moved_stands number (from_parent other on l f later) origin m same = by _ refl (moved_stands _ later)
     where
       by : (b : Bool) → nat_eq origin.number may.top.number ≡ b
           → ((x : Mount ℕ) → Among x mounts → x.number ≡ on.mount → Stands nat_eq left x.number)
@@ -235,21 +224,18 @@ module _ (world : World ℕ) (new : Copies ℕ) (place : Location ℕ) (mounts :
       by false e parent_stands =
           let place_is : origin.mount_point ≡ Some on =
           cc (same_mover other origin l m (sym same), f) in
-          let parent = hanging mounts on.mount later in
-          on_parent origin.number on
-          (cc (found_arrived origin m, other_place origin e on place_is))
-          (ap (λ (x : Mount ℕ). x.namespace) (found_arrived origin m)
-          ∙ sym (ap (λ n. (mount_numbered nat_eq left n).namespace) (sym parent.2)
-          ∙ ap (λ (x : Mount ℕ). x.namespace) (found_arrived parent.0 parent.1)))
-          (subst (Stands nat_eq left) parent.2 (parent_stands parent.0 parent.1 parent.2))
+          let parent = hanging mounts _ later in
+          on_parent origin.number on (cc (found_arrived origin m, other_place origin e on place_is))
+          (ap (λ (x : Mount ℕ). x.namespace) (found_arrived origin m) ∙ sym
+          (ap (λ n. (mount_numbered nat_eq left n).namespace) (sym parent.2) ∙ ap (λ (x : Mount ℕ). x.namespace)
+          (found_arrived _ parent.1))) (subst (Stands nat_eq left) parent.2 (parent_stands parent.0 parent.1 parent.2))
 
   pub all_left : AllStand left
-  all_left = all_from_among (λ (mount : Mount ℕ). Stands nat_eq left mount.number) left.mounts (λ mount m.
-      by mount (left_case mount m))
+  all_left = all_from_among _ _ (λ mount m. by mount (left_case mount m))
     where
       moved_one : (origin : Mount ℕ) → Among origin mounts → Stands nat_eq left (arrived origin).number
       moved_one origin m = subst (Stands nat_eq left) (sym (arrived_number (twig origin)))
-          (moved_stands origin.number (may.hangs origin m) origin m refl)
+          (moved_stands _ (may.hangs origin m) origin m refl)
 
       by : (mount : Mount ℕ) → LeftCase mount → Stands nat_eq left mount.number
       by mount (came origin m e) = subst (λ (x : Mount ℕ). Stands nat_eq left x.number) (sym e) (moved_one origin m)
@@ -257,10 +243,9 @@ module _ (world : World ℕ) (new : Copies ℕ) (place : Location ℕ) (mounts :
         where
           at : (b : Bool) → is_moved mounts mount.number ≡ b → Stands nat_eq left mount.number
           at true e =
-              let origin = mover mount.number e in
-              subst (Stands nat_eq left) (sym origin.2)
-              (moved_stands origin.0.number (may.hangs origin.0 origin.1) origin.0 origin.1 refl)
-          at false e = stayed_stands mount.number
+              let origin = mover _ e in
+              subst (Stands nat_eq left) (sym origin.2) (moved_stands _ (may.hangs origin.0 origin.1) _ origin.1 refl)
+          at false e = stayed_stands _
               (among_from_all (λ (x : Mount ℕ). Stands nat_eq world x.number) world.mounts may.all mount m) e
 
   -- Places: the top is at the place, another one where a mount of its number stood
@@ -271,7 +256,7 @@ module _ (world : World ℕ) (new : Copies ℕ) (place : Location ℕ) (mounts :
 
   left_place : (mount : Mount ℕ) → LeftCase mount → LeftPlace mount
   left_place mount (stayed m) = as_it_was mount m refl refl
-  left_place mount (came origin m e) = by (arrived_place origin m origin.number (may.hangs origin m) refl)
+  left_place mount (came origin m e) = by (arrived_place origin m _ (may.hangs origin m) refl)
     where
       number : mount.number ≡ origin.number
       number = cc (arrived_number (twig origin))
@@ -284,7 +269,7 @@ module _ (world : World ℕ) (new : Copies ℕ) (place : Location ℕ) (mounts :
 
   pub places_left : OneMountAMountPoint world.mounts → child_at nat_eq world.mounts place ≡ None
       → OneMountAMountPoint left.mounts
-  places_left places free = pair_by test left.mounts one_left (λ a b m n differ.
+  places_left places free = pair_by test _ one_left (λ a b m n differ.
       by a b (left_place a (left_case a m)) (left_place b (left_case b n)) differ)
     where
       -- none stood at the place
@@ -295,12 +280,12 @@ module _ (world : World ℕ) (new : Copies ℕ) (place : Location ℕ) (mounts :
       by : (a b : Mount ℕ) → LeftPlace a → LeftPlace b → same_number a b ≡ false → test a b ≡ false
       by a b (at_destination e f) (at_destination g h) differ = absurd (true≢false (sym (eq-eqb a.number b.number
           (eqb-true a.number may.top.number e ∙ sym (eqb-true b.number may.top.number g))) ∙ differ))
-      by a b (at_destination e f) (as_it_was old m g h) differ = false_from_ne_true (test a b) (λ both.
+      by a b (at_destination e f) (as_it_was old m g h) differ = false_from_ne_true _ (λ both.
           let t = one_place a b both in
           not_there old m (cc (t.2, same_Some place t.0 (sym f ∙ t.1))))
-      by a b (as_it_was old m g h) (at_destination e f) differ = false_from_ne_true (test a b) (λ both.
+      by a b (as_it_was old m g h) (at_destination e f) differ = false_from_ne_true _ (λ both.
           let t = one_place a b both in
           not_there old m (cc (t.1, same_Some place t.0 (sym f ∙ t.2))))
       by a b (as_it_was old m e f) (as_it_was other n g h) differ =
-          ap (beside b.mount_point) f ∙ ap (λ p. beside p old.mount_point) h ∙ two_of world.mounts places old other m n
+          ap (beside b.mount_point) f ∙ ap (λ p. beside p old.mount_point) h ∙ two_of _ places old other m n
           (ap (λ k. nat_eq k other.number) e ∙ ap (nat_eq a.number) g ∙ differ)

@@ -1,6 +1,6 @@
 -- After a move at most one mount stands at a place: of what moved, the copies at receivers, and what they push up.
 use Rattle.std.proofs.Common.{arith, ◌≡◌, refl, sym, ap, subst, ◌∙◌, true, false, nat_eq, ℕ, Bool, List, None, Option, Some, [], append-nil, eq-eqb, eqb-true, flat_map, inl, inr, is_some, map, option_map, true≢false, ◌++◌, ◌∷◌, if◌then◌else◌, unwrap_or}
-use Rattle.vt_spec.proofs.Common.{Among, Copies, Graft, Location, Mount, Stands, Twig, World, among-from_filter, among-from_flat_map, among-from_map, among-map, among_from_all, any_pair, at_root, attached_by, child_at, common_steps, copies_at, copy_at, false_from_ne_true, first_of_list, graft_of, group_of, holds_of, is_among, is_among_numbers, is_top, list_any, mount_at, mount_in, mount_numbered, mount_point_on_copy, nat_eq_false_turned, number-mount_in, numbers_in_use, on_parent, or_parts, pair-map, parts_of, pushed_onto, pushed_up, receiver_stood_on, receivers_of, rest_of, root_of, same_Some, same_location, same_option, stands_at, takes_part, top_of_copies, twig_of}
+use Rattle.vt_spec.proofs.Common.{Among, Copies, Graft, Location, Mount, Stands, Twig, World, among-from_filter, among-from_flat_map, among-from_map, among-map, among_from_all, any_pair, at_root, attached_by, child_at, common_steps, copies_at, copy_at, false_from_ne_true, first_of_list, graft_of, group_of, holds_of, is_among, is_among_numbers, is_top, mount_at, mount_in, mount_numbered, mount_point_on_copy, nat_eq_false_turned, number-mount_in, numbers_in_use, on_parent, or_parts, pair-map, parts_of, pushed_onto, pushed_up, receiver_stood_on, receivers_of, rest_of, root_of, same_Some, same_location, same_option, stands_at, takes_part, top_of_copies, twig_of}
 use Rattle.vt_laws_mounts.specs.Mounts.Attaching.{is_mount}
 use Rattle.vt_laws_mounts.specs.Mounts.Copies.{ServeAsCopies}
 use Rattle.vt_laws_mounts.specs.Mounts.MountPoints.{OneMountAMountPoint}
@@ -74,7 +74,7 @@ module _ {world : World ℕ} {new : Copies ℕ} {place : Location ℕ} {mounts :
   copied : (part x : Mount ℕ) → Among x (copies part)
       → (origin : Mount ℕ) × Among origin mounts × (x ≡ copy part origin)
   copied part x m =
-      let from = among-from_map (made part) tree.twigs x m in
+      let from = among-from_map _ _ x m in
       let origin = among-from_map twig mounts from.0 from.1 in
       (origin.0, origin.1, from.2 ∙ ap (made part) origin.2)
 
@@ -91,8 +91,7 @@ module _ {world : World ℕ} {new : Copies ℕ} {place : Location ℕ} {mounts :
       ap (λ (ms : List (Mount ℕ)). holds_of (same_origin (twig origin)) (first_of_list (map twig ms))) may.is_tree
 
   copy_mount_point_of : (part origin : Mount ℕ) → Among part takers → Among origin mounts → CopyPlace part origin
-  copy_mount_point_of part origin taker m =
-      by (nat_eq origin.number may.top.number) refl origin.number (may.hangs origin m) refl
+  copy_mount_point_of part origin taker m = by _ refl _ (may.hangs origin m) refl
     where
       placed : (b : Bool) → nat_eq origin.number may.top.number ≡ b
           → (copy part origin).mount_point ≡ Some (landing part origin.mount_point b)
@@ -102,14 +101,14 @@ module _ {world : World ℕ} {new : Copies ℕ} {place : Location ℕ} {mounts :
           → CopyPlace part origin
       by true e n hung is = at_part e (placed true e)
       by false e n (from_top first rest list) is =
-          let same : first ≡ may.top = same_Some first may.top (ap first_of_list (sym list ∙ may.is_tree)) in
+          let same : first ≡ may.top = same_Some first _ (ap first_of_list (sym list ∙ may.is_tree)) in
           absurd (true≢false
           (sym (eq-eqb origin.number may.top.number (sym is ∙ ap (λ (x : Mount ℕ). x.number) same)) ∙ e))
       by false e n (from_parent other on l f later) is =
           let it : other ≡ origin = sym (found_itself mounts may.own other l) ∙ ap (mount_in nat_eq mounts) is
           ∙ found_itself mounts may.own origin m in
           let place_is : origin.mount_point ≡ Some on = ap (λ (x : Mount ℕ). x.mount_point) (sym it) ∙ f in
-          let parent = hanging mounts on.mount later in
+          let parent = hanging mounts _ later in
           on_copy on parent.0 place_is parent.1 parent.2
           (placed false e ∙ ap (λ p. Some (landing part p false)) place_is
           ∙ ap (λ b. Some (record { mount = if b then on.mount else new.copy part.number on.mount; node = on.node }))
@@ -118,28 +117,25 @@ module _ {world : World ℕ} {new : Copies ℕ} {place : Location ℕ} {mounts :
   -- the number of a copy is that of no mount that was there
   copy_is_new : (part origin : Mount ℕ) → Among part takers → Among origin mounts → (number : ℕ)
       → is_mount world number ≡ true → nat_eq number (new.copy part.number origin.number) ≡ false
-  copy_is_new part origin m n number is =
-      false_from_ne_true (nat_eq number (new.copy part.number origin.number)) (λ same.
-      let found = found_there world.mounts number is in
+  copy_is_new part origin m n number is = false_from_ne_true _ (λ same.
+      let found = found_there _ number is in
       let used : Among number (numbers_in_use world) =
-      subst (λ k. Among k (numbers_in_use world)) (number-mount_in world.mounts number)
-      (number_in_use world (mount_numbered nat_eq world number) found) in
-      true≢false (sym (is_among_numbers (numbers_in_use world) (new.copy part.number origin.number)
+      subst (λ k. Among k (numbers_in_use world)) (number-mount_in _ number) (number_in_use world _ found) in
+      true≢false (sym (is_among_numbers _ _
       (subst (λ k. Among k (numbers_in_use world)) (eqb-true number (new.copy part.number origin.number) same) used))
       ∙ serve.unused part.number origin.number (is_one_of parts part (inr m)) (is_one_of mounts origin n)))
 
   -- copies at two parts have two numbers
   two_parts : (p q a b : Mount ℕ) → Among p takers → Among q takers → Among a mounts → Among b mounts
       → nat_eq p.number q.number ≡ false → nat_eq (new.copy p.number a.number) (new.copy q.number b.number) ≡ false
-  two_parts p q a b m n k l differ =
-      false_from_ne_true (nat_eq (new.copy p.number a.number) (new.copy q.number b.number)) (λ same.
+  two_parts p q a b m n k l differ = false_from_ne_true _ (λ same.
       let at : (p.number ≡ q.number) × (a.number ≡ b.number) = serve.apart p.number a.number q.number b.number
       (is_one_of parts p (inr m)) (is_one_of mounts a k) (is_one_of parts q (inr n)) (is_one_of mounts b l)
       (eqb-true (new.copy p.number a.number) (new.copy q.number b.number) same) in
       true≢false (sym (eq-eqb p.number q.number at.0) ∙ differ))
 
   part_there : (part : Mount ℕ) → Among part takers → is_mount world part.number ≡ true
-  part_there part m = is_one_of world.mounts part (taker_there world place part m)
+  part_there part m = is_one_of _ part (taker_there world place part m)
 
   -- copies at two parts
   apart_at_two : (p q x y : Mount ℕ) → Among p takers → Among q takers → same_number p q ≡ false → Among x (copies p)
@@ -166,17 +162,15 @@ module _ {world : World ℕ} {new : Copies ℕ} {place : Location ℕ} {mounts :
         by : CopyPlace part a → CopyPlace part b → test (copy part a) (copy part b) ≡ false
         by (at_part e f) (at_part g h) = absurd (true≢false (sym (eq-eqb a.number b.number
             (eqb-true a.number may.top.number e ∙ sym (eqb-true b.number may.top.number g))) ∙ differ))
-        by (at_part e f) (on_copy on parent h there_is same d) =
-            differ_by_mount (copy part a) (copy part b) (place_at part) (place_upon part on) f d
-            (subst (λ k. nat_eq part.number (new.copy part.number k) ≡ false) same
-            (copy_is_new part parent m there_is part.number (part_there part m)))
+        by (at_part e f) (on_copy on parent h there_is same d) = differ_by_mount (copy part a) (copy part b)
+            (place_at part) (place_upon part on) f d (subst (λ k. nat_eq part.number (new.copy part.number k) ≡ false)
+            same (copy_is_new part parent m there_is _ (part_there part m)))
         by (on_copy on parent f there_is same c) (at_part g h) =
             differ_by_mount (copy part a) (copy part b) (place_upon part on) (place_at part) c h
-            (nat_eq_false_turned part.number (new.copy part.number on.mount)
-            (subst (λ k. nat_eq part.number (new.copy part.number k) ≡ false) same
-            (copy_is_new part parent m there_is part.number (part_there part m))))
+            (nat_eq_false_turned _ _ (subst (λ k. nat_eq part.number (new.copy part.number k) ≡ false) same
+            (copy_is_new part parent m there_is _ (part_there part m))))
         by (on_copy on parent f there_is same c) (on_copy at other h there_too same_too d) =
-            false_from_ne_true (test (copy part a) (copy part b)) (λ both.
+            false_from_ne_true _ (λ both.
             let t = one_place (copy part a) (copy part b) both in
             let before : place_upon part on ≡ t.0 = same_Some _ t.0 (sym c ∙ t.1) in
             let behind : place_upon part at ≡ t.0 = same_Some _ t.0 (sym d ∙ t.2) in
@@ -192,21 +186,20 @@ module _ {world : World ℕ} {new : Copies ℕ} {place : Location ℕ} {mounts :
             let place_is : b.mount_point ≡ Some on =
             h ∙ sym (λ i. Some (record { mount = mount_is i; node = node_is i })) in
             true≢false (sym (stand_together a b on f place_is)
-            ∙ two_of world.mounts places a b (may.inside a i) (may.inside b j) differ))
+            ∙ two_of _ places a b (may.inside a i) (may.inside b j) differ))
 
     copies_spread : (part : Mount ℕ) → Among part takers → any_pair test (copies part) ≡ false
-    copies_spread part m = pair-map same_origin test (made part) tree.twigs (λ a b k l differ.
+    copies_spread part m = pair-map _ test _ _ (λ a b k l differ.
         let x = among-from_map twig mounts a k in
         let y = among-from_map twig mounts b l in
         subst (λ z. test (made part z) (made part b) ≡ false) (sym x.2)
         (subst (λ z. test (copy part x.0) (made part z) ≡ false) (sym y.2) (two_at_one part m x.0 y.0 x.1 y.1
         (subst (λ z. nat_eq x.0.number z.origin.number ≡ false) y.2
         (subst (λ z. nat_eq z.origin.number b.origin.number ≡ false) x.2 differ)))))
-        (pair-map same_number same_origin twig mounts (λ a b k l differ. differ) may.own)
+        (pair-map _ _ twig mounts (λ a b k l differ. differ) may.own)
 
     takers_apart : any_pair same_number takers ≡ false
-    takers_apart = (or_parts (list_any (same_number (mount_at nat_eq world place)) takers) (any_pair same_number takers)
-        (parts_apart world place may.one)).1
+    takers_apart = (or_parts _ _ (parts_apart world place may.one)).1
 
     all_copies_spread : any_pair test (flat_map copies takers) ≡ false
     all_copies_spread = pair-flat_map test copies takers takers_apart copies_spread apart_at_two
@@ -222,20 +215,20 @@ module _ {world : World ℕ} {new : Copies ℕ} {place : Location ℕ} {mounts :
     top_in = subst (Among may.top) (sym may.is_tree) (inl refl)
 
     top_copy : (part : Mount ℕ) → Among (copy part may.top) (copies part)
-    top_copy part = among-map (made part) tree.twigs (twig may.top) (among-map twig mounts may.top top_in)
+    top_copy part = among-map _ _ _ (among-map twig mounts _ top_in)
 
     push_case : (mount : Mount ℕ) → PushCase mount
-    push_case mount = by (receiver_stood_on nat_eq tree parts mount) refl
+    push_case mount = by _ refl
       where
         by : (found : Option (Mount ℕ)) → receiver_stood_on nat_eq tree parts mount ≡ found → PushCase mount
         by None e = stays (ap (pushed_onto nat_eq world new tree parts mount) e) e
         by (Some receiver) e =
-            let found = found_in (λ part. stands_at nat_eq (place_at part) mount) takers receiver e in
-            let onto = top_among (copies receiver) place (copy receiver may.top) (top_copy receiver) in
+            let found = found_in _ takers _ e in
+            let onto = top_among _ place _ (top_copy receiver) in
             let of = copied receiver onto.0 onto.1 in
-            goes receiver of.0 found.0 of.1 (stands_there (place_at receiver) mount found.1)
+            goes receiver of.0 found.0 of.1 (stands_there _ mount found.1)
             (ap (λ (x : Mount ℕ). x.mount_point) (ap (pushed_onto nat_eq world new tree parts mount) e))
-            (onto.2 ∙ ap (λ (x : Mount ℕ). x.number) of.2 ∙ number_of_copy receiver found.0 of.0)
+            (onto.2 ∙ ap (λ (x : Mount ℕ). x.number) of.2 ∙ number_of_copy _ found.0 of.0)
 
     -- what has a place stands on a mount that is there
     on_is_there : (mount : Mount ℕ) → Among mount moved.mounts → (on : Location ℕ) → mount.mount_point ≡ Some on
@@ -277,21 +270,20 @@ module _ {world : World ℕ} {new : Copies ℕ} {place : Location ℕ} {mounts :
                   ∙ ap (same_option (same_location nat_eq) (Some (top_at receiver))) e,
             )
             at (Some on) e =
-                let fresh_one = copy_is_new receiver origin r o on.mount (on_is_there x k on e) in
+                let fresh_one = copy_is_new _ origin r o _ (on_is_there x k on e) in
                 let other_mount : nat_eq on.mount (top_at receiver).mount ≡ false =
                 ap (nat_eq on.mount) same ∙ fresh_one in (
                   ap (λ (z : Mount ℕ). test z (push y)) keeps
                       ∙ differ_by_mount x (push y) on (top_at receiver) e f other_mount,
                   ap (λ (z : Mount ℕ). test (push y) z) keeps ∙ differ_by_mount (push y) x (top_at receiver) on f e
-                      (nat_eq_false_turned on.mount (top_at receiver).mount other_mount),
+                      (nat_eq_false_turned _ _ other_mount),
                 )
 
         by : PushCase a → PushCase b → test (push a) (push b) ≡ false
         by (stays e f) (stays g h) = ap (λ (z : Mount ℕ). test z (push b)) e ∙ ap (test a) g ∙ differ
-        by (stays e f) (goes receiver origin r o g h same) = (mixed a b m e receiver origin r o h same).0
-        by (goes receiver origin r o e f same) (stays g h) = (mixed b a n g receiver origin r o f same).1
-        by (goes receiver origin r o e f same) (goes other second t u g h same_too) =
-            two (nat_eq receiver.number other.number) refl
+        by (stays e f) (goes receiver origin r o g h same) = (mixed a b m e _ origin r o h same).0
+        by (goes receiver origin r o e f same) (stays g h) = (mixed b a n g _ origin r o f same).1
+        by (goes receiver origin r o e f same) (goes other second t u g h same_too) = two _ refl
           where
             two : (c : Bool) → nat_eq receiver.number other.number ≡ c → test (push a) (push b) ≡ false
             two true equal = grind (arith, common_steps, eqb-true, true≢false, stand_together)
@@ -299,7 +291,7 @@ module _ {world : World ℕ} {new : Copies ℕ} {place : Location ℕ} {mounts :
 
     -- nothing stands on the topmost copy
     free_top : (part : Mount ℕ) → Among part takers → child_at nat_eq (copies part) (top_at part) ≡ None
-    free_top part m = by (copies part) refl (top_copy part)
+    free_top part m = by _ refl (top_copy part)
       where
         by : (list : List (Mount ℕ)) → copies part ≡ list → Among (copy part may.top) list
             → child_at nat_eq list (top_of_copies nat_eq list place) ≡ None
@@ -364,10 +356,9 @@ module _ {world : World ℕ} {new : Copies ℕ} {place : Location ℕ} {mounts :
     pub places_moved : OneMountAMountPoint (attached_by nat_eq world new place true mounts).mounts
     places_moved =
         let old = map push moved.mounts in
-        ap (λ list. any_pair test (list ++ flat_map copies takers)) (append-nil old)
-        ∙ pair-append test old (flat_map copies takers)
-        (pair-map test test push moved.mounts two_old (places_left world new place mounts may places free))
-        all_copies_spread (λ x y m n.
-        let from = among-from_map push moved.mounts x m in
+        ap (λ list. any_pair test (list ++ flat_map copies takers)) (append-nil old) ∙ pair-append test old _
+        (pair-map test test push _ two_old (places_left world new place mounts may places free)) all_copies_spread
+        (λ x y m n.
+        let from = among-from_map push _ x m in
         let part = among-from_flat_map copies takers y n in
         subst (λ z. test z y ≡ false) (sym from.2) (old_and_copy from.0 from.1 part.0 y part.1 part.2))

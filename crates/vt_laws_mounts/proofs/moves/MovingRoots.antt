@@ -1,6 +1,6 @@
 -- What is attached has a place, and is in the namespace of the mount that it is attached on.
-use Rattle.std.proofs.Common.{arith, ◌≡◌, refl, sym, ap, subst, ◌∙◌, true, false, suc, nat_eq, ℕ, Bool, List, None, Option, Some, [], add-zero, cond, filter, flat_map, inl, inr, is_some, length, map, not, true≢false, ⊎_elim, ◌&&◌, ◌++◌, ◌+◌, ◌∷◌, zero, eqb-true, ◌⊎◌, length-append, Contains}
-use Rattle.vt_spec.proofs.Common.{Among, Copies, Graft, Location, Mount, World, added_mounts, all_from_among, among-append, among-folded_mounts, among-from_filter, among-from_flat_map, among-from_map, attached_by, bind_tree, children, common_steps, contains_from_among, copies_at, copy_at, filter-append, filter_here, filter_skip, folded, found_or_none, holds_of, is_root_mount, mount_at, mount_in, moved_tree, new_mount, parts_of, pushed_onto, receiver_stood_on, replaced_if_same, rest_of, stands_at, stands_on, tree_among, tree_from, with_mount, with_new_filesystem}
+use Rattle.std.proofs.Common.{arith, ◌≡◌, refl, sym, ap, subst, ◌∙◌, true, false, suc, nat_eq, ℕ, Bool, List, None, Option, Some, [], add-zero, cond, filter, inl, inr, is_some, length, map, not, true≢false, ⊎_elim, ◌&&◌, ◌++◌, ◌+◌, ◌∷◌, zero, eqb-true, ◌⊎◌, length-append, Contains}
+use Rattle.vt_spec.proofs.Common.{Among, Copies, Graft, Location, Mount, World, added_mounts, all_from_among, among-append, among-folded_mounts, among-from_filter, among-from_flat_map, among-from_map, attached_by, bind_tree, common_steps, contains_from_among, copies_at, filter-append, filter_here, filter_skip, folded, found_or_none, holds_of, is_root_mount, mount_at, mount_in, moved_tree, new_mount, parts_of, pushed_onto, receiver_stood_on, replaced_if_same, rest_of, stands_at, tree_among, tree_from, with_mount, with_new_filesystem}
 use Rattle.vt_laws_mounts.proofs.attached.Attaching.{taker_there}
 use Rattle.vt_laws_mounts.proofs.mounts.MountsAttached.{arrives, arriving, graft, in_front, moved_ones, others, push, push_keeps, supplied}
 use Rattle.vt_laws_mounts.proofs.mounts.MountsFound.{found_in, placed_among}
@@ -77,7 +77,7 @@ module _ (world : World ℕ) (new : Copies ℕ) (place : Location ℕ) (moves : 
   copy_has : (part x : Mount ℕ) → Among x (copies part)
       → (is_some x.mount_point ≡ true) × (x.namespace ≡ part.namespace)
   copy_has part x m =
-      let from = among-from_map (copy_at nat_eq world new tree parts part) tree.twigs x m in
+      let from = among-from_map _ _ x m in
       (ap (λ (y : Mount ℕ). is_some y.mount_point) from.2, ap (λ (y : Mount ℕ). y.namespace) from.2)
 
   added_has : (b : Bool) (x : Mount ℕ) → Among x (added_mounts b (copies destination)) → Among x (copies destination)
@@ -86,12 +86,11 @@ module _ (world : World ℕ) (new : Copies ℕ) (place : Location ℕ) (moves : 
 
   other_has : (x : Mount ℕ) → Among x (others world new place moves mounts)
       → (part : Mount ℕ) × Among part parts × Among x (copies part)
-  other_has x m = ⊎_elim (λ l. (destination, inl refl, added_has moves x l))
-      (λ l. let from = among-from_flat_map copies (rest_of parts) x l in (from.0, inr from.1, from.2))
-      (among-append (added_mounts moves (copies destination)) (flat_map copies (rest_of parts)) x m)
+  other_has x m = ⊎_elim (λ l. (destination, inl refl, added_has moves x l)) (λ l. let from = among-from_flat_map copies
+      _ x l in (from.0, inr from.1, from.2)) (among-append _ _ x m)
 
   pushed_alike : (mount : Mount ℕ) → is_some (pushing mount).mount_point ≡ is_some mount.mount_point
-  pushed_alike mount = by (receiver_stood_on nat_eq tree parts mount) refl
+  pushed_alike mount = by _ refl
     where
       by : (part : Option (Mount ℕ)) → receiver_stood_on nat_eq tree parts mount ≡ part
           → is_some (pushing mount).mount_point ≡ is_some mount.mount_point
@@ -123,12 +122,12 @@ module _ (world : World ℕ) (new : Copies ℕ) (place : Location ℕ) (moves : 
       → HasOne world namespace
   part_has_one part m namespace e = ⊎_elim
       (λ is_destination. there (ap (λ (x : Mount ℕ). x.namespace) (sym is_destination) ∙ e))
-      (λ taker. (part, contains_from_among world.mounts part (taker_there world place part taker), e)) m
+      (λ taker. (part, contains_from_among _ part (taker_there world place part taker), e)) m
     where
       there : destination.namespace ≡ Some namespace → HasOne world namespace
-      there f = ⊎_elim (λ l. (destination, contains_from_among world.mounts destination l, f))
+      there f = ⊎_elim (λ l. (destination, contains_from_among _ _ l, f))
           (λ none. absurd (true≢false (sym (ap is_some f) ∙ ap (λ (x : Mount ℕ). is_some x.namespace) none)))
-          (found_or_none world.mounts place.mount)
+          (found_or_none _ _)
 
   attached_namespaces : ((x : Mount ℕ) → Among x left → (namespace : ℕ) → x.namespace ≡ Some namespace
       → HasOne world namespace) → StaysInNamespaces world after
@@ -136,23 +135,22 @@ module _ (world : World ℕ) (new : Copies ℕ) (place : Location ℕ) (moves : 
       all_from_among (λ (mount : Mount ℕ). (namespace : ℕ) → mount.namespace ≡ Some namespace → HasOne world namespace)
       after.mounts (λ mount m namespace e.
       ⊎_elim (λ l.
-      let from = among-from_map pushing left mount l in
+      let from = among-from_map _ left mount l in
       old from.0 from.1 namespace
       (sym (ap (λ (x : Mount ℕ). x.namespace) from.2 ∙ (push_keeps world new tree parts from.0).namespace) ∙ e)) (λ l.
       let t = other_has mount l in
-      part_has_one t.0 t.1 namespace (sym (copy_has t.0 mount t.2).1 ∙ e))
-      (among-append (map pushing left) (others world new place moves mounts) mount
+      part_has_one t.0 t.1 _ (sym (copy_has t.0 mount t.2).1 ∙ e)) (among-append _ _ mount
       (subst (Among mount) (in_front world new place moves mounts) m)))
 
   -- where the mounts that were there are left
   still_there : (x : Mount ℕ) → Among x world.mounts → (namespace : ℕ) → x.namespace ≡ Some namespace
       → HasOne world namespace
-  still_there x m namespace e = (x, contains_from_among world.mounts x m, e)
+  still_there x m namespace e = (x, contains_from_among _ x m, e)
 
 pub binds_keep_root_mounts : BindsKeepRootMounts
 binds_keep_root_mounts world fresh source place recursive namespace =
     let mounts = bind_tree nat_eq world source recursive in
-    attached_roots world (supplied world fresh place mounts) place false mounts namespace refl
+    attached_roots world _ place false mounts _ refl
 
 pub binds_stay_in_namespaces : BindsStayInNamespaces
 binds_stay_in_namespaces world fresh source place recursive =
@@ -182,9 +180,8 @@ count_folded : (namespace : ℕ) (mounts copies : List (Mount ℕ))
 count_folded namespace mounts [] placed had = refl
 count_folded namespace mounts (copy ∷ copies) placed had =
     count_folded namespace (with_mount nat_eq mounts copy) copies (λ c m. placed c (inr m)) (λ x c m n e.
-    let from = among-from_map (replaced_if_same nat_eq copy) mounts x m in
-    by from.0 from.1 x from.2 c n e (nat_eq copy.number from.0.number) refl)
-    ∙ count_map namespace (replaced_if_same nat_eq copy) mounts (λ x m. alike x m (nat_eq copy.number x.number) refl)
+    let from = among-from_map _ mounts x m in
+    by from.0 from.1 x from.2 c n e _ refl) ∙ count_map _ _ mounts (λ x m. alike x m _ refl)
   where
     by : (old : Mount ℕ) → Among old mounts → (x : Mount ℕ) → x ≡ replaced_if_same nat_eq copy old
         → (c : Mount ℕ) → Among c copies → nat_eq c.number x.number ≡ true
@@ -193,9 +190,8 @@ count_folded namespace mounts (copy ∷ copies) placed had =
 
     alike : (x : Mount ℕ) → Among x mounts → (b : Bool) → nat_eq copy.number x.number ≡ b
         → is_root_in namespace (replaced_if_same nat_eq copy x) ≡ is_root_in namespace x
-    alike x m true f = ap (is_root_in namespace) (replaced_there copy x f)
-        ∙ placed_no_root namespace copy (placed copy (inl refl))
-        ∙ sym (placed_no_root namespace x (had x copy m (inl refl) f))
+    alike x m true f = ap (is_root_in namespace) (replaced_there copy x f) ∙ placed_no_root _ copy
+        (placed copy (inl refl)) ∙ sym (placed_no_root _ x (had x copy m (inl refl) f))
     alike x m false f = ap (is_root_in namespace) (replaced_elsewhere copy x f)
 
 -- each mount of a tree has a place, where its top has one
@@ -205,9 +201,9 @@ tree_placed zero mounts top x e m =
     ⊎_elim (λ same. ap (λ (y : Mount ℕ). is_some y.mount_point) same ∙ e) (λ none. absurd none) m
 tree_placed (suc fuel) mounts top x e m = ⊎_elim (λ same. ap (λ (y : Mount ℕ). is_some y.mount_point) same ∙ e)
     (λ later.
-    let from = among-from_flat_map (tree_from nat_eq fuel mounts) (children nat_eq mounts top.number) x later in
-    let on = (among-from_filter (stands_on nat_eq top.number) mounts from.0 from.1).1 in
-    tree_placed fuel mounts from.0 x (by from.0.mount_point on) from.2) m
+    let from = among-from_flat_map _ _ x later in
+    let on = (among-from_filter _ mounts from.0 from.1).1 in
+    tree_placed fuel mounts from.0 x (by _ on) from.2) m
   where
     by : (place : Option (Location ℕ)) → holds_of (λ (p : Location ℕ). nat_eq top.number p.mount) place ≡ true
         → is_some place ≡ true

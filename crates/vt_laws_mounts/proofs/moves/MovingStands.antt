@@ -1,5 +1,5 @@
 -- After a move each mount stands: what moved, the copies at receivers, and what they push up.
-use Rattle.std.proofs.Common.{◌≡◌, refl, sym, ap, subst, ◌∙◌, true, false, nat_eq, ℕ, Bool, List, None, Option, Some, eq-eqb, flat_map, inl, map, option_map, ⊎_elim, ◌++◌, [], ◌∷◌, ◌||◌, if◌then◌else◌, unwrap_or}
+use Rattle.std.proofs.Common.{◌≡◌, refl, sym, ap, subst, ◌∙◌, true, false, nat_eq, ℕ, Bool, List, None, Option, Some, eq-eqb, inl, map, option_map, ⊎_elim, [], ◌∷◌, ◌||◌, if◌then◌else◌, unwrap_or}
 use Rattle.vt_spec.proofs.Common.{Among, Copies, Graft, Location, Mount, Stands, Twig, World, all_from_among, among-append, among-append_right, among-flat_map, among-from_flat_map, among-from_map, among-map, among_from_all, at_root, attached_by, copies_at, copy_at, copy_number, first_of_list, graft_of, group_of, holds_of, is_among, is_top, list_any, mount_at, mount_in, mount_numbered, mount_point_on_copy, number-mount_in, on_parent, parts_of, pushed_onto, pushed_up, receiver_stood_on, rest_of, same_Some, same_location, stands_at, top_of_copies, twig_of}
 use Rattle.vt_laws_mounts.specs.Mounts.Attaching.{OneNumberAMount, is_mount}
 use Rattle.vt_laws_mounts.specs.Mounts.Copies.{ServeAsCopies}
@@ -65,7 +65,7 @@ module _ {world : World ℕ} {new : Copies ℕ} {place : Location ℕ} {mounts :
   found_old number is = found_attached world new place true mounts number (is_there number is)
 
   copy_among : (part origin : Mount ℕ) → Among origin mounts → Among (copy part origin) (copies part)
-  copy_among part origin m = among-map (made part) tree.twigs (twig origin) (among-map twig mounts origin m)
+  copy_among part origin m = among-map _ _ _ (among-map twig mounts origin m)
 
   -- a mount that is there in the end was there, or is a copy at a receiver
   pub data AfterCase (mount : Mount ℕ) : Type 0 where
@@ -73,20 +73,16 @@ module _ {world : World ℕ} {new : Copies ℕ} {place : Location ℕ} {mounts :
     is_copy : (part : Mount ℕ) → Among part takers → Among mount (copies part) → AfterCase mount
 
   pub after_case : (mount : Mount ℕ) → Among mount after.mounts → AfterCase mount
-  after_case mount m = ⊎_elim (λ l.
-      ⊎_elim (λ k. let from = among-from_map push moved.mounts mount k in was from.0 from.1 from.2)
-      (λ none. absurd none) (among-append (map push moved.mounts) [] mount l))
-      (λ l. let from = among-from_flat_map copies takers mount l in is_copy from.0 from.1 from.2)
-      (among-append (map push moved.mounts ++ []) (flat_map copies takers) mount m)
+  after_case mount m = ⊎_elim (λ l. ⊎_elim (λ k. let from = among-from_map push _ mount k in was from.0 from.1 from.2)
+      (λ none. absurd none) (among-append _ [] mount l)) (λ l. let from = among-from_flat_map copies takers mount l
+      in is_copy from.0 from.1 from.2) (among-append _ _ mount m)
 
   pub copies_after : (part : Mount ℕ) → Among part takers → (x : Mount ℕ) → Among x (copies part) → Among x after.mounts
-  copies_after part m x n = among-append_right (map push moved.mounts ++ []) (flat_map copies takers) x
-      (among-flat_map copies takers part x m n)
+  copies_after part m x n = among-append_right _ _ x (among-flat_map copies takers part x m n)
 
   found_copy : (part origin : Mount ℕ) → Among part takers → Among origin mounts
       → mount_numbered nat_eq after (copy part origin).number ≡ copy part origin
-  found_copy part origin m n = found_itself after.mounts one_after (copy part origin)
-      (copies_after part m (copy part origin) (copy_among part origin n))
+  found_copy part origin m n = found_itself _ one_after _ (copies_after part m _ (copy_among part origin n))
 
   -- the copies at a part that stands
   module _ (part : Mount ℕ) (is_part : Among part takers) (stands : Stands nat_eq after part.number)
@@ -105,8 +101,7 @@ module _ {world : World ℕ} {new : Copies ℕ} {place : Location ℕ} {mounts :
     copies_stand number (from_top first rest list) origin m same = top_stands origin m
         (ap (λ (ms : List (Mount ℕ)). holds_of (same_origin (twig origin)) (first_of_list (map twig ms))) list
         ∙ eq-eqb origin.number first.number same)
-    copies_stand number (from_parent other on l f later) origin m same =
-        by (is_top nat_eq tree origin.number) refl (copies_stand on.mount later)
+    copies_stand number (from_parent other on l f later) origin m same = by _ refl (copies_stand _ later)
       where
         by : (b : Bool) → is_top nat_eq tree origin.number ≡ b
             → ((x : Mount ℕ) → Among x mounts → x.number ≡ on.mount → Stands nat_eq after (copy part x).number)
@@ -116,14 +111,13 @@ module _ {world : World ℕ} {new : Copies ℕ} {place : Location ℕ} {mounts :
             let found = found_copy part origin is_part m in
             let it : other ≡ origin = sym (found_itself mounts may.own other l) ∙ ap (mount_in nat_eq mounts) (sym same)
             ∙ found_itself mounts may.own origin m in
-            let parent = hanging mounts on.mount later in
+            let parent = hanging mounts _ later in
             let place_is : origin.mount_point ≡ Some on = ap (λ (x : Mount ℕ). x.mount_point) (sym it) ∙ f in
             on_parent (copy part origin).number (mount_point_on_copy nat_eq new tree part.number on)
-            (ap (λ (x : Mount ℕ). x.mount_point) found ∙ ap (λ b. Some (landing part origin.mount_point b)) e
-            ∙ ap (λ p. Some (landing part p false)) place_is) (ap (λ (x : Mount ℕ). x.namespace) found
-            ∙ sym (ap (λ k. (mount_numbered nat_eq after k).namespace)
-            (ap (copy_number nat_eq new tree part.number) (sym parent.2))
-            ∙ ap (λ (x : Mount ℕ). x.namespace) (found_copy part parent.0 is_part parent.1)))
+            (ap (λ (x : Mount ℕ). x.mount_point) found ∙ ap (λ b. Some (landing part origin.mount_point b)) e ∙ ap
+            (λ p. Some (landing part p false)) place_is) (ap (λ (x : Mount ℕ). x.namespace) found ∙ sym
+            (ap (λ k. (mount_numbered nat_eq after k).namespace) (ap (copy_number nat_eq new tree part.number)
+            (sym parent.2)) ∙ ap (λ (x : Mount ℕ). x.namespace) (found_copy part _ is_part parent.1)))
             (subst (Stands nat_eq after) (ap (copy_number nat_eq new tree part.number) parent.2)
             (parent_stands parent.0 parent.1 parent.2))
 
@@ -133,15 +127,15 @@ module _ {world : World ℕ} {new : Copies ℕ} {place : Location ℕ} {mounts :
   -- a receiver is there, in the namespace in which it was
   taker_is : (part : Mount ℕ) → Among part takers → is_mount moved part.number ≡ true
   taker_is part m = ap (is_among nat_eq part.number) (same_numbers world new place mounts may)
-      ∙ is_one_of world.mounts part (taker_there world place part m)
+      ∙ is_one_of _ part (taker_there world place part m)
 
   taker_kept : (part : Mount ℕ) → Among part takers
       → (mount_numbered nat_eq moved part.number).namespace ≡ part.namespace
   taker_kept part m = namespace_kept world new place mounts may part (taker_there world place part m)
 
   in_its : (part : Mount ℕ) → Among part takers → (mount_numbered nat_eq after part.number).namespace ≡ part.namespace
-  in_its part m = ap (λ (x : Mount ℕ). x.namespace) (found_old part.number (taker_is part m))
-      ∙ push_namespace (mount_numbered nat_eq moved part.number) ∙ taker_kept part m
+  in_its part m = ap (λ (x : Mount ℕ). x.namespace) (found_old _ (taker_is part m))
+      ∙ push_namespace _ ∙ taker_kept part m
 
   top_in : Among may.top mounts
   top_in = subst (Among may.top) (sym may.is_tree) (inl refl)

@@ -23,13 +23,12 @@ module _ (world : World ℕ) (mounts : MountInvariants nat_eq world) where
   inside : (top number : ℕ) → LiesIn world top number → is_some (mount_numbered nat_eq world top).namespace ≡ true
       → is_some (mount_numbered nat_eq world number).namespace ≡ true
   inside top number (itself it) h = h
-  inside top number (under above it place e way) h = by (mount_numbered nat_eq world it).namespace refl
+  inside top number (under above it place e way) h = by _ refl
     where
       by : (found : Option ℕ) → (mount_numbered nat_eq world it).namespace ≡ found
           → is_some (mount_numbered nat_eq world it).namespace ≡ true
       by (Some namespace) f = ap is_some f
-      by None f = absurd
-          (placed_inside world mounts (mount_numbered nat_eq world it) (placed_among world.mounts it place e) place e f)
+      by None f = absurd (placed_inside world mounts _ (placed_among _ it place e) place e f)
 
   named_inside : (number : ℕ) (recursive : Bool) → is_some (mount_numbered nat_eq world number).namespace ≡ true
       → (other : Mount ℕ) → Among other (named_mounts nat_eq world number recursive)
@@ -72,7 +71,7 @@ type_keeps_mounts world fresh number word recursive serves named mounts =
       standing = (standing_is_computed after one).1
           (type_keeps_places_ending world fresh number word recursive mounts.one_number
           ((standing_is_computed world mounts.one_number).0 mounts.standing));
-      nowhere = type_keeps_nowhere world mounts fresh number word recursive named;
+      nowhere = type_keeps_nowhere world mounts fresh number word _ named;
       groups = all_live after
           (type_keeps_groups world fresh number word recursive serves (tested_live world mounts.groups));
     }
@@ -116,7 +115,6 @@ module _ (world : World ℕ) (here : Location ℕ) (flags : MountFlags) (one : O
       grind (arith, common_steps, number-mount_in, eqb-true, found_itself, replaced_there, replaced_elsewhere)
 
 pub flags_keep_counts : SetFlagsKeepCounts
-flags_keep_counts world here flags namespace one = as_many world (with_flags nat_eq world here.mount flags)
-    (replaced_if_same nat_eq (record (mount_at nat_eq world here) { flags = flags })) refl
-    (λ mount m. (replaced_keeps world here flags one mount m).0)
-    (λ mount m. (replaced_keeps world here flags one mount m).1) namespace
+flags_keep_counts world here flags namespace one = as_many world _ _ refl
+    (λ mount m. (replaced_keeps world here flags one mount m).0) (λ mount m. (replaced_keeps world here flags one mount
+    m).1) _

@@ -23,7 +23,7 @@ module _ (world : World ℕ) where
   on_chain zero here place m = ⊎_elim
       (λ e. subst (λ (p : Location ℕ). LiesIn world p.mount here.mount) (sym e) (itself here.mount))
       (λ none. absurd none) m
-  on_chain (suc n) here place m = by (next here) refl (on_chain n)
+  on_chain (suc n) here place m = by _ refl (on_chain n)
     where
       by : (found : Option (Location ℕ)) → next here ≡ found
           → ((at : Location ℕ) (p : Location ℕ) → Among p (chain n next at) → LiesIn world p.mount at.mount)
@@ -54,20 +54,19 @@ module _ {world : World ℕ} {namespace : ℕ} {root new : Mount ℕ} {put : Loc
 
   pub inside_there : (number : ℕ) → (mount_numbered nat_eq world number).namespace ≡ Some namespace
       → Among (mount_numbered nat_eq world number) world.mounts
-  inside_there number e = ⊎_elim (λ m. m)
-      (λ none. absurd (true≢false (sym (ap is_some e) ∙ ap (λ x. is_some x.namespace) none)))
-      (found_or_none world.mounts number)
+  inside_there number e = ⊎_elim (λ m. m) (λ none. absurd (true≢false
+      (sym (ap is_some e) ∙ ap (λ x. is_some x.namespace) none))) (found_or_none _ number)
 
   pub root_among : Among root world.mounts
   root_among = subst (λ x. Among x world.mounts) may.root_there
-      (inside_there root.number (ap (λ x. x.namespace) may.root_there ∙ may.root_inside))
+      (inside_there _ (ap (λ x. x.namespace) may.root_there ∙ may.root_inside))
 
   pub new_among : Among new world.mounts
   new_among = subst (λ x. Among x world.mounts) may.new_there
-      (inside_there new.number (ap (λ x. x.namespace) may.new_there ∙ may.new_inside))
+      (inside_there _ (ap (λ x. x.namespace) may.new_there ∙ may.new_inside))
 
   put_among : Among (mount_at nat_eq world put) world.mounts
-  put_among = inside_there put.mount may.put_inside
+  put_among = inside_there _ may.put_inside
 
   -- the new root mount stands over the old one
   new_stands_over : (at : Location ℕ) × (new.mount_point ≡ Some at) × LiesIn world root.number at.mount
@@ -97,18 +96,18 @@ module _ {world : World ℕ} {namespace : ℕ} {root new : Mount ℕ} {put : Loc
       (on_chain world (length world.mounts) put one.0 one.1)
 
   pub two : nat_eq root.number new.number ≡ false
-  two = false_from_ne_true (nat_eq root.number new.number) (λ same.
+  two = false_from_ne_true _ (λ same.
       let equal : level root.number ≡ level new.number = ap level (eqb-true root.number new.number same) in
       let more = new_higher in
       absurd (omega (arith, equal, more)))
 
   -- a mount with the number of one of them is it
   pub is_new : (mount : Mount ℕ) → Among mount world.mounts → nat_eq mount.number new.number ≡ true → mount ≡ new
-  is_new mount m e = sym (found_itself world.mounts mounts.one_number mount m)
+  is_new mount m e = sym (found_itself _ mounts.one_number mount m)
       ∙ ap (mount_numbered nat_eq world) (eqb-true mount.number new.number e) ∙ may.new_there
 
   pub is_root : (mount : Mount ℕ) → Among mount world.mounts → nat_eq mount.number root.number ≡ true → mount ≡ root
-  is_root mount m e = sym (found_itself world.mounts mounts.one_number mount m)
+  is_root mount m e = sym (found_itself _ mounts.one_number mount m)
       ∙ ap (mount_numbered nat_eq world) (eqb-true mount.number root.number e) ∙ may.root_there
 
   -- what becomes of each
@@ -136,7 +135,7 @@ module _ {world : World ℕ} {namespace : ℕ} {root new : Mount ℕ} {put : Loc
 
   found_after : (mount : Mount ℕ) → Among mount world.mounts → mount_numbered nat_eq after mount.number ≡ move mount
   found_after mount m = ap (mount_numbered nat_eq after) (sym (number-pivoted_mount root new put mount))
-      ∙ found_itself after.mounts one_after (move mount) (among-map move world.mounts mount m)
+      ∙ found_itself _ one_after _ (among-map move _ mount m)
 
   -- Standing
   stand_on : (mount parent : Mount ℕ) → Among mount world.mounts → Among parent world.mounts → (place : Location ℕ)
@@ -153,7 +152,7 @@ module _ {world : World ℕ} {namespace : ℕ} {root new : Mount ℕ} {put : Loc
       → nat_eq mount.number root.number ≡ false
       → ((place : Location ℕ) → mount.mount_point ≡ Some place → Stands nat_eq after place.mount)
       → Stands nat_eq after mount.number
-  carry mount m e f below = by mount.mount_point refl
+  carry mount m e f below = by _ refl
     where
       stays : (move mount).mount_point ≡ mount.mount_point
       stays = ap (λ x. x.mount_point) (moved_other mount e f)
@@ -162,14 +161,14 @@ module _ {world : World ℕ} {namespace : ℕ} {root new : Mount ℕ} {put : Loc
       by None g = at_root mount.number (ap (λ x. x.mount_point) (found_after mount m) ∙ stays ∙ g)
       by (Some place) g =
           let parent = parent_of world mounts mount m place g in
-          stand_on mount parent.parent m parent.there place (stays ∙ g) parent.number parent.namespace
+          stand_on mount _ m parent.there place (stays ∙ g) parent.number parent.namespace
           (subst (Stands nat_eq after) (sym parent.number) (below place g))
 
   -- a mount that is found under a number has the place that is found there
   found_place : (number : ℕ) (mount : Mount ℕ) → Among mount world.mounts → mount.number ≡ number
       → (mount_numbered nat_eq world number).mount_point ≡ mount.mount_point
   found_place number mount m same = ap (λ n. (mount_numbered nat_eq world n).mount_point) (sym same)
-      ∙ ap (λ x. x.mount_point) (found_itself world.mounts mounts.one_number mount m)
+      ∙ ap (λ x. x.mount_point) (found_itself _ mounts.one_number mount m)
 
   no_place : (number : ℕ) (mount : Mount ℕ) → Among mount world.mounts → mount.number ≡ number
       → (mount_numbered nat_eq world number).mount_point ≡ None → (place : Location ℕ) → mount.mount_point ≡ Some place
@@ -219,14 +218,13 @@ module _ {world : World ℕ} {namespace : ℕ} {root new : Mount ℕ} {put : Loc
   -- and what stands over it,
   over_new : (top number : ℕ) → LiesIn world top number → top ≡ new.number → Stands nat_eq after number
   over_new top number (itself it) same = subst (Stands nat_eq after) (sym same) new_stands
-  over_new top number (under above it place e way) same =
-      by (nat_eq it new.number) refl (over_new above place.mount way same)
+  over_new top number (under above it place e way) same = by _ refl (over_new above _ way same)
     where
       mount : Mount ℕ
       mount = mount_numbered nat_eq world it
 
       number_is : mount.number ≡ it
-      number_is = number-mount_in world.mounts it
+      number_is = number-mount_in _ it
 
       higher : level new.number < level it
       higher =
@@ -236,8 +234,8 @@ module _ {world : World ℕ} {namespace : ℕ} {root new : Mount ℕ} {put : Loc
 
       by : (b : Bool) → nat_eq it new.number ≡ b → Stands nat_eq after place.mount → Stands nat_eq after it
       by true f below = subst (Stands nat_eq after) (sym (eqb-true it new.number f)) new_stands
-      by false f below = subst (Stands nat_eq after) number_is (carry mount (placed_among world.mounts it place e)
-          (ap (λ n. nat_eq n new.number) number_is ∙ f) (false_from_ne_true (nat_eq mount.number root.number) (λ g.
+      by false f below = subst (Stands nat_eq after) number_is (carry mount (placed_among _ it place e)
+          (ap (λ n. nat_eq n new.number) number_is ∙ f) (false_from_ne_true _ (λ g.
           let equal : level it ≡ level root.number = ap level (sym number_is ∙ eqb-true mount.number root.number g) in
           let more = new_higher in
           let most = higher in
@@ -247,10 +245,9 @@ module _ {world : World ℕ} {namespace : ℕ} {root new : Mount ℕ} {put : Loc
   -- and the old one,
   root_stands : Stands nat_eq after root.number
   root_stands =
-      let number = number-mount_in world.mounts put.mount in
-      stand_on root (mount_at nat_eq world put) root_among put_among put moved_root number
-      (may.root_inside ∙ sym may.put_inside)
-      (subst (Stands nat_eq after) (sym number) (over_new new.number put.mount put_lies_over refl))
+      let number = number-mount_in _ _ in
+      stand_on root _ root_among put_among put moved_root number (may.root_inside ∙ sym may.put_inside)
+      (subst (Stands nat_eq after) (sym number) (over_new _ _ put_lies_over refl))
 
   -- and so all.
   either : (mount : Mount ℕ) → Among mount world.mounts
@@ -265,13 +262,13 @@ module _ {world : World ℕ} {namespace : ℕ} {root new : Mount ℕ} {put : Loc
       let at_is : at ≡ place = same_Some at place (sym e ∙ found_place it mount m same ∙ g) in
       let parent = parent_of world mounts mount m place g in
       subst (Stands nat_eq after) parent.number
-      (rise at.mount stands parent.parent parent.there (parent.number ∙ ap (λ (p : Location ℕ). p.mount) (sym at_is))))
+      (rise _ stands _ parent.there (parent.number ∙ ap (λ (p : Location ℕ). p.mount) (sym at_is))))
 
   all_stand_after : (mount : Mount ℕ) → Among mount after.mounts → Stands nat_eq after mount.number
   all_stand_after mount m =
-      let from = among-from_map move world.mounts mount m in
+      let from = among-from_map move _ mount m in
       subst (Stands nat_eq after) (sym (ap (λ x. x.number) from.2 ∙ number-pivoted_mount root new put from.0))
-      (rise from.0.number (stands_itself world mounts from.0 from.1) from.0 from.1 refl)
+      (rise _ (stands_itself world mounts from.0 from.1) from.0 from.1 refl)
 
   -- Places
   abbrev swapped : ℕ → ℕ
@@ -282,7 +279,7 @@ module _ {world : World ℕ} {namespace : ℕ} {root new : Mount ℕ} {put : Loc
       → (move mount).mount_point ≡ Some place
       → ((before : Mount ℕ) × Among before world.mounts × (before.mount_point ≡ Some place)
       × (mount.number ≡ swapped before.number)) ⊎ ((mount.number ≡ root.number) × (put ≡ place))
-  came_from mount m place e = by (nat_eq mount.number new.number) refl (nat_eq mount.number root.number) refl
+  came_from mount m place e = by _ refl _ refl
     where
       by : (a : Bool) → nat_eq mount.number new.number ≡ a → (b : Bool) → nat_eq mount.number root.number ≡ b
           → ((before : Mount ℕ) × Among before world.mounts × (before.mount_point ≡ Some place)
@@ -307,7 +304,7 @@ module _ {world : World ℕ} {namespace : ℕ} {root new : Mount ℕ} {put : Loc
       (came_from a m both.0 both.1))
 
   one_child_after : any_pair (share_a_mount_point nat_eq) after.mounts ≡ false
-  one_child_after = pair-map same_number (share_a_mount_point nat_eq) move world.mounts two_after mounts.one_number
+  one_child_after = pair-map _ _ move _ two_after mounts.one_number
 
   -- Mounts outside every namespace are not moved
   nowhere_after : (mount : Mount ℕ) → Among mount world.mounts → is_nowhere_or_attached (move mount) ≡ true

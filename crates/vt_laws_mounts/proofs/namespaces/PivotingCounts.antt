@@ -1,6 +1,6 @@
 -- A pivot of the root leaves each namespace as many mounts and as many root mounts.
 use Rattle.std.proofs.Common.{arith, ◌≡◌, refl, sym, ap, ◌∙◌, true, false, suc, nat_eq, ℕ, Bool, List, [], eq-eqb, eqb-true, filter, is_some, length, not, true≢false, ⊎_elim, ◌&&◌, ◌∷◌}
-use Rattle.vt_spec.proofs.Common.{Among, Location, Mount, MountInvariants, World, among-filter, among-from_filter, any_pair, common_steps, filter_alike, filter_here, filter_skip, is_root_mount, length-map, list_any, mounts_of, nat_eq_false_turned, none_among, or_parts, pair-filter, pivoted}
+use Rattle.vt_spec.proofs.Common.{Among, Location, Mount, MountInvariants, World, among-filter, among-from_filter, common_steps, filter_alike, filter_here, filter_skip, is_root_mount, length-map, list_any, mounts_of, nat_eq_false_turned, none_among, or_parts, pair-filter, pivoted}
 use Rattle.vt_laws_mounts.specs.Mounts.Attaching.{OneNumberAMount}
 use Rattle.vt_laws_mounts.specs.Mounts.Namespaces.{CanPivot, PivotKeepsCounts}
 use Rattle.vt_laws_mounts.proofs.mounts.MountsCounted.{as_many_mounts, filter-map}
@@ -17,17 +17,12 @@ one_more : (p : Mount ℕ → Bool) (xs : List (Mount ℕ)) → OneNumberAMount 
     → length (filter p xs) ≡ suc (length (filter (besides p a) xs))
 one_more p [] one a m e = absurd m
 one_more p (y ∷ ys) one a m e =
-    let parts : (list_any (same_number y) ys ≡ false) × OneNumberAMount ys =
-    or_parts (list_any (same_number y) ys) (any_pair same_number ys) one in
-    ⊎_elim (λ same.
-    ap length (filter_here p y ys (ap p (sym same) ∙ e)) ∙ ap (λ l. suc (length l))
-    (filter_alike p (besides p a) ys (λ x k.
-    sym (and_true (p x) (nat_eq a.number x.number)
-    (ap (λ (z : Mount ℕ). nat_eq z.number x.number) same ∙ none_among (same_number y) ys parts.0 x k))))
-    ∙ ap (λ l. suc (length l)) (sym (filter_skip (besides p a) y ys (and_false (p y) (nat_eq a.number y.number)
-    (eq-eqb a.number y.number (ap (λ (z : Mount ℕ). z.number) same)))))) (λ later.
-    by (p y) refl (nat_eq_false_turned y.number a.number (none_among (same_number y) ys parts.0 a later))
-    (one_more p ys parts.1 a later e)) m
+    let parts : (list_any (same_number y) ys ≡ false) × OneNumberAMount ys = or_parts _ _ one in
+    ⊎_elim (λ same. ap length (filter_here p y ys (ap p (sym same) ∙ e)) ∙ ap (λ l. suc (length l))
+    (filter_alike p _ ys (λ x k. sym (and_true _ _ (ap (λ (z : Mount ℕ). nat_eq z.number x.number) same ∙ none_among _
+    ys parts.0 x k)))) ∙ ap (λ l. suc (length l)) (sym (filter_skip _ y ys
+    (and_false _ _ (eq-eqb a.number y.number (ap (λ (z : Mount ℕ). z.number) same))))))
+    (λ later. by _ refl (nat_eq_false_turned _ _ (none_among _ ys parts.0 a later)) (one_more p ys parts.1 a later e)) m
   where
     and_true : (b c : Bool) → c ≡ false → (b && not c) ≡ b
     and_true true c f = ap not f
@@ -110,25 +105,21 @@ module _ (world : World ℕ) (namespace : ℕ) (root new : Mount ℕ) (put : Loc
 
   roots_of : (other : ℕ) → length (filter later (mounts_of nat_eq world other))
       ≡ length (filter before (mounts_of nat_eq world other))
-  roots_of other = by (before root) refl (nat_eq other namespace) refl
+  roots_of other = by _ refl _ refl
     where
       here : (mount : Mount ℕ) → Among mount (mounts_of nat_eq world other)
           → Among mount world.mounts × (is_in other mount ≡ true)
-      here mount m = among-from_filter (is_in other) world.mounts mount m
+      here mount m = among-from_filter _ _ mount m
 
       by : (b : Bool) → before root ≡ b → (c : Bool) → nat_eq other namespace ≡ c
           → length (filter later (mounts_of nat_eq world other)) ≡ length (filter before (mounts_of nat_eq world other))
-      by false e c f = ap length (filter_alike later before (mounts_of nat_eq world other) (λ mount m.
-          alike e mount (here mount m).0))
-      by true e false f = ap length (filter_alike later before (mounts_of nat_eq world other) (λ mount m.
+      by false e c f = ap length (filter_alike later before _ (λ mount m. alike e mount (here mount m).0))
+      by true e false f = ap length (filter_alike later before _ (λ mount m.
           elsewhere other f mount (here mount m).0 (here mount m).1))
-      by true e true f = as_many_pass later before (mounts_of nat_eq world other)
-          (pair-filter same_number (is_in other) world.mounts mounts.one_number) new root
-          (among-filter (is_in other) world.mounts new (new_among may mounts)
-          (cc (may.new_inside)))
-          (among-filter (is_in other) world.mounts root (root_among may mounts)
-          (cc (may.root_inside)))
-          (new_later ∙ e) e (λ mount m. besides_alike mount (here mount m).0)
+      by true e true f = as_many_pass later before _ (pair-filter same_number (is_in other) world.mounts
+          mounts.one_number) new root (among-filter _ _ new (new_among may mounts) (cc (may.new_inside)))
+          (among-filter _ _ root (root_among may mounts) (cc (may.root_inside))) (new_later ∙ e) e
+          (λ mount m. besides_alike mount (here mount m).0)
 
 pub pivot_keeps_counts : PivotKeepsCounts
 pivot_keeps_counts world namespace root new put may mounts other =

@@ -23,7 +23,7 @@ module _ (world : World ℕ) (mounts : MountInvariants nat_eq world) where
 
   free_after : (n : ℕ) (here : Location ℕ) → length world.mounts ≤ n + level here.mount
       → child_at nat_eq world.mounts (last_or here (chain n over here)) ≡ None
-  free_after zero here far = by (child_at nat_eq world.mounts here) refl
+  free_after zero here far = by _ refl
     where
       by : (found : Option (Mount ℕ)) → child_at nat_eq world.mounts here ≡ found
           → child_at nat_eq world.mounts here ≡ None
@@ -32,7 +32,7 @@ module _ (world : World ℕ) (mounts : MountInvariants nat_eq world) where
           let one = higher here child e in
           let bound = rank_bounded world mounts.one_number mounts.standing child.number in
           absurd (omega (arith, far, one, bound))
-  free_after (suc n) here far = by (child_at nat_eq world.mounts here) refl (free_after n)
+  free_after (suc n) here far = by _ refl (free_after n)
     where
       by : (found : Option (Mount ℕ)) → child_at nat_eq world.mounts here ≡ found
           → ((next : Location ℕ) → length world.mounts ≤ n + level next.mount
@@ -42,9 +42,8 @@ module _ (world : World ℕ) (mounts : MountInvariants nat_eq world) where
           cc (chain_ends over n here (ap (option_map root_of) e), e)
       by (Some child) e later =
           let one = higher here child e in
-          ap (child_at nat_eq world.mounts)
-          (ap (last_or here) (chain_goes_on over n here (root_of child) (ap (option_map root_of) e))
-          ∙ last_of_chain over n (root_of child) here) ∙ later (root_of child) (omega (arith, far, one))
+          ap (child_at nat_eq world.mounts) (ap (last_or here) (chain_goes_on over n here _ (ap (option_map root_of) e))
+          ∙ last_of_chain over n _ here) ∙ later (root_of child) (omega (arith, far, one))
 
 pub topmost_is_free : TopmostIsFree
-topmost_is_free world place mounts = free_after world mounts (length world.mounts) place (omega arith)
+topmost_is_free world place mounts = free_after world mounts _ place (omega arith)

@@ -1,6 +1,6 @@
 -- An unshare: the copies of a namespace's mounts stand on copies.
 use Rattle.std.proofs.Common.{arith, ◌≡◌, refl, sym, ap, subst, ◌∙◌, false, nat_eq, ℕ, List, None, Some, eq-eqb, is_some, map, not, option_map, true≢false, ⊎_elim, ◌&&◌, ◌||◌, ◌+◌, ◌*◌, true}
-use Rattle.vt_spec.proofs.Common.{Among, Fresh, Location, Mount, MountInvariants, Serves, Stands, Task, World, all_from_among, among-append, among-append_left, among-append_right, among-filter, among-from_filter, among-from_map, among-map, among_from_all, among_from_list_all, any_pair, at_root, common_steps, copied_mount, evens, false_from_ne_true, found_or_none, holds_of, index_of, is_nowhere_or_attached, is_private, location_on_copy, mount_numbered, mounts_of, number-mount_in, numbers_by, odds, odds-distinct, on_parent, pair-filter, pair-map, same_Some, served-distinct, share_a_mount_point, unshared}
+use Rattle.vt_spec.proofs.Common.{Among, Fresh, Location, Mount, MountInvariants, Serves, Stands, Task, World, all_from_among, among-append, among-append_left, among-append_right, among-filter, among-from_filter, among-from_map, among-map, among_from_all, among_from_list_all, any_pair, at_root, common_steps, copied_mount, evens, false_from_ne_true, found_or_none, holds_of, index_of, is_private, location_on_copy, mount_numbered, mounts_of, number-mount_in, numbers_by, odds, odds-distinct, on_parent, pair-filter, pair-map, same_Some, served-distinct, share_a_mount_point, unshared}
 use Rattle.vt_laws_mounts.specs.Mounts.Namespaces.{UnshareKeepsMounts}
 use Rattle.vt_laws_mounts.proofs.GroupsLiving.{all_live, tested_live}
 use Rattle.vt_laws_mounts.proofs.GroupsKept.{unshare_keeps_groups}
@@ -19,7 +19,7 @@ pub record Parent (world : World ℕ) (mount : Mount ℕ) (place : Location ℕ)
 
 module _ (world : World ℕ) (mounts : MountInvariants nat_eq world) where
   pub itself : (mount : Mount ℕ) → Among mount world.mounts → mount_numbered nat_eq world mount.number ≡ mount
-  itself mount m = found_itself world.mounts mounts.one_number mount m
+  itself mount m = found_itself _ mounts.one_number mount m
 
   pub stands_itself : (mount : Mount ℕ) → Among mount world.mounts → Stands nat_eq world mount.number
   stands_itself mount m =
@@ -28,10 +28,9 @@ module _ (world : World ℕ) (mounts : MountInvariants nat_eq world) where
   -- a mount outside every namespace has no place
   pub placed_inside : (mount : Mount ℕ) → Among mount world.mounts → (place : Location ℕ)
       → mount.mount_point ≡ Some place → mount.namespace ≡ None → ⊥
-  placed_inside mount m place e none = true≢false
-      (sym (among_from_list_all is_nowhere_or_attached world.mounts mounts.nowhere mount m)
-      ∙ ap (λ n. is_some n || (not (is_some mount.mount_point) && is_private mount.propagation)) none
-      ∙ ap (λ q. not (is_some q) && is_private mount.propagation) e)
+  placed_inside mount m place e none = true≢false (sym (among_from_list_all _ _ mounts.nowhere mount m) ∙ ap
+      (λ n. is_some n || (not (is_some mount.mount_point) && is_private mount.propagation)) none ∙ ap
+      (λ q. not (is_some q) && is_private mount.propagation) e)
 
   pub parent_of : (mount : Mount ℕ) → Among mount world.mounts → (place : Location ℕ) → mount.mount_point ≡ Some place
       → Parent world mount place
@@ -49,17 +48,16 @@ module _ (world : World ℕ) (mounts : MountInvariants nat_eq world) where
           ⊎_elim (λ there. record {
             parent = mount_numbered nat_eq world place.mount;
             there = there;
-            number = number-mount_in world.mounts place.mount;
+            number = number-mount_in _ _;
             namespace = inside;
-          }) (λ none. absurd (placed_inside mount m place e (inside ∙ ap (λ x. x.namespace) none)))
-          (found_or_none world.mounts place.mount)
+          }) (λ none. absurd (placed_inside mount m place e (inside ∙ ap (λ x. x.namespace) none))) (found_or_none _ _)
 
   -- and that is a mount of the world
   pub stands_on_mount : (mount : Mount ℕ) → Among mount world.mounts → (place : Location ℕ)
       → mount.mount_point ≡ Some place → is_mount world place.mount ≡ true
   stands_on_mount mount m place e =
       let parent = parent_of mount m place e in
-      subst (λ n. is_mount world n ≡ true) parent.number (is_one_of world.mounts parent.parent parent.there)
+      subst (λ n. is_mount world n ≡ true) parent.number (is_one_of _ _ parent.there)
 
 module _ (world : World ℕ) (fresh : Fresh ℕ) (task : Task ℕ) (serves : Serves nat_eq world fresh)
     (mounts : MountInvariants nat_eq world) where
@@ -79,8 +77,7 @@ module _ (world : World ℕ) (fresh : Fresh ℕ) (task : Task ℕ) (serves : Ser
   one_after = unshare_keeps_numbers world fresh task serves mounts.one_number
 
   is_copied_from : (mount : Mount ℕ) → Among mount copied → Among mount world.mounts
-  is_copied_from mount m =
-      (among-from_filter (λ (x : Mount ℕ). holds_of (nat_eq task.namespace) x.namespace) world.mounts mount m).0
+  is_copied_from mount m = (among-from_filter _ _ mount m).0
 
   -- the parent of what is copied is copied
   copied_parent : (mount : Mount ℕ) → Among mount copied → (place : Location ℕ) → mount.mount_point ≡ Some place
@@ -91,12 +88,10 @@ module _ (world : World ℕ) (fresh : Fresh ℕ) (task : Task ℕ) (serves : Ser
 
   -- a mount that was there is found as it was, and each copy by its own number
   pub old_found : (mount : Mount ℕ) → Among mount world.mounts → mount_numbered nat_eq after mount.number ≡ mount
-  old_found mount m =
-      found_itself after.mounts one_after mount (among-append_left world.mounts (map copy copied) mount m)
+  old_found mount m = found_itself _ one_after mount (among-append_left _ _ mount m)
 
   pub copy_found : (mount : Mount ℕ) → Among mount copied → mount_numbered nat_eq after (copy mount).number ≡ copy mount
-  copy_found mount m = found_itself after.mounts one_after (copy mount)
-      (among-append_right world.mounts (map copy copied) (copy mount) (among-map copy copied mount m))
+  copy_found mount m = found_itself _ one_after _ (among-append_right _ _ _ (among-map copy copied mount m))
 
   old_stands : (number : ℕ) → Stands nat_eq world number → (mount : Mount ℕ) → Among mount world.mounts
       → mount.number ≡ number → Stands nat_eq after number
@@ -112,10 +107,9 @@ module _ (world : World ℕ) (fresh : Fresh ℕ) (task : Task ℕ) (serves : Ser
       let at : mount.mount_point ≡ Some place = ap (λ x. x.mount_point) (sym back) ∙ e in
       let parent = parent_of world mounts mount m place at in
       let below : mount_numbered nat_eq after place.mount ≡ parent.parent =
-      ap (mount_numbered nat_eq after) (sym parent.number) ∙ old_found parent.parent parent.there in
-      on_parent it place (ap (λ x. x.mount_point) found ∙ at)
-      (ap (λ x. x.namespace) found ∙ parent.namespace ∙ ap (λ x. x.namespace) (sym below))
-      (old_stands place.mount stands parent.parent parent.there parent.number)
+      ap (mount_numbered nat_eq after) (sym parent.number) ∙ old_found _ parent.there in
+      on_parent it place (ap (λ x. x.mount_point) found ∙ at) (ap (λ x. x.namespace) found ∙ parent.namespace ∙ ap
+      (λ x. x.namespace) (sym below)) (old_stands _ stands _ parent.there parent.number)
 
   copy_stands : (number : ℕ) → Stands nat_eq world number → (mount : Mount ℕ) → Among mount copied
       → mount.number ≡ number → Stands nat_eq after (copy mount).number
@@ -130,19 +124,17 @@ module _ (world : World ℕ) (fresh : Fresh ℕ) (task : Task ℕ) (serves : Ser
       let parent = copied_parent mount m place at in
       let number_is : (copy parent.0).number ≡ new_number place.mount = ap new_number parent.2 in
       let below : mount_numbered nat_eq after (new_number place.mount) ≡ copy parent.0 =
-      ap (mount_numbered nat_eq after) (sym number_is) ∙ copy_found parent.0 parent.1 in
-      on_parent (copy mount).number (location_on_copy new_number place)
-      (ap (λ x. x.mount_point) (copy_found mount m) ∙ ap (option_map (location_on_copy new_number)) at)
-      (ap (λ x. x.namespace) (copy_found mount m) ∙ ap (λ x. x.namespace) (sym below))
-      (subst (Stands nat_eq after) number_is (copy_stands place.mount stands parent.0 parent.1 parent.2))
+      ap (mount_numbered nat_eq after) (sym number_is) ∙ copy_found _ parent.1 in
+      on_parent (copy mount).number (location_on_copy new_number place) (ap (λ x. x.mount_point) (copy_found mount m)
+      ∙ ap (option_map (location_on_copy new_number)) at) (ap (λ x. x.namespace) (copy_found mount m) ∙ ap
+      (λ x. x.namespace) (sym below)) (subst (Stands nat_eq after) number_is (copy_stands _ stands _ parent.1 parent.2))
 
   all_stand_after : (mount : Mount ℕ) → Among mount after.mounts → Stands nat_eq after mount.number
-  all_stand_after mount m = ⊎_elim
-      (λ old. old_stands mount.number (stands_itself world mounts mount old) mount old refl) (λ new.
+  all_stand_after mount m = ⊎_elim (λ old. old_stands _ (stands_itself world mounts mount old) mount old refl) (λ new.
       let from = among-from_map copy copied mount new in
       subst (λ (x : Mount ℕ). Stands nat_eq after x.number) (sym from.2)
-      (copy_stands from.0.number (stands_itself world mounts from.0 (is_copied_from from.0 from.1)) from.0 from.1 refl))
-      (among-append world.mounts (map copy copied) mount m)
+      (copy_stands _ (stands_itself world mounts from.0 (is_copied_from from.0 from.1)) from.0 from.1 refl))
+      (among-append _ _ mount m)
 
   -- the place of a copy
   copy_mount_point : (mount : Mount ℕ) (place : Location ℕ) → (copy mount).mount_point ≡ Some place

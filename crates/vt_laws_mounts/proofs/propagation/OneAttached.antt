@@ -1,7 +1,7 @@
 -- The attachment of one mount: its copies, one on each part.
-use Rattle.std.proofs.Common.{◌≡◌, sym, ap, subst, ◌∙◌, true, false, nat_eq, ℕ, List, [], ⊎_elim, ◌++◌, ◌∷◌}
+use Rattle.std.proofs.Common.{◌≡◌, sym, ap, subst, ◌∙◌, true, false, nat_eq, ℕ, List, [], ⊎_elim, ◌∷◌}
 use Rattle.vt_spec.proofs.Common.{Among, Fresh, Location, Mount, Shared, World, among-append_left, among-from_filter, among_from_contains, among_numbers, group_of, is_among, is_among_numbers, mount_at, parts_of, receivers_of, receives, same_Some, source_of, takes_part}
-use Rattle.vt_laws_mounts.specs.Mounts.Attaching.{is_mount, numbers_of}
+use Rattle.vt_laws_mounts.specs.Mounts.Attaching.{is_mount}
 use Rattle.vt_laws_mounts.specs.Mounts.Propagation.{Attachment, IsPart, world_after}
 use Rattle.vt_laws_mounts.proofs.attached.Attaching.{taker_there}
 use Rattle.vt_laws_mounts.proofs.mounts.MountsAttached.{new_mounts_follow}
@@ -31,13 +31,11 @@ module _ (world : World ℕ) (fresh : Fresh ℕ) (place : Location ℕ) (first :
   pub later_number : (one : ℕ) → is_mount world one ≡ true → is_mount after one ≡ true
   later_number one old =
       let t = new_mounts_follow world fresh place false (first ∷ []) in
-      ap (is_among nat_eq one) t.1 ∙ is_among_numbers (numbers_of world.mounts ++ t.0) one
-      (among-append_left (numbers_of world.mounts) t.0 one (among_numbers (numbers_of world.mounts) one old))
+      ap (is_among nat_eq one) t.1 ∙ is_among_numbers _ one (among-append_left _ t.0 one (among_numbers _ one old))
 
   -- parts were there, and hear the group of the destination
   pub part_old : (part : Mount ℕ) → IsPart it part → Among part world.mounts
-  part_old part c = ⊎_elim
-      (λ same. subst (λ x. Among x world.mounts) (sym same) (found_there world.mounts place.mount there))
+  part_old part c = ⊎_elim (λ same. subst (λ x. Among x world.mounts) (sym same) (found_there _ _ there))
       (λ rest. taker_there world place part rest) (among_from_contains parts part c)
 
   pub hears_group : (part : Mount ℕ) → IsPart it part → (group : ℕ) → destination.propagation ≡ Shared group

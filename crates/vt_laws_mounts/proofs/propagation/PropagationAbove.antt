@@ -11,7 +11,7 @@ use Rattle.vt_laws_mounts.proofs.propagation.PropagationUp.{finds_some}
 longer : (next : ℕ → Option ℕ) (n a d : ℕ) → is_among nat_eq d (chain n next a) ≡ true
     → is_among nat_eq d (chain (suc n) next a) ≡ true
 longer next zero a d h = grind (arith, common_steps, chain_ends, chain_goes_on, true≢false)
-longer next (suc n) a d h = by (next a) refl (λ b. longer next n b d)
+longer next (suc n) a d h = by _ refl (λ b. longer next n b d)
   where
     by : (o : Option ℕ) → next a ≡ o
         → ((b : ℕ) → is_among nat_eq d (chain n next b) ≡ true → is_among nat_eq d (chain (suc n) next b) ≡ true)
@@ -62,8 +62,7 @@ pub lower_groups_have_a_group_above : LowerGroupsHaveAGroupAbove
 lower_groups_have_a_group_above it one own is shared lacks =
     let heard = hears it one is (λ same. true≢false (sym (shared_member own one shared)
     ∙ ap (is_member_of nat_eq own) same ∙ lacks)) in
-    let above = above_in it.world.master (Rattle.std.proofs.Common.length it.world.mounts) own heard.0
-    (sym (ap (λ k. holds_of (λ source. is_among nat_eq heard.0 (groups_up it.world source)) (source_of k)) shared)
-    ∙ heard.2) (ne_eqb heard.0 own (λ same. true≢false (sym (eq-eqb own heard.0 (sym same))
-    ∙ sym (ap (holds_of (nat_eq own)) heard.1) ∙ lacks))) in
-    (above.0, above.1, nearest_is it heard.0 above.0 heard.1 above.2)
+    let above = above_in _ _ own _ (sym (ap (λ k. holds_of (λ source. is_among nat_eq heard.0
+    (groups_up it.world source)) (source_of k)) shared) ∙ heard.2) (ne_eqb heard.0 own
+    (λ same. true≢false (sym (eq-eqb own heard.0 (sym same)) ∙ sym (ap (holds_of (nat_eq own)) heard.1) ∙ lacks))) in
+    (above.0, above.1, nearest_is it _ _ heard.1 above.2)

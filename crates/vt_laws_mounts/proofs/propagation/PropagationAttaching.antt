@@ -26,11 +26,10 @@ module _ (it : Attachment) (can : CanAttach it) where
   part_among part c = among_from_contains (parts_of nat_eq it.world it.mount_point) part c
 
   pub tree_among : (origin : Mount ℕ) → IsOfTree it origin → Among origin it.mounts
-  tree_among origin c = among_from_contains it.mounts origin c
+  tree_among origin c = among_from_contains _ origin c
 
   pub moving_there : it.moves ≡ true → (origin : Mount ℕ) → Among origin it.mounts → Among origin it.world.mounts
-  moving_there e origin m =
-      among_from_contains it.world.mounts origin (can.moving e origin (contains_from_among it.mounts origin m))
+  moving_there e origin m = among_from_contains _ origin (can.moving e origin (contains_from_among _ origin m))
 
   abbrev pub arrived_at : Mount ℕ → Mount ℕ → Mount ℕ
   arrived_at = arrived it.world supply it.mount_point it.moves it.mounts
@@ -46,9 +45,8 @@ module _ (it : Attachment) (can : CanAttach it) where
 
   pub is_copy : (part origin : Mount ℕ) → IsPart it part → IsOfTree it origin
       → copy_of it part origin ≡ arrived_at part origin
-  is_copy part origin c d =
-      found_copy it.world supply it.mount_point it.moves it.mounts serve_copies can.each_once can.one_number
-      moving_there part origin (part_among part c) (tree_among origin d)
+  is_copy part origin c d = found_copy _ supply _ _ _ serve_copies can.each_once can.one_number moving_there part origin
+      (part_among part c) (tree_among origin d)
 
   pub copy_keeps : (part origin : Mount ℕ) → IsPart it part → IsOfTree it origin
       → KeepsAllButMountPoint (made_at part origin) (copy_of it part origin)
@@ -65,11 +63,9 @@ module _ (it : Attachment) (can : CanAttach it) where
 
   there : (part origin : Mount ℕ) → IsPart it part → IsOfTree it origin
       → Contains (world_after it).mounts (copy_of it part origin)
-  there part origin c d = contains_from_among (world_after it).mounts (copy_of it part origin) (⊎_elim (λ m. m)
-      (λ none. absurd (true≢false (sym (placed part origin)
-      ∙ ap (λ (x : Mount ℕ). is_some x.mount_point) (sym (is_copy part origin c d))
-      ∙ ap (λ (x : Mount ℕ). is_some x.mount_point) none)))
-      (found_or_none (world_after it).mounts (number_at it part origin)))
+  there part origin c d = contains_from_among _ _ (⊎_elim (λ m. m) (λ none. absurd
+      (true≢false (sym (placed part origin) ∙ ap (λ (x : Mount ℕ). is_some x.mount_point)
+      (sym (is_copy part origin c d)) ∙ ap (λ (x : Mount ℕ). is_some x.mount_point) none))) (found_or_none _ _))
 
   number_new : (part origin : Mount ℕ) → IsPart it part → IsOfTree it origin
       → is_mount it.world (supply.copy part.number origin.number) ≡ false
@@ -179,7 +175,7 @@ type_on_not_shared it origin can d e =
 
 pub shared_on_shared : SharedOnShared
 shared_on_shared it origin group can d e f =
-    let own = shared_group (destination_of it).propagation e in
+    let own = shared_group _ e in
     cc (kind_on_shared it can origin d own.0 own.1, f)
 
 pub private_on_shared : PrivateOnShared

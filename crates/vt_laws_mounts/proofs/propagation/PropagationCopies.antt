@@ -1,5 +1,5 @@
 -- The copy of a mount at a part, as it is found after a tree was attached.
-use Rattle.std.proofs.Common.{arith, ◌≡◌, refl, sym, ap, subst, ◌∙◌, true, false, nat_eq, ℕ, Bool, List, Some, [], eq-eqb, eqb-true, flat_map, map, ⊎_elim, ◌&&◌, ◌++◌, ◌∷◌, if◌then◌else◌}
+use Rattle.std.proofs.Common.{arith, ◌≡◌, refl, sym, ap, subst, ◌∙◌, true, false, nat_eq, ℕ, Bool, List, Some, eq-eqb, eqb-true, flat_map, map, ⊎_elim, ◌&&◌, ◌++◌, ◌∷◌, if◌then◌else◌}
 use Rattle.vt_spec.proofs.Common.{Among, Copies, Graft, Location, Mount, Twig, World, among-append_left, among-append_right, among-flat_map, among-from_filter, among-map, attached_by, common_steps, copies_at, copy_at, graft_of, group_of, is_among, list_any, mount_at, mount_in, mount_numbered, nat_eq_false_turned, none_from_among, number-mount_in, pair-map, parts_of, pushed_up, receivers_of, rest_of, takes_part, twig_of}
 use Rattle.vt_laws_mounts.specs.Mounts.Attaching.{KeepsAllButMountPoint, OneNumberAMount, numbers_of}
 use Rattle.vt_laws_mounts.specs.Mounts.Copies.{ServeAsCopies}
@@ -44,8 +44,7 @@ module _ (world : World ℕ) (new : Copies ℕ) (place : Location ℕ) (moves : 
   arrived part origin = if stays part then push (made part origin) else made part origin
 
   copy_among : (part origin : Mount ℕ) → Among origin mounts → Among (made part origin) (copies part)
-  copy_among part origin m =
-      among-map (copy_at nat_eq world new tree parts part) tree.twigs (twig origin) (among-map twig mounts origin m)
+  copy_among part origin m = among-map _ _ _ (among-map twig mounts origin m)
 
   -- a receiver that takes part is elsewhere
   pub not_there : (part : Mount ℕ) → Among part (rest_of parts) → nat_eq part.number place.mount ≡ false
@@ -54,7 +53,7 @@ module _ (world : World ℕ) (new : Copies ℕ) (place : Location ℕ) (moves : 
       m).1)
 
   pub destination_there : nat_eq (mount_at nat_eq world place).number place.mount ≡ true
-  destination_there = eq-eqb (mount_at nat_eq world place).number place.mount (number-mount_in world.mounts place.mount)
+  destination_there = eq-eqb (mount_at nat_eq world place).number place.mount (number-mount_in _ _)
 
   pub arrived_keeps : (part origin : Mount ℕ) → KeepsAllButMountPoint (made part origin) (arrived part origin)
   arrived_keeps part origin = grind (arith, common_steps, push_keeps, same_mount)
@@ -74,16 +73,16 @@ module _ (world : World ℕ) (new : Copies ℕ) (place : Location ℕ) (moves : 
   pub not_pushed : (part origin : Mount ℕ)
       → (stays part && list_any (is_pushed_by world new tree parts (made part origin)) (rest_of parts)) ≡ false
       → arrived part origin ≡ made part origin
-  not_pushed part origin h = by (stays part) h
+  not_pushed part origin h = by _ h
     where
       by : (b : Bool) → (b && list_any (is_pushed_by world new tree parts (made part origin)) (rest_of parts)) ≡ false
           → (if b then push (made part origin) else made part origin) ≡ made part origin
-      by true h = none_pushes world new tree parts (made part origin) h
+      by true h = none_pushes world new tree parts _ h
       by false h = refl
 
   pub first_not_pushed : (part first : Mount ℕ) (rest : List (Mount ℕ)) → mounts ≡ first ∷ rest
       → arrived part first ≡ made part first
-  first_not_pushed part first rest e = not_pushed part first (by (nat_eq part.number place.mount) refl)
+  first_not_pushed part first rest e = not_pushed part first (by _ refl)
     where
       none : nat_eq part.number place.mount ≡ true
           → list_any (is_pushed_by world new tree parts (made part first)) (rest_of parts) ≡ false
@@ -135,8 +134,7 @@ module _ (world : World ℕ) (new : Copies ℕ) (place : Location ℕ) (mounts :
   found_copied : (part origin : Mount ℕ) → Among part (parts world new place false mounts) → Among origin mounts
       → mount_numbered nat_eq (attached_by nat_eq world new place false mounts)
       (number world new place false mounts part origin) ≡ arrived world new place false mounts part origin
-  found_copied part origin m n =
-      found_itself later one_after (made world new place false mounts part origin) (copied_there part origin m n)
+  found_copied part origin m n = found_itself later one_after _ (copied_there part origin m n)
 
 -- Where mounts of the world move
 module _ (world : World ℕ) (new : Copies ℕ) (place : Location ℕ) (mounts : List (Mount ℕ))
@@ -155,12 +153,11 @@ module _ (world : World ℕ) (new : Copies ℕ) (place : Location ℕ) (mounts :
   put = copy_at nat_eq world new (tree world new place true mounts) (parts world new place true mounts) destination
 
   put_number : (it : Twig ℕ) → (put it).number ≡ it.origin.number
-  put_number it = keeps_number world new place mounts it.origin.number
+  put_number it = keeps_number world new place mounts _
 
   put_apart : OneNumberAMount (arriving world new place true mounts)
-  put_apart = pair-map same_origin same_number put (tree world new place true mounts).twigs (λ a b m n differ.
-      cc (put_number b, put_number a, differ))
-      (pair-map same_number same_origin (twig world new place true mounts) mounts (λ a b m n differ. differ) own)
+  put_apart = pair-map same_origin same_number put (tree world new place true mounts).twigs
+      (λ a b m n differ. cc (put_number b, put_number a, differ)) (pair-map _ _ _ mounts (λ a b m n differ. differ) own)
 
   moved_found : (origin : Mount ℕ) → Among origin mounts → mount_numbered nat_eq at_last origin.number
       ≡ push world new place true mounts (moved destination origin)
@@ -185,12 +182,9 @@ module _ (world : World ℕ) (new : Copies ℕ) (place : Location ℕ) (mounts :
       (destination_there world new place true mounts)))) (λ rest.
       let away = not_there world new place true mounts part rest in
       let same : (moved part origin).number ≡ number world new place true mounts part origin = refl in
-      ap (mount_numbered nat_eq at_last) (sym same) ∙ found_itself at_last.mounts one_after (moved part origin)
-      (among-append_right (map (push world new place true mounts) (moved_ones world new place true mounts) ++ [])
-      (flat_map (copies world new place true mounts) (rest_of (parts world new place true mounts))) (moved part origin)
-      (among-flat_map (copies world new place true mounts) (rest_of (parts world new place true mounts)) part
-      (moved part origin) rest (copy_among world new place true mounts part origin n))) ∙ sym (ap
-      (λ b. if b then push world new place true mounts (moved part origin) else moved part origin) away)) m
+      ap (mount_numbered nat_eq at_last) (sym same) ∙ found_itself _ one_after _
+      (among-append_right _ _ _ (among-flat_map _ _ part _ rest (copy_among world new place true mounts part origin n)))
+      ∙ sym (ap (λ b. if b then push world new place true mounts (moved part origin) else moved part origin) away)) m
 
 -- Either way
 pub found_copy : (world : World ℕ) (new : Copies ℕ) (place : Location ℕ) (moves : Bool) (mounts : List (Mount ℕ))

@@ -1,6 +1,6 @@
 -- What the copies of a tree that is attached hear of.
 use Rattle.std.proofs.Common.{arith, ◌≡◌, refl, ap, subst, ◌∙◌, true, false, nat_eq, ℕ, Bool, List, None, Option, Some, [], option_map, true≢false, unwrap_or, ⊎_elim}
-use Rattle.vt_spec.proofs.Common.{Among, Copies, Location, Mount, Shared, World, among-from_filter, among_from_contains, any_from_among, attached_by, common_steps, contains_from_among, group_of, groups_up, holds_of, is_among, is_member_of, parts_of, receivers, receivers_of, receives, same_truth, source_of, takes_part}
+use Rattle.vt_spec.proofs.Common.{Among, Copies, Location, Mount, Shared, World, among-from_filter, among_from_contains, any_from_among, attached_by, common_steps, contains_from_among, group_of, groups_up, holds_of, is_among, is_member_of, parts_of, receivers, receives, same_truth, source_of}
 use Rattle.vt_laws_mounts.specs.Mounts.Attaching.{OneNumberAMount}
 use Rattle.vt_laws_mounts.specs.Mounts.Copies.{ServeAsImages}
 use Rattle.vt_laws_mounts.specs.Mounts.Propagation.{Attachment, CanAttach, CopiesHearAsTheirOrigins, CopiesHearOneAnother, IsOfTree, IsPart, copy_of, destination_of, world_after}
@@ -9,7 +9,7 @@ use Rattle.vt_laws_mounts.proofs.attached.AttachedGroups.{groups_live_after}
 use Rattle.vt_laws_mounts.proofs.attached.AttachedTypes.{copies_arrive, copies_there, members_move, members_stay, old_or_copies}
 use Rattle.vt_laws_mounts.proofs.GroupsKept.{shared_member}
 use Rattle.vt_laws_mounts.proofs.GroupsUp.{LivesIn, lives_in}
-use Rattle.vt_laws_mounts.proofs.propagation.PropagationAttaching.{copy_kind, copy_shared, each_is_copied, image_group, kind_at_destination, moving_there, part_among, serve_images, supply, tree_among}
+use Rattle.vt_laws_mounts.proofs.propagation.PropagationAttaching.{copy_kind, copy_shared, each_is_copied, image_group, kind_at_destination, moving_there, part_among, serve_images, tree_among}
 use Rattle.vt_laws_mounts.proofs.propagation.PropagationHearing.{hears_images, hears_old, old_up, old_up_after}
 use Rattle.vt_laws_mounts.proofs.propagation.PropagationUp.{heard, hears, up_among}
 
@@ -37,21 +37,18 @@ module _ (it : Attachment) (can : CanAttach it) where
 
   pub groups_after : GroupsLive (world_after it)
   groups_after =
-      keeps_groups it.world (supply it can) it.mount_point it.moves it.mounts (serve_images it can) can.each_once
-      can.one_number can.groups sourced (moving_there it can)
+      keeps_groups _ _ _ _ _ (serve_images it can) can.each_once can.one_number can.groups sourced (moving_there it can)
 
   copy_among : (part origin : Mount ℕ) → IsPart it part → IsOfTree it origin
       → Among (copy_of it part origin) (world_after it).mounts
-  copy_among part origin c d =
-      among_from_contains (world_after it).mounts (copy_of it part origin) (each_is_copied it part origin can c d).there
+  copy_among part origin c d = among_from_contains _ _ (each_is_copied it part origin can c d).there
 
   -- where the destination is in no group, it is all that takes part
   pub only_part : group_of (destination_of it).propagation ≡ None → (part : Mount ℕ) → IsPart it part
       → part ≡ destination_of it
-  only_part e part c = ⊎_elim (λ same. same) (λ rest. absurd
-      (subst (λ o. Among part (unwrap_or (option_map (receivers nat_eq it.world) o) [])) e
-      (among-from_filter (takes_part nat_eq it.world it.mount_point)
-      (receivers_of nat_eq it.world (destination_of it)) part rest).0)) (part_among it can part c)
+  only_part e part c = ⊎_elim (λ same. same) (λ rest. absurd (subst
+      (λ o. Among part (unwrap_or (option_map (receivers nat_eq it.world) o) [])) e
+      (among-from_filter _ _ part rest).0)) (part_among it can part c)
 
   in_a_group : (part : Mount ℕ) (group : ℕ) → IsPart it part → part.propagation ≡ Shared group
       → (own : ℕ) × (group_of (destination_of it).propagation ≡ Some own)

@@ -1,5 +1,5 @@
 -- Copies at a shared destination and its receivers hear one another as the parts do.
-use Rattle.std.proofs.Common.{arith, ◌≡◌, refl, sym, ap, subst, ◌∙◌, true, false, nat_eq, ℕ, Bool, List, None, Option, Some, inl, inr, is_some, length, true≢false, unwrap_or, ⊎_elim, ◌⊎◌}
+use Rattle.std.proofs.Common.{arith, ◌≡◌, refl, sym, ap, subst, ◌∙◌, true, false, nat_eq, ℕ, Bool, List, None, Option, Some, inl, inr, is_some, true≢false, unwrap_or, ⊎_elim, ◌⊎◌}
 use Rattle.vt_spec.proofs.Common.{Among, Copies, Location, Mount, Private, Propagation, Shared, Slave, Unbindable, World, among-from_filter, any_among, any_from_among, attached_by, common_steps, found_or_none, group_of, groups_up, has_master, has_members, has_no_master, holds_of, is_among, is_member_of, mount_at, parts_of, receives, same_Some, same_truth, source_of, type_on_shared}
 use Rattle.vt_laws_mounts.specs.Mounts.Attaching.{OneNumberAMount}
 use Rattle.vt_laws_mounts.specs.Mounts.Copies.{ServeAsImages}
@@ -28,17 +28,14 @@ module _ {world : World ℕ} {new : Copies ℕ} (place : Location ℕ) (moves : 
   pub old_up : (source other : ℕ) → LivesIn world source → Up masters source other → Up world.master source other
   old_up source other life (here it) = here it
   old_up source other life (above it next end e way) =
-      let f : world.master it ≡ Some next = sym (old_master place moves serve own it
-      (live_members world.master (has_members nat_eq world.mounts) it life)) ∙ e in
-      above it next end f (old_up next end
-      (lives_up world.master (has_members nat_eq world.mounts) it next life (above it next next f (here next))) way)
+      let f : world.master it ≡ Some next = sym (old_master place moves serve own it (live_members _ _ it life)) ∙ e in
+      above it next end f (old_up next end (lives_up _ _ it next life (above it next next f (here next))) way)
 
   pub old_up_after : (source other : ℕ) → LivesIn world source → Up world.master source other → Up masters source other
   old_up_after source other life (here it) = here it
   old_up_after source other life (above it next end e way) = above it next end
-      (old_master place moves serve own it
-      (live_members world.master (has_members nat_eq world.mounts) it life) ∙ e) (old_up_after next end
-      (lives_up world.master (has_members nat_eq world.mounts) it next life (above it next next e (here next))) way)
+      (old_master place moves serve own it (live_members _ _ it life) ∙ e)
+      (old_up_after next end (lives_up _ _ it next life (above it next next e (here next))) way)
 
 module _ {world : World ℕ} {new : Copies ℕ} (place : Location ℕ) (moves : Bool) {mounts : List (Mount ℕ)}
     (serve : ServeAsImages world (parts_of nat_eq world place) mounts new) (own : OneNumberAMount mounts)
@@ -61,12 +58,12 @@ module _ {world : World ℕ} {new : Copies ℕ} (place : Location ℕ) (moves : 
   has = has_members nat_eq parts
 
   there_shared : there.propagation ≡ Shared group
-  there_shared = shared_kind_of there.propagation group shared
+  there_shared = shared_kind_of _ group shared
 
   pub part_there : (part : Mount ℕ) → Among part parts → Among part world.mounts
   part_there part m = ⊎_elim (λ same.
       subst (λ x. Among x world.mounts) (sym same) (⊎_elim (λ l. l) (λ none. absurd (true≢false (sym (ap is_some shared)
-      ∙ ap (λ (x : Mount ℕ). is_some (group_of x.propagation)) none))) (found_or_none world.mounts place.mount)))
+      ∙ ap (λ (x : Mount ℕ). is_some (group_of x.propagation)) none))) (found_or_none _ _)))
       (λ rest. taker_there world place part rest) m
 
   pub hears_there : (part : Mount ℕ) → Among part parts → receives nat_eq world group part ≡ true
@@ -104,26 +101,24 @@ module _ {world : World ℕ} {new : Copies ℕ} (place : Location ℕ) (moves : 
       → (near : ℕ) × Nearest world.master has next near × (up (image one) ≡ Some (image near))
   next_image one h lacks next e way =
       let t = member_part one h in
-      let life = lives_up world.master (has_members nat_eq world.mounts) one next (group_lives one h)
-      (above one next next e (here next)) in
-      let found = finds_some has (groups_up world next) group (up_among world live next group life way) group_has in (
+      let life = lives_up _ _ one next (group_lives one h) (above one next next e (here next)) in
+      let found = finds_some has _ group (up_among world live next group life way) group_has in (
         found.0,
-        found_nearest world.master has (length world.mounts) next found.0 found.1,
-        lower_master place moves serve own t.0 origin t.1 of_tree one next found.0 t.2 lacks e found.1,
+        found_nearest _ has _ next _ found.1,
+        lower_master place moves serve own t.0 origin t.1 of_tree one next _ t.2 lacks e found.1,
       )
 
   -- up the masters of parts their images go up
   step : (one next other : ℕ) → has one ≡ true → world.master one ≡ Some next → Up world.master next other
       → has other ≡ true → ((near : ℕ) → Nearest world.master has next near → Up up (image near) (image other))
       → Up up (image one) (image other)
-  step one next other h e way h_other later = by (is_member_of nat_eq one there) refl
+  step one next other h e way h_other later = by _ refl
     where
       by : (b : Bool) → is_member_of nat_eq one there ≡ b → Up up (image one) (image other)
-      by true f = absurd (no_loop world.master (has_members nat_eq world.mounts) one (group_lives one h) next e
-          (up_further world.master next other one way
+      by true f = absurd (no_loop _ _ one (group_lives one h) next e (up_further _ next other one way
           (subst (Up world.master other) (sym (is_group one f)) (group_up other h_other))))
       by false f =
-          let t = next_image one h f next e (up_further world.master next other group way (group_up other h_other)) in
+          let t = next_image one h f next e (up_further _ next other group way (group_up other h_other)) in
           above (image one) (image t.0) (image other) t.2 (later t.0 t.1)
 
   forward : (source : ℕ) → LivesIn world source → (near other : ℕ) → Nearest world.master has source near
@@ -143,7 +138,7 @@ module _ {world : World ℕ} {new : Copies ℕ} (place : Location ℕ) (moves : 
   forward source (has_master it next m e later) near other (further one after end misses f rest)
       (above two above_it last g way) h_other = forward next later end last
       (subst (λ x. Nearest world.master has x end) (same_Some after next (sym f ∙ e)) rest)
-      (subst (λ x. Up world.master x last) (same_Some above_it next (sym g ∙ e)) way) h_other
+      (subst (λ x. Up world.master x last) (same_Some _ next (sym g ∙ e)) way) h_other
 
   -- a group up from what the mount of the tree hears
   abbrev Beyond : ℕ → Type 0
@@ -169,7 +164,7 @@ module _ {world : World ℕ} {new : Copies ℕ} (place : Location ℕ) (moves : 
       inr (subst (λ x. Up up x end) (same_Some next master (sym f ∙ ap up p ∙ e)) way)
 
   at_group : (one : ℕ) → Up up (image group) one → (one ≡ image group) ⊎ Beyond one
-  at_group one way = by origin.propagation refl
+  at_group one way = by _ refl
     where
       by : (kind : Propagation ℕ) → origin.propagation ≡ kind → (one ≡ image group) ⊎ Beyond one
       by (Shared old) e = inr (
@@ -184,22 +179,19 @@ module _ {world : World ℕ} {new : Copies ℕ} (place : Location ℕ) (moves : 
         old_up place moves serve own master one (sourced master (ap source_of e)) further_up,
       )) (one_further master (slave_there place moves serve own origin of_tree group master shared e)
           (image group) one way (image_by (Slave master) e))
-      by Private e = inl (no_further
-          (master_there place moves serve own origin of_tree group shared Private e refl)
-          (image group) one way (image_by Private e) ∙ sym (image_by Private e))
-      by Unbindable e = inl (no_further
-          (master_there place moves serve own origin of_tree group shared Unbindable e refl)
-          (image group) one way (image_by Unbindable e) ∙ sym (image_by Unbindable e))
+      by Private e = inl (no_further (master_there place moves serve own origin of_tree group shared _ e refl) _ one way
+          (image_by _ e) ∙ sym (image_by _ e))
+      by Unbindable e = inl (no_further (master_there place moves serve own origin of_tree group shared _ e refl) _ one
+          way (image_by _ e) ∙ sym (image_by _ e))
 
   from_group : (source one : ℕ) → source_of origin.propagation ≡ Some source → Up world.master source one
       → Up up (image group) one
-  from_group source one e way = by origin.propagation refl
+  from_group source one e way = by _ refl
     where
       by : (kind : Propagation ℕ) → origin.propagation ≡ kind → Up up (image group) one
-      by (Shared old) f =
-          subst (λ x. Up up x one) (same_Some source old (sym e ∙ ap source_of f) ∙ sym (image_by (Shared old) f))
+      by (Shared old) f = subst (λ x. Up up x one) (same_Some source old (sym e ∙ ap source_of f) ∙ sym (image_by _ f))
           (old_up_after place moves serve own source one (sourced source e) way)
-      by (Slave master) f = subst (λ x. Up up x one) (sym (image_by (Slave master) f)) (above fresh_group master one
+      by (Slave master) f = subst (λ x. Up up x one) (sym (image_by _ f)) (above fresh_group master one
           (slave_there place moves serve own origin of_tree group master shared f)
           (subst (λ x. Up up x one) (same_Some source master (sym e ∙ ap source_of f))
           (old_up_after place moves serve own source one (sourced source e) way)))
@@ -213,7 +205,7 @@ module _ {world : World ℕ} {new : Copies ℕ} (place : Location ℕ) (moves : 
 
   back_step : (near next one : ℕ) → has near ≡ true → up (image near) ≡ Some next → Up up next one
       → ((close : ℕ) → has close ≡ true → next ≡ image close → IsImageUp close one) → IsImageUp near one
-  back_step near next one h e way later = by (is_member_of nat_eq near there) refl
+  back_step near next one h e way later = by _ refl
     where
       lower : is_member_of nat_eq near there ≡ false → (from to : ℕ) → Up world.master from to → from ≡ near
           → to ≡ group → IsImageUp near one
@@ -224,11 +216,10 @@ module _ {world : World ℕ} {new : Copies ℕ} (place : Location ℕ) (moves : 
           let t = next_image near h f after up_near (subst (Up world.master after) q rest) in
           ⊎_elim (λ r. inl (
             r.0,
-            above near after r.0 up_near
-                (up_further world.master after t.0 r.0 (nearest_up world.master has after t.0 t.1) r.1),
+            above near after r.0 up_near (up_further _ after t.0 r.0 (nearest_up _ has after t.0 t.1) r.1),
             r.2,
             r.3,
-          )) inr (later t.0 (nearest_passes world.master has after t.0 t.1) (same_Some next (image t.0) (sym e ∙ t.2)))
+          )) inr (later t.0 (nearest_passes _ has after t.0 t.1) (same_Some next _ (sym e ∙ t.2)))
 
       by : (b : Bool) → is_member_of nat_eq near there ≡ b → IsImageUp near one
       by true f =
@@ -249,7 +240,7 @@ module _ {world : World ℕ} {new : Copies ℕ} (place : Location ℕ) (moves : 
       × (source_of (kind place moves serve own part origin) ≡ Some (image near))
 
   copy_source : (part : Mount ℕ) → Among part parts → CopySource part
-  copy_source part m = by part.propagation refl
+  copy_source part m = by _ refl
     where
       slave_away : (master : ℕ) → part.propagation ≡ Slave master → nat_eq part.number place.mount ≡ false
       slave_away master e = ⊎_elim (λ same. absurd (true≢false (sym (ap is_some shared)
@@ -270,14 +261,13 @@ module _ {world : World ℕ} {new : Copies ℕ} (place : Location ℕ) (moves : 
       )
       by (Slave master) e =
           let life = part_lives part m master (ap source_of e) in
-          let found = finds_some has (groups_up world master) group
+          let found = finds_some has _ group
           (up_among world live master group life (way_there part m master (ap source_of e))) group_has in (
             master,
             found.0,
             ap source_of e,
-            found_nearest world.master has (length world.mounts) master found.0 found.1,
-            ap source_of (slave_kind place moves serve own part origin master found.0
-                (slave_away master e) e found.1),
+            found_nearest _ has _ master _ found.1,
+            ap source_of (slave_kind place moves serve own part origin master _ (slave_away master e) e found.1),
           )
       by Private e = no_source (ap source_of e)
       by Unbindable e = no_source (ap source_of e)
@@ -285,7 +275,7 @@ module _ {world : World ℕ} {new : Copies ℕ} (place : Location ℕ) (moves : 
   -- the image of the destination's group is new, or the group of the mount itself
   group_image : ((image group ≡ fresh_group) × (has_members nat_eq world.mounts (image group) ≡ false))
       ⊎ ((has_members nat_eq world.mounts (image group) ≡ true) × (source_of origin.propagation ≡ Some (image group)))
-  group_image = by origin.propagation refl
+  group_image = by _ refl
     where
       made : image group ≡ fresh_group
           → ((image group ≡ fresh_group) × (has_members nat_eq world.mounts (image group) ≡ false))
@@ -302,14 +292,14 @@ module _ {world : World ℕ} {new : Copies ℕ} (place : Location ℕ) (moves : 
             ∙ live_members world.master (has_members nat_eq world.mounts) old (sourced old (ap source_of e)),
         ap source_of e ∙ ap Some (sym (image_by (Shared old) e)),
       )
-      by (Slave master) e = made (image_by (Slave master) e)
-      by Private e = made (image_by Private e)
-      by Unbindable e = made (image_by Unbindable e)
+      by (Slave master) e = made (image_by _ e)
+      by Private e = made (image_by _ e)
+      by Unbindable e = made (image_by _ e)
 
   -- two images are of one group
   one_image : (one other : ℕ) → has one ≡ true → has other ≡ true → is_member_of nat_eq one there ≡ false
       → image one ≡ image other → one ≡ other
-  one_image one other h h_other lacks e = by (is_member_of nat_eq other there) refl
+  one_image one other h h_other lacks e = by _ refl
     where
       apart_by : image other ≡ new.image other origin.number → one ≡ other
       apart_by f = (serve.apart one origin.number other origin.number h (is_one_of mounts origin of_tree) h_other
@@ -346,9 +336,8 @@ module _ {world : World ℕ} {new : Copies ℕ} (place : Location ℕ) (moves : 
         back r =
             let s = copy_source part m in
             let t = heard later_world copy (image one) r in
-            let start : t.0 ≡ image s.1 = same_Some t.0 (image s.1) (sym t.1 ∙ ap source_of is_kind ∙ s.4) in
-            by s.0 s.1 s.2 s.3 (backward t.0 (image one) t.2 s.1 (nearest_passes world.master has s.0 s.1 s.3) start)
-            (is_member_of nat_eq one there) refl
+            let start : t.0 ≡ image s.1 = same_Some t.0 _ (sym t.1 ∙ ap source_of is_kind ∙ s.4) in
+            by s.0 s.1 s.2 s.3 (backward t.0 _ t.2 s.1 (nearest_passes _ has s.0 s.1 s.3) start) _ refl
           where
             by : (source near : ℕ) → source_of part.propagation ≡ Some source → Nearest world.master has source near
                 → IsImageUp near (image one) → (b : Bool) → is_member_of nat_eq one there ≡ b
@@ -357,13 +346,11 @@ module _ {world : World ℕ} {new : Copies ℕ} (place : Location ℕ) (moves : 
                 subst (λ g. receives nat_eq world g part ≡ true) (sym (is_group one f)) (hears_there part m)
             by source near e n (inl t) false f =
                 let same = one_image one t.0 h t.2 f t.3 in
-                hears world live part (part_there part m) source one e
-                (up_further world.master source near one (nearest_up world.master has source near n)
-                (subst (Up world.master near) (sym same) t.1))
-            by source near e n (inr t) false f = absurd (true≢false
-                (sym (live_members world.master (has_members nat_eq world.mounts) (image one)
-                (lives_up world.master (has_members nat_eq world.mounts) t.0 (image one) (sourced t.0 t.1) t.2))
-                ∙ image_new place moves serve own origin of_tree one h f))
+                hears world live part (part_there part m) source one e (up_further _ source near one
+                (nearest_up _ has source near n) (subst (Up world.master near) (sym same) t.1))
+            by source near e n (inr t) false f = absurd (true≢false (sym
+                (live_members _ _ _ (lives_up _ _ t.0 _ (sourced t.0 t.1) t.2)) ∙ image_new place moves serve own origin
+                of_tree one h f))
 
         forth : receives nat_eq world one part ≡ true → receives nat_eq later_world (image one) copy ≡ true
         forth r =
@@ -391,15 +378,14 @@ module _ {world : World ℕ} {new : Copies ℕ} (place : Location ℕ) (moves : 
         back r =
             let s = copy_source part m in
             let t = heard later_world copy one r in
-            let start : t.0 ≡ image s.1 = same_Some t.0 (image s.1) (sym t.1 ∙ ap source_of is_kind ∙ s.4) in
-            ⊎_elim (λ i. of_image i.0 i.2 i.3 (is_member_of nat_eq i.0 there) refl) (λ b. origin_hears b.0 one b.1 b.2)
-            (backward t.0 one t.2 s.1 (nearest_passes world.master has s.0 s.1 s.3) start)
+            let start : t.0 ≡ image s.1 = same_Some t.0 _ (sym t.1 ∙ ap source_of is_kind ∙ s.4) in
+            ⊎_elim (λ i. of_image i.0 i.2 i.3 _ refl) (λ b. origin_hears b.0 one b.1 b.2)
+            (backward t.0 one t.2 s.1 (nearest_passes _ has s.0 s.1 s.3) start)
 
         forth : receives nat_eq world one origin ≡ true → receives nat_eq later_world one copy ≡ true
         forth r =
             let s = copy_source part m in
             let t = heard world origin one r in
             hears later_world groups_after copy copied (image s.1) one (ap source_of is_kind ∙ s.4)
-            (up_further up (image s.1) (image group) one
-            (forward s.0 (part_lives part m s.0 s.2) s.1 group s.3 (way_there part m s.0 s.2) group_has)
-            (from_group t.0 one t.1 t.2))
+            (up_further up _ _ one (forward s.0 (part_lives part m s.0 s.2) s.1 group s.3 (way_there part m s.0 s.2)
+            group_has) (from_group t.0 one t.1 t.2))

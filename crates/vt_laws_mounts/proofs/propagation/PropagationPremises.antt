@@ -1,5 +1,5 @@
 -- What the laws of propagation ask for holds of binds, new mounts and moves.
-use Rattle.std.proofs.Common.{arith, ◌≡◌, refl, sym, ap, subst, nat_eq, ℕ, inl, inr, ⊎_elim, length, Contains}
+use Rattle.std.proofs.Common.{arith, ◌≡◌, refl, sym, ap, subst, nat_eq, ℕ, inl, inr, ⊎_elim, Contains}
 use Rattle.vt_spec.proofs.Common.{Among, Mount, among_from_contains, bind_tree, common_steps, contains_from_among, found_or_none, mount_at, moved_tree, tree_among}
 use Rattle.vt_laws_mounts.specs.Mounts.Propagation.{BindsCan, MovesCan, NewMountsCan}
 use Rattle.vt_laws_mounts.proofs.GroupsLiving.{tested_live}
@@ -35,8 +35,6 @@ pub moves_can : MovesCan
 moves_can world fresh source place serves mounts there =
     let tree = moved_tree nat_eq world source.mount in
     let inside : (origin : Mount ℕ) → Contains tree origin → Contains world.mounts origin = λ origin c.
-    contains_from_among world.mounts origin (⊎_elim
-    (λ same. subst (λ x. Among x world.mounts) (sym same) (found_there world.mounts source.mount there)) (λ l. l)
-    (tree_among (length world.mounts) world.mounts (mount_at nat_eq world source) origin
-    (among_from_contains tree origin c))) in
+    contains_from_among _ origin (⊎_elim (λ same. subst (λ x. Among x world.mounts) (sym same) (found_there _ _ there))
+    (λ l. l) (tree_among _ _ _ origin (among_from_contains tree origin c))) in
     grind (arith, common_steps, tested_live, trees_have_each_once)

@@ -79,10 +79,8 @@ module _ {world : World ℕ} {new : Copies ℕ} (place : Location ℕ) (moves : 
   -- the image of another group than the destination's is new
   pub image_new : (origin : Mount ℕ) → Among origin mounts → (group : ℕ) → has_members nat_eq all_parts group ≡ true
       → is_member_of nat_eq group there ≡ false → has_members nat_eq world.mounts (image_of origin group) ≡ false
-  image_new origin m group has lacks = ap (has_members nat_eq world.mounts)
-      (image_elsewhere place moves serve own group origin lacks)
-      ∙ unused_members world (new.image group origin.number)
-      (serve.unused group origin.number has (is_one_of mounts origin m))
+  image_new origin m group has lacks = ap (has_members nat_eq world.mounts) (image_elsewhere place moves serve own group
+      origin lacks) ∙ unused_members world _ (serve.unused group origin.number has (is_one_of mounts origin m))
 
   pub lower_master : (part origin : Mount ℕ) → Among part all_parts → Among origin mounts → (group above near : ℕ)
       → part.propagation ≡ Shared group → is_member_of nat_eq group there ≡ false → world.master group ≡ Some above
@@ -95,14 +93,14 @@ module _ {world : World ℕ} {new : Copies ℕ} (place : Location ℕ) (moves : 
   -- the groups that are made at a shared destination
   pub private_there : (origin : Mount ℕ) → Among origin mounts → (group : ℕ) → group_of there.propagation ≡ Some group
       → origin.propagation ≡ Private → (after place moves serve own).master (new.image group origin.number) ≡ None
-  private_there origin m group e f = master_there place moves serve own origin m group e Private f refl
+  private_there origin m group e f = master_there place moves serve own origin m group e _ f refl
 
   pub slave_there : (origin : Mount ℕ) → Among origin mounts → (group master : ℕ)
       → group_of there.propagation ≡ Some group → origin.propagation ≡ Slave master
       → (after place moves serve own).master (new.image group origin.number) ≡ Some master
-  slave_there origin m group master e f = master_there place moves serve own origin m group e (Slave master) f refl
+  slave_there origin m group master e f = master_there place moves serve own origin m group e _ f refl
 
   pub there_new : (origin : Mount ℕ) → Among origin mounts → (group : ℕ) → group_of there.propagation ≡ Some group
       → has_members nat_eq world.mounts (new.image group origin.number) ≡ false
-  there_new origin m group e = unused_members world (new.image group origin.number) (serve.unused group origin.number
+  there_new origin m group e = unused_members world _ (serve.unused group origin.number
       (takes_part_in place moves serve own there group (inl refl) e) (is_one_of mounts origin m))

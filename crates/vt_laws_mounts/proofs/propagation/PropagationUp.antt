@@ -17,8 +17,7 @@ module _ (master : ℕ → Option ℕ) where
       → Up master next group → ⊥
   no_loop members group (has_no_master it has f) next e way = true≢false (sym (ap is_some e) ∙ ap is_some f)
   no_loop members group (has_master it step has f later) next e way =
-      by step it (subst (λ n. Up master n it) (same_Some next step (sym e ∙ f)) way) refl refl
-      (no_loop members step later)
+      by step it (subst (λ n. Up master n it) (same_Some next step (sym e ∙ f)) way) refl refl (no_loop _ step later)
     where
       by : (from to : ℕ) → Up master from to → from ≡ step → to ≡ it
           → ((after : ℕ) → master step ≡ Some after → Up master after step → ⊥) → ⊥
@@ -32,7 +31,7 @@ module _ (master : ℕ → Option ℕ) where
   lives_up members group other (has_no_master it has f) (above same next end e way) =
       absurd (true≢false (sym (ap is_some e) ∙ ap is_some f))
   lives_up members group other (has_master it step has f later) (above same next end e way) =
-      lives_up members next end (subst (Lives members master) (same_Some step next (sym f ∙ e)) later) way
+      lives_up _ next end (subst (Lives members master) (same_Some step next (sym f ∙ e)) later) way
 
   -- the nearest group up the masters that passes a test
   pub data Nearest (test : ℕ → Bool) : ℕ → ℕ → Type 0 where
@@ -50,13 +49,13 @@ module _ (master : ℕ → Option ℕ) where
 
   pub found_nearest : (test : ℕ → Bool) (n group near : ℕ) → find test (chain n master group) ≡ Some near
       → Nearest test group near
-  found_nearest test zero group near e = by (test group) refl
+  found_nearest test zero group near e = by _ refl
     where
       by : (b : Bool) → test group ≡ b → Nearest test group near
       by true f = subst (Nearest test group)
           (same_Some group near (sym (ap (λ b. cond b (Some group) None) f) ∙ e)) (itself group f)
       by false f = absurd (true≢false (sym (ap is_some (sym (ap (λ b. cond b (Some group) None) f) ∙ e))))
-  found_nearest test (suc n) group near e = by (test group) refl (master group) refl (found_nearest test n)
+  found_nearest test (suc n) group near e = by _ refl _ refl (found_nearest test n)
     where
       by : (b : Bool) → test group ≡ b → (up : Option ℕ) → master group ≡ up
           → ((next end : ℕ) → find test (chain n master next) ≡ Some end → Nearest test next end)
@@ -77,14 +76,14 @@ module _ (master : ℕ → Option ℕ) where
 pub finds_some : (test : ℕ → Bool) (groups : List ℕ) (group : ℕ) → is_among nat_eq group groups ≡ true
     → test group ≡ true → (near : ℕ) × (find test groups ≡ Some near)
 finds_some test [] group m has = absurd (true≢false (sym m))
-finds_some test (first ∷ rest) group m has = by (test first) refl (finds_some test rest)
+finds_some test (first ∷ rest) group m has = by _ refl (finds_some test rest)
   where
     by : (b : Bool) → test first ≡ b → ((other : ℕ) → is_among nat_eq other rest ≡ true → test other ≡ true
         → (near : ℕ) × (find test rest ≡ Some near)) → (near : ℕ) × (find test (first ∷ rest) ≡ Some near)
     by true e later = (first, ap (λ b. cond b (Some first) (find test rest)) e)
     by false e later = ⊎_elim (λ same. absurd (true≢false (sym has ∙ ap test (eqb-true group first same) ∙ e)))
         (λ l. let t = later group l has in (t.0, ap (λ b. cond b (Some first) (find test rest)) e ∙ t.1))
-        (or_cases (nat_eq group first) (is_among nat_eq group rest) m)
+        (or_cases _ _ m)
 
 -- Hearing
 
@@ -99,7 +98,7 @@ pub hears : (world : World ℕ) → GroupsLive world → (mount : Mount ℕ) →
     → source_of mount.propagation ≡ Some source → Up world.master source group
     → receives nat_eq world group mount ≡ true
 hears world live mount m source group e way =
-    receives_completely world live group mount m (climb world mount source group way (by mount.propagation refl))
+    receives_completely world live group mount m (climb world mount source group way (by _ refl))
   where
     by : (kind : Propagation ℕ) → mount.propagation ≡ kind → Receives world source mount
     by (Shared own) f =

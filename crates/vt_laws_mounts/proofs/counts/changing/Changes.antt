@@ -88,7 +88,7 @@ module _ (base : ℕ → ℕ) (files : FileTree ℕ) (inodes : Inodes ℕ) (root
   root_of_files (Make directory name number new) = refl
   root_of_files (AddName directory name object) = refl
   root_of_files (Remove directory name object) = refl
-  root_of_files (Move from old to new object) = by (entry_named new (entries_in (node to)))
+  root_of_files (Move from old to new object) = by _
     where
       by : (o : Option ℕ) → (Changes.without_parent nat_eq files o).tree.root ≡ files.tree.root
       by None = refl
@@ -128,7 +128,7 @@ module _ (fresh : Fresh ℕ) (world : World ℕ) (location : Location ℕ) (inod
   filesystem_there = there_if_counted world number inodes is.counted
 
   old_there : Among old world.filesystems
-  old_there = found_is world.filesystems number filesystem_there
+  old_there = found_is _ number filesystem_there
 
   tree : IsListedTree old.files
   tree = among_from_all (λ f. IsListedTree f.files) world.filesystems
@@ -192,16 +192,15 @@ module _ (fresh : Fresh ℕ) (world : World ℕ) (location : Location ℕ) (inod
       (Swept.others_stay world number files in_use one is.plain filesystem_there other counts apart counted)
 
 pub only_files_change_beside_overlays : OnlyFilesChangeBesideOverlays
-only_files_change_beside_overlays fresh world location inodes change is =
-    only_files fresh world location inodes change is
+only_files_change_beside_overlays fresh world location inodes change is = only_files fresh world _ inodes change is
 
 pub counts_follow_changes_beside_overlays : CountsFollowChangesBesideOverlays
 counts_follow_changes_beside_overlays fresh world location inodes change is =
-    counts_follow fresh world location inodes change is
+    counts_follow fresh world _ inodes change is
 
 pub other_counts_stay_beside_overlays : OtherCountsStayBesideOverlays
 other_counts_stay_beside_overlays fresh world location inodes change is other counts apart counted =
-    others fresh world location inodes change is other counts apart counted
+    others fresh world _ inodes change is other counts apart counted
 
 -- In a world of plain filesystems each location is in a plain one.
 pub is_change_of_plain : (world : World ℕ) (location : Location ℕ) (inodes : Inodes ℕ) (change : Change ℕ)

@@ -67,13 +67,9 @@ names_keep_all_beside_overlays fresh world location inodes change is keeps =
 
     all_used : list_all (λ n. is_among nat_eq n (Swept.used world number files in_use one is.plain there)) files.numbers
         ≡ true
-    all_used = list_all_from_among (λ n. is_among nat_eq n (Swept.used world number files in_use one is.plain there))
-        files.numbers
-        (λ n m. is_used n ∙ sym (is_some-node_in ((changed nat_eq inodes change).inode n))
-        ∙ ap is_some (nodes_same (base_of world
-        (After.old fresh world location inodes change is)) before inodes begins change is.fits keeps n)
-        ∙ stands n (is_some (files.tree.node n)) (tallied_once n)
-        (among_times n files.numbers (is_among_numbers n files.numbers m)))
+    all_used = list_all_from_among _ _ (λ n m. is_used n ∙ sym (is_some-node_in _) ∙ ap is_some
+        (nodes_same _ before inodes begins change is.fits keeps n) ∙ stands n _ (tallied_once n)
+        (among_times n _ (is_among_numbers n _ m)))
       where
         stands : (n : ℕ) (b : Bool) → times_in n files.numbers ≡ cond b 1 0 → 1 ≤ times_in n files.numbers → b ≡ true
         stands n true e some = refl

@@ -34,7 +34,7 @@ module _ (base : ℕ → ℕ) (node : ℕ → Option (Node ℕ)) (numbers : List
   no_node = sym (start.same number) ∙ ap node_in vacant
 
   apart : number ≢ directory
-  apart e = true≢false (sym (there_directory base node numbers inodes start directory is)
+  apart e = true≢false (sym (there_directory base node _ inodes start _ is)
       ∙ ap (λ n. is_some (node n)) (sym e) ∙ ap is_some no_node)
 
   pub either_way : (n : ℕ) → node_made n ≡ node_made_there n
@@ -74,9 +74,7 @@ module _ (base : ℕ → ℕ) (node : ℕ → Option (Node ℕ)) (numbers : List
   pub made : IsTallied base node_made_there (number ∷ numbers) (with_new nat_eq inodes directory name number new)
   made = subst (λ f. IsTallied base f (number ∷ numbers) (with_new nat_eq inodes directory name number new))
       (λ i. λ n. either_way n i) (record {
-        counted = other_uses (λ n. one_if n number + made_uses n) (uses_of base node_made (number ∷ numbers)) node_made
-            (with_new nat_eq inodes directory name number new) more
-            (counted_new made_uses node_on inodes_on counted_on number new vacant_on);
+        counted = other_uses _ _ _ _ more (counted_new _ _ _ counted_on number new vacant_on);
         once = made_once;
       })
 
@@ -88,7 +86,7 @@ module _ {base : ℕ → ℕ} {node : ℕ → Option (Node ℕ)} {numbers : List
   uses = uses_of base node numbers
 
   pub is_directory_off : is_directory_node (node directory) ≡ true
-  is_directory_off = directory_from_entry name object (node directory) leads
+  is_directory_off = directory_from_entry name object _ leads
 
   abbrev pub node_off : ℕ → Option (Node ℕ)
   node_off = at_place node directory (node_without_entry name)
@@ -98,12 +96,12 @@ module _ {base : ℕ → ℕ} {node : ℕ → Option (Node ℕ)} {numbers : List
   off_targets n =
       let less : times_in n (targets (without_entry name (entries_in (node directory)))) + one_if_some n
       (entry_named name (entries_in (node directory))) ≡ times_in n (targets (entries_in (node directory)))
-      = times_without n name (entries_in (node directory)) (start.in_order directory) in
+      = times_without n name _ (start.in_order directory) in
       let own : one_if_some n (entry_named name (entries_in (node directory))) ≡ one_if n object =
       ap (one_if_some n) leads in
       let same : times_in n (targets_in (node_without_entry name (node directory)))
       ≡ times_in n (targets (without_entry name (entries_in (node directory)))) = ap (λ e. times_in n (targets e))
-      (entries-node_without_entry name (node directory)) in
+      (entries-node_without_entry name _) in
       omega arith
 
   pub is_target : 1 ≤ times_in object (targets_in (node directory))
@@ -117,7 +115,7 @@ module _ {base : ℕ → ℕ} {node : ℕ → Option (Node ℕ)} {numbers : List
   uses_r = uses_of base node numbers
 
   abbrev node_less : ℕ → Option (Node ℕ)
-  node_less = node_off start directory name object leads
+  node_less = node_off start _ name object leads
 
   abbrev node_removed : ℕ → Option (Node ℕ)
   node_removed = at_place node_less object (node_with_parent object)
@@ -129,7 +127,7 @@ module _ {base : ℕ → ℕ} {node : ℕ → Option (Node ℕ)} {numbers : List
   apart_r e =
       let none : times_in object (targets_in (node directory)) ≡ 0 =
       ap (λ n. times_in object (targets_in (node n))) (sym e) ∙ ap (λ l. times_in object (targets l)) empty in
-      let some = is_target start directory name object leads in absurd (omega arith)
+      let some = is_target start _ name object leads in absurd (omega arith)
 
   removed_entries : (n : ℕ) → entries_in (node_removed n) ≡ entries_in (node_less n)
   removed_entries = part_at entries_in node_less object (node_with_parent object)
@@ -224,9 +222,8 @@ module _ (base : ℕ → ℕ) (node : ℕ → Option (Node ℕ)) (numbers : List
 
   -- the new name still leads where it led
   finds_from : entry_named new (entries_in (node_from to)) ≡ replaced
-  finds_from = ⊎_elim
-      (λ t. ap (λ b. entry_named new (entries_in (cond b (node_without_entry old (node from)) (node to)))) t.0
-      ∙ ap (entry_named new) (entries-node_without_entry old (node from)) ∙ here t.1 (bytes_eq new old) refl)
+  finds_from = ⊎_elim (λ t. ap (λ b. entry_named new (entries_in (cond b (node_without_entry old (node from))
+      (node to)))) t.0 ∙ ap (entry_named new) (entries-node_without_entry old _) ∙ here t.1 _ refl)
       (λ t. ap (λ b. entry_named new (entries_in (cond b (node_without_entry old (node from)) (node to)))) t.0 ∙ finds)
       (eqb_tells to from)
     where
@@ -239,24 +236,23 @@ module _ (base : ℕ → ℕ) (node : ℕ → Option (Node ℕ)) (numbers : List
           let one : one_if_some object replaced ≡ one_if object object = ap (one_if_some object) it in
           let self = one_if-itself object in
           absurd (omega (arith, other))
-      here same false e = find_without old new (entries_in (node from)) e
-          ∙ ap (λ n. entry_named new (entries_in (node n))) (sym same) ∙ finds
+      here same false e = find_without old new _ e ∙ ap (λ n. entry_named new (entries_in (node n))) (sym same) ∙ finds
 
   on_targets : (n : ℕ) → times_in n (targets_in (node_with_entry new object (node_from to))) + one_if_some n replaced
       ≡ times_in n (targets_in (node_from to)) + one_if n object
   on_targets n =
       let put : times_in n (targets (with_entry new object (entries_in (node_from to)))) + one_if_some n
       (entry_named new (entries_in (node_from to))) ≡ times_in n (targets (entries_in (node_from to))) + one_if n object
-      = times_put n new object (entries_in (node_from to)) (order_from to) in
+      = times_put n new object _ (order_from to) in
       let it : one_if_some n (entry_named new (entries_in (node_from to))) ≡ one_if_some n replaced =
       ap (one_if_some n) finds_from in
       let same : times_in n (targets_in (node_with_entry new object (node_from to)))
       ≡ times_in n (targets (with_entry new object (entries_in (node_from to)))) = ap (λ e. times_in n (targets e))
-      (entries-node_with_entry new object (node_from to) to_from) in
+      (entries-node_with_entry new object _ to_from) in
       omega arith
 
   entries_moved : (n : ℕ) → entries_in (node_moved replaced n) ≡ entries_in (node_to n)
-  entries_moved n = by replaced
+  entries_moved n = by _
     where
       under : entries_in (node_under n) ≡ entries_in (node_to n)
       under = part_at entries_in node_to object (node_with_parent to) (entries-node_with_parent to (node_to object)) n
@@ -267,18 +263,17 @@ module _ (base : ℕ → ℕ) (node : ℕ → Option (Node ℕ)) (numbers : List
           (entries-node_with_parent gone (node_under gone)) n ∙ under
 
   some_moved : (n : ℕ) → is_some (node_moved replaced n) ≡ is_some (node n)
-  some_moved n = by replaced
+  some_moved n = by _
     where
       under : is_some (node_under n) ≡ is_some (node n)
-      under = part_at is_some node_to object (node_with_parent to) (is_some-node_with_parent to (node_to object)) n
-          ∙ part_at is_some node_from to (node_with_entry new object)
-          (is_some-node_with_entry new object (node_from to)) n
-          ∙ part_at is_some node from (node_without_entry old) (is_some-node_without_entry old (node from)) n
+      under = part_at is_some node_to object (node_with_parent to) (is_some-node_with_parent to _) n ∙ part_at is_some
+          node_from to (node_with_entry new object) (is_some-node_with_entry new object _) n ∙ part_at is_some node from
+          (node_without_entry old) (is_some-node_without_entry old _) n
 
       by : (o : Option ℕ) → is_some (node_moved o n) ≡ is_some (node n)
       by None = under
       by (Some gone) = part_at is_some node_under gone (node_with_parent gone)
-          (is_some-node_with_parent gone (node_under gone)) n ∙ under
+          (is_some-node_with_parent gone _) n ∙ under
 
   named_moved : (list : List ℕ) → named_by (node_moved replaced) list ≡ named_by node_to list
   named_moved [] = refl
@@ -313,7 +308,7 @@ module _ (base : ℕ → ℕ) (node : ℕ → Option (Node ℕ)) (numbers : List
 
   -- a replaced object has no entries, and is neither of the directories
   none_or_one : (n : ℕ) → (one_if_some n replaced ≡ 0) ⊎ (1 ≤ one_if_some n replaced)
-  none_or_one n = zero_or_some (one_if_some n replaced)
+  none_or_one n = zero_or_some _
 
   full_stays : (d n : ℕ) → 1 ≤ times_in n (targets_in (node d)) → one_if_some d replaced ≡ 0
   full_stays d n full = ⊎_elim (λ none. none) (λ gone. absurd (let none : times_in n (targets_in (node d))
@@ -372,7 +367,7 @@ module _ (base : ℕ → ℕ) (node : ℕ → Option (Node ℕ)) (numbers : List
 
   pub moved : IsTallied base (node_there replaced) numbers (without_replaced nat_eq inodes_under replaced)
   moved = subst (λ f. IsTallied base f numbers (without_replaced nat_eq inodes_under replaced))
-      (sym (same_there replaced from_stays to_stays other)) (record {
+      (sym (same_there _ from_stays to_stays other)) (record {
         counted = counted_moved;
         once = λ n. start.tallied.once n ∙ ap (λ b. cond b 1 0) (sym (some_moved n));
       })

@@ -1,7 +1,6 @@
 -- The world with the changed inodes in it is the world after the change.
 use Rattle.std.proofs.Common.{arith, ◌≡◌, refl, sym, ap, subst, ◌∙◌, ℕ, nat_eq, List, [], ◌∷◌, map, is_some}
-use Rattle.vt_spec.proofs.Common.{FileTree, Filesystem, SameFilesystem, SameFilesystems, SameWorlds, common_steps, filesystem_numbered, node_in, replaced_if_numbered, with_files}
-use Rattle.vt_spec.specs.Inodes.{changed}
+use Rattle.vt_spec.proofs.Common.{FileTree, Filesystem, SameFilesystem, SameFilesystems, SameWorlds, common_steps, filesystem_numbered, node_in, replaced_if_numbered}
 use Rattle.vt_laws_mounts.specs.LettingGo.TreeChanges.{with_tree}
 use Rattle.vt_laws_mounts.specs.Counts.BesideOverlays.{CountedChangesAreSweptBesideOverlays}
 use Rattle.vt_laws_mounts.specs.Counts.Changing.{CountedChangesAreSwept, filesystem_of}
@@ -23,9 +22,12 @@ counted_changes_are_swept_beside_overlays fresh world location inodes change is 
     (sym (Changes.after_is fresh world location inodes change is)) (record {
       mounts = refl;
       master = refl;
-      filesystems = same_filesystems (with_files old files) (with_files old left) refl
-          (record { number = refl; files = record { tree = same_tree; numbers = same_numbers }; overlay = refl })
-          world.filesystems;
+      filesystems = same_filesystems _ _ refl (record {
+        number = refl;
+        files = record
+            { tree = same_tree; numbers = same_numbers };
+        overlay = refl;
+      }) _;
       namespaces = refl;
       tasks = refl;
     })
@@ -43,11 +45,9 @@ counted_changes_are_swept_beside_overlays fresh world location inodes change is 
     })
 
     same_numbers : Rattle.std.specs.List.Sorted.IsPermutation files.numbers left.numbers
-    same_numbers = same_numbers_are_permuted files.numbers left.numbers once
-        (Changes.counted_then fresh world location inodes change is).once
-        (λ n. lists n ∙ ap (λ t. is_some (t.node n)) tree ∙ there ((changed nat_eq inodes change).inode n)
-        ∙ sym (among_by_times n left.numbers (is_some ((changed nat_eq inodes change).inode n))
-        (Changes.left_times fresh world location inodes change is n)))
+    same_numbers = same_numbers_are_permuted files.numbers left.numbers once (Changes.counted_then fresh world location
+        inodes change is).once (λ n. lists n ∙ ap (λ t. is_some (t.node n)) tree ∙ there _ ∙ sym
+        (among_by_times n _ _ (Changes.left_times fresh world location inodes change is n)))
       where
         there : (o : Rattle.std.specs.Prelude.Option (Rattle.vt_spec.specs.Inodes.Inode ℕ))
             → is_some (node_in o) ≡ is_some o

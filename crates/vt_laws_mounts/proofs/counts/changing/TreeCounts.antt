@@ -33,7 +33,7 @@ pub changed_counts : (uses : ℕ → ℕ) (node : ℕ → Option (Node ℕ)) (in
     → node_in (inodes.inode place) ≡ node place → change None ≡ None
     → ((some : Node ℕ) → (new : Node ℕ) × (change (Some some) ≡ Some new))
     → Counts.IsCounted uses (at_place node place change) (with_changed nat_eq inodes place change)
-changed_counts uses node inodes place change counted same none some = by (inodes.inode place) refl
+changed_counts uses node inodes place change counted same none some = by _ refl
   where
     by : (o : Option (Inode ℕ)) → inodes.inode place ≡ o
         → Counts.IsCounted uses (at_place node place change) (with_changed nat_eq inodes place change)
@@ -64,16 +64,15 @@ pub changed_same : (node : ℕ → Option (Node ℕ)) (inodes : Inodes ℕ) (pla
     (change : Option (Node ℕ) → Option (Node ℕ)) → ((n : ℕ) → node_in (inodes.inode n) ≡ node n)
     → change None ≡ None → ((some : Node ℕ) → (new : Node ℕ) × (change (Some some) ≡ Some new))
     → (n : ℕ) → node_in ((with_changed nat_eq inodes place change).inode n) ≡ at_place node place change n
-changed_same node inodes place change same none some n = ⊎_elim
-    (λ t. ap (λ b. node_in (cond b (inode_with_node (change (node_in (inodes.inode place))) (inodes.inode place))
-    (inodes.inode n))) t.0 ∙ by (inodes.inode place) (same place)
-    ∙ sym (ap (λ b. cond b (change (node place)) (node n)) t.0))
+changed_same node inodes place change same none some n = ⊎_elim (λ t. ap
+    (λ b. node_in (cond b (inode_with_node (change (node_in (inodes.inode place))) (inodes.inode place))
+    (inodes.inode n))) t.0 ∙ by _ (same place) ∙ sym (ap (λ b. cond b (change (node place)) (node n)) t.0))
     (λ t. ap (λ b. node_in (cond b (inode_with_node (change (node_in (inodes.inode place))) (inodes.inode place))
     (inodes.inode n))) t.0 ∙ same n ∙ sym (ap (λ b. cond b (change (node place)) (node n)) t.0)) (eqb_tells n place)
   where
     by : (o : Option (Inode ℕ)) → node_in o ≡ node place
         → node_in (inode_with_node (change (node_in o)) o) ≡ change (node place)
-    by None e = missing (change None) ∙ sym none ∙ ap change e
+    by None e = missing _ ∙ sym none ∙ ap change e
       where
         missing : (o : Option (Node ℕ)) → node_in (inode_with_node o None) ≡ None
         missing None = refl
@@ -185,7 +184,7 @@ module _ (base : ℕ → ℕ) (node : ℕ → Option (Node ℕ)) (numbers : List
       there (Some x) = ap is_some (some x).1
 
   pub there_directory : (d : ℕ) → is_directory_node (node d) ≡ true → is_some (node d) ≡ true
-  there_directory d is = directory_is_there (node d) is
+  there_directory d is = directory_is_there _ is
 
   pub once_directory : (d : ℕ) → is_directory_node (node d) ≡ true → times_in d numbers ≡ 1
   once_directory d is = once d ∙ ap (λ b. cond b 1 0) (there_directory d is)
@@ -197,13 +196,12 @@ module _ (base : ℕ → ℕ) (node : ℕ → Option (Node ℕ)) (numbers : List
       ≡ times_in n (targets_in (node directory)) + one_if n object
   added_targets directory name object is free n =
       let put : times_in n (targets (with_entry name object (entries_in (node directory)))) + one_if_some n
-      (entry_named name (entries_in (node directory)))
-      ≡ times_in n (targets (entries_in (node directory))) + one_if n object
-      = times_put n name object (entries_in (node directory)) (start.in_order directory) in
+      (entry_named name (entries_in (node directory))) ≡ times_in n (targets (entries_in (node directory))) + one_if n
+      object = times_put n name object _ (start.in_order directory) in
       let none : one_if_some n (entry_named name (entries_in (node directory))) ≡ 0 = ap (one_if_some n) free in
       let same : times_in n (targets_in (node_with_entry name object (node directory)))
       ≡ times_in n (targets (with_entry name object (entries_in (node directory)))) = ap (λ e. times_in n (targets e))
-      (entries-node_with_entry name object (node directory) is) in
+      (entries-node_with_entry name object _ is) in
       omega arith
 
   -- Another name

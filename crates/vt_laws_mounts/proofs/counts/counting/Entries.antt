@@ -32,8 +32,7 @@ pub times_put : (number : ℕ) (name : List ℕ) (object : ℕ) (entries : Entri
     → times_in number (targets (with_entry name object entries)) + one_if_some number
     (entry_named name entries) ≡ times_in number (targets entries) + one_if number object
 times_put number name object [] sorted = omega arith
-times_put number name object (entry ∷ rest) sorted =
-    by (name_cmp name entry.0) refl (times_put number name object rest parts.1)
+times_put number name object (entry ∷ rest) sorted = by _ refl (times_put number name object rest parts.1)
   where
     parts : (below_all name_cmp entry.0 rest ≡ true) × (is_sorted name_cmp rest ≡ true)
     parts = and_parts (below_all name_cmp entry.0 rest) (is_sorted name_cmp rest) sorted
@@ -52,8 +51,7 @@ pub times_without : (number : ℕ) (name : List ℕ) (entries : Entries ℕ) →
     → times_in number (targets (without_entry name entries)) + one_if_some number (entry_named name entries)
     ≡ times_in number (targets entries)
 times_without number name [] sorted = omega arith
-times_without number name (entry ∷ rest) sorted =
-    by (bytes_eq entry.0 name) refl (is_eq (name_cmp name entry.0)) refl (times_without number name rest parts.1)
+times_without number name (entry ∷ rest) sorted = by _ refl _ refl (times_without number name rest parts.1)
   where
     parts : (below_all name_cmp entry.0 rest ≡ true) × (is_sorted name_cmp rest ≡ true)
     parts = and_parts (below_all name_cmp entry.0 rest) (is_sorted name_cmp rest) sorted
@@ -88,7 +86,7 @@ sorted_without name entries sorted =
 pub found_target : (number : ℕ) (name : List ℕ) (entries : Entries ℕ)
     → one_if_some number (entry_named name entries) ≤ times_in number (targets entries)
 found_target number name [] = omega arith
-found_target number name (entry ∷ rest) = by (is_eq (name_cmp name entry.0)) (found_target number name rest)
+found_target number name (entry ∷ rest) = by _ (found_target number name rest)
   where
     by : (b : Bool) → one_if_some number (entry_named name rest) ≤ times_in number (targets rest)
         → one_if_some number (cond b (Some entry.1) (entry_named name rest)) ≤ one_if number entry.1 + times_in number

@@ -10,7 +10,7 @@ times_in number = times (nat_eq number)
 -- what stands in a list, and what does not
 pub among_times : (number : ℕ) (list : List ℕ) → is_among nat_eq number list ≡ true → 1 ≤ times_in number list
 among_times number [] e = cc
-among_times number (other ∷ rest) e = by (nat_eq number other) e (among_times number rest)
+among_times number (other ∷ rest) e = by _ e (among_times number rest)
   where
     by : (b : Bool) → (b || is_among nat_eq number rest) ≡ true
         → (is_among nat_eq number rest ≡ true → 1 ≤ times_in number rest) → 1 ≤ cond b 1 0 + times_in number rest
@@ -19,7 +19,7 @@ among_times number (other ∷ rest) e = by (nat_eq number other) e (among_times 
 
 pub times_among : (number : ℕ) (list : List ℕ) → 1 ≤ times_in number list → is_among nat_eq number list ≡ true
 times_among number [] e = absurd (omega arith)
-times_among number (other ∷ rest) e = by (nat_eq number other) e (times_among number rest)
+times_among number (other ∷ rest) e = by _ e (times_among number rest)
   where
     by : (b : Bool) → 1 ≤ cond b 1 0 + times_in number rest
         → (1 ≤ times_in number rest → is_among nat_eq number rest ≡ true) → (b || is_among nat_eq number rest) ≡ true
@@ -39,7 +39,7 @@ times_removed number z (other ∷ rest) e = grind (arith, common_steps, eqb_tell
 pub length_removed : (number : ℕ) (list : List ℕ) → 1 ≤ times_in number list
     → suc (length (removed number list)) ≡ length list
 length_removed number [] e = absurd (omega arith)
-length_removed number (other ∷ rest) e = by (nat_eq number other) e (length_removed number rest)
+length_removed number (other ∷ rest) e = by _ e (length_removed number rest)
   where
     by : (b : Bool) → 1 ≤ cond b 1 0 + times_in number rest
         → (1 ≤ times_in number rest → suc (length (removed number rest)) ≡ length rest)
@@ -57,7 +57,7 @@ no_longer (first ∷ list) other less =
     let there : 1 + times_in first list ≤ times_in first other =
     subst (λ b. cond b 1 0 + times_in first list ≤ times_in first other) own here in
     let found : 1 ≤ times_in first other = omega arith in
-    let shorter : length list ≤ length (removed first other) = no_longer list (removed first other) (λ number.
+    let shorter : length list ≤ length (removed first other) = no_longer list _ (λ number.
     let same : cond (nat_eq number first) 1 0 + times_in number (removed first other) ≡ times_in number other =
     times_removed first number other found in
     let all : cond (nat_eq number first) 1 0 + times_in number list ≤ times_in number other = less number in
@@ -83,7 +83,7 @@ times_append number (first ∷ list) other =
 -- a list of which all pass, and of which some do not
 filter_all : (p : ℕ → Bool) (list : List ℕ) → list_all p list ≡ true → filter p list ≡ list
 filter_all p [] e = refl
-filter_all p (first ∷ rest) e = by (p first) e (filter_all p rest)
+filter_all p (first ∷ rest) e = by _ e (filter_all p rest)
   where
     by : (b : Bool) → (b && list_all p rest) ≡ true → (list_all p rest ≡ true → filter p rest ≡ rest)
         → cond b (first ∷ filter p rest) (filter p rest) ≡ first ∷ rest

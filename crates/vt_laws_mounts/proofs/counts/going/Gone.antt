@@ -29,13 +29,11 @@ one_taken : (test : Mount ℕ → Bool) (mounts : List (Mount ℕ)) (number : �
     → times test mounts ≡ times test (filter (λ mount. not (nat_eq mount.number number)) mounts) + cond
     (test (mount_in nat_eq mounts number)) 1 0
 one_taken test [] number one there = absurd (true≢false (sym there))
-one_taken test (first ∷ rest) number one there =
-    by (nat_eq number first.number) refl there (one_taken test rest number parts.1)
+one_taken test (first ∷ rest) number one there = by _ refl there (one_taken test rest number parts.1)
   where
     parts : (list_any (λ b. nat_eq first.number b.number) rest ≡ false)
         × (any_pair (λ (a b : Mount ℕ). nat_eq a.number b.number) rest ≡ false)
-    parts = or_parts (list_any (λ b. nat_eq first.number b.number) rest)
-        (any_pair (λ (a b : Mount ℕ). nat_eq a.number b.number) rest) one
+    parts = or_parts _ _ one
 
     left : List (Mount ℕ)
     left = filter (λ mount. not (nat_eq mount.number number)) rest
@@ -51,5 +49,4 @@ one_taken test (first ∷ rest) number one there =
     by false e h later = grind (arith, common_steps, nat_eq-swapped)
 
 pub mount_takes_its_count : MountTakesItsCount
-mount_takes_its_count world number filesystem one there = one_taken
-    (λ mount. nat_eq filesystem mount.filesystem) world.mounts number one there
+mount_takes_its_count world number filesystem one there = one_taken _ _ number one there

@@ -124,7 +124,7 @@ plain_use_none g e = grind (arith, common_steps, flat_map_none, true≢false)
 
 used_by_overlays : (list : List (Filesystem ℕ))
     → flat_map used_by_filesystem (filter is_overlay list) ≡ flat_map used_by_filesystem list
-used_by_overlays list = flat_map-filter is_overlay used_by_filesystem list plain_use_none
+used_by_overlays list = flat_map-filter _ _ list plain_use_none
 
 -- Where overlays come and go, by the uses that all have
 exchanged_by : (world after : World ℕ) (gained lost : List Inode) (k : ℕ)
@@ -171,11 +171,10 @@ exchanged_by world after gained lost k mounts locations exchange same = record {
         let all : used some n ≡ uses_of_all k n some.filesystems = all_uses k n some.filesystems in
         let layers : times_in n (layers_in nat_eq some f.number)
         ≡ layers_at k n (flat_map (of_overlay [] layers_of) some.filesystems) =
-        ap (λ m. times_in n (layers_in nat_eq some m)) (found_number world.filesystems k) in
-        let objects : times_in n (flat_map (objects_of_overlay nat_eq f.number) some.filesystems)
-        ≡ times_in n (flat_map (objects_of_overlay nat_eq k) some.filesystems) =
-        ap (λ m. times_in n (flat_map (objects_of_overlay nat_eq m) some.filesystems))
-        (found_number world.filesystems k) in
+        ap (λ m. times_in n (layers_in nat_eq some m)) (found_number _ k) in
+        let objects : times_in n (flat_map (objects_of_overlay nat_eq f.number) some.filesystems) ≡ times_in n
+        (flat_map (objects_of_overlay nat_eq k) some.filesystems) = ap
+        (λ m. times_in n (flat_map (objects_of_overlay nat_eq m) some.filesystems)) (found_number _ k) in
         omega arith
 
 pub overlays_are_uses : OverlaysAreUses

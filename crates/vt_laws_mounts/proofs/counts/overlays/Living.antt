@@ -24,8 +24,7 @@ module _ (world : World ℕ) (number : ℕ) where
 
   counted_layers : list_any (λ merged. has_layer_on nat_eq number merged && is_mounted nat_eq world merged.number)
       world.filesystems ≡ nat_lt 0 (mounted_layer_count world number)
-  counted_layers = any_layered world.filesystems ∙ any_counted is_there (flat_map (of_overlay [] layers_of)
-      (filter (λ merged. is_mounted nat_eq world merged.number) world.filesystems))
+  counted_layers = any_layered _ ∙ any_counted _ _
 
 pub lives_while_counted : LivesWhileCounted
 lives_while_counted world f = λ i. mounted_while_counted world f.number i || counted_layers world f.number i
@@ -45,27 +44,22 @@ lives_while_mounted world f apart = ap (λ b. is_mounted nat_eq world f.number |
 -- In a world with all invariants
 
 pub overlays_are_no_layers : OverlaysAreNoLayers
-overlays_are_no_layers world is =
-    all_from_among (λ f. is_overlay f ≡ true → HasNoLayerIn f.number world) world.filesystems (λ f m e.
-    all_from_among (λ merged. has_layer_on nat_eq f.number merged ≡ false) world.filesystems (λ merged n.
-    layers_on world f.number merged ∙ by f m e merged.overlay
-    (among_from_list_all (of_overlay true (λ o. list_all (is_plain_layer nat_eq world) (layers_of o))) world.filesystems
-    is.overlays.plain_layers merged n)))
+overlays_are_no_layers world is = all_from_among (λ f. is_overlay f ≡ true → HasNoLayerIn f.number world)
+    world.filesystems (λ f m e. all_from_among _ _ (λ merged n. layers_on world _ merged ∙ by f m e _
+    (among_from_list_all _ _ is.overlays.plain_layers merged n)))
   where
     by : (f : Filesystem ℕ) → Among f world.filesystems → is_overlay f ≡ true → (o : Option (Overlay ℕ))
         → overlay_or true (λ overlay. list_all (is_plain_layer nat_eq world) (layers_of overlay)) o ≡ true
         → list_any (λ layer. nat_eq f.number layer.filesystem) (overlay_or [] layers_of o) ≡ false
     by f m e None plain = refl
     by f m e (Some overlay) plain =
-        none_from_among (λ (layer : Layer ℕ). nat_eq f.number layer.filesystem) (layers_of overlay) (λ layer n.
-        apart layer (among_from_list_all (is_plain_layer nat_eq world) (layers_of overlay) plain layer n)
-        (nat_eq f.number layer.filesystem) refl)
+        none_from_among _ _ (λ layer n. apart layer (among_from_list_all _ _ plain layer n) _ refl)
       where
         apart : (layer : Layer ℕ) → is_plain_layer nat_eq world layer ≡ true → (b : Bool)
             → nat_eq f.number layer.filesystem ≡ b → b ≡ false
         apart layer fits false g = refl
         apart layer fits true g = absurd (true≢false
-            (sym e ∙ ap is_overlay (sym (found_filesystem world.filesystems is.files.one_filesystem f m))
+            (sym e ∙ ap is_overlay (sym (found_filesystem _ is.files.one_filesystem f m))
             ∙ ap (λ n. is_overlay (filesystem_numbered nat_eq world n)) (eqb-true f.number layer.filesystem g)
             ∙ not-true (is_overlay (filesystem_numbered nat_eq world layer.filesystem))
             (and_parts (not (is_overlay (filesystem_numbered nat_eq world layer.filesystem))) _ fits).0))
@@ -83,13 +77,13 @@ overlays_are_mounted world is =
 
 pub all_layers_are_mounted : AllLayersAreMounted
 all_layers_are_mounted world number is =
-    ap (times (λ (layer : Layer ℕ). nat_eq number layer.filesystem)) (kept world.filesystems (λ f m. m))
+    ap (times (λ (layer : Layer ℕ). nat_eq number layer.filesystem)) (kept _ (λ f m. m))
   where
     kept : (list : List (Filesystem ℕ)) → ((f : Filesystem ℕ) → Among f list → Among f world.filesystems)
         → flat_map (of_overlay [] layers_of) (filter (λ merged. is_mounted nat_eq world merged.number) list)
         ≡ flat_map (of_overlay [] layers_of) list
     kept [] within = refl
-    kept (first ∷ rest) within = by (is_mounted nat_eq world first.number) refl (kept rest (λ f m. within f (inr m)))
+    kept (first ∷ rest) within = by _ refl (kept rest (λ f m. within f (inr m)))
       where
         no_layers : (o : Option (Overlay ℕ)) → is_some o ≡ false → overlay_or [] layers_of o ≡ []
         no_layers None e = refl
@@ -114,7 +108,7 @@ all_layers_are_mounted world number is =
 -- Layers are of overlays.
 
 no_layers_of_plain : (g : Filesystem ℕ) → is_overlay g ≡ false → of_overlay [] layers_of g ≡ []
-no_layers_of_plain g e = by g.overlay e
+no_layers_of_plain g e = by _ e
   where
     by : (o : Option (Overlay ℕ)) → is_some o ≡ false → overlay_or [] layers_of o ≡ []
     by None h = refl
@@ -123,7 +117,7 @@ no_layers_of_plain g e = by g.overlay e
 of_overlays : (number : ℕ) (list : List (Filesystem ℕ))
     → layers_among number (filter is_overlay list) ≡ layers_among number list
 of_overlays number list = ap (times (λ (layer : Layer ℕ). nat_eq number layer.filesystem))
-    (flat_map-filter is_overlay (of_overlay [] layers_of) list no_layers_of_plain)
+    (flat_map-filter _ _ list no_layers_of_plain)
 
 among_both : (number : ℕ) (one other : List (Filesystem ℕ))
     → layers_among number (one ++ other) ≡ layers_among number one + layers_among number other

@@ -54,19 +54,14 @@ module _ (world : World ℕ) (named : OverlaysAreNamed world) where
 
   one_stays : (number : ℕ) → is_overlay (filesystem_numbered nat_eq lives number) ≡ true
       → filesystem_numbered nat_eq (settled nat_eq world) number ≡ filesystem_numbered nat_eq lives number
-  one_stays number e =
-      found_mapped (after_second world) (number-second world) (map (after_first world) lives.filesystems) number
-      (ap (is_among nat_eq number) (numbers_mapped (after_first world) (number-first world) lives.filesystems)
-      ∙ there (is_among nat_eq number (map (λ f. f.number) lives.filesystems)) refl)
-      ∙ ap (after_second world) (found_mapped (after_first world) (number-first world) lives.filesystems number
-      (there (is_among nat_eq number (map (λ f. f.number) lives.filesystems)) refl))
-      ∙ stays (filesystem_numbered nat_eq lives number) (found_is lives.filesystems number
-      (there (is_among nat_eq number (map (λ f. f.number) lives.filesystems)) refl)) e
+  one_stays number e = found_mapped _ (number-second world) _ number
+      (ap (is_among nat_eq number) (numbers_mapped _ (number-first world) _) ∙ there _ refl) ∙ ap (after_second world)
+      (found_mapped _ (number-first world) _ number (there _ refl)) ∙ stays _ (found_is _ number (there _ refl)) e
     where
       there : (b : Bool) → is_among nat_eq number (map (λ f. f.number) lives.filesystems) ≡ b
           → is_among nat_eq number (map (λ f. f.number) lives.filesystems) ≡ true
       there true h = h
-      there false h = absurd (true≢false (sym e ∙ ap is_overlay (not_found lives.filesystems number h)))
+      there false h = absurd (true≢false (sym e ∙ ap is_overlay (not_found _ number h)))
 
 pub named_overlays_stay : NamedOverlaysStay
 named_overlays_stay world named = all_stay world named

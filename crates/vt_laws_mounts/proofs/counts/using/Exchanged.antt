@@ -1,6 +1,6 @@
 -- Inodes that get some uses and lose some.
 use Rattle.std.proofs.Common.{◌≡◌, refl, sym, ap, subst, ◌∙◌, ⊎_elim, inl, inr, ℕ, ◌+◌, ◌≤◌, nat_eq, eqb-true, Bool, true, false, true≢false, cond, not, ◌&&◌, ◌||◌, List, [], ◌∷◌, ◌++◌, map, filter, find, flat_map, Option, None, is_some, unwrap_or, arith}
-use Rattle.vt_spec.proofs.Common.{Filesystem, Inodes, Node, World, and_parts, common_steps, eqb_tells, filesystem_numbered, folded, holds_of, is_among, is_some-node_in, layers_in, layers_of, list_all, located_in, named_in, no_filesystem, node_in, node_in-none, objects_of_overlay, of_overlay, or-false, overlay_or, targets_in, used_in, uses_in-none}
+use Rattle.vt_spec.proofs.Common.{Filesystem, Inodes, Node, World, and_parts, common_steps, eqb_tells, filesystem_numbered, folded, holds_of, is_among, is_some-node_in, layers_in, layers_of, list_all, located_in, named_in, no_filesystem, node_in, node_in-none, objects_of_overlay, or-false, overlay_or, targets_in, used_in, uses_in-none}
 use Rattle.vt_spec.specs.Inodes as Trees
 use Rattle.vt_laws_mounts.specs.LettingGo.Counts.{inode_uses, times}
 use Rattle.vt_laws_mounts.specs.LettingGo.InUse.{HasTrees, InodesInUse, IsListedTree, has_upper_in, is_inode_used}
@@ -28,8 +28,8 @@ module _ (k : ℕ) (node : ℕ → Option (Node ℕ)) where
   pub all_pinned : (gained : List Inode) (uses : ℕ → ℕ) (inodes : Inodes ℕ) → Counts.IsCounted uses node inodes
       → ((inode : Inode) → Among inode gained → nat_eq k inode.0 ≡ true → 1 ≤ uses inode.1)
       → Counts.IsCounted (λ n. uses n + times (is_inode k n) gained) node (folded (pinned_if k) inodes gained)
-  all_pinned [] uses inodes counted used = other_uses uses (λ n. uses n + 0) node inodes (λ n. omega arith) counted
-  all_pinned (first ∷ rest) uses inodes counted used = by (nat_eq k first.0) refl (all_pinned rest)
+  all_pinned [] uses inodes counted used = other_uses uses _ node inodes (λ n. omega arith) counted
+  all_pinned (first ∷ rest) uses inodes counted used = by _ refl (all_pinned rest)
     where
       by : (b : Bool) → nat_eq k first.0 ≡ b → ((some : ℕ → ℕ) (counts : Inodes ℕ) → Counts.IsCounted some node counts
           → ((inode : Inode) → Among inode rest → nat_eq k inode.0 ≡ true → 1 ≤ some inode.1)
@@ -38,28 +38,21 @@ module _ (k : ℕ) (node : ℕ → Option (Node ℕ)) where
           (cond (nat_eq k first.0 && nat_eq n first.1) 1 0 + times (is_inode k n) rest)) node
           (folded (pinned_if k) (cond b (Trees.pinned nat_eq inodes first.1) inodes) rest)
       by true e later =
-          let inode = some_inode (inodes.inode first.1)
-          (counted_some uses node inodes counted first.1 (used first (inl refl) e)) in
-          other_uses (λ n. (one_if n first.1 + uses n) + times (is_inode k n) rest)
-          (λ n. uses n + (cond (nat_eq k first.0 && nat_eq n first.1) 1 0 + times (is_inode k n) rest)) node
-          (folded (pinned_if k) (Trees.pinned nat_eq inodes first.1) rest)
-          (λ n. let here : cond (nat_eq k first.0 && nat_eq n first.1) 1 0
-          ≡ one_if n first.1 = ap (λ b. cond (b && nat_eq n first.1) 1 0) e in omega arith)
-          (later (λ n. one_if n first.1 + uses n) (Trees.pinned nat_eq inodes first.1)
-          (counted_pinned counted first.1 inode.1)
+          let inode = some_inode _ (counted_some uses node inodes counted _ (used first (inl refl) e)) in
+          other_uses _ _ node _ (λ n. let here : cond (nat_eq k first.0 && nat_eq n first.1) 1 0 ≡ one_if n first.1 = ap
+          (λ b. cond (b && nat_eq n first.1) 1 0) e in omega arith) (later (λ n. one_if n first.1 + uses n)
+          (Trees.pinned nat_eq inodes first.1) (counted_pinned counted first.1 inode.1)
           (λ other m same. let some = used other (inr m) same in omega arith))
-      by false e later = other_uses (λ n. uses n + times (is_inode k n) rest)
-          (λ n. uses n + (cond (nat_eq k first.0 && nat_eq n first.1) 1 0 + times (is_inode k n) rest)) node
-          (folded (pinned_if k) inodes rest) (λ n. let here : one_when (nat_eq k first.0 && nat_eq n first.1)
-          ≡ 0 = ap (λ b. one_when (b && nat_eq n first.1)) e in omega arith)
-          (later uses inodes counted (λ other m same. used other (inr m) same))
+      by false e later = other_uses _ _ node _ (λ n. let here : one_when (nat_eq k first.0 && nat_eq n first.1) ≡ 0 = ap
+          (λ b. one_when (b && nat_eq n first.1)) e in omega arith) (later uses inodes counted
+          (λ other m same. used other (inr m) same))
 
   pub all_unpinned : (lost : List Inode) (uses left : ℕ → ℕ) (inodes : Inodes ℕ) → Counts.IsCounted uses node inodes
       → ((n : ℕ) → left n + times (is_inode k n) lost ≡ uses n) → ((n : ℕ) → left n ≡ 0 → targets_in (node n) ≡ [])
       → Counts.IsCounted left node (folded (unpinned_if k) inodes lost)
   all_unpinned [] uses left inodes counted less empty = other_uses uses left node inodes
       (λ n. let e : left n + 0 ≡ uses n = less n in omega arith) counted
-  all_unpinned (first ∷ rest) uses left inodes counted less empty = by (nat_eq k first.0) refl (all_unpinned rest)
+  all_unpinned (first ∷ rest) uses left inodes counted less empty = by _ refl (all_unpinned rest)
     where
       abbrev_left : ℕ → ℕ
       abbrev_left n = left n + times (is_inode k n) rest
@@ -71,8 +64,7 @@ module _ (k : ℕ) (node : ℕ → Option (Node ℕ)) where
           → Counts.IsCounted left node (folded (unpinned_if k)
           (cond b (Trees.unpinned nat_eq inodes first.1) inodes) rest)
       by true e later = later abbrev_left left (Trees.unpinned nat_eq inodes first.1)
-          (unpinned_counts uses abbrev_left node inodes first.1 counted
-          (λ n. let here : cond (nat_eq k first.0 && nat_eq n first.1) 1 0
+          (unpinned_counts uses _ node inodes _ counted (λ n. let here : cond (nat_eq k first.0 && nat_eq n first.1) 1 0
           ≡ one_if n first.1 = ap (λ b. cond (b && nat_eq n first.1) 1 0) e in
           let all : left n + (cond (nat_eq k first.0 && nat_eq n first.1) 1 0 + times (is_inode k n) rest) ≡ uses n =
           less n in omega arith)
@@ -140,14 +132,14 @@ module _ (world : World ℕ) (inode : Inode) where
 
   -- it leaves filesystems their numbers and their overlays
   number_step : (g : Filesystem ℕ) → (step g).number ≡ g.number
-  number_step g = by (nat_eq g.number inode.0 && not (is_inode_used world g inode.1))
+  number_step g = by _
     where
       by : (b : Bool) → (cond b (record g { files = without_inode inode.1 g.files }) g).number ≡ g.number
       by true = refl
       by false = refl
 
   overlay_step : (g : Filesystem ℕ) → (step g).overlay ≡ g.overlay
-  overlay_step g = by (nat_eq g.number inode.0 && not (is_inode_used world g inode.1))
+  overlay_step g = by _
     where
       by : (b : Bool) → (cond b (record g { files = without_inode inode.1 g.files }) g).overlay ≡ g.overlay
       by true = refl
@@ -163,8 +155,7 @@ module _ (world : World ℕ) (inode : Inode) where
 
   layers_step : (k : ℕ) → layers_in nat_eq next k ≡ layers_in nat_eq world k
   layers_step k = ap (λ layers. map (λ layer. layer.directory) (filter (λ layer. nat_eq k layer.filesystem) layers))
-      (flat_map-map step (of_overlay [] layers_of) world.filesystems
-      (λ g. ap (overlay_or [] layers_of) (overlay_step g)))
+      (flat_map-map step _ _ (λ g. ap (overlay_or [] layers_of) (overlay_step g)))
 
   module _ (k : ℕ) (f : Filesystem ℕ) (is : f.number ≡ k) (apart : HasNoUpperIn k world) (empty : EmptyUnused world f)
       (stand : StandOnce f) where
@@ -173,8 +164,8 @@ module _ (world : World ℕ) (inode : Inode) where
 
     objects_same : flat_map (objects_of_overlay nat_eq f.number) next.filesystems
         ≡ flat_map (objects_of_overlay nat_eq f.number) world.filesystems
-    objects_same = no_objects_in f.number next (subst (λ m. HasNoUpperIn m next) (sym is) (no_upper_step k apart))
-        ∙ sym (no_objects_in f.number world (subst (λ m. HasNoUpperIn m world) (sym is) apart))
+    objects_same = no_objects_in _ next (subst (λ m. HasNoUpperIn m next) (sym is) (no_upper_step k apart))
+        ∙ sym (no_objects_in _ world (subst (λ m. HasNoUpperIn m world) (sym is) apart))
 
     same_uses : (n : ℕ) → inode_uses next f n ≡ inode_uses world f n
     same_uses n = λ i. times (nat_eq n) (f.files.tree.root ∷ (named_in f.files ++ located_in nat_eq world f.number
@@ -230,11 +221,7 @@ module _ (world : World ℕ) (inode : Inode) where
         skipped d false e h = absurd (true≢false h)
 
         named : named_in (without_inode inode.1 f.files) ≡ named_in f.files
-        named = flat_map_alike (λ d. targets_in (cond (nat_eq d inode.1) None (f.files.tree.node d)))
-            (λ d. targets_in (f.files.tree.node d)) (filter (λ d. not (nat_eq d inode.1)) f.files.numbers)
-            (λ d m. bare d (nat_eq d inode.1) refl)
-            ∙ flat_map-filter (λ d. not (nat_eq d inode.1)) (λ d. targets_in (f.files.tree.node d)) f.files.numbers
-            (λ d h. skipped d (nat_eq d inode.1) refl h)
+        named = flat_map_alike _ _ _ (λ d m. bare d _ refl) ∙ flat_map-filter _ _ _ (λ d h. skipped d _ refl h)
 
     one_left : IsLeft k world f (inode ∷ []) next (step f)
     one_left = grind (arith, common_steps, left_same, left_without, used_or_zero)
@@ -252,9 +239,8 @@ all_left k world [] apart there empty stand = record {
   root = refl;
   once = stand;
 }
-all_left k world (inode ∷ rest) apart there empty stand =
-    then_left (all_left k (let_go_inode world inode) rest (no_upper_step world inode k apart)
-    (ap (is_among nat_eq k) (numbers_mapped (step world inode) (number_step world inode) world.filesystems) ∙ there)
+all_left k world (inode ∷ rest) apart there empty stand = then_left (all_left k (let_go_inode world inode) rest
+    (no_upper_step world inode k apart) (ap (is_among nat_eq k) (numbers_mapped _ (number_step world inode) _) ∙ there)
     (λ n none. empty_left n (sym (first_left.uses n) ∙ none)) first_left.once)
   where
     f : Filesystem ℕ
@@ -265,15 +251,15 @@ all_left k world (inode ∷ rest) apart there empty stand =
 
     first_left : IsLeft k world f (inode ∷ []) (let_go_inode world inode) f1
     first_left = subst (IsLeft k world f (inode ∷ []) (let_go_inode world inode))
-        (sym (found_mapped (step world inode) (number_step world inode) world.filesystems k there))
-        (one_left world inode k f (found_number world.filesystems k) apart empty stand)
+        (sym (found_mapped _ (number_step world inode) _ k there))
+        (one_left world inode k f (found_number _ k) apart empty stand)
 
     among_one : (n : ℕ) (b : Bool) → is_inode k n inode ≡ b → is_inode_among k n (inode ∷ []) ≡ b
     among_one n true e = ap (λ b. b || false) e
     among_one n false e = ap (λ b. b || false) e
 
     empty_left : (n : ℕ) → inode_uses world f n ≡ 0 → targets_in (f1.files.tree.node n) ≡ []
-    empty_left n none = by (is_inode k n inode) refl
+    empty_left n none = by _ refl
       where
         by : (b : Bool) → is_inode k n inode ≡ b → targets_in (f1.files.tree.node n) ≡ []
         by true e = ap targets_in (first_left.gone n none (among_one n true e))
@@ -334,7 +320,7 @@ module _ {world after : World ℕ} {gained lost : List Inode} {k : ℕ} {inodes 
   exchange_uses n = exchange.uses n ∙ ap (λ g. inode_uses after g n + times (is_inode k n) lost) exchange.same
 
   pub empty_then : EmptyUnused after f
-  empty_then n none = unused_are_empty after f tree n (by (is_among nat_eq n (used_in nat_eq after f)) refl)
+  empty_then n none = unused_are_empty after f tree n (by _ refl)
     where
       by : (b : Bool) → is_among nat_eq n (used_in nat_eq after f) ≡ b → b ≡ false
       by true e =
@@ -344,14 +330,12 @@ module _ {world after : World ℕ} {gained lost : List Inode} {k : ℕ} {inodes 
 
   pub counted_then : Counts.IsCounted used_then f.files.tree.node (exchanged k gained lost inodes)
   counted_then =
-      all_unpinned k f.files.tree.node lost (λ n. inode_uses world f n + times (is_inode k n) gained) used_then
-      (folded (pinned_if k) inodes gained) (all_pinned k f.files.tree.node gained (inode_uses world f) inodes start
-      (λ inode m here. let some = start.in_use inode.1
+      all_unpinned k _ lost _ _ _ (all_pinned k _ gained _ inodes start (λ inode m here. let some = start.in_use inode.1
       (is_there inode m here) in let e = start.uses_are inode.1 in omega arith)) (λ n. sym (exchange_uses n)) empty_then
     where
       is_there : (inode : Inode) → Among inode gained → nat_eq k inode.0 ≡ true → is_some (inodes.inode inode.1) ≡ true
       is_there inode m here = sym (ap (λ b. not b || is_some (inodes.inode inode.1)) here)
-          ∙ among_from_list_all (λ i. not (nat_eq k i.0) || is_some (inodes.inode i.1)) gained gains inode m
+          ∙ among_from_list_all _ gained gains inode m
 
   abbrev last : World ℕ
   last = let_go_inodes after lost
@@ -368,7 +352,7 @@ module _ {world after : World ℕ} {gained lost : List Inode} {k : ℕ} {inodes 
       (subst (EmptyUnused after) (sym exchange.same) empty_then) (subst StandOnce (sym exchange.same) once_f))
 
   node_last : (n : ℕ) → node_in ((exchanged k gained lost inodes).inode n) ≡ f_last.files.tree.node n
-  node_last n = by (is_some ((exchanged k gained lost inodes).inode n)) refl
+  node_last n = by _ refl
     where
       not_lost : (list : List Inode) → is_inode_among k n list ≡ false → times (is_inode k n) list ≡ 0
       not_lost [] e = refl
@@ -376,22 +360,21 @@ module _ {world after : World ℕ} {gained lost : List Inode} {k : ℕ} {inodes 
 
       never : (b : Bool) → is_some (inodes.inode n) ≡ b → inode_uses world f n ≡ 0 → f.files.tree.node n ≡ None
       never true e none = absurd (let some = start.in_use n e in let same = start.uses_are n in omega arith)
-      never false e none = sym (counted.node n) ∙ node_in-none (inodes.inode n) e
+      never false e none = sym (counted.node n) ∙ node_in-none _ e
 
       by : (b : Bool) → is_some ((exchanged k gained lost inodes).inode n) ≡ b
           → node_in ((exchanged k gained lost inodes).inode n) ≡ f_last.files.tree.node n
       by true e = sym (counted_then.kept n e) ∙ sym (left.used n
           (let some = counted_then.in_use n e in let same = counted_then.uses_are n in omega arith))
-      by false e = node_in-none ((exchanged k gained lost inodes).inode n) e ∙ sym (gone (is_inode_among k n lost) refl
-          (sym (counted_then.uses_are n) ∙ uses_in-none ((exchanged k gained lost inodes).inode n) e))
+      by false e = node_in-none _ e ∙ sym (gone _ refl (sym (counted_then.uses_are n) ∙ uses_in-none _ e))
         where
           gone : (b : Bool) → is_inode_among k n lost ≡ b → used_then n ≡ 0 → f_last.files.tree.node n ≡ None
           gone true h none = left.gone n none h
-          gone false h none = left.other n h ∙ never (is_some (inodes.inode n)) refl
+          gone false h none = left.other n h ∙ never _ refl
               (let all = exchange_uses n in let nothing = not_lost lost h in omega arith)
 
   there_last : (n : ℕ) → is_some (f_last.files.tree.node n) ≡ is_some ((exchanged k gained lost inodes).inode n)
-  there_last n = sym (ap is_some (node_last n)) ∙ is_some-node_in ((exchanged k gained lost inodes).inode n)
+  there_last n = sym (ap is_some (node_last n)) ∙ is_some-node_in _
 
   counted_last : IsCounted last f_last (exchanged k gained lost inodes)
   counted_last = record {

@@ -42,12 +42,11 @@ record IsAround (mounts : List (Mount ℕ)) (number : ℕ) : Type 0 where
 around : (mounts : List (Mount ℕ)) (number : ℕ) → any_pair (λ (a b : Mount ℕ). nat_eq a.number b.number) mounts ≡ false
     → is_among nat_eq number (map (λ mount. mount.number) mounts) ≡ true → IsAround mounts number
 around [] number one there = cc
-around (first ∷ rest) number one there = by (nat_eq number first.number) refl there (around rest number parts.1)
+around (first ∷ rest) number one there = by _ refl there (around rest number parts.1)
   where
     parts : (list_any (λ b. nat_eq first.number b.number) rest ≡ false)
         × (any_pair (λ (a b : Mount ℕ). nat_eq a.number b.number) rest ≡ false)
-    parts = or_parts (list_any (λ b. nat_eq first.number b.number) rest)
-        (any_pair (λ (a b : Mount ℕ). nat_eq a.number b.number) rest) one
+    parts = or_parts _ _ one
 
     by : (b : Bool) → nat_eq number first.number ≡ b
         → (b || is_among nat_eq number (map (λ mount. mount.number) rest)) ≡ true
@@ -80,7 +79,7 @@ module _ (world : World ℕ) (number : ℕ) (stand : MountsStand world)
     (all_locations world) ≡ true) (there : is_among nat_eq number (map (λ mount. mount.number) world.mounts) ≡ true)
     (unused : is_mount_used world number ≡ false) where
   split : IsAround world.mounts number
-  split = around world.mounts number stand.one_number there
+  split = around _ number stand.one_number there
 
   abbrev left : World ℕ
   left = without_mount world number
@@ -93,12 +92,10 @@ module _ (world : World ℕ) (number : ℕ) (stand : MountsStand world)
   itself = cc (split.numbered, found_itself world.mounts stand.one_number split.mount in_world)
 
   not_attached : is_some (mount_numbered nat_eq world number).namespace ≡ false
-  not_attached = (or_parts (is_some (mount_numbered nat_eq world number).namespace)
-      (is_located nat_eq world number) unused).0
+  not_attached = (or_parts _ _ unused).0
 
   not_located : is_located nat_eq world number ≡ false
-  not_located = (or_parts (is_some (mount_numbered nat_eq world number).namespace)
-      (is_located nat_eq world number) unused).1
+  not_located = (or_parts _ _ unused).1
 
   no_point : is_some split.mount.mount_point ≡ false
   no_point = (nowhere_parts split.mount
@@ -109,14 +106,11 @@ module _ (world : World ℕ) (number : ℕ) (stand : MountsStand world)
   on_left : (location : Location ℕ) → is_on world.mounts location ≡ true → nat_eq number location.mount ≡ false
       → is_on left.mounts location ≡ true
   on_left location on apart =
-      let from = among-from_map (λ (mount : Mount ℕ). mount.number) world.mounts location.mount
-      (among_numbers location.mount (map (λ mount. mount.number) world.mounts) on) in
-      is_among_numbers location.mount (map (λ mount. mount.number) left.mounts)
-      (subst (λ n. Among n (map (λ (mount : Mount ℕ). mount.number) left.mounts)) (sym from.2)
-      (among-map (λ (mount : Mount ℕ). mount.number) left.mounts from.0
-      (Rattle.vt_laws_mounts.proofs.letting_go.Lists.among-filter
+      let from = among-from_map _ _ _ (among_numbers _ _ on) in
+      is_among_numbers _ _ (subst (λ n. Among n (map (λ (mount : Mount ℕ). mount.number) left.mounts)) (sym from.2)
+      (among-map _ _ from.0 (Rattle.vt_laws_mounts.proofs.letting_go.Lists.among-filter
       (λ other. not (nat_eq other.number number)) world.mounts from.0 from.1
-      (ap not (ap (λ n. nat_eq n number) (sym from.2) ∙ nat_eq-swapped number location.mount false apart)))))
+      (ap not (ap (λ n. nat_eq n number) (sym from.2) ∙ nat_eq-swapped number _ false apart)))))
 
   all_on_left : list_all (is_on left.mounts) (all_locations left ++ places_of left.mounts) ≡ true
   all_on_left = list_all_from_among (is_on left.mounts) (all_locations left ++ places_of left.mounts) (λ location m.
@@ -148,7 +142,7 @@ module _ (world : World ℕ) (number : ℕ) (stand : MountsStand world)
       none (Some place) e = cc
 
       uses_one : map (inode_at world) (places_of (split.mount ∷ [])) ≡ root_inode world number ∷ []
-      uses_one = ap (λ l. map (inode_at world) (root_of split.mount ∷ l)) (none split.mount.mount_point no_point)
+      uses_one = ap (λ l. map (inode_at world) (root_of split.mount ∷ l)) (none _ no_point)
           ∙ (λ i. ((mount_numbered nat_eq world (split.numbered i)).filesystem, (sym itself i).root) ∷ [])
 
 pub mounts_leave_their_roots : MountsLeaveTheirRoots

@@ -41,7 +41,7 @@ module _ (mounts : List (Mount ℕ)) (k n : ℕ) where
   count_none [] e = refl
   count_none (first ∷ rest) e =
       let parts = and_parts (not (shown first)) (list_all (λ location. not (shown location)) rest) e in
-      by (shown first) parts.0 (count_none rest parts.1)
+      by _ parts.0 (count_none rest parts.1)
     where
       by : (b : Bool) → not b ≡ true → count_in rest ≡ 0
           → times_in n (map (λ location. location.node) (cond b (first ∷ filter shown rest) (filter shown rest))) ≡ 0
@@ -68,9 +68,9 @@ module _ (world after : World ℕ) (filesystems : after.filesystems ≡ world.fi
       ≡ inode_uses after f n = ap (λ g. inode_uses after g n) same_found in
       let three = uses_split after f n in
       let here : times_in n (located_in nat_eq world f.number) ≡ located world n =
-      ap (λ m. times_in n (located_in nat_eq world m)) (found_number world.filesystems k) in
+      ap (λ m. times_in n (located_in nat_eq world m)) (found_number _ k) in
       let there : times_in n (located_in nat_eq after f.number) ≡ located after n =
-      ap (λ m. times_in n (located_in nat_eq after m)) (found_number world.filesystems k) in
+      ap (λ m. times_in n (located_in nat_eq after m)) (found_number _ k) in
       let layers : times_in n (layers_in nat_eq after f.number) ≡ times_in n (layers_in nat_eq world f.number)
       = (λ i. times_in n (map (λ layer. layer.directory)
       (filter (λ layer. nat_eq f.number layer.filesystem) (flat_map (of_overlay [] layers_of) (filesystems i))))) in
@@ -131,14 +131,12 @@ found_still : (front added back : List (Mount ℕ)) (number : ℕ)
     → any_pair (λ (a b : Mount ℕ). nat_eq a.number b.number) (front ++ (added ++ back)) ≡ false
     → is_among nat_eq number (map (λ mount. mount.number) (front ++ back)) ≡ true
     → mount_in nat_eq (front ++ (added ++ back)) number ≡ mount_in nat_eq (front ++ back) number
-found_still front added back number one there =
-    ap (mount_in nat_eq (front ++ (added ++ back))) (sym (number-mount_in (front ++ back) number))
-    ∙ found_itself (front ++ (added ++ back)) one (mount_in nat_eq (front ++ back) number)
-    (more (mount_in nat_eq (front ++ back) number) (mount_in-among (front ++ back) number there))
+found_still front added back number one there = ap (mount_in nat_eq (front ++ (added ++ back)))
+    (sym (number-mount_in _ number)) ∙ found_itself _ one _ (more _ (mount_in-among _ number there))
   where
     more : (mount : Mount ℕ) → Among mount (front ++ back) → Among mount (front ++ (added ++ back))
-    more mount m = ⊎_elim (λ here. among-append_left front (added ++ back) mount here)
-        (λ there. among-append_right front (added ++ back) mount (among-append_right added back mount there))
+    more mount m = ⊎_elim (λ here. among-append_left front _ mount here)
+        (λ there. among-append_right front _ mount (among-append_right added back mount there))
         (Rattle.vt_laws_mounts.proofs.letting_go.Lists.among-append front back mount m)
 
 pub mounts_are_uses : MountsAreUses
@@ -247,9 +245,8 @@ mount_is_placed world after front back old new filesystems locations were are nu
     points mounts = filter_map (λ mount. mount.mount_point) mounts
 
     same_roots : map root_of news ≡ map root_of olds
-    same_roots = roots_append front (new ∷ back)
-        ∙ (λ i. map root_of front ++ (record { mount = numbered i; node = rooted i } ∷ map root_of back))
-        ∙ sym (roots_append front (old ∷ back))
+    same_roots = roots_append front _ ∙ (λ i. map root_of front ++ (record { mount = numbered i; node = rooted i } ∷ map
+        root_of back)) ∙ sym (roots_append front _)
 
     gains : (n : ℕ) (some : List (Location ℕ))
         → times (is_inode k n) (map (inode_at world) some) ≡ count_in olds k n some
@@ -331,18 +328,16 @@ new_tree_counts world number root no_layers no_objects one own outside = record 
     roots : (n : ℕ) (mounts : List (Mount ℕ)) → ((mount : Mount ℕ) → Among mount mounts → Among mount world.mounts)
         → count_in world.mounts number n (map root_of mounts) ≡ cond (nat_eq n root)
         (times (λ mount. nat_eq number mount.filesystem) mounts) 0
-    roots n [] within = by (nat_eq n root)
+    roots n [] within = by _
       where
         by : (b : Bool) → ◌≡◌ {A = ℕ} 0 (cond b 0 0)
         by true = refl
         by false = refl
-    roots n (first ∷ rest) within = ap (λ (mount : Mount ℕ). times_in n (map (λ location. location.node)
-        (cond (nat_eq number mount.filesystem) (root_of first ∷ filter (shown world.mounts number n) (map root_of rest))
-        (filter (shown world.mounts number n) (map root_of rest)))))
-        (found_itself world.mounts one first (within first (inl refl)))
-        ∙ by (nat_eq number first.filesystem) (among_from_list_all (λ mount. not (nat_eq number mount.filesystem)
-        || nat_eq root mount.root) world.mounts own first (within first (inl refl)))
-        (roots n rest (λ mount m. within mount (inr m)))
+    roots n (first ∷ rest) within = ap (λ (mount : Mount ℕ). times_in n
+        (map (λ location. location.node) (cond (nat_eq number mount.filesystem)
+        (root_of first ∷ filter (shown world.mounts number n) (map root_of rest)) (filter (shown world.mounts number n)
+        (map root_of rest))))) (found_itself _ one first (within first (inl refl))) ∙ by _
+        (among_from_list_all _ _ own first (within first (inl refl))) (roots n rest (λ mount m. within mount (inr m)))
       where
         by : (b : Bool) → (not b || nat_eq root first.root) ≡ true
             → count_in world.mounts number n (map root_of rest) ≡ cond (nat_eq n root)

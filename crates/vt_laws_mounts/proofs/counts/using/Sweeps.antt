@@ -1,6 +1,6 @@
 -- Counted inodes after the sweep at the end of a call.
 use Rattle.std.proofs.Common.{◌≡◌, refl, sym, ap, subst, ◌∙◌, ℕ, ◌≤◌, nat_eq, Bool, true, false, cond, not, List, [], ◌∷◌, ◌++◌, length, map, filter, flat_map, None, is_some, arith}
-use Rattle.vt_spec.proofs.Common.{Filesystem, Inodes, World, any_pair, common_steps, filesystem_lives, filesystem_numbered, is_among, is_overlay, layers_in, layers_of, list_all, located_in, named_in, node_in, node_in-none, objects_of_overlay, of_overlay, only_used, only_used_by, only_used_of, settled, targets_in, used_in, uses_in, uses_in-none, without_dead_groups, without_dead_in, without_dead_mounts}
+use Rattle.vt_spec.proofs.Common.{Filesystem, Inodes, World, any_pair, common_steps, filesystem_lives, filesystem_numbered, is_among, is_overlay, layers_in, layers_of, located_in, named_in, node_in, node_in-none, objects_of_overlay, of_overlay, only_used, only_used_by, only_used_of, settled, targets_in, used_in, uses_in, uses_in-none, without_dead_groups, without_dead_in, without_dead_mounts}
 use Rattle.vt_laws_mounts.specs.LettingGo.Counts.{inode_uses, times}
 use Rattle.vt_laws_mounts.specs.LettingGo.InUse.{HasTrees, InodesInUse, has_upper_in}
 use Rattle.vt_laws_mounts.specs.LettingGo.OneByOne.{Inode}
@@ -53,8 +53,7 @@ module _ {world : World ℕ} (after : World ℕ) {gained lost : List Inode} {k :
   -- no upper layer comes
   upper_used : (some : World ℕ) (chosen : Bool) (g : Filesystem ℕ)
       → has_upper_in k (only_used nat_eq some chosen g) ≡ has_upper_in k g
-  upper_used some true g = upper-left (used_in nat_eq some g) g k
-      (list_all (λ n. is_among nat_eq n (used_in nat_eq some g)) g.files.numbers)
+  upper_used some true g = upper-left _ g k _
   upper_used some false g = refl
 
   apart_in : (some : World ℕ) (chosen : Filesystem ℕ → Bool) → HasNoUpperIn k some
@@ -73,7 +72,7 @@ module _ {world : World ℕ} (after : World ℕ) {gained lost : List Inode} {k :
 
   -- of the filesystem are left the inodes in use
   f_number : f.number ≡ k
-  f_number = found_number world.filesystems k
+  f_number = found_number _ k
 
   used_first : used_in nat_eq first f ≡ used
   used_first = λ i. f.files.tree.root ∷ (named_in f.files ++ located_in nat_eq lives f.number
@@ -82,28 +81,25 @@ module _ {world : World ℕ} (after : World ℕ) {gained lost : List Inode} {k :
       ∙ ap (λ m. flat_map (objects_of_overlay nat_eq m) lives.filesystems) (sym f_number)) i)
 
   left_so : after_second after (after_first after f) ≡ only_used_of nat_eq used f
-  left_so = by (is_overlay f) refl
+  left_so = by _ refl
     where
       by : (b : Bool) → is_overlay f ≡ b → after_second after (after_first after f) ≡ only_used_of nat_eq used f
-      by true e = ap (after_second after) (ap (λ b. only_used nat_eq lives b f) e)
-          ∙ ap (λ b. only_used nat_eq first (not b) (only_used_of nat_eq used f))
-          (overlay-left used f (list_all (λ n. is_among nat_eq n used) f.files.numbers) ∙ e)
+      by true e = ap (after_second after) (ap (λ b. only_used nat_eq lives b f) e) ∙ ap
+          (λ b. only_used nat_eq first (not b) (only_used_of nat_eq used f)) (overlay-left used f _ ∙ e)
       by false e = ap (after_second after) (ap (λ b. only_used nat_eq lives b f) e)
           ∙ ap (λ b. only_used nat_eq first (not b) f) e ∙ ap (λ u. only_used_of nat_eq u f) used_first
 
   there_first : is_among nat_eq k (map (λ g. g.number) first.filesystems) ≡ true
-  there_first = ap (is_among nat_eq k) (numbers_mapped (after_first after) (number-first after) lives.filesystems)
+  there_first = ap (is_among nat_eq k) (numbers_mapped _ (number-first after) _)
       ∙ Exchanged.there_after trees in_use apart_living exchange counted gains
 
   found : filesystem_numbered nat_eq swept k ≡ only_used_of nat_eq used f
-  found = found_mapped (after_second after) (number-second after) first.filesystems k there_first
-      ∙ ap (after_second after) (found_mapped (after_first after) (number-first after) lives.filesystems k
-      (Exchanged.there_after trees in_use apart_living exchange counted gains)
+  found = found_mapped _ (number-second after) _ k there_first ∙ ap (after_second after)
+      (found_mapped _ (number-first after) _ k (Exchanged.there_after trees in_use apart_living exchange counted gains)
       ∙ ap (after_first after) exchange.same) ∙ left_so
 
   files_left : (only_used_of nat_eq used f).files ≡ f_last.files
-  files_left = aside (list_all (λ n. is_among nat_eq n used) f.files.numbers) ∙ ap (λ (g : Filesystem ℕ). g.files)
-      (left_of_plain used (record f { overlay = None })
+  files_left = aside _ ∙ ap (λ (g : Filesystem ℕ). g.files) (left_of_plain used _
       (Exchanged.tree trees in_use apart_living exchange counted gains).numbers refl)
     where
       aside : (b : Bool)
@@ -118,7 +114,7 @@ module _ {world : World ℕ} (after : World ℕ) {gained lost : List Inode} {k :
   used_times n = sym (counts.uses_are n)
 
   used_there : (n : ℕ) → is_among nat_eq n used ≡ is_some (result.inode n)
-  used_there n = by (is_some (result.inode n)) refl
+  used_there n = by _ refl
     where
       none : (b : Bool) → is_among nat_eq n used ≡ b → times_in n used ≡ 0 → b ≡ false
       none true e zero_times = absurd (let some = among_times n used e in omega arith)
@@ -126,25 +122,21 @@ module _ {world : World ℕ} (after : World ℕ) {gained lost : List Inode} {k :
 
       by : (b : Bool) → is_some (result.inode n) ≡ b → is_among nat_eq n used ≡ b
       by true e = times_among n used (let some = counts.in_use n e in let same = used_times n in omega arith)
-      by false e = none (is_among nat_eq n used) refl (used_times n ∙ uses_in-none (result.inode n) e)
+      by false e = none _ refl (used_times n ∙ uses_in-none _ e)
 
   node_last : (n : ℕ) → node_in (result.inode n) ≡ cond (not (is_among nat_eq n used)) None (f.files.tree.node n)
-  node_last n = by (is_some (result.inode n)) refl
-      ∙ sym (ap (λ b. cond (not b) None (f.files.tree.node n)) (used_there n))
+  node_last n = by _ refl ∙ sym (ap (λ b. cond (not b) None (f.files.tree.node n)) (used_there n))
     where
       by : (b : Bool) → is_some (result.inode n) ≡ b → node_in (result.inode n)
           ≡ cond (not (is_some (result.inode n))) None (f.files.tree.node n)
       by true e = sym (counts.kept n e) ∙ sym (ap (λ b. cond (not b) None (f.files.tree.node n)) e)
-      by false e = node_in-none (result.inode n) e ∙ sym (ap (λ b. cond (not b) None (f.files.tree.node n)) e)
+      by false e = node_in-none _ e ∙ sym (ap (λ b. cond (not b) None (f.files.tree.node n)) e)
 
   bare : (n : ℕ) → is_among nat_eq n used ≡ false → targets_in (f.files.tree.node n) ≡ []
   bare n e = counts.emptied n (sym (used_there n) ∙ e)
 
   named : named_in f_last.files ≡ named_in f.files
-  named = flat_map_alike (λ d. targets_in (cond (not (is_among nat_eq d used)) None (f.files.tree.node d)))
-      (λ d. targets_in (f.files.tree.node d)) (filter (λ d. not (not (is_among nat_eq d used))) f.files.numbers)
-      (λ d m. by d (is_among nat_eq d used) refl) ∙ flat_map-filter (λ d. not (not (is_among nat_eq d used)))
-      (λ d. targets_in (f.files.tree.node d)) f.files.numbers (λ d h. bare d (twice (is_among nat_eq d used) h))
+  named = flat_map_alike _ _ _ (λ d m. by d _ refl) ∙ flat_map-filter _ _ _ (λ d h. bare d (twice _ h))
     where
       by : (d : ℕ) (b : Bool) → is_among nat_eq d used ≡ b → targets_in (cond (not b) None (f.files.tree.node d))
           ≡ targets_in (f.files.tree.node d)
@@ -196,7 +188,7 @@ module _ {world : World ℕ} (after : World ℕ) {gained lost : List Inode} {k :
   }
     where
       numbered : f.number ≡ (only_used_of nat_eq used f).number
-      numbered = sym (number-left used f (list_all (λ n. is_among nat_eq n used) f.files.numbers))
+      numbered = sym (number-left used f _)
 
   -- groups do not use inodes
   grouped : (some : World ℕ) → IsCounted some (filesystem_numbered nat_eq some k) result

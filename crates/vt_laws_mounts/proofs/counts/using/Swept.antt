@@ -1,6 +1,6 @@
 -- The sweep after a change of one plain tree, where inodes count their uses.
 use Rattle.std.proofs.Common.{◌≡◌, ◌≢◌, refl, sym, ap, subst, ◌∙◌, ⊎_elim, inl, inr, ℕ, ◌+◌, ◌≤◌, nat_eq, eqb-true, eq-eqb, ne_eqb, Bool, true, false, true≢false, cond, not, List, [], ◌∷◌, ◌++◌, map, filter, find, flat_map, Option, Some, None, is_some, unwrap_or, arith}
-use Rattle.vt_spec.proofs.Common.{FileTree, Filesystem, Inode, Inodes, Node, World, any_pair, common_steps, filesystem_lives, filesystem_numbered, is_among, is_overlay, is_some-node_in, layers_in, layers_of, list_all, located_in, map_alike, map_twice, named_in, no_filesystem, node_in, node_in-none, objects_of_overlay, of_overlay, only_among, only_used, only_used_by, or_cases, overlay_or, replaced_if_numbered, settled, targets_in, used_in, uses_in, uses_in-none, with_files, without_dead_filesystems, without_dead_groups, without_dead_in, without_dead_inodes, without_dead_mounts}
+use Rattle.vt_spec.proofs.Common.{FileTree, Filesystem, Inode, Inodes, Node, World, any_pair, common_steps, filesystem_lives, filesystem_numbered, is_among, is_overlay, is_some-node_in, layers_in, layers_of, list_all, located_in, map_alike, map_twice, named_in, no_filesystem, node_in, node_in-none, objects_of_overlay, only_among, only_used, only_used_by, or_cases, overlay_or, replaced_if_numbered, settled, targets_in, used_in, uses_in, uses_in-none, with_files, without_dead_filesystems, without_dead_groups, without_dead_in, without_dead_inodes, without_dead_mounts}
 use Rattle.vt_laws_mounts.specs.LettingGo.Counts.{inode_uses, times}
 use Rattle.vt_laws_mounts.specs.LettingGo.InUse.{AllInUse, IsListedTree, has_upper_in, is_inode_used}
 use Rattle.vt_laws_mounts.specs.LettingGo.OneByOne as LettingGo
@@ -56,8 +56,7 @@ pub found_changed : (filesystems : List (Filesystem ℕ)) (number : ℕ) (new : 
     → unwrap_or (find (λ f. nat_eq number f.number) (map (replaced_if_numbered nat_eq new) filesystems))
     (no_filesystem number) ≡ new
 found_changed [] number new is there = absurd (true≢false (sym there))
-found_changed (first ∷ rest) number new is there =
-    by (nat_eq new.number first.number) refl (found_changed rest number new is)
+found_changed (first ∷ rest) number new is there = by _ refl (found_changed rest number new is)
   where
     Found : Filesystem ℕ → Type 0
     Found f = unwrap_or (cond (nat_eq number f.number) (Some f)
@@ -72,7 +71,7 @@ pub found_other : (filesystems : List (Filesystem ℕ)) (other : ℕ) (new : Fil
     → unwrap_or (find (λ f. nat_eq other f.number) (map (replaced_if_numbered nat_eq new) filesystems))
     (no_filesystem other) ≡ unwrap_or (find (λ f. nat_eq other f.number) filesystems) (no_filesystem other)
 found_other [] other new apart = refl
-found_other (first ∷ rest) other new apart = by (nat_eq new.number first.number) refl (found_other rest other new apart)
+found_other (first ∷ rest) other new apart = by _ refl (found_other rest other new apart)
   where
     later_new : Option (Filesystem ℕ)
     later_new = find (λ f. nat_eq other f.number) (map (replaced_if_numbered nat_eq new) rest)
@@ -89,7 +88,7 @@ found_other (first ∷ rest) other new apart = by (nat_eq new.number first.numbe
         ap (λ c. unwrap_or (cond c (Some new) later_new) (no_filesystem other)) (ne_eqb other new.number apart) ∙ later
         ∙ sym (ap (λ c. unwrap_or (cond c (Some first) later_old) (no_filesystem other))
         (ne_eqb other first.number (λ same. apart (same ∙ sym (eqb-true new.number first.number e)))))
-    by false e later = here (nat_eq other first.number)
+    by false e later = here _
       where
         here : (c : Bool) → unwrap_or (cond c (Some first) later_new) (no_filesystem other)
             ≡ unwrap_or (cond c (Some first) later_old) (no_filesystem other)
@@ -100,7 +99,7 @@ pub found_is : (filesystems : List (Filesystem ℕ)) (number : ℕ)
     → is_among nat_eq number (map (λ f. f.number) filesystems) ≡ true
     → Among (unwrap_or (find (λ f. nat_eq number f.number) filesystems) (no_filesystem number)) filesystems
 found_is [] number there = absurd (true≢false (sym there))
-found_is (first ∷ rest) number there = by (nat_eq number first.number) refl (found_is rest number)
+found_is (first ∷ rest) number there = by _ refl (found_is rest number)
   where
     by : (b : Bool) → nat_eq number first.number ≡ b → (is_among nat_eq number (map (λ f. f.number) rest) ≡ true
         → Among (unwrap_or (find (λ f. nat_eq number f.number) rest) (no_filesystem number)) rest)
@@ -108,7 +107,7 @@ found_is (first ∷ rest) number there = by (nat_eq number first.number) refl (f
         (first ∷ rest)
     by true e later = inl refl
     by false e later = inr (later (⊎_elim (λ here. absurd (true≢false (sym here ∙ e))) (λ rest. rest)
-        (or_cases (nat_eq number first.number) (is_among nat_eq number (map (λ f. f.number) rest)) there)))
+        (or_cases _ _ there)))
 
 pub found_number : (filesystems : List (Filesystem ℕ)) (number : ℕ)
     → (unwrap_or (find (λ f. nat_eq number f.number) filesystems) (no_filesystem number)).number ≡ number
@@ -125,16 +124,15 @@ not_found (first ∷ rest) number none = grind (arith, common_steps, none, true�
 pub there_if_some : (searched world : World ℕ) (number : ℕ) (inodes : Inodes ℕ)
     → IsCounted world (filesystem_numbered nat_eq searched number) inodes
     → is_among nat_eq number (map (λ f. f.number) searched.filesystems) ≡ true
-there_if_some searched world number inodes counted =
-    by (is_among nat_eq number (map (λ f. f.number) searched.filesystems)) refl
+there_if_some searched world number inodes counted = by _ refl
   where
     by : (b : Bool) → is_among nat_eq number (map (λ f. f.number) searched.filesystems) ≡ b
         → is_among nat_eq number (map (λ f. f.number) searched.filesystems) ≡ true
     by true e = e
     by false e =
         let missing : IsCounted world (no_filesystem number) inodes = subst (λ f. IsCounted world f inodes)
-        (not_found searched.filesystems number e) counted in
-        let none : uses_in (inodes.inode number) ≡ 0 = unused (inodes.inode number) (missing.node number) in
+        (not_found _ number e) counted in
+        let none : uses_in (inodes.inode number) ≡ 0 = unused _ (missing.node number) in
         let all : uses_in (inodes.inode number) ≡ times (nat_eq number)
         (used_in nat_eq world (no_filesystem number)) = missing.uses number in
         let own = one_if-itself number in
@@ -175,7 +173,7 @@ start_counts world filesystem inodes tree used counted = record {
 }
   where
     same_there : (n : ℕ) → is_some (inodes.inode n) ≡ is_some (filesystem.files.tree.node n)
-    same_there n = sym (is_some-node_in (inodes.inode n)) ∙ ap is_some (counted.node n)
+    same_there n = sym (is_some-node_in _) ∙ ap is_some (counted.node n)
 
 -- The counted inodes before a change
 pub counted_start : (world : World ℕ) (filesystem : Filesystem ℕ) (inodes : Inodes ℕ) → IsListedTree filesystem.files
@@ -218,13 +216,13 @@ module _ (world : World ℕ) (number : ℕ) (files : FileTree ℕ) (in_use : All
 
   -- the one of that number is the old one
   is_old : (f : Filesystem ℕ) → Among f world.filesystems → nat_eq old.number f.number ≡ true → f ≡ old
-  is_old f m e = sym (found_filesystem world.filesystems one f m) ∙ ap (filesystem_numbered nat_eq world)
-      (sym (eqb-true old.number f.number e) ∙ found_number world.filesystems number)
+  is_old f m e = sym (found_filesystem _ one f m) ∙ ap (filesystem_numbered nat_eq world)
+      (sym (eqb-true old.number f.number e) ∙ found_number _ number)
 
   -- each keeps its number and its overlay
   number_kept : (some : FileTree ℕ) (f : Filesystem ℕ) → Among f world.filesystems
       → (replaced_if_numbered nat_eq (with_files old some) f).number ≡ f.number
-  number_kept some f m = by (nat_eq old.number f.number) refl
+  number_kept some f m = by _ refl
     where
       by : (b : Bool) → nat_eq old.number f.number ≡ b → (cond b (with_files old some) f).number ≡ f.number
       by true e = eqb-true old.number f.number e
@@ -232,7 +230,7 @@ module _ (world : World ℕ) (number : ℕ) (files : FileTree ℕ) (in_use : All
 
   overlay_kept : (some : FileTree ℕ) (f : Filesystem ℕ) → Among f world.filesystems
       → (replaced_if_numbered nat_eq (with_files old some) f).overlay ≡ f.overlay
-  overlay_kept some f m = by (nat_eq old.number f.number) refl
+  overlay_kept some f m = by _ refl
     where
       by : (b : Bool) → nat_eq old.number f.number ≡ b → (cond b (with_files old some) f).overlay ≡ f.overlay
       by true e = ap (λ (g : Filesystem ℕ). g.overlay) (sym (is_old f m e))
@@ -240,10 +238,8 @@ module _ (world : World ℕ) (number : ℕ) (files : FileTree ℕ) (in_use : All
 
   layers_kept : (some : FileTree ℕ) (k : ℕ)
       → layers_in nat_eq (with_tree world number some) k ≡ layers_in nat_eq world k
-  layers_kept some k =
-      ap (λ layers. map (λ layer. layer.directory) (filter (λ layer. nat_eq k layer.filesystem) layers))
-      (flat_map-step (replaced_if_numbered nat_eq (with_files old some)) (of_overlay [] layers_of) world.filesystems
-      (λ f m. ap (overlay_or [] layers_of) (overlay_kept some f m)))
+  layers_kept some k = ap (λ layers. map (λ layer. layer.directory) (filter (λ layer. nat_eq k layer.filesystem)
+      layers)) (flat_map-step _ _ _ (λ f m. ap (overlay_or [] layers_of) (overlay_kept some f m)))
 
   objects_kept : (some : FileTree ℕ) (k : ℕ)
       → flat_map (objects_of_overlay nat_eq k) (with_tree world number some).filesystems
@@ -284,21 +280,18 @@ module _ (world : World ℕ) (number : ℕ) (files : FileTree ℕ) (in_use : All
   -- nothing of an overlay goes
   no_overlays : without_dead_in nat_eq is_overlay raw ≡ raw
   no_overlays = ap (λ filesystems. record raw { filesystems = filesystems })
-      (map_twice (λ f. only_used nat_eq raw (is_overlay f) f) (replaced_if_numbered nat_eq new) world.filesystems
-      ∙ map_alike (λ f. only_used nat_eq raw (is_overlay (replaced_if_numbered nat_eq new f))
-      (replaced_if_numbered nat_eq new f)) (replaced_if_numbered nat_eq new) world.filesystems
-      (λ f m. by f m (nat_eq old.number f.number)))
+      (map_twice _ _ _ ∙ map_alike _ _ _ (λ f m. by f m _))
     where
       by : (f : Filesystem ℕ) → Among f world.filesystems → (b : Bool)
           → only_used nat_eq raw (is_overlay (cond b new f)) (cond b new f) ≡ cond b new f
       by f m true = ap (λ b. only_used nat_eq raw b new) plain
-      by f m false = stays_chosen (is_overlay f) f m
+      by f m false = stays_chosen _ f m
 
   abbrev step : Filesystem ℕ → Filesystem ℕ
   step f = only_used nat_eq raw (not (is_overlay f)) f
 
   stays : (f : Filesystem ℕ) → Among f world.filesystems → step f ≡ f
-  stays f m = stays_chosen (not (is_overlay f)) f m
+  stays f m = stays_chosen _ f m
 
   module _ (once : (n : ℕ) → times_in n files.numbers ≡ cond (is_some (files.tree.node n)) 1 0) where
     -- where all are used, all are kept
@@ -309,7 +302,7 @@ module _ (world : World ℕ) (number : ℕ) (files : FileTree ℕ) (in_use : All
     }
       where
         kept : (n : ℕ) → files.tree.node n ≡ cond (is_among nat_eq n used) (files.tree.node n) None
-        kept n = by (is_some (files.tree.node n)) refl
+        kept n = by _ refl
           where
             none : (o : Option (Node ℕ)) (b : Bool) → is_some o ≡ false → o ≡ cond b o None
             none None true e = refl
@@ -318,26 +311,21 @@ module _ (world : World ℕ) (number : ℕ) (files : FileTree ℕ) (in_use : All
 
             by : (b : Bool) → is_some (files.tree.node n) ≡ b
                 → files.tree.node n ≡ cond (is_among nat_eq n used) (files.tree.node n) None
-            by true e =
-                sym (ap (λ b. cond b (files.tree.node n) None)
-                (among_from_list_all (λ m. is_among nat_eq m used) files.numbers all n
-                (among_numbers n files.numbers (times_among n files.numbers
-                (let one : times_in n files.numbers ≡ 1 = once n ∙ ap (λ b. cond b 1 0) e in omega arith)))))
-            by false e = none (files.tree.node n) (is_among nat_eq n used) e
+            by true e = sym (ap (λ b. cond b (files.tree.node n) None) (among_from_list_all _ _ all n
+                (among_numbers n _ (times_among n files.numbers (let one : times_in n files.numbers ≡ 1 = once n ∙ ap
+                (λ b. cond b 1 0) e in omega arith)))))
+            by false e = none _ _ e
 
         same : files.numbers ≡ filter (λ n. is_among nat_eq n used) files.numbers
         same = sym (Rattle.vt_laws_mounts.proofs.letting_go.Lists.filter_all (λ n. is_among nat_eq n used) files.numbers
-            (among_from_list_all (λ n. is_among nat_eq n used) files.numbers all))
+            (among_from_list_all _ _ all))
 
     step_new : step new ≡ with_files old swept
     step_new = grind (arith, common_steps, all_kept)
 
     inodes_swept : without_dead_in nat_eq (λ f. not (is_overlay f)) raw ≡ done
     inodes_swept = ap (λ filesystems. record world { filesystems = filesystems })
-        (map_twice step (replaced_if_numbered nat_eq new) world.filesystems
-        ∙ map_alike (λ f. step (replaced_if_numbered nat_eq new f))
-        (replaced_if_numbered nat_eq (with_files old swept)) world.filesystems
-        (λ f m. by f m (nat_eq old.number f.number)))
+        (map_twice step _ _ ∙ map_alike _ _ _ (λ f m. by f m _))
       where
         by : (f : Filesystem ℕ) → Among f world.filesystems → (b : Bool)
             → step (cond b new f) ≡ cond b (with_files old swept) f
@@ -350,8 +338,7 @@ module _ (world : World ℕ) (number : ℕ) (files : FileTree ℕ) (in_use : All
         ∙ ap (without_dead_groups nat_eq) inodes_swept ∙ groups_stay done in_use.groups
 
     pub found_done : filesystem_numbered nat_eq done number ≡ with_files old swept
-    found_done = found_changed world.filesystems number (with_files old swept)
-        (found_number world.filesystems number) there
+    found_done = found_changed _ number _ (found_number _ number) there
 
   -- the inodes of other filesystems are used as before
   pub others_stay : (other : ℕ) (inodes : Inodes ℕ) → other ≢ number
@@ -384,7 +371,7 @@ module _ (world : World ℕ) (number : ℕ) (files : FileTree ℕ) (in_use : All
         ∙ ap (λ r. uses_of (base_from raw r) files.tree.node files.numbers n) (sym root_same) ∙ sym (uses_are raw new n)
 
     pub used_there : (n : ℕ) → is_among nat_eq n used ≡ is_some (inodes.inode n)
-    used_there n = by (is_some (inodes.inode n)) refl
+    used_there n = by _ refl
       where
         none : (b : Bool) → is_among nat_eq n used ≡ b → times_in n used ≡ 0 → b ≡ false
         none true e zero_times = absurd (let some = among_times n used e in omega arith)
@@ -392,18 +379,18 @@ module _ (world : World ℕ) (number : ℕ) (files : FileTree ℕ) (in_use : All
 
         by : (b : Bool) → is_some (inodes.inode n) ≡ b → is_among nat_eq n used ≡ b
         by true e = times_among n used (let some = tallied.counted.in_use n e in let same = used_times n in omega arith)
-        by false e = none (is_among nat_eq n used) refl (sym (used_times n) ∙ uses_in-none (inodes.inode n) e)
+        by false e = none _ refl (sym (used_times n) ∙ uses_in-none _ e)
 
     unused_empty : UnusedAreEmpty used new
     unused_empty n e = tallied.counted.emptied n (sym (used_there n) ∙ e)
 
     node_left : (n : ℕ) → node_in (inodes.inode n) ≡ cond (is_among nat_eq n used) (files.tree.node n) None
-    node_left n = by (is_some (inodes.inode n)) refl ∙ sym (ap (λ b. cond b (files.tree.node n) None) (used_there n))
+    node_left n = by _ refl ∙ sym (ap (λ b. cond b (files.tree.node n) None) (used_there n))
       where
         by : (b : Bool) → is_some (inodes.inode n) ≡ b
             → node_in (inodes.inode n) ≡ cond (is_some (inodes.inode n)) (files.tree.node n) None
         by true e = sym (tallied.counted.kept n e) ∙ sym (ap (λ b. cond b (files.tree.node n) None) e)
-        by false e = node_in-none (inodes.inode n) e ∙ sym (ap (λ b. cond b (files.tree.node n) None) e)
+        by false e = node_in-none _ e ∙ sym (ap (λ b. cond b (files.tree.node n) None) e)
 
     pub times_left : (n : ℕ) → times_in n swept.numbers ≡ cond (is_some (inodes.inode n)) 1 0
     times_left n = times_filter (λ m. is_among nat_eq m used) n files.numbers

@@ -40,20 +40,16 @@ module _ (world : World ℕ) (tasks : List (Task ℕ)) (kept : MountInvariants n
   stays : (mount : Mount ℕ) → Among mount world.mounts → ends_with_it mount ≡ false
       → is_going nat_eq gone mount.number ≡ false
   stays mount m e = ⊎_elim (λ is.
-      let from = among-from_map (λ (x : Mount ℕ). x.number) (filter ends_with_it world.mounts) mount.number
-      (among_numbers mount.number gone is) in
-      let ended = among-from_filter ends_with_it world.mounts from.0 from.1 in
-      let same : mount ≡ from.0 =
-      sym (found_itself world.mounts kept.one_number mount m) ∙ ap (mount_in nat_eq world.mounts) from.2
-      ∙ found_itself world.mounts kept.one_number from.0 ended.0 in
-      absurd (true≢false (sym ended.1 ∙ ap ends_with_it (sym same) ∙ e)))
-      (λ isnt. isnt) (cases_Bool (is_going nat_eq gone mount.number))
+      let from = among-from_map _ _ _ (among_numbers _ gone is) in
+      let ended = among-from_filter _ _ from.0 from.1 in
+      let same : mount ≡ from.0 = sym (found_itself _ kept.one_number mount m) ∙ ap (mount_in nat_eq world.mounts)
+      from.2 ∙ found_itself _ kept.one_number from.0 ended.0 in
+      absurd (true≢false (sym ended.1 ∙ ap ends_with_it (sym same) ∙ e))) (λ isnt. isnt) (cases_Bool _)
 
   ends_or_stays : (mount : Mount ℕ) → Among mount world.mounts → is_going nat_eq gone mount.number ≡ false
       → ends_with_it mount ≡ false
-  ends_or_stays mount m e = ⊎_elim (λ is. absurd (true≢false (sym (is_among_numbers mount.number gone
-      (among-map (λ (x : Mount ℕ). x.number) (filter ends_with_it world.mounts) mount
-      (among-filter ends_with_it world.mounts mount m is))) ∙ e))) (λ isnt. isnt) (cases_Bool (ends_with_it mount))
+  ends_or_stays mount m e = ⊎_elim (λ is. absurd (true≢false (sym (is_among_numbers _ gone
+      (among-map _ _ mount (among-filter _ _ mount m is))) ∙ e))) (λ isnt. isnt) (cases_Bool _)
 
   abbrev b : Bool
   b = hands_on not_swept gone
@@ -121,7 +117,7 @@ module _ (world : World ℕ) (tasks : List (Task ℕ)) (kept : MountInvariants n
       on old m (Some place) e = ap (λ c. c && true) (on_attached old m place e)
 
   pub stand_afterwards : MountsStand (record (taken_away nat_eq not_swept gone) { namespaces = namespaces })
-  stand_afterwards = subst MountsStand (sym (is_changed not_swept gone namespaces b)) stand
+  stand_afterwards = subst MountsStand (sym (is_changed _ gone _ b)) stand
 
 pub one_sweep_for_ends_with_overlays : OneSweepForEndsWithOverlays
 one_sweep_for_ends_with_overlays world tasks trees uppers reals kept nowhere_new =
@@ -150,7 +146,7 @@ fewer_come_nowhere world keeps =
 pub one_sweep_for_exits_with_overlays : OneSweepForExitsWithOverlays
 one_sweep_for_exits_with_overlays fresh world task trees uppers reals kept =
     one_sweep_for_ends_with_overlays world (filter (λ other. not (same_name task.name other.name)) world.tasks)
-    trees uppers reals kept (fewer_come_nowhere world (λ other. not (same_name task.name other.name)))
+    trees uppers reals kept (fewer_come_nowhere world _)
 
 pub one_sweep_for_exits : OneSweepForExits
 one_sweep_for_exits fresh world task plain trees kept =

@@ -1,6 +1,6 @@
 -- What goes when tasks leave locations and namespaces at once.
 use Rattle.std.proofs.Common.{arith, ◌≡◌, refl, sym, ap, subst, ◌∙◌, ◌⊎◌, inl, inr, ⊎_elim, ℕ, nat_eq, eqb-true, Bool, true, false, not, List, filter, map, true≢false, flat_map, ◌++◌, Some, is_some}
-use Rattle.vt_spec.proofs.Common.{Fresh, Location, Mount, Namespace, Task, TaskName, World, all_locations, cases_Bool, common_steps, copied_mount, evens, has_tasks, holds_of, is_among, is_going, is_located, is_member_of, is_nowhere_or_attached, list_any, list_any-append, locations_of, lost_a_group, mount_at, mount_in, mount_lives, mount_numbered, mounts_of, namespace_entered, namespaces_ended, numbers_by, odds, or_cases, or_parts, replaced_if_called, same_name, settled, unshared, without_task}
+use Rattle.vt_spec.proofs.Common.{Fresh, Location, Mount, Namespace, Task, TaskName, World, all_locations, cases_Bool, common_steps, copied_mount, evens, has_tasks, holds_of, is_among, is_going, is_member_of, is_nowhere_or_attached, list_any, list_any-append, locations_of, lost_a_group, mount_at, mount_in, mount_lives, mount_numbered, mounts_of, namespaces_ended, numbers_by, odds, or_cases, or_parts, replaced_if_called, same_name, settled, without_task}
 use Rattle.vt_laws_mounts.specs.LettingGo.EndingTasks.{EntersLetGo, EntersWithOverlaysLetGo, ExitsLetGo, ExitsWithOverlaysLetGo, LeavingNamespacesLetsGo, LeavingNamespacesWithOverlaysLetsGo, UnsharesLetGo, UnsharesWithOverlaysLetGo, gone_with, locations_of_named, used_by_ended, used_by_ended_with_layers}
 use Rattle.vt_laws_mounts.specs.LettingGo.InUse.{AllInUse, GroupsInUse}
 use Rattle.vt_laws_mounts.specs.LettingGo.Keeping.{LocationsStand}
@@ -52,7 +52,7 @@ module _ (world : World ℕ) (all : List (Mount ℕ)) (tasks : List (Task ℕ)) 
   last = changed world (map change all) (MountingTaken.masters base ended lasting b) lasting tasks
 
   pub ends_so : namespaces_ended nat_eq base ≡ last
-  ends_so = is_changed base ended lasting b
+  ends_so = is_changed base ended _ b
 
   number_kept : (mount : Mount ℕ) → (change mount).number ≡ mount.number
   number_kept mount = same_number base ended lasting b mount
@@ -74,24 +74,18 @@ module _ (world : World ℕ) (all : List (Mount ℕ)) (tasks : List (Task ℕ)) 
 
   old_lives : (mount : Mount ℕ) → Among mount world.mounts → is_among nat_eq mount.number gone ≡ false
       → mount_lives nat_eq last (change mount) ≡ true
-  old_lives mount m isnt = ⊎_elim
-      (λ in_one. or_left (is_some (change mount).namespace) (is_located nat_eq last (change mount).number)
-      (attached_still mount (not_ended mount.number isnt) in_one))
-      (λ at. let t = any_among (λ l. nat_eq mount.number l.mount) (all_locations world) at in
-      ⊎_elim (λ there. or_right (is_some (change mount).namespace) (is_located nat_eq last (change mount).number)
-      (any_from_among (λ l. nat_eq (change mount).number l.mount) (all_locations last) t.0 there
-      (cc (number_kept mount, t.2)))) (λ gone_from. absurd (true≢false
-      (sym (is_among_numbers mount.number (map (λ location. location.mount) left)
-      (subst (λ n. Among n (map (λ location. location.mount) left)) (sym (eqb-true mount.number t.0.mount t.2))
-      (among-map (λ (location : Location ℕ). location.mount) left t.0 gone_from))) ∙ not_left mount.number isnt)))
-      (stay t.0 t.1)) (or_cases (is_some mount.namespace) (is_located nat_eq world mount.number)
-      (among_from_list_all (mount_lives nat_eq world) world.mounts in_use.mounts mount m))
+  old_lives mount m isnt = ⊎_elim (λ in_one. or_left _ _ (attached_still mount (not_ended _ isnt) in_one))
+      (λ at. let t = any_among _ _ at in
+      ⊎_elim (λ there. or_right _ _ (any_from_among _ _ t.0 there (cc (number_kept mount, t.2))))
+      (λ gone_from. absurd (true≢false (sym (is_among_numbers _ _ (subst
+      (λ n. Among n (map (λ location. location.mount) left)) (sym (eqb-true mount.number t.0.mount t.2))
+      (among-map _ left t.0 gone_from))) ∙ not_left _ isnt))) (stay t.0 t.1))
+      (or_cases _ _ (among_from_list_all _ _ in_use.mounts mount m))
 
   lives : (mount : Mount ℕ) → Among mount all → is_among nat_eq mount.number gone ≡ false
       → mount_lives nat_eq last (change mount) ≡ true
-  lives mount m isnt = ⊎_elim (λ was. old_lives mount was isnt)
-      (λ in_one. or_left (is_some (change mount).namespace) (is_located nat_eq last (change mount).number)
-      (attached_still mount (not_ended mount.number isnt) in_one)) (new mount m)
+  lives mount m isnt = ⊎_elim (λ was. old_lives mount was isnt) (λ in_one. or_left _ _
+      (attached_still mount (not_ended _ isnt) in_one)) (new mount m)
 
   nowhere : (mount : Mount ℕ) → Among mount all → is_nowhere_or_attached (change mount) ≡ true
   nowhere mount m = nowhere_after base ended lasting b mount
@@ -158,12 +152,12 @@ module _ (world : World ℕ) (all : List (Mount ℕ)) (tasks : List (Task ℕ)) 
 
   -- groups without members had none before
   groups_of_base : GroupsInUse base
-  groups_of_base group none = in_use.groups group (by (list_any (is_member_of nat_eq group) world.mounts) refl)
+  groups_of_base group none = in_use.groups group (by _ refl)
     where
       by : (c : Bool) → list_any (is_member_of nat_eq group) world.mounts ≡ c → c ≡ false
       by false e = refl
       by true e =
-          let t = any_among (is_member_of nat_eq group) world.mounts e in
+          let t = any_among _ _ e in
           absurd (cc (any_from_among (is_member_of nat_eq group) all t.0 (kept t.0 t.1) t.2, none))
 
   pub ends_hearing : GroupsInUseBut (groups_of_mounts base ended) last
@@ -216,14 +210,12 @@ left_or_still : (world : World ℕ) (tasks : List (Task ℕ)) (left : List (Loca
 left_or_still world tasks left only location m = grind (arith, common_steps, is_it, or_cases, among_from_list_all)
 
 pub leaving_namespaces_lets_go : LeavingNamespacesLetsGo
-leaving_namespaces_lets_go world tasks left settles only =
-    ended_lets_go world world.mounts tasks world.namespaces left settles (λ mount m. m) (λ mount m. inl m)
-    (λ location m. refl) (left_or_still world tasks left only)
+leaving_namespaces_lets_go world tasks left settles only = ended_lets_go world _ tasks _ left settles (λ mount m. m)
+    (λ mount m. inl m) (λ location m. refl) (left_or_still world tasks left only)
 
 pub leaving_namespaces_with_overlays_lets_go : LeavingNamespacesWithOverlaysLetsGo
-leaving_namespaces_with_overlays_lets_go world tasks left settles only =
-    all_ended_lets_go world world.mounts tasks world.namespaces left settles (λ mount m. m) (λ mount m. inl m)
-    (λ location m. refl) (left_or_still world tasks left only)
+leaving_namespaces_with_overlays_lets_go world tasks left settles only = all_ended_lets_go world _ tasks _ left settles
+    (λ mount m. m) (λ mount m. inl m) (λ location m. refl) (left_or_still world tasks left only)
 
 -- One task that goes, or is another
 module _ (world : World ℕ) (name : TaskName) where
@@ -257,27 +249,19 @@ module _ (world : World ℕ) (name : TaskName) where
 
 pub exits_let_go : ExitsLetGo
 exits_let_go fresh world task settles =
-    ended_lets_go world world.mounts (without_task world task.name).tasks world.namespaces
-    (locations_of_named world task.name) settles
-    (λ mount m. m) (λ mount m. inl m) (λ location m. refl) (without_it world task.name)
+    ended_lets_go world _ _ _ _ settles (λ mount m. m) (λ mount m. inl m) (λ location m. refl) (without_it world _)
 
 pub exits_with_overlays_let_go : ExitsWithOverlaysLetGo
 exits_with_overlays_let_go fresh world task settles =
-    all_ended_lets_go world world.mounts (without_task world task.name).tasks world.namespaces
-    (locations_of_named world task.name) settles
-    (λ mount m. m) (λ mount m. inl m) (λ location m. refl) (without_it world task.name)
+    all_ended_lets_go world _ _ _ _ settles (λ mount m. m) (λ mount m. inl m) (λ location m. refl) (without_it world _)
 
 pub enters_let_go : EntersLetGo
-enters_let_go fresh world task namespace settles =
-    ended_lets_go world world.mounts (namespace_entered nat_eq world task namespace).tasks world.namespaces
-    (locations_of_named world task.name) settles
-    (λ mount m. m) (λ mount m. inl m) (λ location m. refl) (with_another world task.name _ refl)
+enters_let_go fresh world task namespace settles = ended_lets_go world _ _ _ _ settles (λ mount m. m) (λ mount m. inl m)
+    (λ location m. refl) (with_another world _ _ refl)
 
 pub enters_with_overlays_let_go : EntersWithOverlaysLetGo
-enters_with_overlays_let_go fresh world task namespace settles =
-    all_ended_lets_go world world.mounts (namespace_entered nat_eq world task namespace).tasks world.namespaces
-    (locations_of_named world task.name) settles
-    (λ mount m. m) (λ mount m. inl m) (λ location m. refl) (with_another world task.name _ refl)
+enters_with_overlays_let_go fresh world task namespace settles = all_ended_lets_go world _ _ _ _ settles (λ mount m. m)
+    (λ mount m. inl m) (λ location m. refl) (with_another world _ _ refl)
 
 -- Copies in a new namespace
 module _ (world : World ℕ) (fresh : Fresh ℕ) (task : Task ℕ) where
@@ -287,10 +271,8 @@ module _ (world : World ℕ) (fresh : Fresh ℕ) (task : Task ℕ) where
 
   was_or_copy : (mount : Mount ℕ) → Among mount (world.mounts ++ copies)
       → Among mount world.mounts ⊎ (is_some mount.namespace ≡ true)
-  was_or_copy mount m = ⊎_elim inl (λ copy. let from = among-from_map
-      (copied_mount (numbers_by nat_eq (odds fresh) (mounts_of nat_eq world task.namespace)) (evens fresh 0))
-      (mounts_of nat_eq world task.namespace) mount copy in
-      inr (ap (λ (x : Mount ℕ). is_some x.namespace) from.2)) (among-append world.mounts copies mount m)
+  was_or_copy mount m = ⊎_elim inl (λ copy. let from = among-from_map _ _ mount copy in
+      inr (ap (λ (x : Mount ℕ). is_some x.namespace) from.2)) (among-append _ copies mount m)
 
   found_with_copies : MountsStand world → LocationsStand world → (location : Location ℕ)
       → Among location (places_of world)
@@ -300,16 +282,10 @@ module _ (world : World ℕ) (fresh : Fresh ℕ) (task : Task ℕ) where
 
 pub unshares_let_go : UnsharesLetGo
 unshares_let_go fresh world task settles located =
-    ended_lets_go world (world.mounts ++ copies world fresh task) (unshared nat_eq world fresh task).tasks
-    (unshared nat_eq world fresh task).namespaces (locations_of_named world task.name) settles
-    (λ mount m. among-append_left world.mounts (copies world fresh task) mount m)
-    (was_or_copy world fresh task) (found_with_copies world fresh task settles.mounts located)
-    (with_another world task.name _ refl)
+    ended_lets_go world _ _ _ _ settles (λ mount m. among-append_left _ _ mount m) (was_or_copy world fresh task)
+    (found_with_copies world fresh task settles.mounts located) (with_another world _ _ refl)
 
 pub unshares_with_overlays_let_go : UnsharesWithOverlaysLetGo
 unshares_with_overlays_let_go fresh world task settles located =
-    all_ended_lets_go world (world.mounts ++ copies world fresh task) (unshared nat_eq world fresh task).tasks
-    (unshared nat_eq world fresh task).namespaces (locations_of_named world task.name) settles
-    (λ mount m. among-append_left world.mounts (copies world fresh task) mount m)
-    (was_or_copy world fresh task) (found_with_copies world fresh task settles.mounts located)
-    (with_another world task.name _ refl)
+    all_ended_lets_go world _ _ _ _ settles (λ mount m. among-append_left _ _ mount m) (was_or_copy world fresh task)
+    (found_with_copies world fresh task settles.mounts located) (with_another world _ _ refl)

@@ -16,15 +16,14 @@ module _ (world : World ℕ) (number : ℕ) (alone : has_child nat_eq world numb
 
   goes_alone : StandsUnshared world number
       → unmounted nat_eq world number ≡ regrouped nat_eq (without_place world number)
-  goes_alone unshared = ap (taken_away nat_eq world) (by (mount_numbered nat_eq world number).mount_point unshared)
-      ∙ ap (λ mounts. regrouped nat_eq (with_mounts world mounts))
-      (map_alike (after_going nat_eq world (number ∷ [])) (detached_if number) world.mounts one_by_one)
+  goes_alone unshared = ap (taken_away nat_eq world) (by _ unshared) ∙ ap
+      (λ mounts. regrouped nat_eq (with_mounts world mounts)) (map_alike _ _ _ one_by_one)
     where
       mount : Mount ℕ
       mount = mount_numbered nat_eq world number
 
       its_number : mount.number ∷ [] ≡ number ∷ []
-      its_number = ap (λ n. n ∷ []) (number-mount_in world.mounts number)
+      its_number = ap (λ n. n ∷ []) (number-mount_in _ number)
 
       by : (o : Option (Location ℕ))
           → list_all (λ place. not (is_shared (mount_at nat_eq world place).propagation)) (option_to_list o) ≡ true
@@ -43,10 +42,9 @@ pub found-map : (change : Mount ℕ → Mount ℕ) → ((mount : Mount ℕ) → 
     → (mount : Mount ℕ) → Among mount mounts → mount_in nat_eq mounts number ≡ mount → mount.number ≡ number
     → mount_in nat_eq (map change mounts) number ≡ change (mount_in nat_eq mounts number)
 found-map change same [] number mount m e f = absurd m
-found-map change same (first ∷ rest) number mount m e f =
-    ap (λ n. unwrap_or (cond (nat_eq number n) (Some (change first))
-    (find (λ x. nat_eq number x.number) (map change rest))) (no_mount number)) (same first)
-    ∙ by (nat_eq number first.number) refl (λ g h. found-map change same rest number mount g h f) m e
+found-map change same (first ∷ rest) number mount m e f = ap (λ n. unwrap_or
+    (cond (nat_eq number n) (Some (change first)) (find (λ x. nat_eq number x.number) (map change rest)))
+    (no_mount number)) (same first) ∙ by _ refl (λ g h. found-map change same rest number mount g h f) m e
   where
     by : (b : Bool) → nat_eq number first.number ≡ b
         → (Among mount rest → mount_in nat_eq rest number ≡ mount → mount_in nat_eq (map change rest) number

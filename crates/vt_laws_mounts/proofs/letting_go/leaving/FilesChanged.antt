@@ -63,8 +63,7 @@ module _ (world : World ℕ) (location : Location ℕ) (change : Change ℕ) (se
   plainly : (fresh : Fresh ℕ) (other : World ℕ) → other.filesystems ≡ world.filesystems
       → (mount_at nat_eq other location).filesystem ≡ number
       → with_change nat_eq fresh other location change ≡ with_filesystems other swap
-  plainly fresh other same shows = ap (λ f. filesystem_changed nat_eq fresh other f f.overlay change) found
-      ∙ by (filesystem_at nat_eq world location).overlay refl
+  plainly fresh other same shows = ap (λ f. filesystem_changed nat_eq fresh other f f.overlay change) found ∙ by _ refl
     where
       found : filesystem_at nat_eq other location ≡ filesystem_at nat_eq world location
       found = ap (filesystem_numbered nat_eq other) shows
@@ -193,12 +192,11 @@ one_task (first ∷ rest) one a b m n same = by m n (one_task rest parts.1 a b)
   where
     parts : (list_any (λ (x : Task ℕ). same_name first.name x.name) rest ≡ false)
         × (any_pair (λ (x y : Task ℕ). same_name x.name y.name) rest ≡ false)
-    parts = or_parts (list_any (λ (x : Task ℕ). same_name first.name x.name) rest)
-        (any_pair (λ (x y : Task ℕ). same_name x.name y.name) rest) one
+    parts = or_parts _ _ one
 
     not_both : (x y : Task ℕ) → x ≡ first → Among y rest → same_name x.name y.name ≡ true → a ≡ b
     not_both x y e l h = absurd (true≢false (sym (ap (λ (z : Task ℕ). same_name z.name y.name) (sym e) ∙ h)
-        ∙ none_among (λ (z : Task ℕ). same_name first.name z.name) rest parts.0 y l))
+        ∙ none_among _ rest parts.0 y l))
 
     back : same_name b.name a.name ≡ true
     back = ap (λ n. same_name n a.name) (sym ((bytes_decides a.name b.name).0 same))
@@ -253,8 +251,7 @@ pub none_left : (world : World ℕ) (task : Task ℕ) (file : Location ℕ) (acc
     → Among task world.tasks → only_these_are_left world (with_task world (with_descriptor task file access)).tasks []
     ≡ true
 none_left world task file access one there =
-    replaced_leaves world task (with_descriptor task file access) [] one there refl
-    (λ location m. inl (with_descriptor_keeps task file access location m))
+    replaced_leaves world task _ [] one there refl (λ location m. inl (with_descriptor_keeps task file access _ m))
 
 pub opened_new_keeps_all : OpenedNewKeepsAll
 opened_new_keeps_all fresh world task directory name node access settles one one_name there_task there plain after made

@@ -1,6 +1,6 @@
 -- Places that are left one by one, each with a sweep, or all at once.
 use Rattle.std.proofs.Common.{◌≡◌, refl, sym, ap, subst, ◌∙◌, ⊎_elim, ℕ, nat_eq, eqb-true, eq-eqb, true, false, cond, List, [], ◌∷◌, filter, map, ◌++◌, None, is_some, All, filter_map}
-use Rattle.vt_spec.proofs.Common.{Location, Mount, Task, World, all_locations, and_parts, has_members, is_located, is_member_of, is_mounted, is_overlay, located_in, mount_at, mount_in, mount_lives, number-mount_in, or_cases, root_of, settled, without_dead_mounts}
+use Rattle.vt_spec.proofs.Common.{Location, Mount, Task, World, all_locations, and_parts, has_members, is_located, is_mounted, is_overlay, located_in, mount_at, mount_in, mount_lives, number-mount_in, or_cases, root_of, settled, without_dead_mounts}
 use Rattle.vt_laws_mounts.specs.LettingGo.InUse.{UppersArePlain, has_upper_in}
 use Rattle.vt_laws_mounts.specs.LettingGo.Leaving.{MountsStand, OneSweepForAll, OneSweepForSeveral, comes_nowhere, each_comes_nowhere, with_sweeps, with_tasks}
 use Rattle.vt_laws_mounts.specs.LettingGo.LeavingOverlays.{OneSweepForAllWithOverlays, OneSweepForSeveralWithOverlays}
@@ -37,8 +37,7 @@ module _ (world : World ℕ) (tasks : List (Task ℕ)) (stand : MountsStand worl
       (or_cases (is_some mount.namespace) (is_located nat_eq once mount.number) lives)
 
   same_mounts : filter (mount_lives nat_eq once) first_mounts ≡ last_mounts
-  same_mounts = filter_twice (mount_lives nat_eq once) (mount_lives nat_eq world) (mount_lives nat_eq once)
-      (λ mount. follows (mount_lives nat_eq once mount) (mount_lives nat_eq world mount) (lived mount)) world.mounts
+  same_mounts = filter_twice _ _ _ (λ mount. follows _ _ (lived mount)) _
 
   last_was_first : (mount : Mount ℕ) → Among mount last_mounts → Among mount first_mounts
   last_was_first mount m =
@@ -49,8 +48,8 @@ module _ (world : World ℕ) (tasks : List (Task ℕ)) (stand : MountsStand worl
   members_were : (group : ℕ) → has_members nat_eq last_mounts group ≡ true
       → has_members nat_eq first_mounts group ≡ true
   members_were group has =
-      let t = any_among (is_member_of nat_eq group) last_mounts has in
-      any_from_among (is_member_of nat_eq group) first_mounts t.0 (last_was_first t.0 t.1) t.2
+      let t = any_among _ _ has in
+      any_from_among _ _ t.0 (last_was_first t.0 t.1) t.2
 
   same_master : (group : ℕ) → has_members nat_eq last_mounts group ≡ true → again.master group ≡ once.master group
   same_master group has = ap (λ b. cond b (world.master group) None) (members_were group has)
@@ -59,15 +58,14 @@ module _ (world : World ℕ) (tasks : List (Task ℕ)) (stand : MountsStand worl
   last_mounted_was : (number : ℕ) → is_mounted nat_eq (without_dead_mounts nat_eq once) number ≡ true
       → is_mounted nat_eq (without_dead_mounts nat_eq world) number ≡ true
   last_mounted_was number is =
-      let t = any_among (λ (mount : Mount ℕ). nat_eq number mount.filesystem) last_mounts is in
-      any_from_among (λ mount. nat_eq number mount.filesystem) first_mounts t.0 (last_was_first t.0 t.1) t.2
+      let t = any_among _ _ is in
+      any_from_among _ _ t.0 (last_was_first t.0 t.1) t.2
 
   -- Inodes: what is at a place in the end was at one before
   found_alike : (number : ℕ) → ((mount : Mount ℕ) → Among mount world.mounts → mount.number ≡ number
       → mount_lives nat_eq once mount ≡ true) → mount_in nat_eq last_mounts number ≡ mount_in nat_eq first_mounts number
-  found_alike number stays = found_in_filter (mount_lives nat_eq once) world.mounts number stays
-      ∙ sym (found_in_filter (mount_lives nat_eq world) world.mounts number
-      (λ mount m e. lived mount (stays mount m e)))
+  found_alike number stays = found_in_filter _ _ number stays ∙ sym
+      (found_in_filter _ _ number (λ mount m e. lived mount (stays mount m e)))
 
   the_only : (mount : Mount ℕ) → Among mount world.mounts → mount_lives nat_eq once mount ≡ true
       → (other : Mount ℕ) → Among other world.mounts → other.number ≡ mount.number
@@ -82,10 +80,7 @@ module _ (world : World ℕ) (tasks : List (Task ℕ)) (stand : MountsStand worl
       → f ≡ (mount_in nat_eq first_mounts location.mount).filesystem
       → Among location.node (located_in nat_eq (without_dead_mounts nat_eq world) f)
   was_at f location m e =
-      among-map (λ l. l.node) (filter (λ l. nat_eq f (mount_in nat_eq first_mounts l.mount).filesystem)
-      (places_in world first_mounts)) location
-      (among-filter (λ l. nat_eq f (mount_in nat_eq first_mounts l.mount).filesystem)
-      (places_in world first_mounts) location m (eq-eqb f (mount_in nat_eq first_mounts location.mount).filesystem e))
+      among-map _ _ _ (among-filter _ _ _ m (eq-eqb f (mount_in nat_eq first_mounts location.mount).filesystem e))
 
   was_located_in : (f number : ℕ) → Among number (located_in nat_eq (without_dead_mounts nat_eq once) f)
       → Among number (located_in nat_eq (without_dead_mounts nat_eq world) f)
@@ -150,7 +145,7 @@ plain_uppers world plain = all_from_among (λ f. is_overlay f ≡ true
 
 pub plain_reals : (world : World ℕ) → IsPlain world → RealsAreThere world
 plain_reals world plain = all_from_among HasReals world.filesystems
-    (λ f m number none. no_real f (none_among is_overlay world.filesystems plain f m) number)
+    (λ f m number none. no_real f (none_among _ _ plain f m) number)
 
 -- so it is in a world of plain filesystems
 pub one_sweep_for_several : OneSweepForSeveral

@@ -1,6 +1,6 @@
 -- What tasks leave goes, in worlds with overlays.
 use Rattle.std.proofs.Common.{◌≡◌, sym, ap, subst, ◌∙◌, ⊎_elim, inl, inr, ◌⊎◌, ℕ, nat_eq, eqb-true, eq-eqb, true, cond, ◌||◌, ◌&&◌, List, [], ◌∷◌, map, flat_map, ◌++◌}
-use Rattle.vt_spec.proofs.Common.{Filesystem, Layer, Location, Task, World, and_parts, cases_Bool, filesystem_lives, has_layer_on, is_among, is_among_left, is_among_right, is_mounted, layers_in, layers_of, list_all, list_any-append, located_in, mount_at, mount_lives, named_in, objects_of_overlay, of_overlay, or_cases}
+use Rattle.vt_spec.proofs.Common.{Filesystem, Layer, Location, Task, World, and_parts, cases_Bool, filesystem_lives, has_layer_on, is_among, is_among_left, is_among_right, is_mounted, layers_in, layers_of, list_all, list_any-append, located_in, mount_at, named_in, objects_of_overlay, of_overlay, or_cases}
 use Rattle.vt_laws_mounts.specs.LettingGo.InUse.{AllInUse, is_inode_used}
 use Rattle.vt_laws_mounts.specs.LettingGo.Leaving.{MountsStand, inodes_of_location, only_these_are_left, with_tasks}
 use Rattle.vt_laws_mounts.specs.LettingGo.LeavingOverlays.{LeavingOverlaysLetsGo, StayingKeepsOverlays, filesystems_of_layers, filesystems_of_location, used_with_layers}
@@ -16,12 +16,11 @@ pub in_layers : (world : World ℕ) (number : ℕ) (merged : Filesystem ℕ) →
     → (filesystem : ℕ) → merged.number ≡ filesystem
     → has_layer_on nat_eq number merged ≡ true → Among number (filesystems_of_layers world filesystem)
 in_layers world number merged m filesystem e has =
-    let t = any_among (λ layer. nat_eq number layer.filesystem) layers (sym (layers_on world number merged) ∙ has) in
-    among-flat_map (λ f. cond (nat_eq f.number filesystem)
-    (map (λ (layer : Layer ℕ). layer.filesystem) (of_overlay [] layers_of f)) []) world.filesystems merged number m
+    let t = any_among _ layers (sym (layers_on world number merged) ∙ has) in
+    among-flat_map _ _ merged number m
     (subst (λ b. Among number (cond b (map (λ (layer : Layer ℕ). layer.filesystem) layers) []))
     (sym (eq-eqb merged.number filesystem e)) (subst (λ n. Among n (map (λ (layer : Layer ℕ). layer.filesystem) layers))
-    (sym (eqb-true number t.0.filesystem t.2)) (among-map (λ (layer : Layer ℕ). layer.filesystem) layers t.0 t.1)))
+    (sym (eqb-true number t.0.filesystem t.2)) (among-map _ layers t.0 t.1)))
   where
     layers : List (Layer ℕ)
     layers = of_overlay [] layers_of merged
@@ -45,16 +44,15 @@ module _ (world : World ℕ) (tasks : List (Task ℕ)) (left : List (Location �
       → (is_mounted nat_eq swept number ≡ true) ⊎ ((location : Location ℕ) × Among location left
       × (number ≡ (mount_at nat_eq world location).filesystem))
   still_mounted number is =
-      let t = any_among (λ mount. nat_eq number mount.filesystem) world.mounts is in
-      ⊎_elim (λ lives. inl (any_from_among (λ mount. nat_eq number mount.filesystem) swept.mounts t.0
-      (among-filter (mount_lives nat_eq now) world.mounts t.0 t.1 lives) t.2))
+      let t = any_among _ _ is in
+      ⊎_elim (λ lives. inl (any_from_among _ _ t.0 (among-filter _ _ t.0 t.1 lives) t.2))
       (λ dead. let gone = dead_was_left world tasks left in_use stand only t.0 t.1 dead in
       inr (
         gone.0,
         gone.1,
         eqb-true number t.0.filesystem t.2 ∙ ap (λ x. x.filesystem)
             (sym (filesystem_left world tasks left in_use stand only t.0 t.1 gone.0 gone.1 gone.2)),
-      )) (cases_Bool (mount_lives nat_eq now t.0))
+      )) (cases_Bool _)
 
   all_filesystems_but : FilesystemsInUseBut losing swept
   all_filesystems_but =

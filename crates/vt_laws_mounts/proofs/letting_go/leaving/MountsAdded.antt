@@ -1,6 +1,6 @@
 -- Mounts and filesystems that are added.
 use Rattle.std.proofs.Common.{arith, ◌≡◌, refl, ap, inl, inr, ⊎_elim, ℕ, nat_eq, true, List, [], ◌∷◌, map, ◌++◌, Option, is_some}
-use Rattle.vt_spec.proofs.Common.{Filesystem, Mount, World, common_steps, is_among, is_located, is_mounted, is_nowhere_or_attached, list_all, mount_in, mount_lives}
+use Rattle.vt_spec.proofs.Common.{Filesystem, Mount, World, common_steps, is_among, is_mounted, is_nowhere_or_attached, list_all, mount_in, mount_lives}
 use Rattle.vt_laws_mounts.specs.LettingGo.InUse.{AllInUse}
 use Rattle.vt_laws_mounts.specs.LettingGo.Keeping.{LocationsStand, NewMountsKeepAll, has_only_named, with_new}
 use Rattle.vt_laws_mounts.specs.LettingGo.Leaving.{MountsStand}
@@ -22,15 +22,14 @@ module _ {world : World ℕ} (mounts : List (Mount ℕ)) (filesystems : List (Fi
   after = with_new world mounts filesystems master
 
   in_one : (mount : Mount ℕ) → Among mount mounts → is_some mount.namespace ≡ true
-  in_one = among_from_list_all (λ x. is_some x.namespace) mounts attached
+  in_one = among_from_list_all _ mounts attached
 
   still_there : (mount : Mount ℕ) → Among mount world.mounts → Among mount after.mounts
-  still_there mount m = among-append_left world.mounts mounts mount m
+  still_there mount m = among-append_left _ mounts mount m
 
   lives : (mount : Mount ℕ) → Among mount after.mounts → mount_lives nat_eq after mount ≡ true
-  lives mount m = ⊎_elim (among_from_list_all (mount_lives nat_eq world) world.mounts in_use.mounts mount)
-      (λ new. or_left (is_some mount.namespace) (is_located nat_eq after mount.number) (in_one mount new))
-      (among-append world.mounts mounts mount m)
+  lives mount m = ⊎_elim (among_from_list_all _ _ in_use.mounts mount) (λ new. or_left _ _ (in_one mount new))
+      (among-append _ mounts mount m)
 
   loses : Loses world after [] []
   loses = record {

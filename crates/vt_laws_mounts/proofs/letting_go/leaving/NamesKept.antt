@@ -1,6 +1,6 @@
 -- What changes of a tree do to names.
 use Rattle.std.proofs.Common.{arith, ◌≡◌, refl, sym, ap, subst, ◌∙◌, ◌⊎◌, inl, inr, ⊎_elim, ℕ, nat_eq, true, false, not, ◌||◌, List, [], ◌∷◌, Option, Some, None, is_some, option_to_list, Ordering, Equal, Greater, Less, is_eq, is_lt, bytes_eq}
-use Rattle.vt_spec.proofs.Common.{AddName, Content, CopyUp, Directory, Entries, FileTree, Make, Move, Node, Regular, Remove, SetAttr, SetBytes, SetMark, Symlink, T_from_true, Whiteout, and_parts, below_all, by_order, bytes_decides, cases_Bool, changed, changed_node, common_steps, directory_used, entries-node_with_attr, entries-node_with_bytes, entries-node_with_mark, entries-node_with_parent, entries_in, entry_at, entry_named, entry_named-without_entry, eq_by_cmp, eqb_tells, false_from_ne_true, is_among, is_directory-node_with_parent, is_directory-node_without_entry, is_directory_node, is_sorted, is_sorted-where_key, list_all, name_cmp, named_in, nat_list_cmp_total, node_other, node_set, node_with_attr, node_with_bytes, node_with_entry, node_with_mark, node_with_parent, node_without_entry, none_is_not, part_kept, passes, root-without_parent, same_Some, targets_in, tied_itself, with_entry, with_inode, with_name, without_entry, without_name, without_parent}
+use Rattle.vt_spec.proofs.Common.{AddName, Content, CopyUp, Directory, Entries, FileTree, Make, Move, Node, Regular, Remove, SetAttr, SetBytes, SetMark, Symlink, T_from_true, Whiteout, and_parts, below_all, by_order, bytes_decides, cases_Bool, changed, changed_node, common_steps, directory_used, entries-node_with_attr, entries-node_with_bytes, entries-node_with_mark, entries-node_with_parent, entries_in, entry_at, entry_named, entry_named-without_entry, eq_by_cmp, eqb_tells, false_from_ne_true, is_among, is_directory-node_with_parent, is_directory-node_without_entry, is_directory_node, is_sorted, is_sorted-where_key, list_all, name_cmp, named_in, nat_list_cmp_total, node_other, node_set, node_with_attr, node_with_bytes, node_with_entry, node_with_mark, node_with_parent, node_without_entry, none_is_not, part_kept, passes, root-without_parent, same_Some, tied_itself, with_entry, with_inode, with_name, without_entry, without_name, without_parent}
 use Rattle.vt_spec.proofs.Nodes.{same_name}
 use Rattle.vt_laws_mounts.specs.LettingGo.FileChanges.{ChangesKeepNames, IsMade, IsMoved}
 use Rattle.vt_laws_mounts.specs.LettingGo.InUse.{IsListedTree}
@@ -30,14 +30,13 @@ found_entry (x ∷ xs) sorted e m =
     (λ later. cc (apart (below_each x.0 xs parts.0 e later), found_entry xs parts.1 e later)) m
   where
     apart : is_lt (name_cmp x.0 e.0) ≡ true → eq_by_cmp name_cmp e.0 x.0 ≡ false
-    apart below = false_from_ne_true (eq_by_cmp name_cmp e.0 x.0) (λ tie.
-        cc (below, same_name e.0 x.0 tie, tied_itself nat_list_cmp_total x.0))
+    apart below = false_from_ne_true _ (λ tie. cc (below, same_name e.0 x.0 tie, tied_itself nat_list_cmp_total x.0))
 
 -- an entry stays where a name is given, but for the one that had it
 put_keeps : (name : List ℕ) (number : ℕ) (entries : Entries ℕ) (e : Entry) → Among e entries
     → Among e (with_entry name number entries) ⊎ (e.0 ≡ name)
 put_keeps name number [] e m = absurd m
-put_keeps name number (x ∷ xs) e m = by (name_cmp name x.0) refl m (put_keeps name number xs e)
+put_keeps name number (x ∷ xs) e m = by _ refl m (put_keeps name number xs e)
   where
     by : (o : Ordering) → name_cmp name x.0 ≡ o → Among e (x ∷ xs)
         → (Among e xs → Among e (with_entry name number xs) ⊎ (e.0 ≡ name))
@@ -52,7 +51,7 @@ put_keeps name number (x ∷ xs) e m = by (name_cmp name x.0) refl m (put_keeps 
 put_has : (name : List ℕ) (number : ℕ) (entries : Entries ℕ)
     → (e : Entry) × Among e (with_entry name number entries) × (e.1 ≡ number)
 put_has name number [] = ((name, number), inl refl, refl)
-put_has name number (x ∷ xs) = by (name_cmp name x.0) (put_has name number xs)
+put_has name number (x ∷ xs) = by _ (put_has name number xs)
   where
     by : (o : Ordering) → (e : Entry) × Among e (with_entry name number xs) × (e.1 ≡ number)
         → (e : Entry) × Among e (by_order o ((name, number) ∷ x ∷ xs) ((x.0, number) ∷ xs)
@@ -64,8 +63,7 @@ put_has name number (x ∷ xs) = by (name_cmp name x.0) (put_has name number xs)
 filter_keeps : (name : List ℕ) (entries : Entries ℕ) (e : Entry) → Among e entries
     → Among e (without_entry name entries) ⊎ (e.0 ≡ name)
 filter_keeps name entries e m = ⊎_elim (λ same. inr ((bytes_decides e.0 name).0 same))
-    (λ differ. inl (among-filter (λ (y : Entry). not (bytes_eq y.0 name)) entries e m (ap not differ)))
-    (cases_Bool (bytes_eq e.0 name))
+    (λ differ. inl (among-filter _ _ e m (ap not differ))) (cases_Bool _)
 
 -- Nodes
 
@@ -82,12 +80,12 @@ node_keeps_taken name (Some node) e m = grind (arith, common_steps, filter_keeps
 node_has : (name : List ℕ) (number : ℕ) (o : Option (Node ℕ)) → is_directory_node o ≡ true
     → (e : Entry) × Among e (entries_in (node_with_entry name number o)) × (e.1 ≡ number)
 node_has name number None is = cc
-node_has name number (Some node) is = by node.content is
+node_has name number (Some node) is = by _ is
   where
     by : (content : Content ℕ) → is_directory_node (Some (record { attr = node.attr; content = content })) ≡ true
         → (e : Entry) × Among e (entries_in
         (node_with_entry name number (Some (record { attr = node.attr; content = content })))) × (e.1 ≡ number)
-    by (Directory parent entries opaque) n = put_has name number entries
+    by (Directory parent entries opaque) n = put_has name number _
     by (Regular bytes) n = cc
     by (Symlink text) n = cc
     by Whiteout n = cc
@@ -95,7 +93,7 @@ node_has name number (Some node) is = by node.content is
 sorted_without : (name : List ℕ) (o : Option (Node ℕ)) → is_sorted name_cmp (entries_in o) ≡ true
     → is_sorted name_cmp (entries_in (node_without_entry name o)) ≡ true
 sorted_without name None e = e
-sorted_without name (Some node) e = by node.content e
+sorted_without name (Some node) e = by _ e
   where
     by : (content : Content ℕ) → is_sorted name_cmp
         (entries_in (Some (record { attr = node.attr; content = content }))) ≡ true → is_sorted name_cmp (entries_in
@@ -156,36 +154,25 @@ Left after lost e = ((d : ℕ) × (f : Entry) × Among d after.numbers × Among 
 
 named_by : (after : FileTree ℕ) (d : ℕ) (e : Entry) → Among d after.numbers → Among e (entries_at after d)
     → is_among nat_eq e.1 (named_in after) ≡ true
-named_by after d e m n = is_among_numbers e.1 (named_in after)
-    (among-flat_map (λ directory. targets_in (after.tree.node directory)) after.numbers d e.1 m
-    (among-map (λ (x : Entry). x.1) (entries_at after d) e n))
+named_by after d e m n = is_among_numbers e.1 _ (among-flat_map _ _ d e.1 m (among-map _ _ e n))
 
 all_names : (files after : FileTree ℕ) (lost : List ℕ)
     → ((d : ℕ) → Among d files.numbers → (e : Entry) → Among e (entries_at files d) → Left after lost e)
     → list_all (λ number. is_among nat_eq number (named_in after) || is_among nat_eq number lost) (named_in files)
     ≡ true
-all_names files after lost left =
-    list_all_from_among (λ number. is_among nat_eq number (named_in after) || is_among nat_eq number lost)
-    (named_in files)
-    (λ number m.
-    let d = among-from_flat_map (λ directory. targets_in (files.tree.node directory)) files.numbers number m in
-    let e = among-from_map (λ (x : Entry). x.1) (entries_at files d.0) number d.2 in
+all_names files after lost left = list_all_from_among _ _ (λ number m.
+    let d = among-from_flat_map _ _ number m in
+    let e = among-from_map _ _ number d.2 in
     ap (λ n. is_among nat_eq n (named_in after) || is_among nat_eq n lost) e.2 ∙ ⊎_elim
-    (λ still. or_left (is_among nat_eq e.0.1 (named_in after)) (is_among nat_eq e.0.1 lost)
-    (ap (λ n. is_among nat_eq n (named_in after)) (sym still.4) ∙ named_by after still.0 still.1 still.2 still.3))
-    (λ gone. or_right (is_among nat_eq e.0.1 (named_in after)) (is_among nat_eq e.0.1 lost)
-    (is_among_numbers e.0.1 lost gone)) (left d.0 d.1 e.0 e.1))
+    (λ still. or_left _ _ (ap (λ n. is_among nat_eq n (named_in after)) (sym still.4) ∙ named_by after _ _ still.2
+    still.3)) (λ gone. or_right _ _ (is_among_numbers e.0.1 lost gone)) (left d.0 d.1 e.0 e.1))
 
 -- inodes that were there
 same_numbers : (files after : FileTree ℕ) → after.numbers ≡ files.numbers
     → list_all (λ number. is_among nat_eq number files.numbers
     || is_among nat_eq number (named_in after)) after.numbers ≡ true
 same_numbers files after same =
-    list_all_from_among (λ number. is_among nat_eq number files.numbers || is_among nat_eq number (named_in after))
-    after.numbers
-    (λ number m.
-    or_left (is_among nat_eq number files.numbers) (is_among nat_eq number (named_in after))
-    (is_among_numbers number files.numbers (subst (Among number) same m)))
+    list_all_from_among _ _ (λ number m. or_left _ _ (is_among_numbers number _ (subst (Among number) same m)))
 
 -- a change by which all entries stay
 all_stay : (files after : FileTree ℕ) → IsListedTree after → after.tree.root ≡ files.tree.root
@@ -314,13 +301,13 @@ module _ (files : FileTree ℕ) (listed : IsListedTree files) where
     last = changed nat_eq files (Move from old to new object)
 
     same_apart : (d : ℕ) → entries_at apart d ≡ entries_at files d
-    same_apart = same_entries_unparented files replaced
+    same_apart = same_entries_unparented files _
 
     same_last : (d : ℕ) → entries_at last d ≡ entries_at placed d
     same_last = same_entries placed object (node_with_parent to) (entries-node_with_parent to)
 
     numbers_last : last.numbers ≡ files.numbers
-    numbers_last = numbers-without_parent files replaced
+    numbers_last = numbers-without_parent files _
 
     -- what the new name leads to once the old one is taken, it led to before
     was_there : (number : ℕ) → entry_at left.tree to new ≡ Some number → replaced ≡ Some number

@@ -1,6 +1,6 @@
 -- What goes when tasks leave places.
 use Rattle.std.proofs.Common.{arith, ◌≡◌, refl, sym, ap, subst, ◌∙◌, ◌⊎◌, inl, inr, ⊎_elim, ℕ, nat_eq, eqb-true, eq-eqb, Bool, true, false, ◌||◌, ◌&&◌, List, [], ◌∷◌, filter, map, true≢false, flat_map, ◌++◌, Some, is_some, filter_map}
-use Rattle.vt_spec.proofs.Common.{Filesystem, Location, Mount, Task, World, all_locations, and_parts, any_pair, cases_Bool, common_steps, filesystem_lives, has_layer_on, is_among, is_among_left, is_located, is_member_of, is_mounted, is_nowhere_or_attached, is_overlay, is_private, layers_in, list_all, list_any, located_in, mount_at, mount_in, mount_lives, named_in, no_mount, objects_of_overlay, or_cases, or_parts, root_of, same_location, same_location_is, without_dead_filesystems, without_dead_mounts}
+use Rattle.vt_spec.proofs.Common.{Filesystem, Location, Mount, Task, World, all_locations, and_parts, any_pair, cases_Bool, common_steps, filesystem_lives, has_layer_on, is_among, is_among_left, is_located, is_member_of, is_mounted, is_nowhere_or_attached, is_overlay, is_private, layers_in, list_all, list_any, located_in, mount_at, mount_in, mount_lives, named_in, objects_of_overlay, or_cases, or_parts, root_of, same_location_is, without_dead_filesystems, without_dead_mounts}
 use Rattle.vt_laws_mounts.specs.LettingGo.InUse.{AllInUse, is_inode_used}
 use Rattle.vt_laws_mounts.specs.LettingGo.Leaving.{LeavingLetsGo, MountsStand, StayingKeepsAll, comes_nowhere, inodes_of_location, is_location_among, only_these_are_left, stands_on_attached, used_by_locations, with_tasks}
 use Rattle.vt_laws_mounts.specs.LettingGo.OneByOne.{FilesystemsInUseBut, GroupsInUseBut, InodesInUseBut, IsPlain, Losers, MountsInUseBut, is_inode_among, is_used_or_among}
@@ -12,7 +12,7 @@ pub use Rattle.vt_spec.proofs.Worlds.{number-mount_in}
 -- Mounts by their numbers
 pub found_itself : (mounts : List (Mount ℕ)) → any_pair (λ (a b : Mount ℕ). nat_eq a.number b.number) mounts ≡ false
     → (mount : Mount ℕ) → Among mount mounts → mount_in nat_eq mounts mount.number ≡ mount
-found_itself mounts one mount m = found_by (λ (x : Mount ℕ). x.number) (no_mount mount.number) mounts one mount m
+found_itself mounts one mount m = found_by _ _ mounts one mount m
 
 -- a mount point is on a mount in a namespace
 pub place_attached : (world : World ℕ) → MountsStand world → (mount : Mount ℕ) → Among mount world.mounts
@@ -42,8 +42,7 @@ nowhere_parts mount h e = grind (arith, common_steps, true≢false)
 pub placed_is_attached : (mount : Mount ℕ) → is_nowhere_or_attached mount ≡ true → (place : Location ℕ)
     → mount.mount_point ≡ Some place → is_some mount.namespace ≡ true
 placed_is_attached mount h place p =
-    ⊎_elim (λ is. is) (λ out. absurd (cc ((nowhere_parts mount h out).0)))
-    (cases_Bool (is_some mount.namespace))
+    ⊎_elim (λ is. is) (λ out. absurd (cc ((nowhere_parts mount h out).0))) (cases_Bool _)
 
 pub private_is_no_member : (group : ℕ) (mount : Mount ℕ) → is_private mount.propagation ≡ true
     → is_member_of nat_eq group mount ≡ false
@@ -52,12 +51,12 @@ private_is_no_member group mount e = grind (arith, common_steps, true≢false)
 pub is_it : (list : List (Location ℕ)) (location : Location ℕ) → is_location_among list location ≡ true
     → Among location list
 is_it list location e =
-    let t = any_among (same_location nat_eq location) list e in
-    subst (λ l. Among l list) (sym (same_location_is location t.0 t.2)) t.1
+    let t = any_among _ list e in
+    subst (λ l. Among l list) (sym (same_location_is _ t.0 t.2)) t.1
 
 pub location_among : (list : List (Location ℕ)) (location : Location ℕ) → Among location list
     → is_location_among list location ≡ true
-location_among list location m = any_from_among (same_location nat_eq location) list location m
+location_among list location m = any_from_among _ list _ m
     (λ i. eq-eqb location.mount location.mount refl i && eq-eqb location.node location.node refl i)
 
 pub comes_nowhere_itself : (world : World ℕ) → comes_nowhere world world.tasks ≡ true
@@ -69,9 +68,7 @@ comes_nowhere_itself world =
 pub was_located : (world : World ℕ) (tasks : List (Task ℕ)) → comes_nowhere world tasks ≡ true
     → (location : Location ℕ) → Among location (all_locations (with_tasks world tasks))
     → Among location (all_locations world)
-was_located world tasks nowhere_new location m = is_it (all_locations world) location
-    (among_from_list_all (is_location_among (all_locations world)) (all_locations (with_tasks world tasks))
-    nowhere_new location m)
+was_located world tasks nowhere_new location m = is_it _ _ (among_from_list_all _ _ nowhere_new _ m)
 
 -- no plain filesystem keeps another
 pub no_layers : (number : ℕ) (other : World ℕ) (filesystems : List (Filesystem ℕ))
@@ -120,19 +117,14 @@ module _ (world : World ℕ) (tasks : List (Task ℕ)) (left : List (Location �
   stays_or_left : (location : Location ℕ) → Among location (all_locations world)
       → Among location (all_locations after) ⊎ Among location left
   stays_or_left location m =
-      ⊎_elim (λ e. inl (is_it (all_locations after) location e)) (λ e. inr (is_it left location e))
-      (or_cases (is_location_among (all_locations after) location) (is_location_among left location)
-      (among_from_list_all (λ l. is_location_among (all_locations after) l || is_location_among left l)
-      (all_locations world) only location m))
+      ⊎_elim (λ e. inl (is_it _ _ e)) (λ e. inr (is_it left _ e)) (or_cases _ _ (among_from_list_all _ _ only _ m))
 
   located_lives : (mount : Mount ℕ) (location : Location ℕ) → Among location (all_locations after)
       → mount.number ≡ location.mount → mount_lives nat_eq after mount ≡ true
-  located_lives mount location m e = or_right (is_some mount.namespace) (is_located nat_eq after mount.number)
-      (any_from_among (λ l. nat_eq mount.number l.mount) (all_locations after) location m
-      (eq-eqb mount.number location.mount e))
+  located_lives mount location m e = or_right _ _ (any_from_among _ _ _ m (eq-eqb mount.number location.mount e))
 
   attached_lives : (mount : Mount ℕ) → is_some mount.namespace ≡ true → mount_lives nat_eq after mount ≡ true
-  attached_lives mount e = or_left (is_some mount.namespace) (is_located nat_eq after mount.number) e
+  attached_lives mount e = or_left _ _ e
 
   -- a mount that is used no more was left
   pub dead_was_left : (mount : Mount ℕ) → Among mount world.mounts → mount_lives nat_eq after mount ≡ false
@@ -147,13 +139,13 @@ module _ (world : World ℕ) (tasks : List (Task ℕ)) (left : List (Location �
       (λ gone. (t.0, gone, same)) (stays_or_left t.0 t.1)
 
   found_mount : (mount : Mount ℕ) → Among mount world.mounts → mount_in nat_eq world.mounts mount.number ≡ mount
-  found_mount mount m = found_itself world.mounts stand.one_number mount m
+  found_mount mount m = found_itself _ stand.one_number mount m
 
   -- where a mount stays, it is found as before
   found_still : (number : ℕ) → ((mount : Mount ℕ) → Among mount world.mounts → mount.number ≡ number
       → mount_lives nat_eq after mount ≡ true)
       → mount_in nat_eq mounted.mounts number ≡ mount_in nat_eq world.mounts number
-  found_still number stays = found_in_filter (mount_lives nat_eq after) world.mounts number stays
+  found_still number stays = found_in_filter _ _ number stays
 
   only_one : (mount : Mount ℕ) → Among mount world.mounts → mount_lives nat_eq after mount ≡ true
       → (other : Mount ℕ) → Among other world.mounts → other.number ≡ mount.number
@@ -183,23 +175,18 @@ module _ (world : World ℕ) (tasks : List (Task ℕ)) (left : List (Location �
   filesystems_but : IsPlain world → FilesystemsInUseBut losers.filesystems mounted
   filesystems_but plain = list_all_from_among (λ filesystem. is_among nat_eq filesystem.number losers.filesystems
       || filesystem_lives nat_eq mounted filesystem) world.filesystems (λ filesystem m.
-      let lived = among_from_list_all (filesystem_lives nat_eq world) world.filesystems in_use.filesystems filesystem
-      m in
-      let was = ⊎_elim (λ e. e) (λ layered.
-      absurd (cc (layered, no_layers filesystem.number world world.filesystems plain)))
-      (or_cases (is_mounted nat_eq world filesystem.number) _ lived) in
-      let t = any_among (λ mount. nat_eq filesystem.number mount.filesystem) world.mounts was in
-      ⊎_elim (λ lives. or_right (is_among nat_eq filesystem.number losers.filesystems)
-      (filesystem_lives nat_eq mounted filesystem) (or_left (is_mounted nat_eq mounted filesystem.number) _
-      (any_from_among (λ mount. nat_eq filesystem.number mount.filesystem) mounted.mounts t.0
-      (among-filter (mount_lives nat_eq after) world.mounts t.0 t.1 lives) t.2)))
+      let lived = among_from_list_all _ _ in_use.filesystems _ m in
+      let was = ⊎_elim (λ e. e) (λ layered. absurd (cc (
+        layered,
+        no_layers filesystem.number world world.filesystems
+            plain,
+      ))) (or_cases _ _ lived) in
+      let t = any_among _ _ was in
+      ⊎_elim (λ lives. or_right _ _ (or_left _ _ (any_from_among _ _ t.0 (among-filter _ _ t.0 t.1 lives) t.2)))
       (λ dead. let gone = dead_was_left t.0 t.1 dead in
-      or_left (is_among nat_eq filesystem.number losers.filesystems) (filesystem_lives nat_eq mounted filesystem)
-      (ap (λ n. is_among nat_eq n losers.filesystems) (eqb-true filesystem.number t.0.filesystem t.2
-      ∙ ap (λ x. x.filesystem) (sym (filesystem_left t.0 t.1 gone.0 gone.1 gone.2)))
-      ∙ is_among_numbers (mount_at nat_eq world gone.0).filesystem losers.filesystems
-      (among-map (λ l. (mount_at nat_eq world l).filesystem) left gone.0 gone.1)))
-      (cases_Bool (mount_lives nat_eq after t.0)))
+      or_left _ _ (ap (λ n. is_among nat_eq n losers.filesystems) (eqb-true filesystem.number t.0.filesystem t.2 ∙ ap
+      (λ x. x.filesystem) (sym (filesystem_left t.0 t.1 gone.0 gone.1 gone.2))) ∙ is_among_numbers _ _
+      (among-map _ left gone.0 gone.1))) (cases_Bool _))
 
   pub groups_but : GroupsInUseBut losers.groups mounted
   groups_but group among none = in_use.groups group
@@ -245,13 +232,10 @@ module _ (world : World ℕ) (tasks : List (Task ℕ)) (left : List (Location �
     by_location : (location : Location ℕ) → Among location (all_locations world)
         → filesystem.number ≡ (mount_at nat_eq world location).filesystem
         → is_used_or_among losers.inodes swept filesystem location.node ≡ true
-    by_location location m e = ⊎_elim
-        (λ stays. or_right (is_inode_among filesystem.number location.node losers.inodes) _
-        (used_still location (among-append_left (all_locations after ++ map root_of mounted.mounts)
-        (filter_map (λ mount. mount.mount_point) mounted.mounts) location
-        (among-append_left (all_locations after) (map root_of mounted.mounts) location stays))
-        (cc (found_still location.mount (λ mount n same. located_lives mount location stays same)))))
-        (λ gone. may_go location gone e location.node (inl refl)) (stays_or_left location m)
+    by_location location m e = ⊎_elim (λ stays. or_right _ _ (used_still location
+        (among-append_left _ _ _ (among-append_left _ _ _ stays)) (cc (found_still location.mount
+        (λ mount n same. located_lives mount location stays same))))) (λ gone. may_go _ gone e _ (inl refl))
+        (stays_or_left _ m)
 
     by_root : (mount : Mount ℕ) → Among mount world.mounts
         → filesystem.number ≡ (mount_at nat_eq world (root_of mount)).filesystem
@@ -270,52 +254,39 @@ module _ (world : World ℕ) (tasks : List (Task ℕ)) (left : List (Location �
     by_place : (mount : Mount ℕ) → Among mount world.mounts → (place : Location ℕ) → mount.mount_point ≡ Some place
         → filesystem.number ≡ (mount_at nat_eq world place).filesystem
         → is_used_or_among losers.inodes swept filesystem place.node ≡ true
-    by_place mount m place p e = or_right (is_inode_among filesystem.number place.node losers.inodes) _
-        (used_still place (among-append_right (all_locations after ++ map root_of mounted.mounts)
-        (filter_map (λ x. x.mount_point) mounted.mounts) place
-        (among-filter_map (λ x. x.mount_point) mounted.mounts mount place
-        (among-filter (mount_lives nat_eq after) world.mounts mount m
-        (attached_lives mount (is_attached (is_some mount.namespace) refl))) p))
-        (e ∙ ap (λ x. x.filesystem) (sym (found_still place.mount (λ other n same.
-        only_one on there (attached_lives on on_attached) other n
-        (same ∙ sym (number-mount_in world.mounts place.mount)))))))
+    by_place mount m place p e = or_right _ _ (used_still place (among-append_right _ _ place
+        (among-filter_map _ _ mount place (among-filter _ _ mount m (attached_lives mount (is_attached _ refl))) p))
+        (e ∙ ap (λ x. x.filesystem) (sym (found_still _ (λ other n same. only_one on there
+        (attached_lives on on_attached) other n (same ∙ sym (number-mount_in _ _)))))))
       where
         on : Mount ℕ
         on = mount_at nat_eq world place
 
         is_attached : (b : Bool) → is_some mount.namespace ≡ b → is_some mount.namespace ≡ true
         is_attached true f = f
-        is_attached false f = absurd (true≢false (sym (ap is_some p)
-            ∙ (nowhere_parts mount (among_from_list_all is_nowhere_or_attached world.mounts stand.nowhere mount m)
-            f).0))
+        is_attached false f = absurd (true≢false (sym (ap is_some p) ∙ (nowhere_parts mount
+            (among_from_list_all _ _ stand.nowhere mount m) f).0))
 
         on_attached : is_some (mount_at nat_eq world place).namespace ≡ true
         on_attached = place_attached world stand mount m place p
 
         there : Among (mount_at nat_eq world place) world.mounts
-        there = found_is_there world.mounts place.mount on_attached
+        there = found_is_there _ _ on_attached
 
     -- what the world had places at
     pub by_located : (number : ℕ) → Among number (located_in nat_eq world filesystem.number)
         → is_used_or_among losers.inodes swept filesystem number ≡ true
     by_located number m =
-        let from = among-from_map (λ l. l.node)
-        (filter (λ l. nat_eq filesystem.number (mount_at nat_eq world l).filesystem)
-        (all_locations world ++ map root_of world.mounts ++ filter_map (λ mount. mount.mount_point) world.mounts))
-        number m in
-        let here = among-from_filter (λ l. nat_eq filesystem.number (mount_at nat_eq world l).filesystem)
-        (all_locations world ++ map root_of world.mounts ++ filter_map (λ mount. mount.mount_point) world.mounts) from.0
-        from.1 in
+        let from = among-from_map _ _ number m in
+        let here = among-from_filter _ _ from.0 from.1 in
         let e : filesystem.number ≡ (mount_at nat_eq world from.0).filesystem = eqb-true filesystem.number
         (mount_at nat_eq world from.0).filesystem here.1 in
         ap (is_used_or_among losers.inodes swept filesystem) from.2 ∙ ⊎_elim (λ other. ⊎_elim
-        (λ at. by_location from.0 at e) (λ root. let mount = among-from_map root_of world.mounts from.0 root in
-        ap (λ l. is_used_or_among losers.inodes swept filesystem l.node) mount.2
-        ∙ by_root mount.0 mount.1 (e ∙ ap (λ l. (mount_at nat_eq world l).filesystem) mount.2))
-        (among-append (all_locations world) (map root_of world.mounts) from.0 other))
-        (λ place. let mount = among-from_filter_map (λ x. x.mount_point) world.mounts from.0 place in
-        by_place mount.0 mount.1 from.0 mount.2 e) (among-append (all_locations world ++ map root_of world.mounts)
-        (filter_map (λ mount. mount.mount_point) world.mounts) from.0 here.0)
+        (λ at. by_location from.0 at e) (λ root. let mount = among-from_map _ _ from.0 root in
+        ap (λ l. is_used_or_among losers.inodes swept filesystem l.node) mount.2 ∙ by_root _ mount.1
+        (e ∙ ap (λ l. (mount_at nat_eq world l).filesystem) mount.2)) (among-append _ _ from.0 other))
+        (λ place. let mount = among-from_filter_map _ _ from.0 place in
+        by_place _ mount.1 from.0 mount.2 e) (among-append _ _ from.0 here.0)
 
     -- what the world used is used still, or may go
     by_use : IsPlain world → (number : ℕ) → is_inode_used world filesystem number ≡ true

@@ -1,6 +1,6 @@
 -- What goes when types of mounts change.
 use Rattle.std.proofs.Common.{arith, ◌≡◌, refl, sym, ap, subst, ◌∙◌, inl, inr, ⊎_elim, ℕ, zero, suc, nat_eq, eqb-true, Bool, true, false, cond, List, [], ◌∷◌, map, true≢false, Option, None, is_some}
-use Rattle.vt_spec.proofs.Common.{Fresh, Mount, Private, Propagation, Shared, Slave, TypeWord, Unbindable, World, cases_Bool, children, common_steps, false_from_ne_true, heir, inherited, inheriting, is_among, is_member_of, is_nowhere_or_attached, is_private, list_any, list_any-append, lost_a_group, map_twice, master_after, mount_in, mount_lives, named_mounts, numbers_by, or_parts, regrouped_by, retyped_mount, root_of, settled, stands_on, tree_from, type_after, with_master, with_new_groups}
+use Rattle.vt_spec.proofs.Common.{Fresh, Mount, Private, Propagation, Shared, Slave, TypeWord, Unbindable, World, cases_Bool, common_steps, false_from_ne_true, heir, inherited, inheriting, is_among, is_member_of, is_nowhere_or_attached, is_private, list_any, list_any-append, lost_a_group, map_twice, master_after, mount_in, mount_lives, named_mounts, numbers_by, or_parts, regrouped_by, retyped_mount, root_of, settled, stands_on, tree_from, type_after, with_new_groups}
 use Rattle.vt_laws_mounts.specs.LettingGo.Attaching.{is_attached}
 use Rattle.vt_laws_mounts.specs.LettingGo.InUse.{AllInUse}
 use Rattle.vt_laws_mounts.specs.LettingGo.Unmounting.{groups_of_mounts}
@@ -20,9 +20,8 @@ old_masters : (group : ℕ → ℕ) (mounts : List (Mount ℕ)) (master : ℕ �
     → ((mount : Mount ℕ) → Among mount mounts → nat_eq one (group mount.number) ≡ false)
     → with_new_groups nat_eq group master mounts one ≡ master one
 old_masters group [] master one none = refl
-old_masters group (mount ∷ rest) master one none =
-    old_masters group rest (with_master nat_eq master (group mount.number) (master_after mount.propagation)) one
-    (λ x m. none x (inr m)) ∙ ap (λ b. cond b (master_after mount.propagation) (master one)) (none mount (inl refl))
+old_masters group (mount ∷ rest) master one none = old_masters group rest _ one (λ x m. none x (inr m)) ∙ ap
+    (λ b. cond b (master_after mount.propagation) (master one)) (none mount (inl refl))
 
 -- each mount of a tree whose top is in a namespace is in one
 tree_attached : (world : World ℕ) → MountsStand world → (depth : ℕ) (top : Mount ℕ) → is_some top.namespace ≡ true
@@ -31,10 +30,9 @@ tree_attached world stand zero top is mount m =
     ⊎_elim (λ e. cc) (λ none. absurd none) m
 tree_attached world stand (suc depth) top is mount m = ⊎_elim (λ e. cc)
     (λ later.
-    let under = among-from_flat_map (tree_from nat_eq depth world.mounts)
-    (children nat_eq world.mounts top.number) mount later in
-    let child = among-from_filter (stands_on nat_eq top.number) world.mounts under.0 under.1 in
-    tree_attached world stand depth under.0 (placed under.0 child.0 child.1) mount under.2) m
+    let under = among-from_flat_map _ _ mount later in
+    let child = among-from_filter _ _ _ under.1 in
+    tree_attached world stand depth _ (placed _ child.0 child.1) mount under.2) m
   where
     placed : (child : Mount ℕ) → Among child world.mounts → stands_on nat_eq top.number child ≡ true
         → is_some child.namespace ≡ true
@@ -72,7 +70,7 @@ module _ (fresh : Fresh ℕ) {world : World ℕ} (number : ℕ) (word : TypeWord
 
   retyped_so : (b : Bool) → regrouped_by nat_eq b base ≡ last b
   retyped_so true = ap (λ mounts. changed world mounts (masters true) world.namespaces world.tasks)
-      (map_twice (inheriting nat_eq base) retype world.mounts)
+      (map_twice _ retype _)
   retyped_so false = refl
 
   -- a mount keeps all but its type
@@ -95,11 +93,10 @@ module _ (fresh : Fresh ℕ) {world : World ℕ} (number : ℕ) (word : TypeWord
 
   named_attached : (mount : Mount ℕ) → Among mount world.mounts → is_named mount ≡ true → is_some mount.namespace ≡ true
   named_attached mount m is =
-      let t = any_among (λ other. nat_eq mount.number other.number) named is in
+      let t = any_among _ named is in
       let other = named_of_world t.0 t.1 in
-      let same : mount ≡ t.0 = sym (found_itself world.mounts stand.one_number mount m)
-      ∙ ap (mount_in nat_eq world.mounts) (eqb-true mount.number t.0.number t.2)
-      ∙ found_itself world.mounts stand.one_number t.0 other.0 in
+      let same : mount ≡ t.0 = sym (found_itself _ stand.one_number mount m) ∙ ap (mount_in nat_eq world.mounts)
+      (eqb-true mount.number t.0.number t.2) ∙ found_itself _ stand.one_number t.0 other.0 in
       cc (same, other.1)
 
   nowhere : (b : Bool) (mount : Mount ℕ) → Among mount world.mounts → is_nowhere_or_attached (change b mount) ≡ true
@@ -171,10 +168,8 @@ module _ (fresh : Fresh ℕ) {world : World ℕ} (number : ℕ) (word : TypeWord
   no_master b one old e = by b
     where
       before : base.master one ≡ None
-      before = old_masters group named world.master one
-          (λ mount m. false_from_ne_true (nat_eq one (group mount.number)) (λ same.
-          true≢false (sym (any_from_among (nat_eq one) (map (λ x. group x.number) named) (group mount.number)
-          (among-map (λ x. group x.number) named mount m) same) ∙ old))) ∙ e
+      before = old_masters group named _ one (λ mount m. false_from_ne_true _
+          (λ same. true≢false (sym (any_from_among _ _ _ (among-map _ named mount m) same) ∙ old))) ∙ e
 
       by : (c : Bool) → masters c one ≡ None
       by true = ap (heir nat_eq base) before

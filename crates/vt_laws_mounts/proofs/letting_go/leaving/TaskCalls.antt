@@ -15,11 +15,9 @@ closed_or_still task number location known =
     grind (arith, common_steps, among-from_map, among-map, among-filter, cases_Bool)
 
 pub closes_let_go : ClosesLetGo
-closes_let_go number fresh world task settles one there =
-    leaving_overlays_lets_go world (with_task world (without_descriptor task number)).tasks
-    (locations_closed task number) settles
-    (replaced_leaves world task (without_descriptor task number) (locations_closed task number) one
-    (among_from_contains world.tasks task there) refl (closed_or_still task number))
+closes_let_go number fresh world task settles one there = leaving_overlays_lets_go world
+    (with_task world (without_descriptor task number)).tasks (locations_closed task number) settles
+    (replaced_leaves world task _ _ one (among_from_contains _ task there) refl (closed_or_still task number))
 
 pub changed_directories_let_go : ChangedDirectoriesLetGo
 changed_directories_let_go directory fresh world task settles one there =
@@ -51,21 +49,19 @@ changed_roots_let_go root fresh world task settles one there =
 pub new_umasks_keep_all : NewUmasksKeepAll
 new_umasks_keep_all umask fresh world task settles one there =
     staying_keeps_overlays world (with_task world (record task { umask = umask })).tasks settles
-    (replaced_leaves world task (record task { umask = umask }) [] one (among_from_contains world.tasks task there) refl
-    (λ location m. inl m))
+    (replaced_leaves world task _ [] one (among_from_contains _ task there) refl (λ location m. inl m))
 
 pub new_credentials_keep_all : NewCredentialsKeepAll
 new_credentials_keep_all credentials fresh world task settles one there =
     staying_keeps_overlays world (with_task world (record task { credentials = credentials })).tasks settles
-    (replaced_leaves world task (record task { credentials = credentials }) [] one
-    (among_from_contains world.tasks task there) refl (λ location m. inl m))
+    (replaced_leaves world task _ [] one (among_from_contains _ task there) refl (λ location m. inl m))
 
 pub opened_files_keep_all : OpenedFilesKeepAll
 opened_files_keep_all fresh world task file access settles one there not_copied =
     subst (λ b. settled nat_eq (opened (with_copy nat_eq b fresh world file) task file access).world
     ≡ (opened (with_copy nat_eq b fresh world file) task file access).world) (sym not_copied)
     (staying_keeps_overlays world (with_task world (with_descriptor task file access)).tasks settles
-    (none_left world task file access one (among_from_contains world.tasks task there)))
+    (none_left world task file access one (among_from_contains _ task there)))
 
 -- with one task more
 more_tasks : (world : World ℕ) (tasks more : List (Task ℕ)) → only_these_are_left world tasks [] ≡ true
@@ -76,8 +72,8 @@ more_tasks world tasks more only =
 pub forks_keep_all : ForksKeepAll
 forks_keep_all credentials fresh world task settles one there =
     staying_keeps_overlays world (with_child world task (child_of task credentials)).tasks settles
-    (more_tasks world (with_task world counted).tasks (child_of task credentials ∷ [])
-    (replaced_leaves world task counted [] one (among_from_contains world.tasks task there) refl (λ location m. inl m)))
+    (more_tasks world _ _
+    (replaced_leaves world task _ [] one (among_from_contains _ task there) refl (λ location m. inl m)))
   where
     counted : Task ℕ
     counted = record task { forks = task.forks + 1 }

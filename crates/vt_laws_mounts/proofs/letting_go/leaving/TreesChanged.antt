@@ -1,6 +1,6 @@
 -- What goes when a plain tree changes.
 use Rattle.std.proofs.Common.{arith, ◌≡◌, refl, sym, subst, ◌∙◌, ◌⊎◌, inl, inr, ⊎_elim, ℕ, nat_eq, eqb-true, eq-eqb, true, false, ◌||◌, ◌&&◌, List, [], ◌∷◌, find, map, unwrap_or}
-use Rattle.vt_spec.proofs.Common.{FileTree, Filesystem, World, common_steps, filesystem_lives, filesystem_numbered, is_among, is_among_left, is_among_right, is_mounted, is_overlay, list_all, located_in, named_in, no_filesystem, or_cases, replaced_if_numbered, settled, with_files, without_dead_filesystems, without_dead_mounts}
+use Rattle.vt_spec.proofs.Common.{FileTree, Filesystem, World, common_steps, filesystem_numbered, is_among, is_among_left, is_among_right, is_mounted, is_overlay, list_all, located_in, named_in, no_filesystem, or_cases, settled, with_files, without_dead_filesystems, without_dead_mounts}
 use Rattle.vt_laws_mounts.specs.LettingGo.InUse.{FilesystemsInUse, HasTrees, IsListedTree, is_inode_used, AllInUse}
 use Rattle.vt_laws_mounts.specs.LettingGo.Leaving.{IsSettledPlain}
 use Rattle.vt_laws_mounts.specs.LettingGo.OneByOne.{FilesystemsInUseBut, GroupsInUseBut, InodesInUseBut, IsPlain, Losers, is_inode_among, is_used_or_among, let_go}
@@ -28,38 +28,33 @@ module _ (world : World ℕ) (number : ℕ) (files : FileTree ℕ) (in_use : All
   with_new = with_tree world number files
 
   pub old_there : Among before world.filesystems
-  old_there = (found_filesystem world.filesystems number there).0
+  old_there = (found_filesystem _ number there).0
 
   -- a filesystem of the changed world is the changed one, or was there
   is_new_or_old : (filesystem : Filesystem ℕ) → Among filesystem with_new.filesystems
       → (filesystem ≡ with_files before files) ⊎ Among filesystem world.filesystems
   is_new_or_old filesystem m =
-      let from = among-from_map (replaced_if_numbered nat_eq (with_files before files)) world.filesystems filesystem
-      m in grind (arith, common_steps)
+      let from = among-from_map _ _ _ m in grind (arith, common_steps)
 
   pub for_each : (P : Filesystem ℕ → Type 0) → P (with_files before files)
       → ((f : Filesystem ℕ) → Among f world.filesystems → P f)
       → (filesystem : Filesystem ℕ) → Among filesystem with_new.filesystems → P filesystem
   for_each P here others filesystem m =
-      ⊎_elim (λ e. subst P (sym e) here) (λ n. others filesystem n) (is_new_or_old filesystem m)
+      ⊎_elim (λ e. subst P (sym e) here) (λ n. others filesystem n) (is_new_or_old _ m)
 
   pub plain_old : is_overlay before ≡ false
-  plain_old = none_among is_overlay world.filesystems plain before old_there
+  plain_old = none_among _ _ plain before old_there
 
   pub plain_after : IsPlain with_new
-  plain_after = none_from_among is_overlay with_new.filesystems (for_each (λ f. is_overlay f ≡ false) plain_old
-      (λ f m. none_among is_overlay world.filesystems plain f m))
+  plain_after = none_from_among _ _ (for_each _ plain_old (λ f m. none_among _ _ plain f m))
 
   mounted_old : (f : Filesystem ℕ) → Among f world.filesystems → is_mounted nat_eq world f.number ≡ true
   mounted_old f m = ⊎_elim (λ e. e) (λ layered. absurd (cc (no_layers f.number world world.filesystems plain)))
-      (or_cases (is_mounted nat_eq world f.number) _
-      (among_from_list_all (filesystem_lives nat_eq world) world.filesystems in_use.filesystems f m))
+      (or_cases _ _ (among_from_list_all _ _ in_use.filesystems f m))
 
   pub filesystems_after : FilesystemsInUse with_new
-  filesystems_after = list_all_from_among (filesystem_lives nat_eq with_new) with_new.filesystems
-      (for_each (λ f. filesystem_lives nat_eq with_new f ≡ true)
-      (or_left (is_mounted nat_eq with_new before.number) _ (mounted_old before old_there))
-      (λ f m. or_left (is_mounted nat_eq with_new f.number) _ (mounted_old f m)))
+  filesystems_after = list_all_from_among _ _ (for_each _ (or_left _ _ (mounted_old before old_there))
+      (λ f m. or_left _ _ (mounted_old f m)))
 
   -- so no mount and no filesystem goes
   pub same_living : without_dead_filesystems nat_eq (without_dead_mounts nat_eq with_new) ≡ with_new
@@ -81,7 +76,7 @@ module _ {world : World ℕ} (number : ℕ) {files : FileTree ℕ} {unnamed : Li
   losers = record { mounts = []; filesystems = []; inodes = map (λ inode. (number, inode)) unnamed; groups = [] }
 
   old_number : old.number ≡ number
-  old_number = (found_filesystem world.filesystems number there).1
+  old_number = (found_filesystem _ number there).1
 
   trees_after : HasTrees after
   trees_after = all_from_among (λ f. IsListedTree f.files) after.filesystems

@@ -1,6 +1,6 @@
 -- What goes when trees change, in worlds with overlays.
 use Rattle.std.proofs.Common.{arith, ◌≡◌, None, refl, sym, ap, subst, ◌∙◌, ◌⊎◌, inl, inr, ⊎_elim, ℕ, nat_eq, eqb-true, eq-eqb, Bool, true, false, cond, ◌||◌, ◌&&◌, List, [], ◌∷◌, map, ◌++◌, true≢false, All}
-use Rattle.vt_spec.proofs.Common.{FileTree, Filesystem, World, any_pair, common_steps, filesystem_lives, filesystem_numbered, has_layer_on, is_among, is_among_left, is_among_right, is_overlay, layers_in, layers_of, list_all, list_any, list_any-append, located_in, named_in, objects_of_overlay, of_overlay, or_cases, replaced_if_numbered, settled, taken_away, with_files, without_dead_filesystems, without_dead_mounts}
+use Rattle.vt_spec.proofs.Common.{FileTree, Filesystem, World, any_pair, common_steps, filesystem_lives, filesystem_numbered, has_layer_on, is_among, is_among_left, is_among_right, is_overlay, layers_in, layers_of, list_all, list_any, list_any-append, located_in, named_in, of_overlay, or_cases, replaced_if_numbered, settled, taken_away, with_files, without_dead_filesystems, without_dead_mounts}
 use Rattle.vt_laws_mounts.specs.LettingGo.InUse.{FilesystemsInUse, HasTrees, IsListedTree, UppersArePlain, has_upper_in, is_inode_used}
 use Rattle.vt_laws_mounts.specs.LettingGo.LeavingOverlays.{IsSettled, used_with_layers}
 use Rattle.vt_laws_mounts.specs.LettingGo.Leaving.{with_tasks}
@@ -69,35 +69,29 @@ module _ (world : World ℕ) (losers : Losers) (but : AllInUseBut losers world) 
       (λ g n. ChangesFilesystem.layers (changed_so g n)) f m
 
   filesystems_but : FilesystemsInUseBut losers.filesystems (without_dead_mounts nat_eq after)
-  filesystems_but = list_all_from_among (λ f. is_among nat_eq f.number losers.filesystems || filesystem_lives nat_eq
-      (without_dead_mounts nat_eq after) f) after.filesystems
-      (λ x m. let from = among-from_map change world.filesystems x m in
-      ap (λ f. is_among nat_eq f.number losers.filesystems
-      || filesystem_lives nat_eq (without_dead_mounts nat_eq after) f) from.2
-      ∙ ap (λ b. is_among nat_eq (change from.0).number losers.filesystems || b) (same_lives from.0 from.1)
+  filesystems_but = list_all_from_among _ _ (λ x m. let from = among-from_map change _ x m in
+      ap (λ f. is_among nat_eq f.number losers.filesystems || filesystem_lives nat_eq (without_dead_mounts nat_eq after)
+      f) from.2 ∙ ap (λ b. is_among nat_eq (change from.0).number losers.filesystems || b) (same_lives from.0 from.1)
       ∙ ap (λ n. is_among nat_eq n losers.filesystems || filesystem_lives nat_eq mounted from.0)
-      (ChangesFilesystem.number (changed_so from.0 from.1)) ∙ among_from_list_all
-      (λ f. is_among nat_eq f.number losers.filesystems
-      || filesystem_lives nat_eq mounted f) world.filesystems but.filesystems from.0 from.1)
+      (ChangesFilesystem.number (changed_so from.0 from.1)) ∙ among_from_list_all _ _ but.filesystems from.0 from.1)
 
   -- what lives is what lived
   from_living : (f : Filesystem ℕ) → Among f living.filesystems
       → Among f world.filesystems × (filesystem_lives nat_eq mounted f ≡ true)
-  from_living f m = among-from_filter (filesystem_lives nat_eq mounted) world.filesystems f m
+  from_living f m = among-from_filter _ _ f m
 
   lives_still : (f : Filesystem ℕ) → Among f living.filesystems → Among (change f) last.filesystems
   lives_still f m =
       let was = from_living f m in
-      among-filter (filesystem_lives nat_eq (without_dead_mounts nat_eq after)) after.filesystems (change f)
-      (among-map change world.filesystems f was.0) (same_lives f was.0 ∙ was.1)
+      among-filter _ _ _ (among-map change _ f was.0) (same_lives f was.0 ∙ was.1)
 
   lived : (x : Filesystem ℕ) → Among x last.filesystems
       → (f : Filesystem ℕ) × Among f living.filesystems × (x ≡ change f)
   lived x m =
-      let now = among-from_filter (filesystem_lives nat_eq (without_dead_mounts nat_eq after)) after.filesystems x m in
-      let from = among-from_map change world.filesystems x now.0 in (
+      let now = among-from_filter _ _ x m in
+      let from = among-from_map change _ x now.0 in (
         from.0,
-        among-filter (filesystem_lives nat_eq mounted) world.filesystems from.0 from.1 (sym (same_lives from.0 from.1)
+        among-filter _ _ from.0 from.1 (sym (same_lives from.0 from.1)
             ∙ ap (filesystem_lives nat_eq (without_dead_mounts nat_eq after)) (sym from.2) ∙ now.1),
         from.2,
       )
@@ -113,14 +107,10 @@ module _ (world : World ℕ) (losers : Losers) (but : AllInUseBut losers world) 
   object_left : (filesystem number : ℕ) → Among number (upper_objects living filesystem)
       → Among number (upper_objects last filesystem) ⊎ (is_inode_among filesystem number lost ≡ true)
   object_left filesystem number m =
-      let one = among-from_flat_map (objects_of_overlay nat_eq filesystem) living.filesystems number m in
-      ⊎_elim (λ still. inl (among-flat_map (objects_of_overlay nat_eq filesystem) last.filesystems (change one.0) number
-      (lives_still one.0 one.1) (among_numbers number (objects_of_overlay nat_eq filesystem (change one.0)) still))) inr
-      (or_cases (is_among nat_eq number (objects_of_overlay nat_eq filesystem (change one.0)))
-      (is_inode_among filesystem number lost)
-      (among_from_list_all (λ object. is_among nat_eq object (objects_of_overlay nat_eq filesystem (change one.0))
-      || is_inode_among filesystem object lost) (objects_of_overlay nat_eq filesystem one.0)
-      (ChangesFilesystem.objects (so_living one.0 one.1) filesystem) number one.2))
+      let one = among-from_flat_map _ _ number m in
+      ⊎_elim (λ still. inl (among-flat_map _ _ _ number (lives_still one.0 one.1) (among_numbers number _ still))) inr
+      (or_cases _ _ (among_from_list_all _ _ (ChangesFilesystem.objects (so_living one.0 one.1) filesystem) number
+      one.2))
 
   module _ (f : Filesystem ℕ) (there : Among f living.filesystems) where
     abbrev now : Filesystem ℕ
@@ -139,11 +129,11 @@ module _ (world : World ℕ) (losers : Losers) (but : AllInUseBut losers world) 
     layers = layers_in nat_eq last now.number
 
     used : (number : ℕ) → is_inode_used last now number ≡ true → is_used_or_among inodes last now number ≡ true
-    used number h = or_right (is_inode_among now.number number inodes) (is_inode_used last now number) h
+    used number h = or_right _ _ h
 
     among_losers : (number : ℕ) → is_inode_among now.number number inodes ≡ true
         → is_used_or_among inodes last now number ≡ true
-    among_losers number h = or_left (is_inode_among now.number number inodes) (is_inode_used last now number) h
+    among_losers number h = or_left _ _ h
 
     may_go : (number : ℕ) → is_inode_among f.number number lost ≡ true → is_used_or_among inodes last now number ≡ true
     may_go number h = among_losers number
@@ -220,12 +210,10 @@ module _ (world : World ℕ) (losers : Losers) (but : AllInUseBut losers world) 
         || is_among nat_eq k (upper_objects last now.number)) now.files.numbers (ChangesFilesystem.inodes so) number m))
 
   inodes_but : InodesInUseBut inodes last
-  inodes_but =
-      all_from_among (λ f. list_all (is_used_or_among inodes last f) f.files.numbers ≡ true) last.filesystems (λ x m.
+  inodes_but = all_from_among _ _ (λ x m.
       let from = lived x m in
       subst (λ f. list_all (is_used_or_among inodes last f) f.files.numbers ≡ true) (sym from.2)
-      (list_all_from_among (is_used_or_among inodes last (change from.0)) (change from.0).files.numbers
-      (inode_after from.0 from.1)))
+      (list_all_from_among _ _ (inode_after from.0 from.1)))
 
   pub all_but_changed : AllInUseBut (with_lost losers lost) after
   all_but_changed = grind (arith, common_steps, filesystems_but, inodes_but)
@@ -313,13 +301,11 @@ module _ {world : World ℕ} (number : ℕ) {files : FileTree ℕ} {unnamed : Li
   -- the filesystem of the number, and its number
   is_there : (f : Filesystem ℕ) × Among f world.filesystems × (f.number ≡ number)
   is_there =
-      let t = among-from_map (λ (f : Filesystem ℕ). f.number) world.filesystems number
-      (among_numbers number (map (λ (f : Filesystem ℕ). f.number) world.filesystems) there) in
+      let t = among-from_map _ _ number (among_numbers number _ there) in
       (t.0, t.1, sym t.2)
 
   old_is : old ≡ is_there.0
-  old_is = ap (filesystem_numbered nat_eq world) (sym is_there.2)
-      ∙ found_filesystem world.filesystems one is_there.0 is_there.1
+  old_is = ap (filesystem_numbered nat_eq world) (sym is_there.2) ∙ found_filesystem _ one _ is_there.1
 
   old_number : old.number ≡ number
   old_number = cc (old_is, is_there.2)
@@ -333,10 +319,10 @@ module _ {world : World ℕ} (number : ℕ) {files : FileTree ℕ} {unnamed : Li
     is_another : swap f ≡ f → Is f
 
   which : (f : Filesystem ℕ) → Among f world.filesystems → Is f
-  which f m = by (nat_eq new.number f.number) refl
+  which f m = by _ refl
     where
       by : (b : Bool) → nat_eq new.number f.number ≡ b → Is f
-      by true e = is_the_one (sym (found_filesystem world.filesystems one f m) ∙ ap (filesystem_numbered nat_eq world)
+      by true e = is_the_one (sym (found_filesystem _ one f m) ∙ ap (filesystem_numbered nat_eq world)
           (sym (eqb-true new.number f.number e) ∙ old_number)) (ap (λ b. cond b new f) e)
       by false e = is_another (ap (λ b. cond b new f) e)
 
@@ -346,8 +332,7 @@ module _ {world : World ℕ} (number : ℕ) {files : FileTree ℕ} {unnamed : Li
 
   for_all : (P : Filesystem ℕ → Type 0) → P new → ((f : Filesystem ℕ) → Among f world.filesystems → P f)
       → All P then_.filesystems
-  for_all P here others =
-      all_from_among P then_.filesystems (λ x m. let from = among-from_map swap world.filesystems x m in
+  for_all P here others = all_from_among P _ (λ x m. let from = among-from_map swap _ x m in
       subst P (sym from.2) (for_each P here others from.0 from.1))
 
   pub trees_after : HasTrees then_
@@ -356,7 +341,7 @@ module _ {world : World ℕ} (number : ℕ) {files : FileTree ℕ} {unnamed : Li
 
   pub reals_after : RealsAreThere then_
   reals_after = for_all (λ f. (k : ℕ) → f.files.tree.node k ≡ None → real_in f k ≡ None) (λ k e. no_real new plain k)
-      (among_from_all (λ f. (k : ℕ) → f.files.tree.node k ≡ None → real_in f k ≡ None) world.filesystems settles.reals)
+      (among_from_all _ _ settles.reals)
 
   pub uppers_after : UppersArePlain then_
   uppers_after = for_all (λ f. is_overlay f ≡ true → All (λ g. has_upper_in f.number g ≡ false) then_.filesystems)
@@ -368,9 +353,7 @@ module _ {world : World ℕ} (number : ℕ) {files : FileTree ℕ} {unnamed : Li
       (among_from_all (λ g. has_upper_in f.number g ≡ false) world.filesystems was))
 
   lost_name : (inode : ℕ) → is_among nat_eq inode unnamed ≡ true → is_inode_among old.number inode without_name ≡ true
-  lost_name inode is =
-      any_from_among (λ loser. nat_eq old.number loser.0 && nat_eq inode loser.1) without_name (number, inode)
-      (among-map (λ k. (number, k)) unnamed inode (among_numbers inode unnamed is))
+  lost_name inode is = any_from_among _ _ _ (among-map _ _ inode (among_numbers inode _ is))
       (cc (eq-eqb old.number number old_number, eq-eqb inode inode refl))
 
   of_old : (after : World ℕ) → ChangesFilesystem after without_name old new
@@ -387,13 +370,12 @@ module _ {world : World ℕ} (number : ℕ) {files : FileTree ℕ} {unnamed : Li
   )
 
   pub all_change : (after : World ℕ) → All (λ f. ChangesFilesystem after without_name f (swap f)) world.filesystems
-  all_change after = all_from_among (λ f. ChangesFilesystem after without_name f (swap f)) world.filesystems
-      (λ f m. by f (which f m))
+  all_change after = all_from_among _ _ (λ f m. by f (which f m))
     where
       by : (f : Filesystem ℕ) → Is f → ChangesFilesystem after without_name f (swap f)
       by f (is_the_one e s) = subst (λ x. ChangesFilesystem after without_name x (swap f)) (sym e)
           (subst (ChangesFilesystem after without_name old) (sym s) (of_old after))
-      by f (is_another s) = subst (ChangesFilesystem after without_name f) (sym s) (unchanged after without_name f)
+      by f (is_another s) = subst (ChangesFilesystem after without_name f) (sym s) (unchanged after _ f)
 
   unnamed_goes : settled nat_eq then_ ≡ let_go_all_inodes then_ without_name
   unnamed_goes = trees_change swap without_name settles trees_after uppers_after reals_after (all_change then_)

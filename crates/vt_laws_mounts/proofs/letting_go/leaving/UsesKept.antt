@@ -1,6 +1,6 @@
 -- Changes of mounts that take no use away.
 use Rattle.std.proofs.Common.{arith, ◌≡◌, refl, sym, ap, subst, ◌∙◌, ⊎_elim, ℕ, nat_eq, eqb-true, eq-eqb, Bool, true, cond, ◌||◌, ◌&&◌, List, [], ◌∷◌, filter, map, true≢false, flat_map, ◌++◌, Option, is_some, filter_map}
-use Rattle.vt_spec.proofs.Common.{Filesystem, Mount, MountFlags, World, all_locations, common_steps, cons_option, filesystem_lives, has_layer_on, has_members, is_among, is_located, is_mounted, layers_in, list_all, list_any, located_in, map_alike, map_twice, mount_at, mount_in, mount_lives, named_in, number-mount_in, objects_of_overlay, replaced_if_same, root_of, settled, with_mounts}
+use Rattle.vt_spec.proofs.Common.{Filesystem, Mount, MountFlags, World, all_locations, common_steps, cons_option, filesystem_lives, has_layer_on, has_members, is_among, is_located, is_mounted, layers_in, list_all, list_any, located_in, map_alike, map_twice, mount_at, mount_in, mount_lives, named_in, number-mount_in, objects_of_overlay, root_of, settled, with_mounts}
 use Rattle.vt_laws_mounts.specs.LettingGo.Detaching.{with_changed}
 use Rattle.vt_laws_mounts.specs.LettingGo.InUse.{AllInUse, GroupsInUse, is_inode_used}
 use Rattle.vt_laws_mounts.specs.LettingGo.Keeping.{FlagsAreOfOne, FlagsKeepAll, KeepsUses, SetFlagsKeepAll, TypesKeepAll, flags_if}
@@ -14,7 +14,7 @@ module _ (world : World ℕ) (change : Mount ℕ → Mount ℕ) (master : ℕ �
   after = with_changed world change master
 
   same_roots : map root_of (map change world.mounts) ≡ map root_of world.mounts
-  same_roots = map_twice root_of change world.mounts ∙ map_alike (λ mount. root_of (change mount)) root_of world.mounts
+  same_roots = map_twice _ change _ ∙ map_alike _ _ _
       (λ mount m. λ i. record { mount = keeps.number mount i; node = keeps.root mount i })
 
   same_places : (mounts : List (Mount ℕ)) → filter_map (λ mount. mount.mount_point) (map change mounts)
@@ -25,8 +25,8 @@ module _ (world : World ℕ) (change : Mount ℕ → Mount ℕ) (master : ℕ �
   same_filesystem : (number : ℕ)
       → (mount_in nat_eq after.mounts number).filesystem ≡ (mount_in nat_eq world.mounts number).filesystem
   same_filesystem number = ⊎_elim (λ e. e) (λ found. ap (λ x. x.filesystem)
-      (found-map change keeps.number world.mounts number found.0 found.1 found.2 found.3)
-      ∙ keeps.filesystem (mount_in nat_eq world.mounts number)) (not_found-map change keeps.number world.mounts number)
+      (found-map change keeps.number _ number _ found.1 found.2 found.3)
+      ∙ keeps.filesystem (mount_in nat_eq world.mounts number)) (not_found-map change keeps.number _ number)
 
   same_located : (number : ℕ) → located_in nat_eq after number ≡ located_in nat_eq world number
   same_located number = λ i. map (λ location. location.node)
@@ -34,8 +34,7 @@ module _ (world : World ℕ) (change : Mount ℕ → Mount ℕ) (master : ℕ �
       (all_locations world ++ same_roots i ++ same_places world.mounts i))
 
   same_mounted : (number : ℕ) → is_mounted nat_eq after number ≡ is_mounted nat_eq world number
-  same_mounted number = any-map (λ mount. nat_eq number mount.filesystem) change world.mounts
-      (λ mount. ap (nat_eq number) (keeps.filesystem mount))
+  same_mounted number = any-map _ change _ (λ mount. ap (nat_eq number) (keeps.filesystem mount))
 
   same_lives : (filesystem : Filesystem ℕ)
       → filesystem_lives nat_eq after filesystem ≡ filesystem_lives nat_eq world filesystem
@@ -76,9 +75,7 @@ types_keep_all world change master all keeps groups =
 
 -- Flags
 pub flags_are_of_one : FlagsAreOfOne
-flags_are_of_one world here flags one = ap (with_mounts world)
-    (map_alike (replaced_if_same nat_eq (record (mount_at nat_eq world here) { flags = flags }))
-    (flags_if here.mount flags) world.mounts
+flags_are_of_one world here flags one = ap (with_mounts world) (map_alike _ _ _
     (λ mount m. cc (number-mount_in world.mounts here.mount, by mount m (nat_eq here.mount mount.number) refl)))
   where
     by : (mount : Mount ℕ) → Among mount world.mounts → (b : Bool) → nat_eq here.mount mount.number ≡ b
@@ -94,10 +91,9 @@ same_members : (number group : ℕ) (flags : MountFlags) (mounts : List (Mount �
 same_members number group flags mounts = grind (arith, common_steps, any-map)
 
 pub flags_keep_all : FlagsKeepAll
-flags_keep_all world here flags one all =
-    subst (λ w. settled nat_eq w ≡ w) (sym (flags_are_of_one world here flags one))
-    (types_keep_all world (flags_if here.mount flags) world.master all (keeps_flags here.mount flags)
-    (λ group none. all.groups group (cc (same_members here.mount group flags world.mounts))))
+flags_keep_all world here flags one all = subst (λ w. settled nat_eq w ≡ w)
+    (sym (flags_are_of_one world here flags one)) (types_keep_all world (flags_if here.mount flags) world.master all
+    (keeps_flags _ flags) (λ group none. all.groups group (cc (same_members here.mount group flags world.mounts))))
 
 pub set_flags_keep_all : SetFlagsKeepAll
 set_flags_keep_all fresh world task number flags = flags_keep_all world (record { mount = number; node = 0 }) flags

@@ -15,8 +15,7 @@ swapped copied mount = folded (λ old copy. replaced_if_same nat_eq copy old) mo
 pub swapped_all : (copied mounts : List (Mount ℕ))
     → folded (with_mount nat_eq) mounts copied ≡ map (swapped copied) mounts
 swapped_all [] mounts = sym (map-id mounts)
-swapped_all (copy ∷ copied) mounts = swapped_all copied (with_mount nat_eq mounts copy)
-    ∙ map_twice (swapped copied) (replaced_if_same nat_eq copy) mounts
+swapped_all (copy ∷ copied) mounts = swapped_all copied _ ∙ map_twice _ _ mounts
 
 -- a mount is as it was, and none has its number, or it is one of its number
 abbrev Swapped : List (Mount ℕ) → Mount ℕ → Mount ℕ → Type 0
@@ -33,8 +32,7 @@ pub masters_stay : (made : List (ℕ × Option ℕ)) (master : ℕ → Option �
     → folded (masters_with nat_eq) master made group ≡ master group
 masters_stay [] master group none = refl
 masters_stay (one ∷ made) master group none =
-    masters_stay made (masters_with nat_eq master one) group (λ x m. none x (inr m))
-    ∙ ap (λ b. cond b one.1 (master group)) (none one (inl refl))
+    masters_stay made _ group (λ x m. none x (inr m)) ∙ ap (λ b. cond b one.1 (master group)) (none one (inl refl))
 
 module _ (world : World ℕ) (filesystems : List (Filesystem ℕ)) (new : Copies ℕ) (place : Location ℕ) (moves : Bool)
     (first : Mount ℕ) (rest : List (Mount ℕ)) (in_use : AllInUse world) (stand : MountsStand world)
@@ -92,7 +90,7 @@ module _ (world : World ℕ) (filesystems : List (Filesystem ℕ)) (new : Copies
       by false = sym (map-id world.mounts)
 
   old_mounts : map push (with_moved_mounts nat_eq moves world.mounts (copies destination)) ≡ map last world.mounts
-  old_mounts = ap (map push) went_all ∙ map_twice push went world.mounts
+  old_mounts = ap (map push) went_all ∙ map_twice push went _
 
   -- each copy is of a mount of the tree
   copied : (part x : Mount ℕ) → Among x (copies part)
@@ -112,16 +110,10 @@ module _ (world : World ℕ) (filesystems : List (Filesystem ℕ)) (new : Copies
 
   old_there : (mount : Mount ℕ) → Among mount world.mounts → Among (last mount) after.mounts
   old_there mount m = subst (λ old. Among (last mount) (mounts_by old)) (sym old_mounts)
-      (among-append_left (map last world.mounts ++ added_mounts moves (copies destination))
-      (flat_map copies (rest_of parts)) (last mount)
-      (among-append_left (map last world.mounts) (added_mounts moves (copies destination)) (last mount)
-      (among-map last world.mounts mount m)))
+      (among-append_left _ _ _ (among-append_left _ _ _ (among-map last _ mount m)))
 
   copy_at_receiver : (part x : Mount ℕ) → Among part (rest_of parts) → Among x (copies part) → Among x after.mounts
-  copy_at_receiver part x m n =
-      among-append_right (map push (with_moved_mounts nat_eq moves world.mounts (copies destination))
-      ++ added_mounts moves (copies destination)) (flat_map copies (rest_of parts)) x
-      (among-flat_map copies (rest_of parts) part x m n)
+  copy_at_receiver part x m n = among-append_right _ _ x (among-flat_map copies _ part x m n)
 
   -- each is one of before, a copy at the destination, or a copy at a receiver
   data Comes (x : Mount ℕ) : Type 0 where
@@ -158,7 +150,7 @@ module _ (world : World ℕ) (filesystems : List (Filesystem ℕ)) (new : Copies
     moved : moves ≡ true → Among mount origins → went mount ≡ copy destination mount → Went mount
 
   at_its_number : is_destination nat_eq tree destination.number ≡ true
-  at_its_number = eq-eqb destination.number place.mount (number-mount_in world.mounts place.mount)
+  at_its_number = eq-eqb destination.number place.mount (number-mount_in _ _)
 
   keeps_number : moves ≡ true → (origin : Mount ℕ) → (copy destination origin).number ≡ origin.number
   keeps_number e origin = ap (λ b. cond (b && is_destination nat_eq tree destination.number) origin.number
@@ -166,9 +158,8 @@ module _ (world : World ℕ) (filesystems : List (Filesystem ℕ)) (new : Copies
       ∙ ap (λ b. cond b origin.number (new.copy destination.number origin.number)) at_its_number
 
   one_of_its_number : (a b : Mount ℕ) → Among a world.mounts → Among b world.mounts → a.number ≡ b.number → a ≡ b
-  one_of_its_number a b m n e =
-      sym (found_itself world.mounts stand.one_number a m) ∙ ap (mount_in nat_eq world.mounts) e
-      ∙ found_itself world.mounts stand.one_number b n
+  one_of_its_number a b m n e = sym (found_itself _ stand.one_number a m) ∙ ap (mount_in nat_eq world.mounts) e
+      ∙ found_itself _ stand.one_number b n
 
   went_is : (mount : Mount ℕ) → Among mount world.mounts → Went mount
   went_is mount m = by moves refl
@@ -196,7 +187,7 @@ module _ (world : World ℕ) (filesystems : List (Filesystem ℕ)) (new : Copies
   -- where it is pushed up, the first copy has its place
   pushed : (mount : Mount ℕ) → (push mount ≡ mount) ⊎ ((part : Mount ℕ) × Among part (rest_of parts) ×
       (mount.mount_point ≡ Some (record { mount = part.number; node = place.node })))
-  pushed mount = by (receiver_stood_on nat_eq tree parts mount) refl
+  pushed mount = by _ refl
     where
       stands : (part : Mount ℕ) (at : Option (Location ℕ)) → mount.mount_point ≡ at
           → stands_at nat_eq (record { mount = part.number; node = place.node }) mount ≡ true
@@ -209,9 +200,8 @@ module _ (world : World ℕ) (filesystems : List (Filesystem ℕ)) (new : Copies
           (mount.mount_point ≡ Some (record { mount = part.number; node = place.node })))
       by None e = inl (ap (pushed_onto nat_eq base new tree parts mount) e)
       by (Some part) e =
-          let found = found_in (λ x. stands_at nat_eq (record { mount = x.number; node = place.node }) mount)
-          (rest_of parts) part e in
-          inr (part, found.0, stands part mount.mount_point refl found.1)
+          let found = found_in _ _ part e in
+          inr (part, found.0, stands part _ refl found.1)
 
   first_copy : (part : Mount ℕ) → (copy part first).mount_point
       ≡ Some (record { mount = part.number; node = place.node })
@@ -247,11 +237,11 @@ module _ (world : World ℕ) (filesystems : List (Filesystem ℕ)) (new : Copies
       grind (arith, common_steps, went_is, or_left, push_keeps, among_from_list_all, true≢false, nowhere_parts, pushed)
 
   all_nowhere : list_all is_nowhere_or_attached after.mounts ≡ true
-  all_nowhere = list_all_from_among is_nowhere_or_attached after.mounts (λ x m. by x (comes x m))
+  all_nowhere = list_all_from_among _ _ (λ x m. by x (comes x m))
     where
       by : (x : Mount ℕ) → Comes x → is_nowhere_or_attached x ≡ true
       by x (was mount n e) = ap is_nowhere_or_attached e ∙ last_nowhere mount n
-      by x (came part origin there n e) = ap is_nowhere_or_attached e ∙ or_left (is_some part.namespace) _ there
+      by x (came part origin there n e) = ap is_nowhere_or_attached e ∙ or_left _ _ there
 
   -- Locations show what they showed
 
@@ -263,8 +253,7 @@ module _ (world : World ℕ) (filesystems : List (Filesystem ℕ)) (new : Copies
   found_changed [] others number sub h = absurd (true≢false (sym h))
   found_changed (one ∷ mounts) others number sub h = ap (λ n. (unwrap_or (cond (nat_eq number n) (Some (last one))
       (find (λ x. nat_eq number x.number) (map last mounts ++ others))) (no_mount number)).filesystem)
-      (last_number one (sub one (inl refl)))
-      ∙ by (nat_eq number one.number) h (found_changed mounts others number (λ x m. sub x (inr m)))
+      (last_number one (sub one (inl refl))) ∙ by _ h (found_changed mounts others number (λ x m. sub x (inr m)))
     where
       by : (b : Bool) → (b || is_among nat_eq number (map (λ x. x.number) mounts)) ≡ true
           → (is_among nat_eq number (map (λ x. x.number) mounts) ≡ true
@@ -281,7 +270,7 @@ module _ (world : World ℕ) (filesystems : List (Filesystem ℕ)) (new : Copies
   shown_still location m = ap (λ old. (mount_in nat_eq (mounts_by old) location.mount).filesystem) old_mounts
       ∙ ap (λ list. (mount_in nat_eq list location.mount).filesystem)
       (append_assoc (map last world.mounts) (added_mounts moves (copies destination)) (flat_map copies (rest_of parts)))
-      ∙ found_changed world.mounts more location.mount (λ x n. n) (places_stand world stand located_well location m)
+      ∙ found_changed _ more _ (λ x n. n) (places_stand world stand located_well _ m)
 
   -- Places
   abbrev pub left_by : Bool → List (Location ℕ)
@@ -304,10 +293,10 @@ module _ (world : World ℕ) (filesystems : List (Filesystem ℕ)) (new : Copies
       (λ same. (last mount, (old_there mount m, (ap (λ (x : Mount ℕ). x.mount_point) same ∙ there, inl refl)))) (λ up. (
         copy up.0 first,
         (
-          copy_at_receiver up.0 (copy up.0 first) up.1 (copy_there up.0 first (inl refl)),
+          copy_at_receiver up.0 _ up.1 (copy_there up.0 first (inl refl)),
           (first_copy up.0 ∙ sym up.2 ∙ there, inl refl),
         ),
-      )) (pushed (went mount)))) inr (place_went mount m at e)
+      )) (pushed _))) inr (place_went mount m at e)
 
   pub attached_loses : Loses world after [] (left_by moves)
   attached_loses = record {
@@ -328,7 +317,7 @@ module _ (world : World ℕ) (filesystems : List (Filesystem ℕ)) (new : Copies
   -- the first is shown at the destination
   pub first_shown : moves ≡ false → (x : Mount ℕ)
       × (Among x after.mounts × ((mount_lives nat_eq after x ≡ true) × (x.filesystem ≡ first.filesystem)))
-  first_shown e = (copy destination first, (there, (all_live (copy destination first) there, refl)))
+  first_shown e = (copy destination first, (there, (all_live _ there, refl)))
     where
       there : Among (copy destination first) after.mounts
       there = grind (arith, common_steps, among-append_left, among-append_right, copy_there)
@@ -344,10 +333,9 @@ module _ (world : World ℕ) (filesystems : List (Filesystem ℕ)) (new : Copies
   -- what a copy is, some mount is afterwards
   copy_stands : (part origin : Mount ℕ) → Among part parts → Among origin origins
       → (x : Mount ℕ) × Among x after.mounts × (x.propagation ≡ (copy part origin).propagation)
-  copy_stands part origin m n = ⊎_elim
-      (λ here. subst (λ p. (x : Mount ℕ) × Among x after.mounts × (x.propagation ≡ (copy p origin).propagation))
-      (sym here) (at_destination moves refl))
-      (λ there. (copy part origin, copy_at_receiver part (copy part origin) there (copy_there part origin n), refl)) m
+  copy_stands part origin m n = ⊎_elim (λ here. subst (λ p. (x : Mount ℕ) × Among x after.mounts
+      × (x.propagation ≡ (copy p origin).propagation)) (sym here) (at_destination moves refl))
+      (λ there. (copy part origin, copy_at_receiver part _ there (copy_there part origin n), refl)) m
     where
       at_destination : (b : Bool) → moves ≡ b → (x : Mount ℕ) × Among x after.mounts
           × (x.propagation ≡ (copy destination origin).propagation)

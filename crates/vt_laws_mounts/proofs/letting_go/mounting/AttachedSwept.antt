@@ -15,9 +15,8 @@ use Rattle.vt_laws_mounts.proofs.letting_go.leaving.PlacesLeft.{found_is_there}
 -- the mounts of the tree of a mount in a namespace are those of the world
 pub of_tree : (world : World ℕ) (number : ℕ) → is_attached world number ≡ true → (depth : ℕ) (mount : Mount ℕ)
     → Among mount (tree_from nat_eq depth world.mounts (mount_numbered nat_eq world number)) → Among mount world.mounts
-of_tree world number is depth mount m =
-    ⊎_elim (λ e. subst (λ x. Among x world.mounts) (sym e) (found_is_there world.mounts number is)) (λ l. l)
-    (tree_among depth world.mounts (mount_numbered nat_eq world number) mount m)
+of_tree world number is depth mount m = ⊎_elim (λ e. subst (λ x. Among x world.mounts) (sym e)
+    (found_is_there _ number is)) (λ l. l) (tree_among depth _ _ mount m)
 
 -- a tree of copies, of mounts that show filesystems of the world or a new one
 copies_with : (world : World ℕ) (filesystems : List (Filesystem ℕ)) (new : Copies ℕ) (place : Location ℕ)
@@ -37,9 +36,8 @@ copies_with world filesystems new place first rest in_use stand located at_attac
     after = attached_by nat_eq (record world { filesystems = filesystems }) new place false (first ∷ rest)
 
 pub copies_keep_all : CopiesKeepAll
-copies_keep_all world new place first rest in_use stand located at_attached =
-    copies_with world world.filesystems new place first rest in_use stand located at_attached
-    (record { kept = λ f m. m; new = λ f m. inl m })
+copies_keep_all world new place first rest in_use stand located at_attached = copies_with world _ new place first rest
+    in_use stand located at_attached (record { kept = λ f m. m; new = λ f m. inl m })
 
 pub binds_keep_all : BindsKeepAll
 binds_keep_all fresh world task source place false in_use stand located at_attached =
@@ -54,13 +52,12 @@ binds_keep_all fresh world task source place true in_use stand located at_attach
 
 pub new_filesystems_keep_all : NewFilesystemsKeepAll
 new_filesystems_keep_all fresh world place filesystem flags in_use stand located at_attached named =
-    copies_with world (world.filesystems ++ (filesystem ∷ [])) new place mount [] in_use stand located at_attached
-    (record {
-      kept = λ f m. among-append_left world.filesystems (filesystem ∷ []) f m;
+    copies_with world _ new place mount [] in_use stand located at_attached (record {
+      kept = λ f m. among-append_left _ _ f m;
       new = λ f m. ⊎_elim inl (λ last. ⊎_elim (λ same. inr (subst (IsNew after) (sym same) (
         shown.0,
         (shown.1.0, (shown.1.1.0, (eq-eqb filesystem.number shown.0.filesystem (sym shown.1.1.1), named))),
-      ))) (λ none. absurd none) last) (among-append world.filesystems (filesystem ∷ []) f m);
+      ))) (λ none. absurd none) last) (among-append _ _ f m);
     })
   where
     mount : Mount ℕ
@@ -83,9 +80,8 @@ new_filesystems_keep_all fresh world place filesystem flags in_use stand located
 
 pub new_mounts_of_trees_keep_all : NewMountsOfTreesKeepAll
 new_mounts_of_trees_keep_all fresh world task place flags in_use stand located at_attached =
-    new_filesystems_keep_all (odds fresh) world place
-    (plain_filesystem nat_eq fresh) flags in_use stand located at_attached
-    (ap (λ b. b && true) (or_left (nat_eq root root) _ (eq-eqb root root refl)))
+    new_filesystems_keep_all (odds fresh) world place (plain_filesystem nat_eq fresh) flags in_use stand located
+    at_attached (ap (λ b. b && true) (or_left _ _ (eq-eqb root root refl)))
   where
     root : ℕ
     root = evens fresh 1
@@ -107,14 +103,13 @@ moved_trees_let_go world new place first rest settles located at_attached of_wor
         (among_from_all (Contains world.mounts) (first ∷ rest) of_world mount m)
 
 pub moves_let_go : MovesLetGo
-moves_let_go fresh world task number place settles located at_attached is = by (length world.mounts)
+moves_let_go fresh world task number place settles located at_attached is = by _
   where
     mount : Mount ℕ
     mount = mount_numbered nat_eq world number
 
     all_of_world : (depth : ℕ) → All (Contains world.mounts) (tree_from nat_eq depth world.mounts mount)
-    all_of_world depth = all_from_among (Contains world.mounts) (tree_from nat_eq depth world.mounts mount) (λ x m.
-        contains_from_among world.mounts x (of_tree world number is depth x m))
+    all_of_world depth = all_from_among _ _ (λ x m. contains_from_among _ x (of_tree world number is depth x m))
 
     new : List (Mount ℕ) → Copies ℕ
     new mounts = copies_from nat_eq fresh (parts_of nat_eq world place) mounts

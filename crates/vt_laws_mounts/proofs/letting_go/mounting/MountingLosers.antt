@@ -1,6 +1,6 @@
 -- Which things may have lost a use after a change of mounts and tasks.
-use Rattle.std.proofs.Common.{arith, ◌≡◌, refl, sym, ap, subst, ◌∙◌, ◌⊎◌, inl, inr, ⊎_elim, ℕ, nat_eq, eqb-true, eq-eqb, Bool, true, false, ◌||◌, ◌&&◌, List, filter, map, true≢false, flat_map, ◌++◌, Option, Some, is_some, filter_map}
-use Rattle.vt_spec.proofs.Common.{Filesystem, Location, Mount, Namespace, Task, World, all_locations, cases_Bool, common_steps, filesystem_lives, is_among, is_among_left, is_located, is_member_of, is_mounted, is_nowhere_or_attached, layers_in, list_all, located_in, mount_at, mount_in, mount_lives, mount_numbered, named_in, number-mount_in, objects_of_overlay, or_cases, or_parts, root_of, settled, without_dead_filesystems, without_dead_mounts}
+use Rattle.std.proofs.Common.{arith, ◌≡◌, refl, sym, ap, subst, ◌∙◌, ◌⊎◌, inl, inr, ⊎_elim, ℕ, nat_eq, eqb-true, eq-eqb, Bool, true, false, ◌||◌, List, map, true≢false, flat_map, ◌++◌, Option, Some, is_some, filter_map}
+use Rattle.vt_spec.proofs.Common.{Filesystem, Location, Mount, Namespace, Task, World, all_locations, cases_Bool, common_steps, filesystem_lives, is_among, is_among_left, is_mounted, is_nowhere_or_attached, layers_in, list_all, located_in, mount_at, mount_in, mount_lives, mount_numbered, named_in, number-mount_in, objects_of_overlay, or_cases, or_parts, root_of, settled, without_dead_filesystems, without_dead_mounts}
 use Rattle.vt_laws_mounts.specs.LettingGo.InUse.{AllInUse, is_inode_used}
 use Rattle.vt_laws_mounts.specs.LettingGo.Keeping.{LocationsStand, has_only_named}
 use Rattle.vt_laws_mounts.specs.LettingGo.Leaving.{IsSettledPlain, MountsStand}
@@ -36,8 +36,7 @@ places_stand world stand located_well location m = ⊎_elim (λ front. ⊎_elim
     numbers = map (λ (mount : Mount ℕ). mount.number) world.mounts
 
     numbered : (mount : Mount ℕ) → Among mount world.mounts → is_among nat_eq mount.number numbers ≡ true
-    numbered mount n = is_among_numbers mount.number numbers
-        (among-map (λ (x : Mount ℕ). x.number) world.mounts mount n)
+    numbered mount n = is_among_numbers _ _ (among-map _ _ mount n)
 
 -- what a mount is afterwards: another record of its number, with what it shows
 abbrev pub Image : List (Mount ℕ) → Mount ℕ → Type 0
@@ -116,13 +115,11 @@ module _ (world : World ℕ) (mounts : List (Mount ℕ)) (master : ℕ → Optio
   inodes = map (root_inode world) gone ++ map (inode_at world) left
 
   found_mount : (mount : Mount ℕ) → Among mount world.mounts → mount_in nat_eq world.mounts mount.number ≡ mount
-  found_mount mount m = found_itself world.mounts stand.one_number mount m
+  found_mount mount m = found_itself _ stand.one_number mount m
 
   pub mounts_but : MountsInUseBut gone after
-  mounts_but = list_all_from_among (λ mount. is_among nat_eq mount.number gone || mount_lives nat_eq after mount) mounts
-      (λ mount m. ⊎_elim (λ is. or_left (is_among nat_eq mount.number gone) (mount_lives nat_eq after mount) is)
-      (λ isnt. or_right (is_among nat_eq mount.number gone) (mount_lives nat_eq after mount) (loses.live mount m isnt))
-      (cases_Bool (is_among nat_eq mount.number gone)))
+  mounts_but = list_all_from_among _ mounts (λ mount m. ⊎_elim (λ is. or_left _ _ is)
+      (λ isnt. or_right _ _ (loses.live mount m isnt)) (cases_Bool _))
 
   -- a mount that is none of those that may go has an image that lives
   image_lives : (mount : Mount ℕ) → is_among nat_eq mount.number gone ≡ false → (image : Image mounts mount)
@@ -133,28 +130,24 @@ module _ (world : World ℕ) (mounts : List (Mount ℕ)) (master : ℕ → Optio
   -- a filesystem that a mount in use shows is mounted
   pub shown_is_mounted : (number : ℕ) (mount : Mount ℕ) → Among mount mounts → mount_lives nat_eq after mount ≡ true
       → nat_eq number mount.filesystem ≡ true → is_mounted nat_eq mounted number ≡ true
-  shown_is_mounted number mount m lives shows = any_from_among (λ x. nat_eq number x.filesystem) mounted.mounts mount
-      (among-filter (mount_lives nat_eq after) mounts mount m lives) shows
+  shown_is_mounted number mount m lives shows = any_from_among _ _ mount (among-filter _ mounts mount m lives) shows
 
   -- one that was mounted is, or a mount of it may go
   pub still_mounted : (number : ℕ) → is_mounted nat_eq world number ≡ true → (is_mounted nat_eq mounted number ≡ true)
       ⊎ ((one : ℕ) × Among one gone × (number ≡ (mount_numbered nat_eq world one).filesystem))
   still_mounted number was =
-      let t = any_among (λ mount. nat_eq number mount.filesystem) world.mounts was in
+      let t = any_among _ _ was in
       ⊎_elim (λ is. inr (
         t.0.number,
-        among_numbers t.0.number gone is,
+        among_numbers _ gone is,
         cc (eqb-true number t.0.filesystem t.2, found_mount t.0 t.1),
       )) (λ isnt. let image = loses.images t.0 t.1 in
-      inl (shown_is_mounted number image.0 image.1.0 (image_lives t.0 isnt image)
-      (cc (image.1.1.1, t.2)))) (cases_Bool (is_among nat_eq t.0.number gone))
+      inl (shown_is_mounted number _ image.1.0 (image_lives t.0 isnt image) (cc (image.1.1.1, t.2)))) (cases_Bool _)
 
   pub groups_but : GroupsInUseBut groups mounted
-  groups_but group among none = hears group among
-      (sym (any-filter (is_member_of nat_eq group) (mount_lives nat_eq after) mounts
-      (λ mount m dead. private_is_no_member group mount
-      (nowhere_parts mount (among_from_list_all is_nowhere_or_attached mounts loses.nowhere mount m)
-      (or_parts (is_some mount.namespace) (is_located nat_eq after mount.number) dead).0).1)) ∙ none)
+  groups_but group among none = hears group among (sym (any-filter _ _ mounts
+      (λ mount m dead. private_is_no_member group mount (nowhere_parts mount (among_from_list_all _ mounts loses.nowhere
+      mount m) (or_parts _ _ dead).0).1)) ∙ none)
 
   -- where all of a number live, it is found as before
   found_still : (location : Location ℕ) → Among location (places_of world)
@@ -181,34 +174,23 @@ module _ (world : World ℕ) (mounts : List (Mount ℕ)) (master : ℕ → Optio
     -- an inode among the losers may go
     may_go : (inode : Inode) → Among inode inodes → filesystem.number ≡ inode.0 → (number : ℕ) → number ≡ inode.1
         → is_used_or_among inodes swept filesystem number ≡ true
-    may_go inode m e number same =
-        or_left (is_inode_among filesystem.number number inodes) (is_inode_used swept filesystem number)
-        (any_from_among (λ i. nat_eq filesystem.number i.0 && nat_eq number i.1) inodes inode m
+    may_go inode m e number same = or_left _ _ (any_from_among _ inodes inode m
         (cc (eq-eqb filesystem.number inode.0 e, eq-eqb number inode.1 same)))
 
     left_may_go : (location : Location ℕ) → Among location left
         → filesystem.number ≡ (mount_at nat_eq world location).filesystem
         → is_used_or_among inodes swept filesystem location.node ≡ true
-    left_may_go location m e = may_go (inode_at world location)
-        (among-append_right (map (root_inode world) gone) (map (inode_at world) left) (inode_at world location)
-        (among-map (inode_at world) left location m)) e location.node refl
+    left_may_go location m e = may_go _ (among-append_right _ _ _ (among-map _ left _ m)) e _ refl
 
     was_a_place : (location : Location ℕ) → Among location (all_locations world) → Among location (places_of world)
-    was_a_place location m = among-append_left (all_locations world ++ map root_of world.mounts)
-        (filter_map (λ mount. mount.mount_point) world.mounts) location
-        (among-append_left (all_locations world) (map root_of world.mounts) location m)
+    was_a_place location m = among-append_left _ _ _ (among-append_left _ _ _ m)
 
     located_still : (location : Location ℕ) → Among location (all_locations world)
         → filesystem.number ≡ (mount_at nat_eq world location).filesystem
         → Among location (all_locations after) → is_inode_used swept filesystem location.node ≡ true
-    located_still location m e stays = used_still location
-        (among-append_left (all_locations after ++ map root_of mounted.mounts)
-        (filter_map (λ mount. mount.mount_point) mounted.mounts) location
-        (among-append_left (all_locations after) (map root_of mounted.mounts) location stays))
-        (e ∙ sym (found_still location (was_a_place location m)
-        (λ mount n same. or_right (is_some mount.namespace) (is_located nat_eq after mount.number)
-        (any_from_among (λ l. nat_eq mount.number l.mount) (all_locations after) location stays
-        (eq-eqb mount.number location.mount same)))))
+    located_still location m e stays = used_still _ (among-append_left _ _ _ (among-append_left _ _ _ stays))
+        (e ∙ sym (found_still _ (was_a_place _ m) (λ mount n same. or_right _ _
+        (any_from_among _ _ _ stays (eq-eqb mount.number location.mount same)))))
 
     root_still : (location : Location ℕ) → Among location (all_locations world)
         → filesystem.number ≡ (mount_at nat_eq world location).filesystem
@@ -226,10 +208,9 @@ module _ (world : World ℕ) (mounts : List (Mount ℕ)) (master : ℕ → Optio
     by_location : (location : Location ℕ) → Among location (all_locations world)
         → filesystem.number ≡ (mount_at nat_eq world location).filesystem
         → is_used_or_among inodes swept filesystem location.node ≡ true
-    by_location location m e = ⊎_elim (λ stays. or_right (is_inode_among filesystem.number location.node inodes) _
-        (⊎_elim (located_still location m e)
-        (λ root. root_still location m e root.0 root.1.0 root.1.1.0 root.1.1.1) stays))
-        (λ gone_from. left_may_go location gone_from e) (loses.locations location m)
+    by_location location m e = ⊎_elim (λ stays. or_right _ _ (⊎_elim (located_still _ m e)
+        (λ root. root_still _ m e root.0 root.1.0 root.1.1.0 root.1.1.1) stays)) (λ gone_from. left_may_go _ gone_from
+        e) (loses.locations location m)
 
     by_root : (mount : Mount ℕ) → Among mount world.mounts
         → filesystem.number ≡ (mount_at nat_eq world (root_of mount)).filesystem
@@ -254,19 +235,12 @@ module _ (world : World ℕ) (mounts : List (Mount ℕ)) (master : ℕ → Optio
     by_place : (mount : Mount ℕ) → Among mount world.mounts → (place : Location ℕ) → mount.mount_point ≡ Some place
         → filesystem.number ≡ (mount_at nat_eq world place).filesystem
         → is_used_or_among inodes swept filesystem place.node ≡ true
-    by_place mount m place p e = ⊎_elim (λ still. or_right (is_inode_among filesystem.number place.node inodes) _
-        (used_still place (among-append_right (all_locations after ++ map root_of mounted.mounts)
-        (filter_map (λ x. x.mount_point) mounted.mounts) place
-        (among-filter_map (λ x. x.mount_point) mounted.mounts still.0 place
-        (among-filter (mount_lives nat_eq after) mounts still.0 still.1.0
-        (or_left (is_some still.0.namespace) (is_located nat_eq after still.0.number)
-        (is_attached still.0 still.1.0 still.1.1.0 (is_some still.0.namespace) refl))) still.1.1.0))
-        (e ∙ sym (found_still place (among-append_right (all_locations world ++ map root_of world.mounts)
-        (filter_map (λ x. x.mount_point) world.mounts) place
-        (among-filter_map (λ x. x.mount_point) world.mounts mount place m p)) (⊎_elim (stays_there place.mount)
-        (λ in_one other n same. or_left (is_some other.namespace) (is_located nat_eq after other.number)
-        (in_one other n same)) still.1.1.1))))) (λ gone_from. left_may_go place gone_from e)
-        (loses.places mount m place p)
+    by_place mount m place p e = ⊎_elim (λ still. or_right _ _ (used_still place
+        (among-append_right _ _ place (among-filter_map _ _ _ place (among-filter _ mounts _ still.1.0
+        (or_left _ _ (is_attached _ still.1.0 still.1.1.0 _ refl))) still.1.1.0))
+        (e ∙ sym (found_still place (among-append_right _ _ place (among-filter_map _ _ mount place m p))
+        (⊎_elim (stays_there _) (λ in_one other n same. or_left _ _ (in_one other n same)) still.1.1.1)))))
+        (λ gone_from. left_may_go place gone_from e) (loses.places mount m place p)
       where
         is_attached : (on : Mount ℕ) → Among on mounts → on.mount_point ≡ Some place → (b : Bool)
             → is_some on.namespace ≡ b → is_some on.namespace ≡ true
@@ -277,20 +251,16 @@ module _ (world : World ℕ) (mounts : List (Mount ℕ)) (master : ℕ → Optio
     pub by_located : (inode : ℕ) → Among inode (located_in nat_eq world filesystem.number)
         → is_used_or_among inodes swept filesystem inode ≡ true
     by_located inode m =
-        let from = among-from_map (λ l. l.node)
-        (filter (λ l. nat_eq filesystem.number (mount_at nat_eq world l).filesystem) (places_of world)) inode m in
-        let here = among-from_filter (λ l. nat_eq filesystem.number (mount_at nat_eq world l).filesystem)
-        (places_of world) from.0 from.1 in
+        let from = among-from_map _ _ inode m in
+        let here = among-from_filter _ _ from.0 from.1 in
         let e : filesystem.number ≡ (mount_at nat_eq world from.0).filesystem = eqb-true filesystem.number
         (mount_at nat_eq world from.0).filesystem here.1 in
         ap (is_used_or_among inodes swept filesystem) from.2 ∙ ⊎_elim (λ other. ⊎_elim (λ at. by_location from.0 at e)
-        (λ root. let mount = among-from_map root_of world.mounts from.0 root in
-        ap (λ l. is_used_or_among inodes swept filesystem l.node) mount.2
-        ∙ by_root mount.0 mount.1 (e ∙ ap (λ l. (mount_at nat_eq world l).filesystem) mount.2))
-        (among-append (all_locations world) (map root_of world.mounts) from.0 other))
-        (λ place. let mount = among-from_filter_map (λ x. x.mount_point) world.mounts from.0 place in
-        by_place mount.0 mount.1 from.0 mount.2 e) (among-append (all_locations world ++ map root_of world.mounts)
-        (filter_map (λ mount. mount.mount_point) world.mounts) from.0 here.0)
+        (λ root. let mount = among-from_map _ _ from.0 root in
+        ap (λ l. is_used_or_among inodes swept filesystem l.node) mount.2 ∙ by_root _ mount.1
+        (e ∙ ap (λ l. (mount_at nat_eq world l).filesystem) mount.2)) (among-append _ _ from.0 other))
+        (λ place. let mount = among-from_filter_map _ _ from.0 place in
+        by_place _ mount.1 from.0 mount.2 e) (among-append _ _ from.0 here.0)
 
     -- an inode of a new filesystem is its root, or has a name
     pub by_a_name : (inode : ℕ) → (nat_eq inode filesystem.files.tree.root
@@ -317,17 +287,12 @@ module _ (world : World ℕ) (mounts : List (Mount ℕ)) (master : ℕ → Optio
         (among_from_list_all (filesystem_lives nat_eq world) world.filesystems in_use.filesystems filesystem m))
 
     filesystems_but : FilesystemsInUseBut losers.filesystems mounted
-    filesystems_but = list_all_from_among (λ filesystem. is_among nat_eq filesystem.number losers.filesystems
-        || filesystem_lives nat_eq mounted filesystem) filesystems (λ filesystem m.
-        let lives = λ (e : is_mounted nat_eq mounted filesystem.number ≡ true).
-        or_right (is_among nat_eq filesystem.number losers.filesystems) (filesystem_lives nat_eq mounted filesystem)
-        (or_left (is_mounted nat_eq mounted filesystem.number) _ e) in
-        ⊎_elim (λ was. ⊎_elim lives (λ gone_with. or_left (is_among nat_eq filesystem.number losers.filesystems)
-        (filesystem_lives nat_eq mounted filesystem) (is_among_numbers filesystem.number losers.filesystems
-        (subst (λ n. Among n losers.filesystems) (sym gone_with.2)
-        (among-map (λ n. (mount_numbered nat_eq world n).filesystem) gone gone_with.0 gone_with.1))))
-        (still_mounted filesystem.number (was_mounted filesystem was)))
-        (λ new. lives (shown_is_mounted filesystem.number new.0 new.1.0 new.1.1.0 new.1.1.1.0)) (come.new filesystem m))
+    filesystems_but = list_all_from_among _ _ (λ filesystem m.
+        let lives = λ (e : is_mounted nat_eq mounted filesystem.number ≡ true). or_right _ _ (or_left _ _ e) in
+        ⊎_elim (λ was. ⊎_elim lives (λ gone_with. or_left _ _ (is_among_numbers _ _
+        (subst (λ n. Among n losers.filesystems) (sym gone_with.2) (among-map _ gone _ gone_with.1))))
+        (still_mounted _ (was_mounted _ was))) (λ new. lives (shown_is_mounted _ new.0 new.1.0 new.1.1.0 new.1.1.1.0))
+        (come.new filesystem m))
 
     by_a_use : (filesystem : Filesystem ℕ) (inode : ℕ) → is_inode_used world filesystem inode ≡ true
         → is_used_or_among inodes living filesystem inode ≡ true

@@ -1,6 +1,6 @@
 -- What goes when mounts get other places.
-use Rattle.std.proofs.Common.{◌≡◌, refl, sym, ap, subst, ◌∙◌, inl, inr, ⊎_elim, ℕ, nat_eq, eqb-true, eq-eqb, true, false, true≢false, List, [], ◌∷◌, filter, map, Option, Some, is_some, option_to_list, ◌||◌}
-use Rattle.vt_spec.proofs.Common.{Location, Mount, World, any_pair, cases_Bool, false_from_ne_true, has_child, holds_of, is_among, is_located, is_nowhere_or_attached, list_all, mount_in, mount_lives, mount_numbered, or_parts, stands_on}
+use Rattle.std.proofs.Common.{◌≡◌, refl, sym, ap, subst, ◌∙◌, inl, inr, ⊎_elim, ℕ, nat_eq, eqb-true, eq-eqb, true, false, true≢false, List, [], ◌∷◌, filter, Option, Some, is_some, option_to_list, ◌||◌}
+use Rattle.vt_spec.proofs.Common.{Location, Mount, World, any_pair, cases_Bool, false_from_ne_true, has_child, holds_of, is_among, is_located, is_nowhere_or_attached, list_all, mount_in, mount_lives, mount_numbered, or_parts}
 use Rattle.vt_laws_mounts.specs.LettingGo.Detaching.{DetachingLetsGo, MovesOne, with_changed}
 use Rattle.vt_laws_mounts.specs.LettingGo.InUse.{AllInUse}
 use Rattle.vt_laws_mounts.specs.LettingGo.Mounting.{MovesSome, MovingLetsGo, places_moved}
@@ -39,9 +39,8 @@ loses world moved change master in_use moves nowhere = record {
 }
 
 pub moving_lets_go : MovingLetsGo
-moving_lets_go world moved groups change master settles moves nowhere hears =
-    losers_go world (map change world.mounts) master world.namespaces world.tasks []
-    (places_moved world moved) groups settles (loses world moved change master settles.in_use moves nowhere) hears
+moving_lets_go world moved groups change master settles moves nowhere hears = losers_go world _ master _ _ [] _ groups
+    settles (loses world moved change master settles.in_use moves nowhere) hears
 
 -- One mount on which no other stands leaves its mount point
 one_loses : (world : World ℕ) (number : ℕ) (change : Mount ℕ → Mount ℕ) (master : ℕ → Option ℕ) → AllInUse world
@@ -82,13 +81,11 @@ one_loses world number change master in_use moves alone one nowhere = record {
     -- no mount stands on it
     not_on : (mount : Mount ℕ) → Among mount world.mounts → (place : Location ℕ) → mount.mount_point ≡ Some place
         → (nat_eq place.mount number || false) ≡ false
-    not_on mount m place p = ap (λ b. b || false) (false_from_ne_true (nat_eq place.mount number) (λ is.
-        true≢false (sym (ap (holds_of (λ l. nat_eq number l.mount)) p
-        ∙ eq-eqb number place.mount (sym (eqb-true place.mount number is)))
-        ∙ none_among (stands_on nat_eq number) world.mounts alone mount m)))
+    not_on mount m place p = ap (λ b. b || false) (false_from_ne_true _
+        (λ is. true≢false (sym (ap (holds_of (λ l. nat_eq number l.mount)) p ∙ eq-eqb number place.mount
+        (sym (eqb-true place.mount number is))) ∙ none_among _ _ alone mount m)))
 
 pub detaching_lets_go : DetachingLetsGo
 detaching_lets_go world number change master groups settles moves alone nowhere hears =
-    losers_go world (map change world.mounts) master world.namespaces world.tasks (number ∷ [])
-    (option_to_list (mount_numbered nat_eq world number).mount_point) groups settles
-    (one_loses world number change master settles.in_use moves alone settles.mounts.one_number nowhere) hears
+    losers_go world _ master _ _ _ _ groups settles (one_loses world number change master settles.in_use moves alone
+    settles.mounts.one_number nowhere) hears

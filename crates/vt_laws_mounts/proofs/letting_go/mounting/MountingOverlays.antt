@@ -59,13 +59,9 @@ module _ (world : World ℕ) (mounts : List (Mount ℕ)) (master : ℕ → Optio
       (among_from_list_all (filesystem_lives nat_eq world) world.filesystems in_use.filesystems f m))
 
   filesystems_but : FilesystemsInUseBut losing now
-  filesystems_but = list_all_from_among (λ f. is_among nat_eq f.number losing || filesystem_lives nat_eq now f)
-      filesystems
-      (λ f m. ⊎_elim (old_filesystem f)
-      (λ new. or_right (is_among nat_eq f.number losing) (filesystem_lives nat_eq now f)
-      (or_left (is_mounted nat_eq now f.number) _
-      (shown_is_mounted world mounts master filesystems namespaces tasks gone left groups in_use stand loses hears come
-      f.number new.0 new.1.0 new.1.1.0 new.1.1.1.0))) (come.new f m))
+  filesystems_but = list_all_from_among _ _ (λ f m. ⊎_elim (old_filesystem f)
+      (λ new. or_right _ _ (or_left _ _ (shown_is_mounted world mounts master _ _ tasks gone left groups in_use stand
+      loses hears come _ new.0 new.1.0 new.1.1.0 new.1.1.1.0))) (come.new f m))
 
   layers_kept : (filesystem number : ℕ) → Among number (layers_in nat_eq world filesystem)
       → Among number (layers_in nat_eq now filesystem)
@@ -75,8 +71,8 @@ module _ (world : World ℕ) (mounts : List (Mount ℕ)) (master : ℕ → Optio
       → Among number (flat_map (objects_of_overlay nat_eq filesystem) world.filesystems)
       → Among number (flat_map (objects_of_overlay nat_eq filesystem) filesystems)
   objects_kept filesystem number m =
-      let one = among-from_flat_map (objects_of_overlay nat_eq filesystem) world.filesystems number m in
-      among-flat_map (objects_of_overlay nat_eq filesystem) filesystems one.0 number (come.kept one.0 one.1) one.2
+      let one = among-from_flat_map _ _ number m in
+      among-flat_map _ _ one.0 number (come.kept one.0 one.1) one.2
 
   -- what the world used is used where mounts have gone, or may go
   use_left : (f : Filesystem ℕ) (number : ℕ) → is_inode_used world f number ≡ true
@@ -166,24 +162,20 @@ pub only_groups_go : (world : World ℕ) (mounts : List (Mount ℕ)) (master : �
     → settled nat_eq (changed_with world mounts master filesystems world.namespaces world.tasks)
     ≡ let_go_groups (changed_with world mounts master filesystems world.namespaces world.tasks) groups
 only_groups_go world mounts master filesystems groups in_use stand loses hears come = ap (without_dead_groups nat_eq)
-    (ap (without_dead_inodes nat_eq) all
-    ∙ ap (without_dead_in nat_eq (λ filesystem. not (is_overlay filesystem))) (inodes_stay is_overlay after_all inodes)
-    ∙ inodes_stay (λ filesystem. not (is_overlay filesystem)) after_all inodes)
-    ∙ groups_go_one_by_one after_all groups hears
+    (ap (without_dead_inodes nat_eq) all ∙ ap (without_dead_in nat_eq (λ filesystem. not (is_overlay filesystem)))
+    (inodes_stay _ _ inodes) ∙ inodes_stay _ _ inodes) ∙ groups_go_one_by_one after_all groups hears
   where
     after_all : World ℕ
     after_all = changed_with world mounts master filesystems world.namespaces world.tasks
 
     but : AllInUseBut (record { mounts = []; filesystems = []; inodes = []; groups = groups }) after_all
-    but =
-        all_but_those world mounts master filesystems world.namespaces world.tasks [] [] groups in_use stand loses hears
-        come
+    but = all_but_those world mounts master _ _ _ [] [] groups in_use stand loses hears come
 
     same : without_dead_mounts nat_eq after_all ≡ after_all
-    same = mounts_stay after_all but.mounts
+    same = mounts_stay _ but.mounts
 
     all : without_dead_filesystems nat_eq (without_dead_mounts nat_eq after_all) ≡ after_all
-    all = filesystems_stay (without_dead_mounts nat_eq after_all) but.filesystems ∙ same
+    all = filesystems_stay _ but.filesystems ∙ same
 
     inodes : InodesInUse after_all
     inodes = subst InodesInUse all but.inodes
@@ -197,4 +189,4 @@ pub nothing_lost : (world : World ℕ) (mounts : List (Mount ℕ)) (master : ℕ
     → settled nat_eq (changed_with world mounts master filesystems world.namespaces world.tasks)
     ≡ changed_with world mounts master filesystems world.namespaces world.tasks
 nothing_lost world mounts master filesystems in_use stand loses groups come =
-    only_groups_go world mounts master filesystems [] in_use stand loses (λ group among none. groups group none) come
+    only_groups_go world mounts master _ [] in_use stand loses (λ group among none. groups group none) come

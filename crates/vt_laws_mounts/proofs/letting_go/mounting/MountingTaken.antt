@@ -1,9 +1,9 @@
 -- What goes when mounts are taken away.
 use Rattle.std.proofs.Common.{arith, ◌≡◌, refl, sym, ap, subst, ◌∙◌, inl, inr, ⊎_elim, ℕ, nat_eq, Bool, true, false, cond, ◌||◌, List, filter, map, Option, Some, is_some, option_map, true≢false}
-use Rattle.vt_spec.proofs.Common.{Location, Mount, Namespace, Private, Propagation, Shared, Slave, Unbindable, World, after_going, cases_Bool, common_steps, detached, has_tasks, heir, holds_of, inherited, inheriting, is_going, is_located, is_nowhere_or_attached, is_private, list_any, lost_a_group, map_twice, mount_in, mount_lives, mount_point_left, or_parts, regrouped_by, root_of, settled, taken_away, with_mounts}
+use Rattle.vt_spec.proofs.Common.{Location, Mount, Namespace, Private, Propagation, Shared, Slave, Unbindable, World, after_going, cases_Bool, common_steps, detached, heir, holds_of, inherited, inheriting, is_going, is_located, is_nowhere_or_attached, is_private, list_any, lost_a_group, map_twice, mount_in, mount_lives, mount_point_left, or_parts, regrouped_by, root_of, settled, taken_away, with_mounts}
 use Rattle.vt_laws_mounts.specs.LettingGo.InUse.{AllInUse}
 use Rattle.vt_laws_mounts.specs.LettingGo.Leaving.{IsSettledPlain, MountsStand}
-use Rattle.vt_laws_mounts.specs.LettingGo.Mounting.{EndingLetsGo, TakingAwayLetsGo, ended_mounts, loses_its_place, places_lost, used_by_mounts}
+use Rattle.vt_laws_mounts.specs.LettingGo.Mounting.{EndingLetsGo, TakingAwayLetsGo, loses_its_place, places_lost, used_by_mounts}
 use Rattle.vt_laws_mounts.specs.LettingGo.OneByOne.{GroupsInUseBut, let_go}
 use Rattle.vt_laws_mounts.proofs.letting_go.leaving.Detached.{found-map, not_found-map}
 use Rattle.vt_laws_mounts.proofs.letting_go.Lists.{among-filter, among-filter_map, among-from_map, among-map, among_from_list_all, list_all_from_among}
@@ -27,8 +27,7 @@ module _ (world : World ℕ) (gone : List ℕ) (namespaces : List (Namespace ℕ
   after b = changed world (map (change b) world.mounts) (masters b) namespaces world.tasks
 
   pub is_changed : (b : Bool) → record (regrouped_by nat_eq b without) { namespaces = namespaces } ≡ after b
-  is_changed true = ap (λ mounts. changed world mounts (masters true) namespaces world.tasks)
-      (map_twice (inheriting nat_eq without) (after_going nat_eq world gone) world.mounts)
+  is_changed true = ap (λ mounts. changed world mounts (masters true) namespaces world.tasks) (map_twice _ _ _)
   is_changed false = refl
 
   -- what a mount shows stays
@@ -51,10 +50,8 @@ module _ (world : World ℕ) (gone : List ℕ) (namespaces : List (Namespace ℕ
 
   pub shows_the_same : (b : Bool) (number : ℕ) → (mount_in nat_eq (map (change b) world.mounts) number).filesystem
       ≡ (mount_in nat_eq world.mounts number).filesystem
-  shows_the_same b number = ⊎_elim (λ e. e) (λ found. ap (λ x. x.filesystem)
-      (found-map (change b) (same_number b) world.mounts number found.0 found.1 found.2 found.3)
-      ∙ same_filesystem b (mount_in nat_eq world.mounts number))
-      (not_found-map (change b) (same_number b) world.mounts number)
+  shows_the_same b number = ⊎_elim (λ e. e) (λ found. ap (λ x. x.filesystem) (found-map _ (same_number b) _ number _
+      found.1 found.2 found.3) ∙ same_filesystem b _) (not_found-map _ (same_number b) _ number)
 
   -- a mount that does not go
   pub stays_there : (mount : Mount ℕ) → is_going nat_eq gone mount.number ≡ false
@@ -162,5 +159,4 @@ taking_away_lets_go world gone groups settles hears =
     grind (arith, common_steps, taken_with_namespaces, same_namespaces)
 
 pub ending_lets_go : EndingLetsGo
-ending_lets_go world groups settles hears = taken_with_namespaces world (ended_mounts world) groups
-    (filter (has_tasks nat_eq world) world.namespaces) settles hears
+ending_lets_go world groups settles hears = taken_with_namespaces world _ groups _ settles hears

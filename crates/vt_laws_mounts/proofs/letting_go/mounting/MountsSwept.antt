@@ -1,6 +1,6 @@
 -- What the sweep leaves of mounts: those in namespaces stay, with all their groups, and those outside are private.
 use Rattle.std.proofs.Common.{◌≡◌, refl, sym, ap, subst, ◌∙◌, ℕ, nat_eq, true, false, cond, not, ◌&&◌, List, ◌≤◌, filter, length, map, true≢false, Option, Some, None, is_some, unwrap_or, arith, option_to_list}
-use Rattle.vt_spec.proofs.Common.{Lives, Location, Mount, MountInvariants, Stands, World, at_root, common_steps, group_of, has_master, has_members, has_no_master, is_located, is_member_of, is_nowhere_or_attached, is_private, length-filter_both, list_all, mount_at, mount_in, mount_lives, mount_numbered, number-mount_in, on_parent, or_parts, same_Some, settled}
+use Rattle.vt_spec.proofs.Common.{Lives, Location, Mount, MountInvariants, Stands, World, at_root, common_steps, group_of, has_master, has_members, has_no_master, is_private, length-filter_both, list_all, mount_at, mount_in, mount_lives, mount_numbered, number-mount_in, on_parent, or_parts, same_Some, settled}
 use Rattle.vt_laws_mounts.specs.LettingGo.Leaving.{MountsStand, stands_on_attached}
 use Rattle.vt_laws_mounts.proofs.letting_go.Chains.{Way}
 use Rattle.vt_laws_mounts.proofs.letting_go.Chains.Way.{ends, goes_on}
@@ -25,7 +25,7 @@ module _ (world : World ℕ) (kept : MountInvariants nat_eq world) where
       → list_all (λ place. is_some (mount_at nat_eq world place).namespace) (option_to_list o) ≡ true
   on mount m None e = refl
   on mount m (Some place) e = ap (λ b. b && true) (ap is_some (sym (beside_parent mount m place e))
-      ∙ placed_is_attached mount (among_from_list_all is_nowhere_or_attached world.mounts kept.nowhere mount m) place e)
+      ∙ placed_is_attached mount (among_from_list_all _ _ kept.nowhere mount m) place e)
 
   pub mounts_stand : MountsStand world
   mounts_stand = record {
@@ -39,10 +39,10 @@ module _ (world : World ℕ) (kept : MountInvariants nat_eq world) where
   first_mounts = filter (mount_lives nat_eq world) world.mounts
 
   pub of_world : (mount : Mount ℕ) → Among mount first_mounts → Among mount world.mounts
-  of_world mount m = (among-from_filter (mount_lives nat_eq world) world.mounts mount m).0
+  of_world mount m = (among-from_filter _ _ mount m).0
 
   pub attached_lives : (mount : Mount ℕ) → is_some mount.namespace ≡ true → mount_lives nat_eq world mount ≡ true
-  attached_lives mount e = or_left (is_some mount.namespace) (is_located nat_eq world mount.number) e
+  attached_lives mount e = or_left _ _ e
 
   abbrev pub IsAttached : ℕ → Type 0
   IsAttached number = is_some (mount_in nat_eq world.mounts number).namespace ≡ true
@@ -56,16 +56,14 @@ module _ (world : World ℕ) (kept : MountInvariants nat_eq world) where
 
   pub same_found : (number : ℕ) → IsAttached number
       → mount_in nat_eq first_mounts number ≡ mount_in nat_eq world.mounts number
-  same_found number attached = found_in_filter (mount_lives nat_eq world) world.mounts number
+  same_found number attached = found_in_filter _ _ number
       (λ mount m same. attached_lives mount (the_one number attached mount m same))
 
   pub number_there : (number : ℕ) → IsAttached number → Among number numbers
   number_there number attached =
       let found = mount_in nat_eq world.mounts number in
-      subst (λ n. Among n numbers) (number-mount_in world.mounts number)
-      (among-map (λ (x : Mount ℕ). x.number) first_mounts found
-      (among-filter (mount_lives nat_eq world) world.mounts found (found_is_there world.mounts number attached)
-      (attached_lives found attached)))
+      subst (λ n. Among n numbers) (number-mount_in _ number) (among-map _ _ found
+      (among-filter _ _ found (found_is_there _ number attached) (attached_lives found attached)))
 
   pub standing_at : (number : ℕ) → IsAttached number → Stands nat_eq world number
   standing_at number attached = subst (Stands nat_eq world) (number-mount_in world.mounts number)
@@ -82,11 +80,10 @@ module _ (world : World ℕ) (kept : MountInvariants nat_eq world) where
   pub unused_private : (mount : Mount ℕ) → Among mount world.mounts → mount_lives nat_eq world mount ≡ false
       → is_private mount.propagation ≡ true
   unused_private mount m dead =
-      (nowhere_parts mount (among_from_list_all is_nowhere_or_attached world.mounts kept.nowhere mount m)
-      (or_parts (is_some mount.namespace) (is_located nat_eq world mount.number) dead).0).1
+      (nowhere_parts mount (among_from_list_all _ _ kept.nowhere mount m) (or_parts _ _ dead).0).1
 
   pub members_first : (group : ℕ) → has_members nat_eq first_mounts group ≡ has_members nat_eq world.mounts group
-  members_first group = any-filter (is_member_of nat_eq group) (mount_lives nat_eq world) world.mounts
+  members_first group = any-filter _ _ _
       (λ mount m dead. private_is_no_member group mount (unused_private mount m dead))
 
   abbrev pub LivesIn : ℕ → Type 0
@@ -105,9 +102,8 @@ module _ (world : World ℕ) (kept : MountInvariants nat_eq world) where
 
   pub group_there : (group : ℕ) → has_members nat_eq world.mounts group ≡ true → Among group groups_there
   group_there group has =
-      let t = any_among (is_member_of nat_eq group) first_mounts (members_first group ∙ has) in
-      subst (λ n. Among n groups_there) (ap (λ o. unwrap_or o 0) (held_number group (group_of t.0.propagation) t.2))
-      (among-map (λ (mount : Mount ℕ). unwrap_or (group_of mount.propagation) 0) first_mounts t.0 t.1)
+      let t = any_among _ _ (members_first group ∙ has) in
+      subst (λ n. Among n groups_there) (ap (λ o. unwrap_or o 0) (held_number group _ t.2)) (among-map _ _ t.0 t.1)
 
   pub way_up : (group : ℕ) → LivesIn group
       → Way world.master (settled nat_eq world).master (λ (g : ℕ). g) groups_there group

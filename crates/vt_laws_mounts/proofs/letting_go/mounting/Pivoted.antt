@@ -26,15 +26,14 @@ module _ (world : World ℕ) (namespace old new : ℕ) (put : Location ℕ) (in_
   change = pivoted_mount nat_eq root target put
 
   root_there : Among root world.mounts
-  root_there = found_is_there world.mounts old old_attached
+  root_there = found_is_there _ old old_attached
 
   target_there : Among target world.mounts
-  target_there = found_is_there world.mounts new new_attached
+  target_there = found_is_there _ new new_attached
 
   itself : (a b : Mount ℕ) → Among a world.mounts → Among b world.mounts → nat_eq a.number b.number ≡ true → a ≡ b
-  itself a b m n e = sym (found_itself world.mounts stand.one_number a m)
-      ∙ ap (mount_in nat_eq world.mounts) (eqb-true a.number b.number e)
-      ∙ found_itself world.mounts stand.one_number b n
+  itself a b m n e = sym (found_itself _ stand.one_number a m) ∙ ap (mount_in nat_eq world.mounts)
+      (eqb-true a.number b.number e) ∙ found_itself _ stand.one_number b n
 
   -- a mount keeps all but its place
   keeps : {A : Type 0} (part : Mount ℕ → A) → ((mount : Mount ℕ) (at : Option (Location ℕ))
@@ -100,8 +99,7 @@ module _ (world : World ℕ) (namespace old new : ℕ) (put : Location ℕ) (in_
   nowhere mount m = by (which mount m)
     where
       in_one : is_some mount.namespace ≡ true → is_nowhere_or_attached (change mount) ≡ true
-      in_one e = or_left (is_some (change mount).namespace) _
-          (keeps (λ x. is_some x.namespace) (λ x at. refl) mount ∙ e)
+      in_one e = or_left _ _ (keeps (λ x. is_some x.namespace) (λ x at. refl) mount ∙ e)
 
       by : Is mount → is_nowhere_or_attached (change mount) ≡ true
       by (is_target e) = in_one (cc)

@@ -86,7 +86,7 @@ module _ (world : World ℕ) (tasks : List (Task ℕ)) (namespaces : List (Names
         mount_point = option_map (mount_point_left nat_eq not_swept gone) mount.mount_point;
       })
       by true = refl
-      by false = ap (λ point. record mount { mount_point = point }) (points mount.mount_point refl)
+      by false = ap (λ point. record mount { mount_point = point }) (points _ refl)
 
   -- Groups
   abbrev before : World ℕ
@@ -96,8 +96,7 @@ module _ (world : World ℕ) (tasks : List (Task ℕ)) (namespaces : List (Names
   before_swept = MountingTaken.without swept gone namespaces
 
   swept_mounts : before_swept.mounts ≡ map going first_mounts
-  swept_mounts = map_alike (after_going nat_eq swept gone) going first_mounts
-      (λ mount m. going_alike mount (of_world world kept mount m))
+  swept_mounts = map_alike _ going _ (λ mount m. going_alike mount (of_world world kept mount m))
 
   private_then : (mount : Mount ℕ) → is_private mount.propagation ≡ true → is_private (going mount).propagation ≡ true
   private_then mount e = grind (arith, common_steps)
@@ -105,10 +104,9 @@ module _ (world : World ℕ) (tasks : List (Task ℕ)) (namespaces : List (Names
   -- a test of what is left of each mount, which private ones do not pass
   tested : (test : Mount ℕ → Bool) → ((mount : Mount ℕ) → is_private mount.propagation ≡ true → test mount ≡ false)
       → list_any test (map going first_mounts) ≡ list_any test (map going world.mounts)
-  tested test fails = any-map test {q = λ mount. test (going mount)} going first_mounts (λ mount. refl)
-      ∙ any-filter (λ mount. test (going mount)) (mount_lives nat_eq world) world.mounts
-      (λ mount m dead. fails (going mount) (private_then mount (unused_private world kept mount m dead)))
-      ∙ sym (any-map test {q = λ mount. test (going mount)} going world.mounts (λ mount. refl))
+  tested test fails = any-map test {q = λ mount. test (going mount)} going first_mounts (λ mount. refl) ∙ any-filter _ _
+      _ (λ mount m dead. fails (going mount) (private_then mount (unused_private world kept mount m dead))) ∙ sym
+      (any-map test {q = λ mount. test (going mount)} going world.mounts (λ mount. refl))
 
   members_before : (group : ℕ) → has_members nat_eq before_swept.mounts group ≡ has_members nat_eq before.mounts group
   members_before group = cc (swept_mounts, tested (is_member_of nat_eq group) (private_is_no_member group))
@@ -169,11 +167,10 @@ module _ (world : World ℕ) (tasks : List (Task ℕ)) (namespaces : List (Names
   hands_on_swept = list_any (lost_a_group nat_eq before_swept) before_swept.mounts
 
   hands_alike : hands_on_swept ≡ hands_on
-  hands_alike = ap (list_any (lost_a_group nat_eq before_swept)) swept_mounts
-      ∙ any_changed going (lost_a_group nat_eq before_swept) (λ mount. lost_a_group nat_eq before (going mount))
-      first_mounts (λ mount m. lost_alike mount (of_world world kept mount m))
-      ∙ sym (any-map (lost_a_group nat_eq before) {q = λ mount. lost_a_group nat_eq before (going mount)}
-      going first_mounts (λ mount. refl)) ∙ tested (lost_a_group nat_eq before) (λ mount e. none mount.propagation e)
+  hands_alike = ap (list_any (lost_a_group nat_eq before_swept)) swept_mounts ∙ any_changed going _ _ _
+      (λ mount m. lost_alike mount (of_world world kept mount m)) ∙ sym
+      (any-map _ {q = λ mount. lost_a_group nat_eq before (going mount)} going first_mounts (λ mount. refl)) ∙ tested _
+      (λ mount e. none _ e)
     where
       none : (kind : Propagation ℕ) → is_private kind ≡ true → (is_lost_group nat_eq before (source_of kind)
           || is_lost_group nat_eq before (then_some (source_of kind) world.master)) ≡ false
@@ -203,9 +200,8 @@ module _ (world : World ℕ) (tasks : List (Task ℕ)) (namespaces : List (Names
   last_mounts = filter (mount_lives nat_eq once) once_mounts
 
   again_is : again_mounts ≡ map change first_mounts
-  again_is = ap (λ b. map (MountingTaken.change swept gone namespaces b) first_mounts) hands_alike
-      ∙ map_alike (MountingTaken.change swept gone namespaces hands_on) change first_mounts
-      (λ mount m. change_alike hands_on mount (of_world world kept mount m))
+  again_is = ap (λ b. map (MountingTaken.change swept gone namespaces b) first_mounts) hands_alike ∙ map_alike _ change
+      _ (λ mount m. change_alike _ mount (of_world world kept mount m))
 
   number-change : (mount : Mount ℕ) → (change mount).number ≡ mount.number
   number-change mount = same_number not_swept gone namespaces hands_on mount
@@ -216,21 +212,15 @@ module _ (world : World ℕ) (tasks : List (Task ℕ)) (namespaces : List (Names
 
   lived : (mount : Mount ℕ) → mount_lives nat_eq once (change mount) ≡ true → mount_lives nat_eq world mount ≡ true
   lived mount lives = ⊎_elim (λ attached. attached_lives world kept mount (was_attached mount attached)) (λ located.
-      let t = any_among (λ (l : Location ℕ). nat_eq (change mount).number l.mount) (all_locations once) located in
-      or_right (is_some mount.namespace) (is_located nat_eq world mount.number)
-      (any_from_among (λ (l : Location ℕ). nat_eq mount.number l.mount) (all_locations world) t.0
-      (was_located world tasks nowhere_new t.0 t.1) (cc (number-change mount, t.2))))
-      (or_cases (is_some (change mount).namespace) (is_located nat_eq once (change mount).number) lives)
+      let t = any_among _ _ located in
+      or_right _ _ (any_from_among _ _ t.0 (was_located world tasks nowhere_new t.0 t.1)
+      (cc (number-change mount, t.2)))) (or_cases _ _ lives)
 
   same_mounts : filter (mount_lives nat_eq again) again_mounts ≡ last_mounts
-  same_mounts = ap (filter (mount_lives nat_eq once)) again_is
-      ∙ filter-map (mount_lives nat_eq once) {q = λ mount. mount_lives nat_eq once (change mount)} change first_mounts
-      (λ mount. refl)
-      ∙ ap (map change) (filter_twice (λ mount. mount_lives nat_eq once (change mount)) (mount_lives nat_eq world)
-      (λ mount. mount_lives nat_eq once (change mount))
-      (λ mount. follows (mount_lives nat_eq once (change mount)) (mount_lives nat_eq world mount) (lived mount))
-      world.mounts) ∙ sym (filter-map (mount_lives nat_eq once) {q = λ mount. mount_lives nat_eq once (change mount)}
-      change world.mounts (λ mount. refl))
+  same_mounts = ap (filter (mount_lives nat_eq once)) again_is ∙ filter-map _
+      {q = λ mount. mount_lives nat_eq once (change mount)} change first_mounts (λ mount. refl) ∙ ap (map change)
+      (filter_twice _ _ _ (λ mount. follows _ _ (lived mount)) _) ∙ sym
+      (filter-map _ {q = λ mount. mount_lives nat_eq once (change mount)} change world.mounts (λ mount. refl))
 
   -- what a mount that is in use at the end was
   abbrev Was : Mount ℕ → Type 0
@@ -245,7 +235,7 @@ module _ (world : World ℕ) (tasks : List (Task ℕ)) (namespaces : List (Names
 
   was_first : (old : Mount ℕ) → Among old world.mounts → mount_lives nat_eq once (change old) ≡ true
       → Among old first_mounts
-  was_first old m lives = among-filter (mount_lives nat_eq world) world.mounts old m (lived old lives)
+  was_first old m lives = among-filter _ _ old m (lived old lives)
 
   -- Masters
   masters_alike : (b : Bool) (group : ℕ) → LivesIn group
@@ -261,7 +251,7 @@ module _ (world : World ℕ) (tasks : List (Task ℕ)) (namespaces : List (Names
 
   same_master : (group : ℕ) → has_members nat_eq last_mounts group ≡ true → again.master group ≡ once.master group
   same_master group has =
-      let t = any_among (is_member_of nat_eq group) last_mounts has in
+      let t = any_among _ _ has in
       let old = was t.0 t.1 in
       grind (arith, common_steps, hands_alike, masters_alike, source_then, member_was)
 
@@ -269,7 +259,7 @@ module _ (world : World ℕ) (tasks : List (Task ℕ)) (namespaces : List (Names
   mounted_was : (number : ℕ) → is_mounted nat_eq (without_dead_mounts nat_eq once) number ≡ true
       → is_mounted nat_eq (without_dead_mounts nat_eq world) number ≡ true
   mounted_was number is =
-      let t = any_among (λ (mount : Mount ℕ). nat_eq number mount.filesystem) last_mounts is in
+      let t = any_among _ _ is in
       let old = was t.0 t.1 in
       grind (arith, common_steps, any_from_among, was_first, same_filesystem)
 
@@ -290,7 +280,7 @@ module _ (world : World ℕ) (tasks : List (Task ℕ)) (namespaces : List (Names
       → mount.mount_point ≡ Some place
       → (other : Mount ℕ) × Among other world.mounts × (other.mount_point ≡ Some (last_or place (chain n falls place)))
   came_from zero mount m place p = (mount, m, p)
-  came_from (suc n) mount m place p = by (falls place) refl (came_from n)
+  came_from (suc n) mount m place p = by _ refl (came_from n)
     where
       From : ℕ → Location ℕ → Type 0
       From k at = (other : Mount ℕ) × Among other world.mounts
@@ -304,9 +294,8 @@ module _ (world : World ℕ) (tasks : List (Task ℕ)) (namespaces : List (Names
       by None e later = (mount, m, cc (p, chain_ends falls n place e))
       by (Some below) e later =
           let parent = mount_in nat_eq world.mounts place.mount in
-          let t = later parent (found_is_there world.mounts place.mount
-          (place_attached world (mounts_stand world kept) mount m place p))
-          below (goes (is_going nat_eq gone place.mount) e) in (
+          let t = later parent (found_is_there _ _ (place_attached world (mounts_stand world kept) mount m place p))
+          below (goes _ e) in (
             t.0,
             t.1,
             cc (t.2, chain_goes_on falls n place below e, last_of_chain falls n below place),
@@ -320,7 +309,7 @@ module _ (world : World ℕ) (tasks : List (Task ℕ)) (namespaces : List (Names
   point_was : (mount : Mount ℕ) → Among mount world.mounts → (place : Location ℕ)
       → (change mount).mount_point ≡ Some place
       → (other : Mount ℕ) × Among other world.mounts × (other.mount_point ≡ Some place)
-  point_was mount m place p = by (is_going nat_eq gone mount.number) mount.mount_point refl (sym (same hands_on) ∙ p)
+  point_was mount m place p = by (is_going nat_eq gone mount.number) mount.mount_point refl (sym (same _) ∙ p)
     where
       same : (b : Bool) → (MountingTaken.change not_swept gone namespaces b mount).mount_point
           ≡ (going mount).mount_point
@@ -333,7 +322,7 @@ module _ (world : World ℕ) (tasks : List (Task ℕ)) (namespaces : List (Names
       by true o e f = cc
       by false None e f = cc
       by false (Some at) e f =
-          let t = came_from (length world.mounts) mount m at e in (t.0, t.1, t.2 ∙ f)
+          let t = came_from _ mount m at e in (t.0, t.1, t.2 ∙ f)
 
   abbrev places_in : World ℕ → List (Mount ℕ) → List (Location ℕ)
   places_in other mounts = all_locations other ++ map root_of mounts ++ filter_map (λ mount. mount.mount_point) mounts
@@ -348,23 +337,17 @@ module _ (world : World ℕ) (tasks : List (Task ℕ)) (namespaces : List (Names
     was_at : (f : ℕ) (location : Location ℕ) → Among location (places_in world first_mounts)
         → f ≡ (mount_in nat_eq first_mounts location.mount).filesystem
         → Among location.node (located_in nat_eq (without_dead_mounts nat_eq world) f)
-    was_at f location m e = among-map (λ (l : Location ℕ). l.node)
-        (filter (λ l. nat_eq f (mount_in nat_eq first_mounts l.mount).filesystem)
-        (places_in world first_mounts)) location
-        (among-filter (λ l. nat_eq f (mount_in nat_eq first_mounts l.mount).filesystem)
-        (places_in world first_mounts) location m (eq-eqb f (mount_in nat_eq first_mounts location.mount).filesystem e))
+    was_at f location m e = among-map _ _ _ (among-filter _ _ _ m (eq-eqb f
+        (mount_in nat_eq first_mounts location.mount).filesystem e))
 
     -- a location of a task, the root of a mount, and a mount point
     task_was : (f : ℕ) (location : Location ℕ) → Among location (all_locations once)
         → f ≡ (mount_in nat_eq last_mounts location.mount).filesystem
         → Among location.node (located_in nat_eq (without_dead_mounts nat_eq world) f)
-    task_was f location at e = was_at f location (among-append_left (all_locations world ++ map root_of first_mounts)
-        (filter_map (λ mount. mount.mount_point) first_mounts) location
-        (among-append_left (all_locations world) (map root_of first_mounts) location
-        (was_located world tasks nowhere_new location at))) (e ∙ shows_alike location.mount (λ mount m same.
-        or_right (is_some (change mount).namespace) (is_located nat_eq once (change mount).number)
-        (any_from_among (λ (l : Location ℕ). nat_eq (change mount).number l.mount) (all_locations once) location at
-        (eq-eqb (change mount).number location.mount (number-change mount ∙ same)))))
+    task_was f location at e = was_at f _ (among-append_left _ _ _ (among-append_left _ _ _
+        (was_located world tasks nowhere_new _ at))) (e ∙ shows_alike _
+        (λ mount m same. or_right _ _ (any_from_among _ _ _ at (eq-eqb (change mount).number location.mount
+        (number-change mount ∙ same)))))
 
     root_was : (f : ℕ) (location : Location ℕ) → Among location (map root_of last_mounts)
         → f ≡ (mount_in nat_eq last_mounts location.mount).filesystem
@@ -407,18 +390,13 @@ module _ (world : World ℕ) (tasks : List (Task ℕ)) (namespaces : List (Names
     located_was : (f number : ℕ) → Among number (located_in nat_eq (without_dead_mounts nat_eq once) f)
         → Among number (located_in nat_eq (without_dead_mounts nat_eq world) f)
     located_was f number m =
-        let from = among-from_map (λ (l : Location ℕ). l.node)
-        (filter (λ l. nat_eq f (mount_in nat_eq last_mounts l.mount).filesystem)
-        (places_in once last_mounts)) number m in
-        let here = among-from_filter (λ l. nat_eq f (mount_in nat_eq last_mounts l.mount).filesystem)
-        (places_in once last_mounts) from.0 from.1 in
+        let from = among-from_map _ _ number m in
+        let here = among-from_filter _ _ from.0 from.1 in
         let e : f ≡ (mount_in nat_eq last_mounts from.0.mount).filesystem =
         eqb-true f (mount_in nat_eq last_mounts from.0.mount).filesystem here.1 in
-        subst (λ n. Among n (located_in nat_eq (without_dead_mounts nat_eq world) f)) (sym from.2) (⊎_elim
-        (λ front. ⊎_elim (λ at. task_was f from.0 at e) (λ at. root_was f from.0 at e)
-        (among-append (all_locations once) (map root_of last_mounts) from.0 front)) (λ at. point_located f from.0 at e)
-        (among-append (all_locations once ++ map root_of last_mounts)
-        (filter_map (λ mount. mount.mount_point) last_mounts) from.0 here.0))
+        subst (λ n. Among n (located_in nat_eq (without_dead_mounts nat_eq world) f)) (sym from.2)
+        (⊎_elim (λ front. ⊎_elim (λ at. task_was f from.0 at e) (λ at. root_was f from.0 at e)
+        (among-append _ _ from.0 front)) (λ at. point_located f from.0 at e) (among-append _ _ from.0 here.0))
 
     same_uses : SameUses world once again
     same_uses = grind (arith, common_steps, same_mounts, same_master, mounted_was, located_was)

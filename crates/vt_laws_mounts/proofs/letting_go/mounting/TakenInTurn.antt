@@ -43,7 +43,7 @@ module _ {A : Type 0} (change : World ℕ → A → World ℕ)
       → with_sweeps change (settled nat_eq world) list ≡ settled nat_eq (folded change world list)
   one_sweep_in_turn world [] trees uppers reals kept = refl
   one_sweep_in_turn world (a ∷ rest) trees uppers reals kept = ap (λ now. with_sweeps change now rest)
-      (for_two world a trees uppers reals kept.0 (keeps_first change (change world a) rest kept.1))
+      (for_two world a trees uppers reals kept.0 (keeps_first change _ rest kept.1))
       ∙ one_sweep_in_turn (change world a) rest (subst (λ fs. HasTrees (record world { filesystems = fs })) same trees)
       (subst (λ fs. UppersArePlain (record world { filesystems = fs })) same uppers)
       (subst (λ fs. RealsAreThere (record world { filesystems = fs })) same reals) kept.1
@@ -54,8 +54,7 @@ module _ {A : Type 0} (change : World ℕ → A → World ℕ)
 pub one_sweep_for_all_mounts_with_overlays : OneSweepForAllMountsWithOverlays
 one_sweep_for_all_mounts_with_overlays world parts trees uppers reals kept =
     one_sweep_in_turn (taken_away nat_eq) filesystems-taken_away (λ now gone t u r before after.
-    one_sweep_for_mounts_with_overlays now gone t u r before (mounts_stand (taken_away nat_eq now gone) after))
-    world parts trees uppers reals kept
+    one_sweep_for_mounts_with_overlays now gone t u r before (mounts_stand _ after)) world parts trees uppers reals kept
 
 pub one_sweep_for_all_mounts : OneSweepForAllMounts
 one_sweep_for_all_mounts world parts plain trees kept =

@@ -1,10 +1,10 @@
 -- What goes after unmounts, one or several after one another.
-use Rattle.std.proofs.Common.{arith, ◌≡◌, refl, sym, ap, subst, ◌∙◌, ◌⊎◌, inl, inr, ⊎_elim, ℕ, nat_eq, Bool, true, false, cond, not, ◌&&◌, List, [], ◌∷◌, filter, map, true≢false, Option, Some, None, is_some}
-use Rattle.vt_spec.proofs.Common.{Location, Mount, World, cases_Bool, common_steps, deepest_first, false_from_ne_true, folded, going, group_of, has_members, heir, holds_of, is_among, is_going, is_located, is_member_of, is_nowhere_or_attached, lazily_unmounted, list_any, lost_a_group, map_twice, mount_at, mount_in, mount_lives, mount_numbered, mount_tree, mounts_on, number-mount_in, or_cases, or_parts, regrouped_by, root_of, settled, taken_away, unmounted, unmounted_if_there}
+use Rattle.std.proofs.Common.{arith, ◌≡◌, refl, sym, ap, subst, ◌∙◌, ◌⊎◌, inl, inr, ⊎_elim, ℕ, nat_eq, Bool, true, false, cond, not, ◌&&◌, List, [], ◌∷◌, map, true≢false, Option, Some, None, is_some}
+use Rattle.vt_spec.proofs.Common.{Location, Mount, World, cases_Bool, common_steps, deepest_first, false_from_ne_true, folded, has_members, heir, is_among, is_going, is_located, is_member_of, is_nowhere_or_attached, lazily_unmounted, list_any, lost_a_group, map_twice, mount_at, mount_in, mount_lives, mount_numbered, mount_tree, number-mount_in, or_cases, or_parts, regrouped_by, root_of, settled, taken_away, unmounted, unmounted_if_there}
 use Rattle.vt_laws_mounts.specs.LettingGo.InUse.{AllInUse, GroupsInUse}
-use Rattle.vt_laws_mounts.specs.LettingGo.Unmounting.{LazyUnmountsLetGo, MountsOnDirectoriesLetGo, TreesLetGo, UnmountsLetGo, detached_between, groups_of_mounts, is_detached_in, numbers_of_trees, used_by_gone}
+use Rattle.vt_laws_mounts.specs.LettingGo.Unmounting.{LazyUnmountsLetGo, MountsOnDirectoriesLetGo, TreesLetGo, UnmountsLetGo, detached_between, groups_of_mounts, used_by_gone}
 use Rattle.vt_laws_mounts.specs.LettingGo.Leaving.{IsSettledPlain, MountsStand}
-use Rattle.vt_laws_mounts.specs.LettingGo.Mounting.{loses_its_place, places_lost}
+use Rattle.vt_laws_mounts.specs.LettingGo.Mounting.{places_lost}
 use Rattle.vt_laws_mounts.specs.LettingGo.OneByOne.{GroupsInUseBut, let_go}
 use Rattle.vt_laws_mounts.proofs.letting_go.leaving.Detached.{found-map, not_found-map}
 use Rattle.vt_laws_mounts.proofs.letting_go.Lists.{Among, list_all_from_among, among-filter, among-filter_map, among-from_map, among-map, any_from_among, is_among_numbers, map_same, none_from_among, or_left, or_right, among_from_list_all, held_number}
@@ -21,14 +21,9 @@ pub no_members : (world after : World ℕ) (gone : List ℕ) → GroupsInUse wor
     → (group : ℕ) → is_among nat_eq group (groups_of_mounts world gone) ≡ false
     → has_members nat_eq after.mounts group ≡ false → world.master group ≡ None
 no_members world after gone in_use stay group among none = in_use group
-    (none_from_among (is_member_of nat_eq group) world.mounts
-    (λ mount m. false_from_ne_true (is_member_of nat_eq group mount) (λ is.
-    ⊎_elim (λ went. true≢false (sym (is_among_numbers group (groups_of_mounts world gone)
-    (among-filter_map (λ x. group_of x.propagation)
-    (filter (λ x. is_among nat_eq x.number gone) world.mounts) mount group
-    (among-filter (λ x. is_among nat_eq x.number gone) world.mounts mount m went)
-    (held_number group (group_of mount.propagation) is))) ∙ among))
-    (λ kept. cc (stay mount m kept group is)) (cases_Bool (is_among nat_eq mount.number gone)))))
+    (none_from_among _ _ (λ mount m. false_from_ne_true _ (λ is. ⊎_elim
+    (λ went. true≢false (sym (is_among_numbers group _ (among-filter_map _ _ mount group (among-filter _ _ mount m went)
+    (held_number group _ is))) ∙ among)) (λ kept. cc (stay mount m kept group is)) (cases_Bool _))))
 
 -- So all other groups have members or no master
 groups_but : (world after : World ℕ) (gone : List ℕ) → GroupsInUse world
@@ -55,7 +50,7 @@ module _ (world : World ℕ) (gone : List ℕ) where
   -- an event is a change of each mount
   one_event : (b : Bool) → regrouped_by nat_eq b without ≡ changed world (map (change b) world.mounts)
       (masters b) world.namespaces world.tasks
-  one_event b = sym (same_namespaces without b) ∙ is_changed world gone world.namespaces b
+  one_event b = sym (same_namespaces _ b) ∙ is_changed world gone _ b
 
   -- one that goes is in no namespace then
   outside : (b : Bool) (mount : Mount ℕ) → is_going nat_eq gone mount.number ≡ true
@@ -65,8 +60,7 @@ module _ (world : World ℕ) (gone : List ℕ) where
   -- one that is in a namespace then does not go
   pub does_not_go : (b : Bool) (mount : Mount ℕ) → is_some (change b mount).namespace ≡ true
       → is_going nat_eq gone mount.number ≡ false
-  does_not_go b mount e = false_from_ne_true (is_going nat_eq gone mount.number)
-      (λ is. cc (outside b mount is))
+  does_not_go b mount e = false_from_ne_true _ (λ is. cc (outside b mount is))
 
   -- a mount that does not go stays in its group
   stays_member : (b : Bool) (mount : Mount ℕ) → is_going nat_eq gone mount.number ≡ false → (group : ℕ)
@@ -92,10 +86,8 @@ event_groups world gone in_use =
     after = changed world (map (change world gone b) world.mounts) (masters world gone b) world.namespaces world.tasks
 
     then_ : GroupsInUseBut (groups_of_mounts world gone) after
-    then_ = groups_but world after gone in_use (λ mount m isnt group is.
-        any_from_among (is_member_of nat_eq group) after.mounts (change world gone b mount)
-        (among-map (change world gone b) world.mounts mount m) (stays_member world gone b mount isnt group is))
-        (masters_end world gone b)
+    then_ = groups_but world after gone in_use (λ mount m isnt group is. any_from_among _ _ _ (among-map _ _ mount m)
+        (stays_member world gone b mount isnt group is)) (masters_end world gone b)
 
 one_event_lets_go : (world : World ℕ) (gone : List ℕ) → IsSettledPlain world
     → settled nat_eq (taken_away nat_eq world gone) ≡ let_go (taken_away nat_eq world gone) (used_by_gone world gone)
@@ -103,15 +95,13 @@ one_event_lets_go world gone settles =
     taking_away_lets_go world gone (groups_of_mounts world gone) settles (event_groups world gone settles.in_use.groups)
 
 pub unmounts_let_go : UnmountsLetGo
-unmounts_let_go fresh world task mount settles =
-    one_event_lets_go world (going nat_eq world (mount_numbered nat_eq world mount)) settles
+unmounts_let_go fresh world task mount settles = one_event_lets_go world _ settles
 
 pub trees_let_go : TreesLetGo
-trees_let_go world mounts settles = one_event_lets_go world (numbers_of_trees world mounts) settles
+trees_let_go world mounts settles = one_event_lets_go world _ settles
 
 pub mounts_on_directories_let_go : MountsOnDirectoriesLetGo
-mounts_on_directories_let_go world directory settles =
-    one_event_lets_go world (numbers_of_trees world (mounts_on nat_eq world directory)) settles
+mounts_on_directories_let_go world directory settles = one_event_lets_go world _ settles
 
 -- Several events after one another
 
@@ -187,11 +177,10 @@ module _ (world now : World ℕ) (faded : Faded world now) (gone : List ℕ) whe
 all_events : (world : World ℕ) (mounts : List (Mount ℕ)) (now : World ℕ) → Faded world now
     → Faded world (folded (unmounted_if_there nat_eq) now mounts)
 all_events world [] now faded = faded
-all_events world (mount ∷ mounts) now faded = all_events world mounts (unmounted_if_there nat_eq now mount)
-    (by (is_some (mount_numbered nat_eq now mount.number).namespace))
+all_events world (mount ∷ mounts) now faded = all_events world mounts _ (by _)
   where
     by : (c : Bool) → Faded world (cond c (unmounted nat_eq now mount.number) now)
-    by true = fades world now faded (going nat_eq now (mount_numbered nat_eq now mount.number))
+    by true = fades world now faded _
     by false = faded
 
 module _ (world now : World ℕ) (in_use : AllInUse world) (stand : MountsStand world) (faded : Faded world now) where
@@ -203,24 +192,21 @@ module _ (world now : World ℕ) (in_use : AllInUse world) (stand : MountsStand 
 
   found_now : (mount : Mount ℕ) → Among mount world.mounts → mount_numbered nat_eq now mount.number ≡ faded.change mount
   found_now mount m =
-      let itself = found_itself world.mounts stand.one_number mount m in
+      let itself = found_itself _ stand.one_number mount m in
       ap (λ w. mount_numbered nat_eq w mount.number) faded.is
-      ∙ found-map faded.change faded.number world.mounts mount.number mount m itself refl ∙ ap faded.change itself
+      ∙ found-map _ faded.number _ _ mount m itself refl ∙ ap faded.change itself
 
   -- what is not lost is in its namespace
   in_one_still : (mount : Mount ℕ) → Among mount world.mounts → is_some mount.namespace ≡ true
       → is_among nat_eq mount.number lost ≡ false → is_some (faded.change mount).namespace ≡ true
-  in_one_still mount m e isnt = ⊎_elim (λ is. is) (λ out. absurd (true≢false (sym (is_among_numbers mount.number lost
-      (among-map (λ x. x.number) (filter (is_detached_in now) world.mounts) mount
-      (among-filter (is_detached_in now) world.mounts mount m
-      (ap (λ c. c && not (is_some (mount_numbered nat_eq now mount.number).namespace)) e
-      ∙ ap (λ x. not (is_some x.namespace)) (found_now mount m) ∙ ap not out)))) ∙ isnt)))
-      (cases_Bool (is_some (faded.change mount).namespace))
+  in_one_still mount m e isnt = ⊎_elim (λ is. is) (λ out. absurd (true≢false
+      (sym (is_among_numbers _ lost (among-map _ _ mount (among-filter _ _ mount m
+      (ap (λ c. c && not (is_some (mount_numbered nat_eq now mount.number).namespace)) e ∙ ap
+      (λ x. not (is_some x.namespace)) (found_now mount m) ∙ ap not out)))) ∙ isnt))) (cases_Bool _)
 
   placed_in_one : (mount : Mount ℕ) → Among mount world.mounts → (at : Location ℕ) → mount.mount_point ≡ Some at
       → is_some mount.namespace ≡ true
-  placed_in_one mount m at p =
-      placed_is_attached mount (among_from_list_all is_nowhere_or_attached world.mounts stand.nowhere mount m) at p
+  placed_in_one mount m at p = placed_is_attached mount (among_from_list_all _ _ stand.nowhere mount m) at p
 
   stands_in_one : (mount : Mount ℕ) → Among mount world.mounts → (at : Location ℕ) → mount.mount_point ≡ Some at
       → is_some (mount_at nat_eq world at).namespace ≡ true
@@ -228,43 +214,34 @@ module _ (world now : World ℕ) (in_use : AllInUse world) (stand : MountsStand 
 
   member_is_in_one : (mount : Mount ℕ) → Among mount world.mounts → (group : ℕ) → is_member_of nat_eq group mount ≡ true
       → is_some mount.namespace ≡ true
-  member_is_in_one mount m group is = ⊎_elim (λ in_one. in_one) (λ out. absurd (true≢false
-      (sym is ∙ private_is_no_member group mount
-      (nowhere_parts mount (among_from_list_all is_nowhere_or_attached world.mounts stand.nowhere mount m) out).1)))
-      (cases_Bool (is_some mount.namespace))
+  member_is_in_one mount m group is = ⊎_elim (λ in_one. in_one) (λ out. absurd
+      (true≢false (sym is ∙ private_is_no_member group mount (nowhere_parts mount (among_from_list_all _ _ stand.nowhere
+      mount m) out).1))) (cases_Bool _)
 
   lives : (mount : Mount ℕ) → Among mount world.mounts → is_among nat_eq mount.number lost ≡ false
       → mount_lives nat_eq last (faded.change mount) ≡ true
-  lives mount m isnt = ⊎_elim
-      (λ in_one. or_left (is_some (faded.change mount).namespace) (is_located nat_eq last (faded.change mount).number)
-      (in_one_still mount m in_one isnt))
-      (λ at. or_right (is_some (faded.change mount).namespace) (is_located nat_eq last (faded.change mount).number)
-      (ap (is_located nat_eq world) (faded.number mount) ∙ at))
-      (or_cases (is_some mount.namespace) (is_located nat_eq world mount.number)
-      (among_from_list_all (mount_lives nat_eq world) world.mounts in_use.mounts mount m))
+  lives mount m isnt = ⊎_elim (λ in_one. or_left _ _ (in_one_still mount m in_one isnt))
+      (λ at. or_right _ _ (ap (is_located nat_eq world) (faded.number mount) ∙ at))
+      (or_cases _ _ (among_from_list_all _ _ in_use.mounts mount m))
 
   place_still : (mount : Mount ℕ) → Among mount world.mounts → (at : Location ℕ) → mount.mount_point ≡ Some at
       → StillAPlace last.mounts lost at ⊎ Among at (places_lost world lost)
-  place_still mount m at p = ⊎_elim
-      (λ loses. inr (among-filter_map (λ x. x.mount_point) (filter (loses_its_place lost) world.mounts) mount at
-      (among-filter (loses_its_place lost) world.mounts mount m loses) p))
-      (λ keeps. let parts = or_parts (is_going nat_eq lost mount.number)
-      (holds_of (λ l. is_going nat_eq lost l.mount) mount.mount_point) keeps in
+  place_still mount m at p = ⊎_elim (λ loses. inr (among-filter_map _ _ mount at (among-filter _ _ mount m loses) p))
+      (λ keeps. let parts = or_parts _ _ keeps in
       let on : is_going nat_eq lost at.mount ≡ false =
       cc (p, parts.1) in
       let parent = stands_in_one mount m at p in
       inl (
         faded.change mount,
         (
-          among-map faded.change world.mounts mount m,
+          among-map _ _ mount m,
           (
             faded.place mount at p (in_one_still mount m (placed_in_one mount m at p) parts.0)
-                (in_one_still (mount_at nat_eq world at) (found_is_there world.mounts at.mount parent) parent
-                (cc (number-mount_in world.mounts at.mount, on))),
+                (in_one_still _ (found_is_there _ _ parent) parent (cc (number-mount_in world.mounts at.mount, on))),
             inl on,
           ),
         ),
-      )) (cases_Bool (loses_its_place lost mount))
+      )) (cases_Bool _)
 
   pub loses : Loses world last lost (places_lost world lost)
   loses = record {
@@ -287,10 +264,9 @@ module _ (world now : World ℕ) (in_use : AllInUse world) (stand : MountsStand 
   }
 
   pub groups : GroupsInUseBut (groups_of_mounts world lost) last
-  groups = groups_but world last lost in_use.groups (λ mount m isnt group is.
-      any_from_among (is_member_of nat_eq group) last.mounts (faded.change mount)
-      (among-map faded.change world.mounts mount m)
-      (faded.member mount (in_one_still mount m (member_is_in_one mount m group is) isnt) group is)) faded.master
+  groups = groups_but world last lost in_use.groups (λ mount m isnt group is. any_from_among _ _ _
+      (among-map _ _ mount m) (faded.member mount (in_one_still mount m (member_is_in_one mount m group is) isnt) group
+      is)) faded.master
 
 pub faded_lets_go : (world now : World ℕ) → IsSettledPlain world → Faded world now
     → settled nat_eq now ≡ let_go now (used_by_gone world (detached_between world now))
@@ -310,4 +286,4 @@ lazily_fades world number stand = all_events world (deepest_first nat_eq world
 
 pub lazy_unmounts_let_go : LazyUnmountsLetGo
 lazy_unmounts_let_go fresh world task number settles =
-    faded_lets_go world (lazily_unmounted nat_eq world number) settles (lazily_fades world number settles.mounts)
+    faded_lets_go world _ settles (lazily_fades world number settles.mounts)

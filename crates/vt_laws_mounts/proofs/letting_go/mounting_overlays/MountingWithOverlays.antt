@@ -1,10 +1,10 @@
 -- What goes after each change of mounts in worlds with overlays.
-use Rattle.std.proofs.Common.{arith, ◌≡◌, sym, ap, subst, ◌∙◌, ℕ, nat_eq, Bool, true, List, [], ◌∷◌, filter, flat_map, length, map, suc, zero, option_to_list, append-nil}
-use Rattle.vt_spec.proofs.Common.{Copies, Mount, Namespace, World, attach, children, common_steps, copies_from, going, has_tasks, lazily_unmounted, list_any, lost_a_group, mount_at, mount_numbered, mounts_on, parts_of, pivoted, regrouped_by, settled, taken_away, tree_from}
+use Rattle.std.proofs.Common.{arith, ◌≡◌, sym, ap, subst, ◌∙◌, ℕ, nat_eq, Bool, true, List, [], ◌∷◌, flat_map, length, map, suc, zero, option_to_list, append-nil}
+use Rattle.vt_spec.proofs.Common.{Copies, Mount, Namespace, World, attach, children, common_steps, copies_from, lazily_unmounted, list_any, lost_a_group, mount_at, mount_numbered, parts_of, pivoted, regrouped_by, settled, taken_away, tree_from}
 use Rattle.vt_laws_mounts.specs.LettingGo.Attaching.{inodes_of_mount_point}
-use Rattle.vt_laws_mounts.specs.LettingGo.Unmounting.{detached_between, groups_of_mounts, numbers_of_trees}
+use Rattle.vt_laws_mounts.specs.LettingGo.Unmounting.{detached_between, groups_of_mounts}
 use Rattle.vt_laws_mounts.specs.LettingGo.LeavingOverlays.{IsSettled}
-use Rattle.vt_laws_mounts.specs.LettingGo.Mounting.{ended_mounts, places_lost, places_moved}
+use Rattle.vt_laws_mounts.specs.LettingGo.Mounting.{places_lost}
 use Rattle.vt_laws_mounts.specs.LettingGo.MountingOverlays.{EndingWithOverlaysLetsGo, LazyUnmountsWithOverlaysLetGo, MountsOnDirectoriesWithOverlaysLetGo, MovesWithOverlaysLetGo, MovingWithOverlaysLetsGo, PivotsWithOverlaysLetGo, TakingAwayWithOverlaysLetsGo, UnmountsWithOverlaysLetGo, used_by_gone_with_layers, used_by_mounts_with_layers}
 use Rattle.vt_laws_mounts.specs.LettingGo.OneByOne.{GroupsInUseBut}
 use Rattle.vt_laws_mounts.specs.LettingGo.Overlays.{let_go_all, let_go_all_inodes}
@@ -45,14 +45,11 @@ taking_away_with_overlays_lets_go world gone groups settles hears =
     grind (arith, common_steps, taken_with_namespaces, same_namespaces)
 
 pub ending_with_overlays_lets_go : EndingWithOverlaysLetsGo
-ending_with_overlays_lets_go world groups settles hears = taken_with_namespaces world (ended_mounts world) groups
-    (filter (has_tasks nat_eq world) world.namespaces) settles hears
+ending_with_overlays_lets_go world groups settles hears = taken_with_namespaces world _ groups _ settles hears
 
 pub moving_with_overlays_lets_go : MovingWithOverlaysLetsGo
-moving_with_overlays_lets_go world moved groups change master settles moves nowhere hears =
-    all_losers_go world (map change world.mounts) master world.namespaces world.tasks []
-    (places_moved world moved) groups settles
-    (MountingMoved.loses world moved change master settles.in_use moves nowhere) hears
+moving_with_overlays_lets_go world moved groups change master settles moves nowhere hears = all_losers_go world _ master
+    _ _ [] _ groups settles (MountingMoved.loses world moved change master settles.in_use moves nowhere) hears
 
 one_event : (world : World ℕ) (gone : List ℕ) → IsSettled world → settled nat_eq (taken_away nat_eq world gone)
     ≡ let_go_all (taken_away nat_eq world gone) (used_by_gone_with_layers world gone)
@@ -60,19 +57,15 @@ one_event world gone settles = taking_away_with_overlays_lets_go world gone (gro
     (event_groups world gone settles.in_use.groups)
 
 pub unmounts_with_overlays_let_go : UnmountsWithOverlaysLetGo
-unmounts_with_overlays_let_go fresh world task mount settles = one_event world
-    (going nat_eq world (mount_numbered nat_eq world mount)) settles
+unmounts_with_overlays_let_go fresh world task mount settles = one_event world _ settles
 
 pub mounts_on_directories_with_overlays_let_go : MountsOnDirectoriesWithOverlaysLetGo
-mounts_on_directories_with_overlays_let_go world directory settles =
-    one_event world (numbers_of_trees world (mounts_on nat_eq world directory)) settles
+mounts_on_directories_with_overlays_let_go world directory settles = one_event world _ settles
 
 pub lazy_unmounts_with_overlays_let_go : LazyUnmountsWithOverlaysLetGo
 lazy_unmounts_with_overlays_let_go fresh world task number settles =
     subst (λ w. settled nat_eq w ≡ let_go_all w (used_by_gone_with_layers world gone)) (sym faded.is)
-    (all_losers_go world (map faded.change world.mounts) now.master world.namespaces world.tasks gone
-    (places_lost world gone) (groups_of_mounts world gone)
-    settles (Unmounted.loses world now settles.in_use settles.mounts faded)
+    (all_losers_go world _ _ _ _ gone _ _ settles (Unmounted.loses world now settles.in_use settles.mounts faded)
     (Unmounted.groups world now settles.in_use settles.mounts faded))
   where
     now : World ℕ
@@ -116,13 +109,10 @@ moves_with_overlays_let_go fresh world task number place settles located at_atta
 
 pub pivots_with_overlays_let_go : PivotsWithOverlaysLetGo
 pivots_with_overlays_let_go fresh world task new put settles old_attached new_attached =
-    all_losers_go world after.mounts world.master world.namespaces after.tasks []
-    (option_to_list (mount_numbered nat_eq world new).mount_point) [] settles
-    (Pivoted.loses world task.namespace task.root.mount new put settles.in_use settles.mounts old_attached new_attached)
-    (λ group among none.
-    Pivoted.groups world task.namespace task.root.mount new put settles.in_use settles.mounts old_attached
-    new_attached group none)
-    ∙ ap (let_go_all_inodes after) (append-nil (inodes_of_mount_point world (mount_numbered nat_eq world new)))
+    all_losers_go world _ _ _ _ [] _ [] settles (Pivoted.loses world task.namespace task.root.mount new put
+    settles.in_use settles.mounts old_attached new_attached) (λ group among none. Pivoted.groups world task.namespace
+    task.root.mount new put settles.in_use settles.mounts old_attached new_attached group none) ∙ ap
+    (let_go_all_inodes after) (append-nil (inodes_of_mount_point world (mount_numbered nat_eq world new)))
   where
     after : World ℕ
     after = pivoted nat_eq world task.namespace (mount_at nat_eq world task.root) (mount_numbered nat_eq world new) put

@@ -24,13 +24,11 @@ pub groups_stay : (world : World ℕ) → GroupsInUse world → without_dead_gro
 groups_stay world all = grind (arith, common_steps)
 
 pub mounts_stay : (world : World ℕ) → MountsInUse world → without_dead_mounts nat_eq world ≡ world
-mounts_stay world all = ap (with_mounts world) (filter_all (mount_lives nat_eq world) world.mounts
-    (among_from_list_all (mount_lives nat_eq world) world.mounts all))
+mounts_stay world all = ap (with_mounts world) (filter_all _ _ (among_from_list_all _ _ all))
 
 pub filesystems_stay : (world : World ℕ) → FilesystemsInUse world → without_dead_filesystems nat_eq world ≡ world
 filesystems_stay world all = ap (λ filesystems. record world { filesystems = filesystems })
-    (filter_all (filesystem_lives nat_eq world) world.filesystems
-    (among_from_list_all (filesystem_lives nat_eq world) world.filesystems all))
+    (filter_all _ _ (among_from_list_all _ _ all))
 
 pub nothing_goes : NothingGoes
 nothing_goes world all = grind (arith, common_steps, mounts_stay, filesystems_stay, inodes_stay, groups_stay)
@@ -266,9 +264,9 @@ module _ (world : World ℕ) where
       → (filesystem : Filesystem ℕ) × Among filesystem world.filesystems
       × (filesystem_lives nat_eq mounted filesystem ≡ true) × (last ≡ after_second (after_first filesystem))
   was_there last m =
-      let second = among-from_map after_second first.filesystems last m in
-      let one = among-from_map after_first living.filesystems second.0 second.1 in
-      let was = among-from_filter (filesystem_lives nat_eq mounted) world.filesystems one.0 one.1 in
+      let second = among-from_map _ _ last m in
+      let one = among-from_map _ _ _ second.1 in
+      let was = among-from_filter _ _ one.0 one.1 in
       (one.0, was.0, was.1, second.2 ∙ ap after_second one.2)
 
   pub layers_on : (number : ℕ) (filesystem : Filesystem ℕ) → has_layer_on nat_eq number filesystem

@@ -24,7 +24,7 @@ without_those gone filesystem = record filesystem {
 -- Where the test names none, the filesystem is as it was.
 without_none : (filesystem : Filesystem ℕ) → without_those (λ number. false) filesystem ≡ filesystem
 without_none filesystem = ap (λ numbers. record filesystem { files = record filesystem.files { numbers = numbers } })
-    (filter_all (λ number. true) filesystem.files.numbers (λ number m. refl))
+    (filter_all _ _ (λ number m. refl))
 
 -- a world without overlays has no objects of overlays
 pub no_objects_of : (world : World ℕ) → IsPlain world → (number : ℕ)
@@ -39,12 +39,12 @@ goes_here world inode filesystem number =
 
 one_step : (world : World ℕ) (inode : Inode) (filesystem : Filesystem ℕ)
     → let_go_inode_of world inode filesystem ≡ without_those (goes_here world inode filesystem) filesystem
-one_step world inode filesystem = by (nat_eq filesystem.number inode.0 && not (is_inode_used world filesystem inode.1))
+one_step world inode filesystem = by _
   where
     by : (b : Bool) → cond b (without_those (λ number. nat_eq number inode.1) filesystem) filesystem
         ≡ without_those (λ number. b && nat_eq number inode.1) filesystem
     by true = refl
-    by false = sym (without_none filesystem)
+    by false = sym (without_none _)
 
 abbrev pub goes_of : List ℕ → List Inode → Filesystem ℕ → ℕ → Bool
 goes_of used losers filesystem number =
@@ -90,9 +90,7 @@ two_steps world inode rest filesystem used same = λ i. record filesystem {
     numbers : filter (λ number. not (goes_of used rest filesystem number))
         (filter (λ number. not (here number)) filesystem.files.numbers)
         ≡ filter (λ number. not (goes_of used (inode ∷ rest) filesystem number)) filesystem.files.numbers
-    numbers = filter_twice (λ number. not (goes_of used rest filesystem number)) (λ number. not (here number))
-        (λ number. not (goes_of used (inode ∷ rest) filesystem number)) (λ number. ap not (here_or_later number)
-        ∙ by (here number) (goes_of used rest filesystem number)) filesystem.files.numbers
+    numbers = filter_twice _ _ _ (λ number. ap not (here_or_later number) ∙ by _ _) _
       where
         by : (a b : Bool) → not (a || b) ≡ (not a && not b)
         by true b = refl
@@ -115,7 +113,7 @@ module _ (world : World ℕ) (inode : Inode) (plain : IsPlain world) where
 
   pub plain-step : IsPlain next
   plain-step = none_from_among is_overlay next.filesystems (λ filesystem m.
-      let from = among-from_map step world.filesystems filesystem m in
+      let from = among-from_map step _ _ m in
       cc (from.2, overlay-step from.0, none_among is_overlay world.filesystems plain from.0 from.1))
 
   named-step : (filesystem : Filesystem ℕ) → UnusedAreEmpty (used_in nat_eq world filesystem) filesystem
@@ -187,22 +185,19 @@ no_real used (Some overlay) e = absurd (true≢false e)
 node_kept : (used : List ℕ) (files : FileTree ℕ) → ListsNumbers nat_eq files
     → list_all (λ number. is_among nat_eq number used) files.numbers ≡ true
     → (number : ℕ) → files.tree.node number ≡ cond (is_among nat_eq number used) (files.tree.node number) None
-node_kept used files numbers all number =
-    by (is_among nat_eq number used) refl (files.tree.node number) (numbers number)
+node_kept used files numbers all number = by _ refl _ (numbers number)
   where
     by : (u : Bool) → is_among nat_eq number used ≡ u → (o : Option (Node ℕ))
         → is_among nat_eq number files.numbers ≡ is_some o → o ≡ cond u o None
     by true f o there = refl
     by false f None there = refl
     by false f (Some node) there =
-        absurd (true≢false (sym (among_from_list_all (λ n. is_among nat_eq n used) files.numbers all number
-        (among_numbers number files.numbers there)) ∙ f))
+        absurd (true≢false (sym (among_from_list_all _ _ all number (among_numbers number _ there)) ∙ f))
 
 pub left_of_plain : (used : List ℕ) (filesystem : Filesystem ℕ) → ListsNumbers nat_eq filesystem.files
     → is_overlay filesystem ≡ false
     → only_used_of nat_eq used filesystem ≡ without_those (λ number. not (is_among nat_eq number used)) filesystem
-left_of_plain used filesystem numbers plain =
-    by (list_all (λ number. is_among nat_eq number used) filesystem.files.numbers) refl
+left_of_plain used filesystem numbers plain = by _ refl
   where
     node : (number : ℕ) (u : Bool)
         → cond u (filesystem.files.tree.node number) None ≡ cond (not u) None (filesystem.files.tree.node number)
@@ -211,9 +206,7 @@ left_of_plain used filesystem numbers plain =
 
     twice : filter (λ number. is_among nat_eq number used) filesystem.files.numbers
         ≡ filter (λ number. not (not (is_among nat_eq number used))) filesystem.files.numbers
-    twice = filter_alike (λ number. is_among nat_eq number used)
-        (λ number. not (not (is_among nat_eq number used))) filesystem.files.numbers
-        (λ number m. sym (not-not (is_among nat_eq number used)))
+    twice = filter_alike _ _ _ (λ number m. sym (not-not (is_among nat_eq number used)))
 
     by : (all : Bool) → list_all (λ number. is_among nat_eq number used) filesystem.files.numbers ≡ all
         → only_used_by nat_eq all used filesystem
@@ -224,13 +217,13 @@ left_of_plain used filesystem numbers plain =
 -- the numbers beside a tree without some
 pub numbers_without : (gone : ℕ → Bool) (filesystem : Filesystem ℕ) → ListsNumbers nat_eq filesystem.files
     → ListsNumbers nat_eq (without_those gone filesystem).files
-numbers_without gone filesystem numbers number = by (gone number) refl
+numbers_without gone filesystem numbers number = by _ refl
   where
     missing : (b : Bool) → is_among nat_eq number (filter (λ n. not (gone n)) filesystem.files.numbers) ≡ b
         → gone number ≡ true → b ≡ false
     missing false e f = refl
     missing true e f = absurd (true≢false (sym (among-from_filter (λ n. not (gone n)) filesystem.files.numbers number
-        (among_numbers number (filter (λ n. not (gone n)) filesystem.files.numbers) e)).1 ∙ ap not f))
+        (among_numbers number _ e)).1 ∙ ap not f))
 
     by : (b : Bool) → gone number ≡ b → is_among nat_eq number (filter (λ n. not (gone n)) filesystem.files.numbers)
         ≡ is_some (cond b None (filesystem.files.tree.node number))
@@ -241,15 +234,10 @@ pub plain_sweep : (world : World ℕ) → IsPlain world → without_dead_inodes 
   filesystems = map (λ f. only_used_of nat_eq (used_in nat_eq world f) f) world.filesystems;
 }
 plain_sweep world plain = ap (without_dead_in nat_eq (λ filesystem. not (is_overlay filesystem)))
-    (ap (λ filesystems. record world { filesystems = filesystems })
-    (map_same (λ filesystem. only_used nat_eq world (is_overlay filesystem) filesystem) world.filesystems
-    (λ filesystem m. ap (λ b. only_used nat_eq world b filesystem)
-    (none_among is_overlay world.filesystems plain filesystem m))))
-    ∙ ap (λ filesystems. record world { filesystems = filesystems })
-    (map_alike (λ filesystem. only_used nat_eq world (not (is_overlay filesystem)) filesystem)
-    (λ filesystem. only_used_of nat_eq (used_in nat_eq world filesystem) filesystem) world.filesystems
-    (λ filesystem m. ap (λ b. only_used nat_eq world (not b) filesystem)
-    (none_among is_overlay world.filesystems plain filesystem m)))
+    (ap (λ filesystems. record world { filesystems = filesystems }) (map_same _ _
+    (λ filesystem m. ap (λ b. only_used nat_eq world b filesystem) (none_among _ _ plain _ m)))) ∙ ap
+    (λ filesystems. record world { filesystems = filesystems }) (map_alike _ _ _
+    (λ filesystem m. ap (λ b. only_used nat_eq world (not b) filesystem) (none_among _ _ plain _ m)))
 
 -- What the sweep leaves of a plain tree, where all other inodes are used
 module _ (used : List ℕ) (losers : List Inode) (filesystem : Filesystem ℕ)
@@ -259,16 +247,13 @@ module _ (used : List ℕ) (losers : List Inode) (filesystem : Filesystem ℕ)
   -- an inode that is not used, and none of these, is not there
   not_there : (number : ℕ) → is_among nat_eq number used ≡ false
       → is_inode_among filesystem.number number losers ≡ false → filesystem.files.tree.node number ≡ None
-  not_there number unused other = none_from_not_some (filesystem.files.tree.node number)
-      (sym (numbers number) ∙ missing (is_among nat_eq number filesystem.files.numbers) refl)
+  not_there number unused other = none_from_not_some _ (sym (numbers number) ∙ missing _ refl)
     where
       missing : (b : Bool) → is_among nat_eq number filesystem.files.numbers ≡ b
           → is_among nat_eq number filesystem.files.numbers ≡ false
       missing false e = e
-      missing true e = absurd (true≢false (sym (among_from_list_all (λ n. is_inode_among filesystem.number n losers
-          || is_among nat_eq n used) filesystem.files.numbers others number
-          (among_numbers number filesystem.files.numbers e))
-          ∙ ap (λ b. b || is_among nat_eq number used) other ∙ unused))
+      missing true e = absurd (true≢false (sym (among_from_list_all _ _ others number (among_numbers number _ e)) ∙ ap
+          (λ b. b || is_among nat_eq number used) other ∙ unused))
 
   goes : ℕ → Bool
   goes = goes_of used losers filesystem
@@ -282,7 +267,7 @@ module _ (used : List ℕ) (losers : List Inode) (filesystem : Filesystem ℕ)
   node_swept : (number : ℕ) → cond (not (is_among nat_eq number used)) None (filesystem.files.tree.node number)
       ≡ cond (goes number) None (filesystem.files.tree.node number)
   unfolding goes
-  node_swept number = by (is_inode_among filesystem.number number losers) refl (is_among nat_eq number used) refl
+  node_swept number = by _ refl _ refl
     where
       by : (a : Bool) → is_inode_among filesystem.number number losers ≡ a → (u : Bool)
           → is_among nat_eq number used ≡ u → cond (not u) None (filesystem.files.tree.node number)

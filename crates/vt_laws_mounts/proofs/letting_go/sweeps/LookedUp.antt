@@ -1,8 +1,8 @@
 -- A mount, a filesystem, an inode or a group that is looked at is looked up by its number.
 use Rattle.std.proofs.Common.{arith, ◌≡◌, refl, sym, ap, ◌∙◌, ℕ, nat_eq, eqb-true, Bool, true, false, cond, not, ◌&&◌, ◌||◌}
-use Rattle.vt_spec.proofs.Common.{Filesystem, common_steps, filesystem_lives, filesystem_numbered, filter_alike, filter_all, map_alike, no_filesystem}
+use Rattle.vt_spec.proofs.Common.{Filesystem, common_steps, filesystem_lives, filesystem_numbered, filter_alike, filter_all, map_alike}
 use Rattle.vt_laws_mounts.specs.LettingGo.InUse.{is_inode_used}
-use Rattle.vt_laws_mounts.specs.LettingGo.OneByOne.{FilesystemIsLookedUp, GroupIsLookedUp, InodeIsLookedUp, MountIsLookedUp, is_filesystem_used, is_inode_used_in, let_go_filesystem, let_go_inode, let_go_inode_of, without_filesystem, without_inode, without_inode_at, without_inode_in}
+use Rattle.vt_laws_mounts.specs.LettingGo.OneByOne.{FilesystemIsLookedUp, GroupIsLookedUp, InodeIsLookedUp, MountIsLookedUp, is_filesystem_used, is_inode_used_in, let_go_filesystem, let_go_inode, without_filesystem, without_inode, without_inode_at}
 use Rattle.vt_laws_mounts.proofs.letting_go.Lists.{Among, found_by, map_same}
 use Rattle.vt_laws_mounts.proofs.letting_go.leaving.PlacesLeft.{found_itself}
 
@@ -19,7 +19,7 @@ mount_is_looked_up world number one =
     grind (arith, common_steps, eqb-true, found_itself, filter_all, kept_used, filter_alike, gone_unused)
 
 pub filesystem_is_looked_up : FilesystemIsLookedUp
-filesystem_is_looked_up world number = by (is_filesystem_used world number) refl
+filesystem_is_looked_up world number = by _ refl
   where
     its_use : (filesystem : Filesystem ℕ) → nat_eq filesystem.number number ≡ true
         → filesystem_lives nat_eq world filesystem ≡ is_filesystem_used world number
@@ -31,14 +31,13 @@ filesystem_is_looked_up world number = by (is_filesystem_used world number) refl
     by false e = grind (arith, common_steps, filter_alike, gone_unused, its_use)
 
 pub inode_is_looked_up : InodeIsLookedUp
-inode_is_looked_up world inode one = by (is_inode_used_in world inode) refl
+inode_is_looked_up world inode one = by _ refl
   where
     its_use : (filesystem : Filesystem ℕ) → Among filesystem world.filesystems → nat_eq filesystem.number inode.0 ≡ true
         → is_inode_used world filesystem inode.1 ≡ is_inode_used_in world inode
     its_use filesystem m e =
         let it : filesystem_numbered nat_eq world inode.0 ≡ filesystem =
-        ap (filesystem_numbered nat_eq world) (sym (eqb-true filesystem.number inode.0 e))
-        ∙ found_by (λ (x : Filesystem ℕ). x.number) (no_filesystem filesystem.number) world.filesystems one filesystem m
+        ap (filesystem_numbered nat_eq world) (sym (eqb-true filesystem.number inode.0 e)) ∙ found_by _ _ _ one _ m
         in ap (λ f. is_inode_used world f inode.1) (sym it)
 
     left_or : Filesystem ℕ → Bool → Filesystem ℕ
@@ -57,13 +56,9 @@ inode_is_looked_up world inode one = by (is_inode_used_in world inode) refl
     by : (b : Bool) → is_inode_used_in world inode ≡ b
         → let_go_inode world inode ≡ cond b world (without_inode_at world inode)
     by true e = ap (λ filesystems. record world { filesystems = filesystems })
-        (map_same (let_go_inode_of world inode) world.filesystems
-        (λ filesystem m. stays filesystem (nat_eq filesystem.number inode.0) (is_inode_used world filesystem inode.1)
-        (λ same. its_use filesystem m same ∙ e)))
+        (map_same _ _ (λ filesystem m. stays _ _ _ (λ same. its_use _ m same ∙ e)))
     by false e = ap (λ filesystems. record world { filesystems = filesystems })
-        (map_alike (let_go_inode_of world inode) (without_inode_in inode) world.filesystems
-        (λ filesystem m. goes filesystem (nat_eq filesystem.number inode.0) (is_inode_used world filesystem inode.1)
-        (λ same. its_use filesystem m same ∙ e)))
+        (map_alike _ _ _ (λ filesystem m. goes _ _ _ (λ same. its_use _ m same ∙ e)))
 
 pub group_is_looked_up : GroupIsLookedUp
 group_is_looked_up world group = grind (arith, common_steps, eqb-true)

@@ -74,8 +74,7 @@ same_without a b filesystem numbers has h =
 -- What the sweep leaves is what is used.
 pub left_of : (used : List ℕ) (filesystem : Filesystem ℕ) → ListsNumbers nat_eq filesystem.files → HasReals filesystem
     → only_used_of nat_eq used filesystem ≡ without_all (λ number. not (is_among nat_eq number used)) filesystem
-left_of used filesystem numbers has =
-    by (list_all (λ number. is_among nat_eq number used) filesystem.files.numbers) refl
+left_of used filesystem numbers has = by _ refl
   where
     flipped : {A : Type 0} (o : Option A) (u : Bool) → cond u o None ≡ cond (not u) None o
     flipped o true = refl
@@ -89,15 +88,12 @@ left_of used filesystem numbers has =
 
     by : (all : Bool) → list_all (λ number. is_among nat_eq number used) filesystem.files.numbers ≡ all
         → only_used_by nat_eq all used filesystem ≡ without_all (λ number. not (is_among nat_eq number used)) filesystem
-    by true e = sym (without_nothing filesystem)
-        ∙ same_without (λ number. false) (λ number. not (is_among nat_eq number used)) filesystem numbers has
-        (λ number there. ap not
-        (sym (among_from_list_all (λ n. is_among nat_eq n used) filesystem.files.numbers e number
-        (among_it number there))))
+    by true e = sym (without_nothing _) ∙ same_without _ _ _ numbers has
+        (λ number there. ap not (sym (among_from_list_all _ _ e number (among_it number there))))
       where
         among_it : (number : ℕ) → is_among nat_eq number filesystem.files.numbers ≡ true
             → Among number filesystem.files.numbers
-        among_it number there = among_numbers number filesystem.files.numbers there
+        among_it number there = among_numbers number _ there
     by false e = λ i. record filesystem {
       files = record {
         tree = record {

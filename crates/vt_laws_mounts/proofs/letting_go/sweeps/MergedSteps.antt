@@ -51,16 +51,15 @@ module _ (chosen : Filesystem ℕ → Bool)
     here filesystem = here_in (chosen filesystem) (used_in nat_eq world filesystem) inode filesystem
 
     one_step : (filesystem : Filesystem ℕ) → step filesystem ≡ without_all (here filesystem) filesystem
-    one_step filesystem = by ((chosen filesystem && nat_eq filesystem.number inode.0)
-        && not (is_inode_used world filesystem inode.1))
+    one_step filesystem = by _
       where
         by : (b : Bool) → cond b (without_inode_of inode.1 filesystem) filesystem
             ≡ without_all (λ number. b && nat_eq number inode.1) filesystem
         by true = refl
-        by false = sym (without_nothing filesystem)
+        by false = sym (without_nothing _)
 
     number_step : (filesystem : Filesystem ℕ) → (step filesystem).number ≡ filesystem.number
-    number_step filesystem = ap (λ f. f.number) (one_step filesystem)
+    number_step filesystem = ap (λ f. f.number) (one_step _)
 
     chosen_step : (filesystem : Filesystem ℕ) → chosen (step filesystem) ≡ chosen filesystem
     chosen_step filesystem = cc (one_step filesystem, keeps (here filesystem) filesystem)
@@ -86,9 +85,11 @@ module _ (chosen : Filesystem ℕ → Bool)
         ≡ flat_map (objects_of_overlay nat_eq filesystem.number) world.filesystems
     unfolding Apart
     objects_step apart filesystem m is =
-        flat_map-step step (objects_of_overlay nat_eq filesystem.number) world.filesystems (λ other n. ⊎_elim
-        (λ e. cc (one_step other, apart filesystem other m is n e (here other)))
-        (λ e. ap (objects_of_overlay nat_eq filesystem.number) (other_stays other e)) (cases_Bool (chosen other)))
+        flat_map-step step _ _ (λ other n. ⊎_elim (λ e. cc (
+          one_step other,
+          apart filesystem other m is n e
+              (here other),
+        )) (λ e. ap (objects_of_overlay nat_eq filesystem.number) (other_stays other e)) (cases_Bool _))
 
     used_step : Apart world → (filesystem : Filesystem ℕ) → Among filesystem world.filesystems
         → chosen filesystem ≡ true
@@ -128,20 +129,18 @@ module _ (chosen : Filesystem ℕ → Bool)
     apart_step : Apart world → Apart next
     unfolding Apart
     apart_step apart f g m is n are gone =
-        let one = among-from_map step world.filesystems f m in
-        let two = among-from_map step world.filesystems g n in
+        let one = among-from_map step _ f m in
+        let two = among-from_map step _ g n in
         let one_is : chosen one.0 ≡ true = cc (chosen_step one.0, one.2) in
         let two_is : chosen two.0 ≡ true = cc (chosen_step two.0, two.2) in
         let number : f.number ≡ one.0.number = cc (one.2, number_step one.0) in
         let itself : g ≡ without_all (here two.0) two.0 = two.2 ∙ one_step two.0 in
-        ap (λ k. objects_of_overlay nat_eq k (without_all gone g)) number
-        ∙ ap (λ x. objects_of_overlay nat_eq one.0.number (without_all gone x)) itself
-        ∙ ap (objects_of_overlay nat_eq one.0.number)
-        (without_both (here two.0) gone (λ k. here two.0 k || gone k) (λ k. refl) two.0)
-        ∙ apart one.0 two.0 one.1 one_is two.1 two_is (λ k. here two.0 k || gone k)
-        ∙ sym (apart one.0 two.0 one.1 one_is two.1 two_is (here two.0))
-        ∙ ap (objects_of_overlay nat_eq one.0.number) (sym itself)
-        ∙ ap (λ k. objects_of_overlay nat_eq k g) (sym number)
+        ap (λ k. objects_of_overlay nat_eq k (without_all gone g)) number ∙ ap
+        (λ x. objects_of_overlay nat_eq one.0.number (without_all gone x)) itself ∙ ap
+        (objects_of_overlay nat_eq one.0.number) (without_both _ gone _ (λ k. refl) two.0) ∙ apart one.0 two.0 one.1
+        one_is two.1 two_is (λ k. here two.0 k || gone k) ∙ sym (apart one.0 two.0 one.1 one_is two.1 two_is
+        (here two.0)) ∙ ap (objects_of_overlay nat_eq one.0.number) (sym itself) ∙ ap
+        (λ k. objects_of_overlay nat_eq k g) (sym number)
 
   -- all that goes, one by one
   chosen_folded : (world : World ℕ) (losers : List Inode) → Apart world → ChosenAreEmpty world
@@ -150,8 +149,7 @@ module _ (chosen : Filesystem ℕ → Bool)
       }
   unfolding ChosenAreEmpty
   chosen_folded world [] apart empty = ap (λ filesystems. record world { filesystems = filesystems })
-      (sym (map_same (λ f. without_all (goes_in (chosen f) (used_in nat_eq world f) [] f) f) world.filesystems
-      (λ f m. none (chosen f) f)))
+      (sym (map_same _ _ (λ f m. none _ f)))
     where
       none : (kind : Bool) (f : Filesystem ℕ) → without_all (λ number. kind && false) f ≡ f
       none true f = without_nothing f
@@ -159,12 +157,7 @@ module _ (chosen : Filesystem ℕ → Bool)
   chosen_folded world (inode ∷ rest) apart empty =
       chosen_folded (let_go_in chosen world inode) rest (apart_step world inode apart)
       (empty_step world inode apart empty) ∙ ap (λ filesystems. record world { filesystems = filesystems })
-      (map_twice (λ f. without_all (goes_in (chosen f) (used_in nat_eq (let_go_in chosen world inode) f) rest f) f)
-      (step world inode) world.filesystems ∙ map_alike (λ f. without_all (goes_in (chosen (step world inode f))
-      (used_in nat_eq (let_go_in chosen world inode) (step world inode f)) rest (step world inode f))
-      (step world inode f))
-      (λ f. without_all (goes_in (chosen f) (used_in nat_eq world f) (inode ∷ rest) f) f) world.filesystems
-      (λ f m. ⊎_elim (by_chosen f m) (by_other f) (cases_Bool (chosen f))))
+      (map_twice _ _ _ ∙ map_alike _ _ _ (λ f m. ⊎_elim (by_chosen f m) (by_other f) (cases_Bool _)))
     where
       goes_by : Bool → List ℕ → ℕ → ℕ → Bool
       goes_by kind used filesystem number =
@@ -177,9 +170,7 @@ module _ (chosen : Filesystem ℕ → Bool)
           ≡ without_all (goes_in (chosen f) (used_in nat_eq world f) (inode ∷ rest) f) f
       by_chosen f m is =
           (λ i. without_all (goes_by (chosen_step world inode f i) (used_step world inode apart f m is (empty f m is) i)
-          (number_step world inode f i)) (one_step world inode f i))
-          ∙ without_both (here world inode f) (goes_in (chosen f) (used_in nat_eq world f) rest f)
-          (goes_in (chosen f) (used_in nat_eq world f) (inode ∷ rest) f)
+          (number_step world inode f i)) (one_step world inode f i)) ∙ without_both _ _ _
           (here_or_later (chosen f) (used_in nat_eq world f) inode rest f) f
 
       by_other : (f : Filesystem ℕ) → chosen f ≡ false → without_all (goes_in (chosen (step world inode f))
@@ -198,9 +189,7 @@ module _ (chosen : Filesystem ℕ → Bool)
       × (list_all (is_used_or_among losers world f) f.files.numbers ≡ true))
       → without_dead_in nat_eq chosen world ≡ folded (let_go_in chosen) world losers
   chosen_go_one_by_one world losers apart empty others = ap (λ filesystems. record world { filesystems = filesystems })
-      (map_alike (λ f. only_used nat_eq world (chosen f) f)
-      (λ f. without_all (goes_in (chosen f) (used_in nat_eq world f) losers f) f) world.filesystems
-      (λ f m. by f m (chosen f) refl)) ∙ sym (chosen_folded world losers apart empty)
+      (map_alike _ _ _ (λ f m. by f m _ refl)) ∙ sym (chosen_folded world losers apart empty)
     where
       same : (a u : Bool) → (a || u) ≡ true → not u ≡ (a && not u)
       same true u e = refl
@@ -211,11 +200,6 @@ module _ (chosen : Filesystem ℕ → Bool)
           → only_used nat_eq world kind f ≡ without_all (goes_in kind (used_in nat_eq world f) losers f) f
       by f m true is =
           let all = others f m is in
-          left_of (used_in nat_eq world f) f all.0.numbers all.1
-          ∙ same_without (λ number. not (is_among nat_eq number (used_in nat_eq world f)))
-          (goes_of (used_in nat_eq world f) losers f) f all.0.numbers all.1
-          (λ number there. same (is_inode_among f.number number losers)
-          (is_among nat_eq number (used_in nat_eq world f))
-          (among_from_list_all (is_used_or_among losers world f) f.files.numbers all.2 number
-          (among_numbers number f.files.numbers there)))
+          left_of (used_in nat_eq world f) f all.0.numbers all.1 ∙ same_without _ _ f all.0.numbers all.1
+          (λ number there. same _ _ (among_from_list_all _ _ all.2 number (among_numbers number _ there)))
       by f m false isnt = sym (without_nothing f)

@@ -1,9 +1,9 @@
 -- An overlay that goes takes the uses of its layers and of its upper objects away.
-use Rattle.std.proofs.Common.{◌≡◌, refl, sym, ap, subst, ◌∙◌, ◌⊎◌, inl, inr, ⊎_elim, ℕ, nat_eq, eq-eqb, Bool, true, cond, ◌||◌, ◌&&◌, List, [], ◌∷◌, filter, map, flat_map, ◌++◌, Option, option_to_list}
+use Rattle.std.proofs.Common.{◌≡◌, refl, sym, ap, subst, ◌∙◌, ◌⊎◌, inl, inr, ⊎_elim, ℕ, nat_eq, eq-eqb, Bool, true, cond, ◌||◌, ◌&&◌, List, [], ◌∷◌, map, flat_map, ◌++◌, Option, option_to_list}
 use Rattle.vt_spec.proofs.Common.{Filesystem, Layer, World, filesystem_lives, is_among, is_among_left, is_among_right, layers_in, layers_of, list_all, list_any-append, located_in, named_in, objects_of_overlay, of_overlay, or_cases, overlay_or, without_dead_filesystems}
 use Rattle.vt_laws_mounts.specs.LettingGo.InUse.{is_inode_used}
 use Rattle.vt_laws_mounts.specs.LettingGo.OneByOne.{FilesystemsInUseBut, Inode, is_inode_among, is_used_or_among}
-use Rattle.vt_laws_mounts.specs.LettingGo.Overlays.{FilesystemsTakeTheirUses, used_by_filesystem, used_by_filesystems, used_by_numbered, uppers_in}
+use Rattle.vt_laws_mounts.specs.LettingGo.Overlays.{FilesystemsTakeTheirUses, used_by_filesystem, used_by_filesystems, uppers_in}
 use Rattle.vt_laws_mounts.proofs.letting_go.Lists.{Among, all_from_among, among-append_left, among-append_right, among-filter, among-flat_map, among-from_filter, among-from_flat_map, among-from_map, among-map, among_from_all, among_from_list_all, among_numbers, any_among, any_from_among, is_among_numbers, list_all_from_among, or_left, or_right}
 use Rattle.vt_laws_mounts.proofs.letting_go.sweeps.WithOverlays.{object_parts}
 
@@ -17,18 +17,14 @@ module _ (world : World ℕ) (losers : List ℕ) (others : FilesystemsInUseBut l
   -- a filesystem lives, or what it used is named
   lives_or_named : (g : Filesystem ℕ) → Among g world.filesystems
       → (filesystem_lives nat_eq world g ≡ true) ⊎ (is_among nat_eq g.number losers ≡ true)
-  lives_or_named g m = ⊎_elim inr inl (or_cases (is_among nat_eq g.number losers) (filesystem_lives nat_eq world g)
-      (among_from_list_all (λ x. is_among nat_eq x.number losers || filesystem_lives nat_eq world x) world.filesystems
-      others g m))
+  lives_or_named g m = ⊎_elim inr inl (or_cases _ _ (among_from_list_all _ _ others g m))
 
   named_use : (g : Filesystem ℕ) → Among g world.filesystems → is_among nat_eq g.number losers ≡ true
       → (filesystem number target : ℕ) → nat_eq filesystem target ≡ true → Among (target, number) (used_by_filesystem g)
       → is_inode_among filesystem number taken ≡ true
   named_use g m loses filesystem number target same used =
-      let t = any_among (nat_eq g.number) losers loses in
-      any_from_among (λ inode. nat_eq filesystem inode.0 && nat_eq number inode.1) taken (target, number)
-      (among-flat_map (used_by_numbered world) losers t.0 (target, number) t.1
-      (among-flat_map (λ x. cond (nat_eq x.number t.0) (used_by_filesystem x) []) world.filesystems g (target, number) m
+      let t = any_among _ losers loses in
+      any_from_among _ taken _ (among-flat_map _ losers t.0 _ t.1 (among-flat_map _ _ g _ m
       (subst (λ b. Among (target, number) (cond b (used_by_filesystem g) [])) (sym t.2) used)))
       (cc (eq-eqb number number refl))
 
@@ -38,40 +34,26 @@ module _ (world : World ℕ) (losers : List ℕ) (others : FilesystemsInUseBut l
   layer_left : (filesystem number : ℕ) → Among number (layers_in nat_eq world filesystem)
       → Among number (layers_in nat_eq living filesystem) ⊎ (is_inode_among filesystem number taken ≡ true)
   layer_left filesystem number m =
-      let one = among-from_map (λ (layer : Layer ℕ). layer.directory)
-      (filter (is_on filesystem) (flat_map (of_overlay [] layers_of) world.filesystems)) number m in
-      let two = among-from_filter (is_on filesystem)
-      (flat_map (of_overlay [] layers_of) world.filesystems) one.0 one.1 in
-      let three = among-from_flat_map (of_overlay [] layers_of) world.filesystems one.0 two.0 in
+      let one = among-from_map _ _ number m in
+      let two = among-from_filter _ _ one.0 one.1 in
+      let three = among-from_flat_map _ _ one.0 two.0 in
       ⊎_elim (λ lives. inl (subst (λ n. Among n (layers_in nat_eq living filesystem)) (sym one.2)
-      (among-map (λ (layer : Layer ℕ). layer.directory)
-      (filter (is_on filesystem) (flat_map (of_overlay [] layers_of) living.filesystems)) one.0
-      (among-filter (is_on filesystem) (flat_map (of_overlay [] layers_of) living.filesystems) one.0
-      (among-flat_map (of_overlay [] layers_of) living.filesystems three.0 one.0
-      (among-filter (filesystem_lives nat_eq world) world.filesystems three.0 three.1 lives) three.2) two.1))))
-      (λ loses. inr (named_use three.0 three.1 loses filesystem number one.0.filesystem two.1
-      (among-append_left (map (λ (layer : Layer ℕ). (layer.filesystem, layer.directory))
-      (of_overlay [] layers_of three.0))
-      (flat_map (λ k. of_overlay [] (uppers_in k) three.0) three.0.files.numbers) (one.0.filesystem, number)
-      (subst (λ n. Among {A = Inode} (one.0.filesystem, n)
+      (among-map _ _ one.0 (among-filter _ _ one.0 (among-flat_map _ _ _ one.0 (among-filter _ _ _ three.1 lives)
+      three.2) two.1)))) (λ loses. inr (named_use _ three.1 loses _ number _ two.1
+      (among-append_left _ _ _ (subst (λ n. Among {A = Inode} (one.0.filesystem, n)
       (map (λ (layer : Layer ℕ). (layer.filesystem, layer.directory)) (of_overlay [] layers_of three.0))) (sym one.2)
-      (among-map (λ (layer : Layer ℕ). (layer.filesystem, layer.directory))
-      (of_overlay [] layers_of three.0) one.0 three.2))))) (lives_or_named three.0 three.1)
+      (among-map _ _ one.0 three.2))))) (lives_or_named _ three.1)
 
   object_left : (filesystem number : ℕ)
       → Among number (flat_map (objects_of_overlay nat_eq filesystem) world.filesystems)
       → Among number (flat_map (objects_of_overlay nat_eq filesystem) living.filesystems)
       ⊎ (is_inode_among filesystem number taken ≡ true)
   object_left filesystem number m =
-      let t = among-from_flat_map (objects_of_overlay nat_eq filesystem) world.filesystems number m in
-      let p = object_parts filesystem number t.0 t.2 in
-      ⊎_elim (λ lives. inl (among-flat_map (objects_of_overlay nat_eq filesystem) living.filesystems t.0 number
-      (among-filter (filesystem_lives nat_eq world) world.filesystems t.0 t.1 lives) t.2))
-      (λ loses. inr (named_use t.0 t.1 loses filesystem number p.2.filesystem p.4
-      (among-append_right (map (λ (layer : Layer ℕ). (layer.filesystem, layer.directory)) (of_overlay [] layers_of t.0))
-      (flat_map (λ k. of_overlay [] (uppers_in k) t.0) t.0.files.numbers) (p.2.filesystem, number)
-      (among-flat_map (λ k. of_overlay [] (uppers_in k) t.0) t.0.files.numbers p.5 (p.2.filesystem, number) p.6
-      (subst (λ l. Among (p.2.filesystem, number) l)
+      let t = among-from_flat_map _ _ number m in
+      let p = object_parts _ number t.0 t.2 in
+      ⊎_elim (λ lives. inl (among-flat_map _ _ t.0 number (among-filter _ _ t.0 t.1 lives) t.2))
+      (λ loses. inr (named_use t.0 t.1 loses _ number _ p.4 (among-append_right _ _ _
+      (among-flat_map _ _ p.5 _ p.6 (subst (λ l. Among (p.2.filesystem, number) l)
       (sym (ap (overlay_or [] (uppers_in p.5)) p.1 ∙ (λ i. listed (p.3 i) (p.7 i)))) (inl refl))))))
       (lives_or_named t.0 t.1)
     where

@@ -10,7 +10,7 @@ zero_first n = omega arith
 
 module _ {A : Type 0} where
   pub times_append : (test : A → Bool) (xs ys : List A) → times test (xs ++ ys) ≡ times test xs + times test ys
-  times_append test [] ys = zero_first (times test ys)
+  times_append test [] ys = zero_first _
   times_append test (x ∷ xs) ys = ap (λ n. cond (test x) 1 0 + n) (times_append test xs ys)
       ∙ sym (add_assoc (cond (test x) 1 0) (times test xs) (times test ys))
 
@@ -48,15 +48,10 @@ module _ (overlay : Overlay ℕ) (inode object number : ℕ) (upper : overlay.re
 
 pub one_upper_use_less : OneUpperUseLess
 one_upper_use_less world front back merged overlay layer inode object all is upper real once filesystem number =
-    ap (λ n. first + n) (times_append (nat_eq number) (others (layers_in nat_eq world filesystem.number))
-    (flat_map objects world.filesystems)) ∙ ap (λ (n : ℕ). first + (times (nat_eq number)
-    (others (layers_in nat_eq world filesystem.number)) + n)) objects_one
-    ∙ ap (λ l. first + (times (nat_eq number) (others l) +
-    (times (nat_eq number) (flat_map objects (front ++ (gone ∷ back))) + less))) layers
-    ∙ over first (times (nat_eq number) (others (layers_in nat_eq later filesystem.number)))
-    (times (nat_eq number) (flat_map objects (front ++ (gone ∷ back)))) less ∙ ap (λ n. (first + n) + less)
-    (sym (times_append (nat_eq number) (others (layers_in nat_eq later filesystem.number))
-    (flat_map objects (front ++ (gone ∷ back)))))
+    ap (λ n. first + n) (times_append _ _ _) ∙ ap (λ (n : ℕ). first + (times (nat_eq number)
+    (others (layers_in nat_eq world filesystem.number)) + n)) objects_one ∙ ap
+    (λ l. first + (times (nat_eq number) (others l) + (times (nat_eq number) (flat_map objects (front ++ (gone ∷ back)))
+    + less))) layers ∙ over first _ _ less ∙ ap (λ n. (first + n) + less) (sym (times_append _ _ _))
   where
     gone : Filesystem ℕ
     gone = without_inode_of inode merged
@@ -84,8 +79,7 @@ one_upper_use_less world front back merged overlay layer inode object all is upp
 
     layers : layers_in nat_eq world filesystem.number ≡ layers_in nat_eq later filesystem.number
     layers = ap (λ list. map (λ l. l.directory) (filter (λ l. nat_eq filesystem.number l.filesystem) list))
-        (ap (flat_map (of_overlay [] layers_of)) all
-        ∙ flat_map_one (of_overlay [] layers_of) front back merged gone layers_gone)
+        (ap (flat_map (of_overlay [] layers_of)) all ∙ flat_map_one _ front back merged gone layers_gone)
 
     of_upper : Option (Layer ℕ) → List ℕ → List ℕ
     of_upper u list = cond (holds_of (λ l. nat_eq filesystem.number l.filesystem) u) list []
@@ -110,4 +104,4 @@ one_upper_use_less world front back merged overlay layer inode object all is upp
     objects_one : times (nat_eq number) (flat_map objects world.filesystems)
         ≡ times (nat_eq number) (flat_map objects (front ++ (gone ∷ back))) + less
     objects_one = ap (λ list. times (nat_eq number) (flat_map objects list)) all
-        ∙ times_one (nat_eq number) objects front back merged gone less of_merged
+        ∙ times_one _ _ front back merged gone less of_merged

@@ -1,20 +1,20 @@
 -- Uses are counted.
 use Rattle.std.proofs.Common.{nat_eq}
-use Rattle.vt_spec.proofs.Common.{all_locations, is_member_of, used_in}
+use Rattle.vt_spec.proofs.Common.{used_in}
 use Rattle.vt_laws_mounts.specs.LettingGo.Counts.{LocatedWhileCounted, MembersWhileCounted, MountedWhileCounted, OneMountLess, OneUseLess, UsedWhileCounted}
 use Rattle.vt_laws_mounts.proofs.letting_go.Lists.{any_counted, times_around}
 
 pub located_while_counted : LocatedWhileCounted
-located_while_counted world number = any_counted (λ location. nat_eq number location.mount) (all_locations world)
+located_while_counted world number = any_counted _ _
 
 pub mounted_while_counted : MountedWhileCounted
-mounted_while_counted world number = any_counted (λ mount. nat_eq number mount.filesystem) world.mounts
+mounted_while_counted world number = any_counted _ _
 
 pub used_while_counted : UsedWhileCounted
 used_while_counted world filesystem number = any_counted (nat_eq number) (used_in nat_eq world filesystem)
 
 pub members_while_counted : MembersWhileCounted
-members_while_counted world group = any_counted (is_member_of nat_eq group) world.mounts
+members_while_counted world group = any_counted _ _
 
 pub one_use_less : OneUseLess
 one_use_less world after front back location e f number =

@@ -1,9 +1,9 @@
 -- The sweep in worlds with overlays: inodes of overlays go one by one, then those of plain trees.
-use Rattle.std.proofs.Common.{arith, ◌≡◌, refl, sym, ap, subst, ◌∙◌, ◌⊎◌, inl, inr, ℕ, nat_eq, eqb-true, eq-eqb, Bool, true, false, cond, not, ◌||◌, ◌&&◌, List, [], ◌∷◌, filter, map, flat_map, ◌++◌, Option, Some, is_some, option_map, option_to_list, All, filter_map}
+use Rattle.std.proofs.Common.{arith, ◌≡◌, refl, sym, ap, subst, ◌∙◌, ◌⊎◌, inl, inr, ℕ, nat_eq, eqb-true, eq-eqb, Bool, true, false, cond, not, ◌||◌, List, [], ◌∷◌, filter, map, flat_map, ◌++◌, Option, Some, is_some, option_map, option_to_list, All, filter_map}
 use Rattle.vt_spec.proofs.Common.{All-filter, Filesystem, Layer, Overlay, World, and_parts, common_steps, filesystem_lives, is_among, is_among_left, is_among_right, is_overlay, layers_in, layers_of, list_all, list_any-append, not-true, objects_of_overlay, of_overlay, only_used, overlay_or, upper_object, used_in, without_dead_filesystems, without_dead_in, without_dead_inodes, without_dead_mounts}
 use Rattle.vt_laws_mounts.specs.LettingGo.InUse.{HasTrees, IsListedTree, UppersArePlain, has_upper_in, is_inode_used}
 use Rattle.vt_laws_mounts.specs.LettingGo.OneByOne.{Inode, InodesInUseBut, is_inode_among, is_used_or_among}
-use Rattle.vt_laws_mounts.specs.LettingGo.Overlays.{AllInodesGoOneByOne, MergedGoOneByOne, RealsAreThere, WithOverlaysAllGoes, is_plain, let_go_plain, uppers_in, uppers_of, uppers_of_inode, uppers_of_inode_in}
+use Rattle.vt_laws_mounts.specs.LettingGo.Overlays.{AllInodesGoOneByOne, MergedGoOneByOne, RealsAreThere, WithOverlaysAllGoes, is_plain, let_go_plain, uppers_in, uppers_of, uppers_of_inode_in}
 use Rattle.vt_laws_mounts.proofs.letting_go.sweeps.InUse.{layers-left, no_objects, no_upper_objects, overlay-left, unused_are_empty}
 use Rattle.vt_laws_mounts.proofs.letting_go.Lists.{Among, all_from_among, among-filter, among-filter_map, among-flat_map, among-from_filter, among-from_filter_map, among-from_flat_map, among-from_map, among-map, among_from_all, among_from_list_all, among_numbers, any_among, any_from_among, flat_map-map, is_among_numbers, list_all_from_among}
 use Rattle.vt_laws_mounts.proofs.letting_go.sweeps.Merged.{HasReals, left_of, reals_without, without_all}
@@ -64,7 +64,7 @@ pub object_there : (number object : ℕ) (g : Filesystem ℕ) (overlay : Overlay
     → nat_eq number layer.filesystem ≡ true → (k : ℕ) → Among k g.files.numbers
     → upper_object (overlay.real k) ≡ Some object → Among object (objects_of_overlay nat_eq number g)
 object_there number object g overlay layer e d c k m r = subst (λ l. Among object l) (sym here)
-    (among-filter_map (λ n. upper_object (overlay.real n)) g.files.numbers k object m r)
+    (among-filter_map _ _ k object m r)
   where
     here : objects_of_overlay nat_eq number g ≡ filter_map (λ n. upper_object (overlay.real n)) g.files.numbers
     here = cc
@@ -77,11 +77,9 @@ upper_looked_at : (world : World ℕ) (losers : List Inode) (number object k : �
     → upper_object (overlay.real k) ≡ Some object → is_inode_among g.number k losers ≡ true
     → is_inode_among number object (uppers_of world losers) ≡ true
 upper_looked_at world losers number object k g overlay layer m e d c r among =
-    let t = any_among (λ inode. nat_eq g.number inode.0 && nat_eq k inode.1) losers among in
+    let t = any_among _ losers among in
     let parts = and_parts (nat_eq g.number t.0.0) (nat_eq k t.0.1) t.2 in
-    any_from_among (λ inode. nat_eq number inode.0 && nat_eq object inode.1) (uppers_of world losers)
-    (layer.filesystem, object) (among-flat_map (uppers_of_inode world) losers t.0 (layer.filesystem, object) t.1
-    (among-flat_map (uppers_of_inode_in t.0) world.filesystems g (layer.filesystem, object) m
+    any_from_among _ _ _ (among-flat_map _ losers t.0 _ t.1 (among-flat_map _ _ g _ m
     (subst (λ l. Among (layer.filesystem, object) l) (sym (there t.0 parts.0 parts.1)) (inl refl))))
     (cc (eq-eqb object object refl))
   where

@@ -25,8 +25,8 @@ module _ (fresh : Fresh ℕ) (world : World ℕ) (task : Task ℕ) where
       → (permit : Permit ℕ) → Makes (Bind source path recursive)
       (bound_at nat_eq fresh world from.location here.location recursive).mounts permit
   bind_made source path recursive from here e f permit (binds _ _ _ one two admin start end passed) =
-      let first = one_end (source_walk nat_eq looks task source) one from start e in
-      let second = one_end (destination_walk nat_eq looks task path) two here end f in
+      let first = one_end _ one from start e in
+      let second = one_end _ two here end f in
       λ i. mounts_by (ToBind (first i).location (second i).location recursive)
 
   move_made : (source path : List ℕ) (from here : Here ℕ) → walk_end (source_walk nat_eq looks task source) ≡ Ok from
@@ -34,8 +34,8 @@ module _ (fresh : Fresh ℕ) (world : World ℕ) (task : Task ℕ) where
       → (permit : Permit ℕ) → Makes (MoveMount source path)
       (moved_to nat_eq fresh world from.location.mount here.location).mounts permit
   move_made source path from here e f permit (moves_mount _ _ one two admin start end passed) =
-      let first = one_end (source_walk nat_eq looks task source) one from start e in
-      let second = one_end (destination_walk nat_eq looks task path) two here end f in
+      let first = one_end _ one from start e in
+      let second = one_end _ two here end f in
       λ i. mounts_by (ToMove (first i).location.mount (second i).location)
 
   mount_made : (path : List ℕ) (flags : MountFlags) (here : Here ℕ)
@@ -43,8 +43,7 @@ module _ (fresh : Fresh ℕ) (world : World ℕ) (task : Task ℕ) where
       → (permit : Permit ℕ) → Makes (MountPlain path flags)
       (mounted nat_eq (odds fresh) world here.location (plain_filesystem nat_eq fresh) flags).mounts permit
   mount_made path flags here e permit (mounts_tmpfs _ _ one admin end passed) =
-      ap (λ (here : Here ℕ). mounts_by (ToMountPlain here.location flags))
-      (one_end (destination_walk nat_eq looks task path) one here end e)
+      ap (λ (here : Here ℕ). mounts_by (ToMountPlain here.location flags)) (one_end _ one here end e)
 
   overlay_made : (path : List ℕ) (words : OverlayWords) (flags : MountFlags) (here : Here ℕ) (places : LayerLocations ℕ)
       → walk_end (destination_walk nat_eq looks task path) ≡ Ok here → layers_walked nat_eq looks task words ≡ Ok places
@@ -52,38 +51,35 @@ module _ (fresh : Fresh ℕ) (world : World ℕ) (task : Task ℕ) where
       (overlay_mounted nat_eq fresh world task here.location places flags).mounts permit
   overlay_made path words flags here places e f permit
       (mounts_overlayfs _ _ _ one layers admin end walked layered passed) =
-      let first = one_end (destination_walk nat_eq looks task path) one here end e in
+      let first = one_end _ one here end e in
       let second = same_ok layers places (sym walked ∙ f) in
       λ i. mounts_by (ToMountOverlay (first i).location (overlay_at looks task (second i)) flags)
 
   lazy_made : (path : List ℕ) (here : Here ℕ) → walk_end (directory_walk nat_eq looks task path) ≡ Ok here
       → (permit : Permit ℕ) → Makes (Lazy path) (lazily_unmounted nat_eq world here.location.mount).mounts permit
   lazy_made path here e permit (unmounts_lazily _ one admin end passed) =
-      ap (λ (here : Here ℕ). mounts_by (ToUnmountLazily here.location.mount))
-      (one_end (directory_walk nat_eq looks task path) one here end e)
+      ap (λ (here : Here ℕ). mounts_by (ToUnmountLazily here.location.mount)) (one_end _ one here end e)
 
   remount_made : (path : List ℕ) (flags : MountFlags) (here : Here ℕ)
       → walk_end (directory_walk nat_eq looks task path) ≡ Ok here → (permit : Permit ℕ) → Makes (Remount path flags)
       (with_flags nat_eq world here.location.mount flags).mounts permit
   remount_made path flags here e permit (changes_flags _ _ one admin end passed) =
-      ap (λ (here : Here ℕ). mounts_by (ToSetFlags here.location.mount flags))
-      (one_end (directory_walk nat_eq looks task path) one here end e)
+      ap (λ (here : Here ℕ). mounts_by (ToSetFlags here.location.mount flags)) (one_end _ one here end e)
 
   type_made : (path : List ℕ) (word : TypeWord) (recursive : Bool) (here : Here ℕ)
       → walk_end (directory_walk nat_eq looks task path) ≡ Ok here
       → (permit : Permit ℕ) → Makes (SetType path word recursive)
       (with_type nat_eq fresh world here.location.mount word recursive).mounts permit
   type_made path word recursive here e permit (changes_type _ _ _ one admin end passed) =
-      ap (λ (here : Here ℕ). mounts_by (ToSetType here.location.mount word recursive))
-      (one_end (directory_walk nat_eq looks task path) one here end e)
+      ap (λ (here : Here ℕ). mounts_by (ToSetType here.location.mount word recursive)) (one_end _ one here end e)
 
   pivot_made : (new put : List ℕ) (root here : Here ℕ) → walk_end (source_walk nat_eq looks task new) ≡ Ok root
       → walk_end (destination_walk nat_eq looks task put) ≡ Ok here → (permit : Permit ℕ) → Makes (PivotRoot new put)
       (pivoted nat_eq world task.namespace (mount_at nat_eq world task.root)
       (mount_at nat_eq world root.location) here.location).mounts permit
   pivot_made new put root here e f permit (pivots_root _ _ one two admin start end passed) =
-      let first = one_end (source_walk nat_eq looks task new) one root start e in
-      let second = one_end (destination_walk nat_eq looks task put) two here end f in
+      let first = one_end _ one root start e in
+      let second = one_end _ two here end f in
       λ i. mounts_by (ToPivot (first i).location.mount (second i).location)
 
   rmdir_made : (path : List ℕ) (place : Place ℕ) → walk_end (old_walk nat_eq looks task path) ≡ Ok place
@@ -105,8 +101,7 @@ module _ (fresh : Fresh ℕ) (world : World ℕ) (task : Task ℕ) where
       → Makes (Setns target)
       (namespaces_ended nat_eq (namespace_entered nat_eq world task other.namespace)).mounts permit
   setns_made target other e permit (enters_namespace _ namespace found passed) =
-      ap (λ namespace. mounts_by (ToEnterNamespace namespace)) (same_ok namespace other.namespace
-      (cc))
+      ap (λ namespace. mounts_by (ToEnterNamespace namespace)) (same_ok _ _ (cc))
 
   -- the names of a rename are at the ends of its walks
   same_names : (old new : List ℕ) (from to one two : Place ℕ) → walk_end (old_leaf_walk nat_eq looks task old) ≡ Ok from
@@ -137,64 +132,54 @@ module _ (fresh : Fresh ℕ) (world : World ℕ) (task : Task ℕ) where
 
 pub bind_binds : BindBinds
 bind_binds fresh world name task source path recursive from here e f =
-    leaves_mounts fresh world name task (Bind source path recursive) _ Done refl
-    (bind_made fresh world task source path recursive from here e f)
+    leaves_mounts fresh world name task _ _ Done refl (bind_made fresh world task source path _ from here e f)
 
 pub move_moves : MoveMoves
 move_moves fresh world name task source path from here e f =
-    leaves_mounts fresh world name task (MoveMount source path) _ Done refl
-    (move_made fresh world task source path from here e f)
+    leaves_mounts fresh world name task _ _ Done refl (move_made fresh world task source path from here e f)
 
 pub mount_mounts : MountMounts
 mount_mounts fresh world name task path flags here e =
-    leaves_mounts fresh world name task (MountPlain path flags) _ Done refl
-    (mount_made fresh world task path flags here e)
+    leaves_mounts fresh world name task _ _ Done refl (mount_made fresh world task path flags here e)
 
 pub overlay_mounts : OverlayMounts
 overlay_mounts fresh world name task path words flags here places e f =
-    leaves_mounts fresh world name task (MountOverlay path (Some words) flags) _ Done refl
-    (overlay_made fresh world task path words flags here places e f)
+    leaves_mounts fresh world name task _ _ Done refl (overlay_made fresh world task path words flags here places e f)
 
 pub lazy_unmounts : LazyUnmounts
 lazy_unmounts fresh world name task path here e =
-    leaves_mounts fresh world name task (Lazy path) _ Done refl (lazy_made fresh world task path here e)
+    leaves_mounts fresh world name task _ _ Done refl (lazy_made fresh world task path here e)
 
 pub remount_sets_flags : RemountSetsFlags
 remount_sets_flags fresh world name task path flags here e =
-    leaves_mounts fresh world name task (Remount path flags) _ Done refl
-    (remount_made fresh world task path flags here e)
+    leaves_mounts fresh world name task _ _ Done refl (remount_made fresh world task path flags here e)
 
 pub type_is_set : TypeIsSet
 type_is_set fresh world name task path word recursive here e =
-    leaves_mounts fresh world name task (SetType path word recursive) _ Done refl
-    (type_made fresh world task path word recursive here e)
+    leaves_mounts fresh world name task _ _ Done refl (type_made fresh world task path word _ here e)
 
 pub pivot_pivots : PivotPivots
 pivot_pivots fresh world name task new put root here e f =
-    leaves_mounts fresh world name task (PivotRoot new put) _ Done refl
-    (pivot_made fresh world task new put root here e f)
+    leaves_mounts fresh world name task _ _ Done refl (pivot_made fresh world task new put root here e f)
 
 pub rmdir_takes_mounts : RmdirTakesMounts
 rmdir_takes_mounts fresh world name task path place e =
-    leaves_mounts fresh world name task (Rmdir path) _ Done refl (rmdir_made fresh world task path place e)
+    leaves_mounts fresh world name task _ _ Done refl (rmdir_made fresh world task path place e)
 
 pub exit_ends : ExitEnds
 exit_ends fresh world name task = leaves_mounts fresh world name task Exit _ Done refl (exit_made fresh world task)
 
 pub unshare_copies : UnshareCopies
-unshare_copies fresh world name task =
-    leaves_mounts fresh world name task Unshare _ Done refl (unshare_made fresh world task)
+unshare_copies fresh world name task = leaves_mounts fresh world name task _ _ Done refl (unshare_made fresh world task)
 
 pub setns_enters : SetnsEnters
 setns_enters fresh world name target task other e =
-    leaves_mounts fresh world name task (Setns target) _ Done refl (setns_made fresh world task target other e)
+    leaves_mounts fresh world name task _ _ Done refl (setns_made fresh world task target other e)
 
 pub rename_replaces : RenameReplaces
 rename_replaces fresh world name task old new from to e f differ =
-    leaves_mounts fresh world name task (Rename old new) _ Done refl
-    (rename_made fresh world task old new from to e f differ)
+    leaves_mounts fresh world name task _ _ Done refl (rename_made fresh world task old new from to e f differ)
 
 pub rename_of_one_object : RenameOfOneObject
 rename_of_one_object fresh world name task old new from to e f same =
-    leaves_mounts fresh world name task (Rename old new) _ Done refl
-    (one_object_made fresh world task old new from to e f same)
+    leaves_mounts fresh world name task _ _ Done refl (one_object_made fresh world task old new from to e f same)

@@ -9,7 +9,6 @@ use Rattle.vt_laws_mounts.proofs.mounts.MountsNumbered.{is_one_of, one_index}
 use Rattle.vt_laws_mounts.proofs.namespaces.Unsharing.{itself, parent_of, copy_found, old_found}
 use Rattle.vt_laws_mounts.proofs.namespaces.UnsharingNamespaces.{unshare_copies_mounts, unshare_leaves_namespaces}
 use Rattle.vt_laws_mounts.specs.Mounts.Attaching.{is_mount}
-use Rattle.vt_laws_mounts.specs.Mounts.Ending.{is_in}
 
 pub map_alike : {A B C : Type 0} (f : A → C) (g : B → C) (h : A → B) (xs : List A)
     → ((x : A) → Among x xs → g (h x) ≡ f x) → map g (map h xs) ≡ map f xs
@@ -56,11 +55,10 @@ module _ (world : World ℕ) (fresh : Fresh ℕ) (task : Task ℕ) (serves : Ser
       → (parent : Mount ℕ) × Among parent (mounts_of nat_eq world namespace) × (parent.number ≡ place.mount)
       × Among parent world.mounts
   parent_inside namespace mount m place e =
-      let from = among-from_filter (is_in namespace) world.mounts mount m in
+      let from = among-from_filter _ _ mount m in
       let parent = parent_of world mounts mount from.0 place e in (
         parent.parent,
-        among-filter (is_in namespace) world.mounts parent.parent parent.there
-            (cc (parent.namespace, from.1)),
+        among-filter _ _ _ parent.there (cc (parent.namespace, from.1)),
         parent.number,
         parent.there,
       )
@@ -100,21 +98,21 @@ module _ (world : World ℕ) (fresh : Fresh ℕ) (task : Task ℕ) (serves : Ser
   copied_places : (mount : Mount ℕ) → Among mount copied
       → option_map (place_cell after (map copy copied)) (copy mount).mount_point
       ≡ option_map (place_cell world copied) mount.mount_point
-  copied_places mount m = by mount.mount_point refl
+  copied_places mount m = by _ refl
     where
       by : (found : Option (Location ℕ)) → mount.mount_point ≡ found
           → option_map (place_cell after (map copy copied)) (option_map (location_on_copy new_number) found)
           ≡ option_map (place_cell world copied) found
       by None e = refl
       by (Some place) e =
-          let parent = parent_inside task.namespace mount m place e in
-          ap Some (copied_cell parent.0 parent.1 parent.3 place parent.2)
+          let parent = parent_inside _ mount m place e in
+          ap Some (copied_cell _ parent.1 parent.3 place parent.2)
 
   same_filesystems : map (λ (x : Mount ℕ). x.filesystem) (map copy copied) ≡ map (λ (x : Mount ℕ). x.filesystem) copied
-  same_filesystems = map_alike (λ (x : Mount ℕ). x.filesystem) (λ (x : Mount ℕ). x.filesystem) copy copied (λ x m. refl)
+  same_filesystems = map_alike _ _ copy copied (λ x m. refl)
 
   same_groups : flat_map (groups_shown after) (map copy copied) ≡ flat_map (groups_shown world) copied
-  same_groups = flat_map-map (groups_shown after) copy copied
+  same_groups = flat_map-map _ copy copied
 
   copied_line : (mount : Mount ℕ) → Among mount copied
       → mount_line nat_eq after (map copy copied) (copy mount) ≡ mount_line nat_eq world copied mount
@@ -130,7 +128,7 @@ module _ (world : World ℕ) (fresh : Fresh ℕ) (task : Task ℕ) (serves : Ser
   other_places : (namespace : ℕ) (mount : Mount ℕ) → Among mount (mounts_of nat_eq world namespace)
       → option_map (place_cell after (mounts_of nat_eq world namespace)) mount.mount_point
       ≡ option_map (place_cell world (mounts_of nat_eq world namespace)) mount.mount_point
-  other_places namespace mount m = by mount.mount_point refl
+  other_places namespace mount m = by _ refl
     where
       list : List (Mount ℕ)
       list = mounts_of nat_eq world namespace
@@ -140,21 +138,19 @@ module _ (world : World ℕ) (fresh : Fresh ℕ) (task : Task ℕ) (serves : Ser
           ≡ option_map (place_cell world (mounts_of nat_eq world namespace)) found
       by None e = refl
       by (Some place) e =
-          let parent = parent_inside namespace mount m place e in
+          let parent = parent_inside _ mount m place e in
           let here : is_mount world place.mount ≡ true =
-          subst (λ n. is_mount world n ≡ true) parent.2 (is_one_of world.mounts parent.0 parent.3) in
+          subst (λ n. is_mount world n ≡ true) parent.2 (is_one_of _ _ parent.3) in
           let still : is_mount after place.mount ≡ true =
-          subst (λ n. is_mount after n ≡ true) parent.2 (is_one_of after.mounts parent.0
-          (among-append_left world.mounts (map copy copied) parent.0 parent.3)) in
+          subst (λ n. is_mount after n ≡ true) parent.2 (is_one_of _ _ (among-append_left _ _ _ parent.3)) in
           ap (λ told. Some (
             number_among nat_eq (map (λ (other : Mount ℕ). other.number)
                 (mounts_of nat_eq world namespace)) place.mount,
             told,
-          ))
-          (spot_on after place still ∙ ap (λ (x : Mount ℕ). spot x place)
-          (ap (mount_numbered nat_eq after) (sym parent.2) ∙ old_found world fresh task serves mounts parent.0 parent.3
-          ∙ sym (itself world mounts parent.0 parent.3) ∙ ap (mount_numbered nat_eq world) parent.2)
-          ∙ sym (spot_on world place here))
+          )) (spot_on after place still ∙ ap (λ (x : Mount ℕ). spot x place)
+          (ap (mount_numbered nat_eq after) (sym parent.2) ∙ old_found world fresh task serves mounts _ parent.3 ∙ sym
+          (itself world mounts _ parent.3) ∙ ap (mount_numbered nat_eq world) parent.2) ∙ sym
+          (spot_on world place here))
 
   other_line : (namespace : ℕ) (mount : Mount ℕ) → Among mount (mounts_of nat_eq world namespace)
       → mount_line nat_eq after (mounts_of nat_eq world namespace) mount
@@ -168,15 +164,11 @@ unshare_lists_the_same world fresh task serves mounts empty =
     let now = unshared nat_eq world fresh task in
     let those = mounts_of nat_eq world task.namespace in
     ap (λ (l : List (Mount ℕ)). map (mount_line nat_eq now l) l) (unshare_copies_mounts world fresh task empty)
-    ∙ map_alike (mount_line nat_eq world those)
-    (mount_line nat_eq now (map (copy world fresh task serves mounts) those))
-    (copy world fresh task serves mounts) those (copied_line world fresh task serves mounts)
+    ∙ map_alike _ _ _ those (copied_line world fresh task serves mounts)
 
 pub unshare_lists_others_the_same : UnshareListsOthersTheSame
 unshare_lists_others_the_same world fresh task namespace serves mounts other =
     let now = unshared nat_eq world fresh task in
     let those = mounts_of nat_eq world namespace in
-    ap (λ (l : List (Mount ℕ)). map (mount_line nat_eq now l) l)
-    (unshare_leaves_namespaces world fresh task namespace other)
-    ∙ map_both (mount_line nat_eq world those) (mount_line nat_eq now those) those
-    (other_line world fresh task serves mounts namespace)
+    ap (λ (l : List (Mount ℕ)). map (mount_line nat_eq now l) l) (unshare_leaves_namespaces world fresh task namespace
+    other) ∙ map_both _ _ those (other_line world fresh task serves mounts _)

@@ -10,8 +10,7 @@ use Rattle.vt_laws_mounts.proofs.namespaces.Unsharing.{stands_on_mount}
 none_at_receivers : (world : World ℕ) (place : Location ℕ) → NothingAtReceivers world place
     → NoneAtReceivers world place
 none_at_receivers world place nothing group receiver mount e m r n =
-    nothing group receiver mount e (contains_from_among world.mounts receiver m) r
-    (contains_from_among world.mounts mount n)
+    nothing group receiver mount e (contains_from_among _ _ m) r (contains_from_among _ mount n)
 
 pub unmount_undoes_new_mount : UnmountUndoesNewMount
 unmount_undoes_new_mount world fresh place filesystem flags serves mounts there free_place nothing =

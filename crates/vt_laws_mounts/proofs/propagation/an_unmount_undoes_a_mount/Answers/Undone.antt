@@ -63,7 +63,7 @@ module _ (world : World ℕ) (fresh : Fresh ℕ) (place : Location ℕ) (first :
   one_after = attach_keeps_numbers world fresh place false (first ∷ []) can.serves refl can.one_number
 
   destination_among : Among destination world.mounts
-  destination_among = found_there world.mounts place.mount there
+  destination_among = found_there _ _ there
 
   of_first : Contains (first ∷ []) first
   of_first = contains_from_among (first ∷ []) first (inl refl)
@@ -80,8 +80,7 @@ module _ (world : World ℕ) (fresh : Fresh ℕ) (place : Location ℕ) (first :
       free t.0 receiver (mount_numbered nat_eq world number) t.1 t.2 t.3 (found_there world.mounts number is)))
 
   kept_itself : (mount : Mount ℕ) → Among mount world.mounts → mount_numbered nat_eq after mount.number ≡ mount
-  kept_itself mount m =
-      kept mount.number (is_one_of world.mounts mount m) ∙ found_itself world.mounts can.one_number mount m
+  kept_itself mount m = kept _ (is_one_of _ mount m) ∙ found_itself _ can.one_number mount m
 
   -- a mount was there, or is a copy
   abbrev IsOldOrNew : Mount ℕ → Type 0
@@ -124,7 +123,7 @@ module _ (world : World ℕ) (fresh : Fresh ℕ) (place : Location ℕ) (first :
       )
 
   copy_number : (part : Mount ℕ) → (copy part).number ≡ new part
-  copy_number part = number-mount_in after.mounts (new part)
+  copy_number part = number-mount_in _ _
 
   copy_new : (part : Mount ℕ) → IsPart it part → is_mount world (new part) ≡ false
   copy_new part c = copies_are_new it part first can c of_first refl
@@ -134,10 +133,10 @@ module _ (world : World ℕ) (fresh : Fresh ℕ) (place : Location ℕ) (first :
   copy_stands part c = first_stands_on_its_part it part first [] can c refl
 
   destination_part : IsPart it destination
-  destination_part = contains_from_among parts destination (inl refl)
+  destination_part = contains_from_among parts _ (inl refl)
 
   destination_later : mount_numbered nat_eq after destination.number ≡ destination
-  destination_later = kept_itself destination destination_among
+  destination_later = kept_itself _ destination_among
 
   -- nothing that was there goes
   abbrev gone : ℕ
@@ -181,7 +180,7 @@ module _ (world : World ℕ) (fresh : Fresh ℕ) (place : Location ℕ) (first :
           (lives_in world can.groups x m t.0 t.1) t.2)
 
   stays : (number : ℕ) → is_mount world number ≡ true → goes_with after gone number ≡ false
-  stays number is = false_from_ne_true (goes_with after gone number) (λ h.
+  stays number is = false_from_ne_true _ (λ h.
       not_gone number ((what_goes_is_named after gone number groups_later).0 h) number is refl)
 
   -- so it is as it was
@@ -189,8 +188,7 @@ module _ (world : World ℕ) (fresh : Fresh ℕ) (place : Location ℕ) (first :
   undone = unmounted nat_eq after gone
 
   left_among : (number : ℕ) → is_mount world number ≡ true → Among (mount_left after gone number) undone.mounts
-  left_among number is = found_there undone.mounts number
-      (ap (is_among nat_eq number) (unmount_keeps_the_order after gone)
+  left_among number is = found_there _ number (ap (is_among nat_eq number) (unmount_keeps_the_order after gone)
       ∙ later_number world fresh place first there number is)
 
   type_stays : (number : ℕ) → is_mount world number ≡ true
@@ -213,28 +211,26 @@ module _ (world : World ℕ) (fresh : Fresh ℕ) (place : Location ℕ) (first :
 
   master_there : (number : ℕ) → is_mount world number ≡ true
       → has_its_master undone (mount_numbered nat_eq world number).propagation ≡ true
-  master_there number is = by (mount_numbered nat_eq world number).propagation refl
+  master_there number is = by _ refl
     where
       by : (kind : Propagation ℕ) → (mount_numbered nat_eq world number).propagation ≡ kind
           → has_its_master undone (mount_numbered nat_eq world number).propagation ≡ true
       by (Shared group) e = ap (has_its_master undone) e
       by (Slave master) e = ap (has_its_master undone) e ∙ still_members master
-          (live_members world.master (has_members nat_eq world.mounts) master
-          (lives_in world can.groups (mount_numbered nat_eq world number) (found_there world.mounts number is) master
-          (ap source_of e)))
+          (live_members _ _ master (lives_in world can.groups _ (found_there _ number is) master (ap source_of e)))
       by Private e = ap (has_its_master undone) e
       by Unbindable e = ap (has_its_master undone) e
 
   place_stays : (number : ℕ) → is_mount world number ≡ true
       → (mount_left after gone number).mount_point ≡ (mount_numbered nat_eq world number).mount_point
-  place_stays number is = by (mount_numbered nat_eq world number).mount_point refl
+  place_stays number is = by _ refl
     where
       by : (found : Option (Location ℕ)) → (mount_numbered nat_eq world number).mount_point ≡ found
           → (mount_left after gone number).mount_point ≡ (mount_numbered nat_eq world number).mount_point
       by None e = root_mounts_stay after gone number (ap (λ (x : Mount ℕ). x.mount_point) (kept number is) ∙ e) ∙ sym e
       by (Some at) e = what_stays_keeps_its_place after gone number at (stays number is)
-          (ap (λ (x : Mount ℕ). x.mount_point) (kept number is) ∙ e) (stays at.mount
-          (on_old (mount_numbered nat_eq world number) (found_there world.mounts number is) at e)) ∙ sym e
+          (ap (λ (x : Mount ℕ). x.mount_point) (kept number is) ∙ e) (stays _
+          (on_old (mount_numbered nat_eq world number) (found_there _ number is) at e)) ∙ sym e
 
   pub has_its_record_back : (number : ℕ) → is_mount world number ≡ true
       → mount_left after gone number ≡ mount_numbered nat_eq world number
@@ -245,11 +241,9 @@ module _ (world : World ℕ) (fresh : Fresh ℕ) (place : Location ℕ) (first :
 
   -- All copies go
   part_later : (part : Mount ℕ) → IsPart it part → Among part after.mounts
-  part_later part c =
-      subst (λ x. Among x after.mounts) (kept_itself part (part_old world fresh place first there part c))
-      (found_there after.mounts part.number
-      (later_number world fresh place first there part.number (is_one_of world.mounts part
-      (part_old world fresh place first there part c))))
+  part_later part c = subst (λ x. Among x after.mounts) (kept_itself part (part_old world fresh place first there part
+      c)) (found_there _ _ (later_number world fresh place first there _
+      (is_one_of _ part (part_old world fresh place first there part c))))
 
   hears_later : (part : Mount ℕ) → IsPart it part → (group : ℕ) → destination.propagation ≡ Shared group
       → receives nat_eq after group part ≡ true
@@ -262,14 +256,13 @@ module _ (world : World ℕ) (fresh : Fresh ℕ) (place : Location ℕ) (first :
   -- nothing stands on a copy
   off_copy : (part : Mount ℕ) → IsPart it part → (mount : Mount ℕ) → Among mount after.mounts → (at : Location ℕ)
       → mount.mount_point ≡ Some at → nat_eq (copy part).number at.mount ≡ false
-  off_copy part c mount m at e = false_from_ne_true (nat_eq (copy part).number at.mount) (λ same.
+  off_copy part c mount m at e = false_from_ne_true _ (λ same.
       let number : at.mount ≡ new part = sym (eqb-true (copy part).number at.mount same) ∙ copy_number part in
       let no_mount_there : is_mount world at.mount ≡ false = ap (is_mount world) number ∙ copy_new part c in
       ⊎_elim (λ old. true≢false (sym (on_old mount old at e) ∙ no_mount_there)) (λ copied.
       let on : record { mount = copied.0.number; node = place.node } ≡ at =
-      same_Some (record { mount = copied.0.number; node = place.node }) at
-      (sym (copy_stands copied.0 copied.1) ∙ ap (λ (x : Mount ℕ). x.mount_point) (sym copied.2) ∙ e) in
-      true≢false (sym (is_one_of world.mounts copied.0 (part_old world fresh place first there copied.0 copied.1))
+      same_Some _ at (sym (copy_stands _ copied.1) ∙ ap (λ (x : Mount ℕ). x.mount_point) (sym copied.2) ∙ e) in
+      true≢false (sym (is_one_of _ _ (part_old world fresh place first there _ copied.1))
       ∙ ap (λ (l : Location ℕ). is_mount world l.mount) on ∙ no_mount_there)) (old_or_new mount m))
 
   may_leave : (part : Mount ℕ) → IsPart it part → may_go nat_eq after (copy part) ≡ true
@@ -285,23 +278,21 @@ module _ (world : World ℕ) (fresh : Fresh ℕ) (place : Location ℕ) (first :
 
   copy_goes : OneMountAMountPoint after.mounts → (part : Mount ℕ) → IsPart it part
       → Goes after (copy destination) (copy part).number
-  copy_goes one_place part c = by destination.propagation refl
+  copy_goes one_place part c = by _ refl
     where
       only : is_shared destination.propagation ≡ false → group_of destination.propagation ≡ None
           → Goes after (copy destination) (copy part).number
       only e f = subst (λ x. Goes after (copy destination) (copy x).number) (sym (only_part it can f part c))
-          (alone (record { mount = destination.number; node = place.node }) (copy_stands destination destination_part)
+          (alone (record { mount = destination.number; node = place.node }) (copy_stands _ destination_part)
           (ap (λ (x : Mount ℕ). is_shared x.propagation) destination_later ∙ e))
 
       by : (kind : Propagation ℕ) → destination.propagation ≡ kind → Goes after (copy destination) (copy part).number
-      by (Shared group) e =
-          at_receiver (record { mount = destination.number; node = place.node }) group part (copy part)
-          (copy_stands destination destination_part) (ap (λ (x : Mount ℕ). x.propagation) destination_later ∙ e)
-          (contains_from_among after.mounts part (part_later part c))
-          (receives_soundly after group part (hears_later part c group e))
-          (found_at_its_place after.mounts one_place (copy part)
-          (among_from_contains after.mounts (copy part) (each_is_copied it part first can c of_first).there)
-          (record { mount = part.number; node = place.node }) (copy_stands part c)) (may_leave part c)
+      by (Shared group) e = at_receiver (record { mount = destination.number; node = place.node }) group part
+          (copy part) (copy_stands _ destination_part) (ap (λ (x : Mount ℕ). x.propagation) destination_later ∙ e)
+          (contains_from_among _ part (part_later part c)) (receives_soundly after group part
+          (hears_later part c group e)) (found_at_its_place _ one_place _
+          (among_from_contains _ _ (each_is_copied it part first can c of_first).there) _ (copy_stands part c))
+          (may_leave part c)
       by (Slave master) e = only (ap is_shared e) (ap group_of e)
       by Private e = only (ap is_shared e) (ap group_of e)
       by Unbindable e = only (ap is_shared e) (ap group_of e)

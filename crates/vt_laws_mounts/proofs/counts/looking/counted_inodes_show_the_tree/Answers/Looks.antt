@@ -1,6 +1,6 @@
 -- Looks at counted inodes and at the tree.
-use Rattle.std.proofs.Common.{arith, ◌≡◌, refl, sym, ap, ◌∙◌, ⊎_elim, ℕ, zero, suc, nat_eq, Bool, true, false, true≢false, cond, ◌||◌, List, [], ◌∷◌, length, Option, Some, None}
-use Rattle.vt_spec.proofs.Common.{HasOwnParents, IsTree, Node, Tree, among_targets, cases_Bool, chain, common_steps, entries_in, has_entry_to, is_among, is_directory_node, named_parent, or-false, parent_in, when}
+use Rattle.std.proofs.Common.{arith, ◌≡◌, refl, sym, ap, ◌∙◌, ⊎_elim, ℕ, zero, suc, nat_eq, Bool, true, false, true≢false, cond, ◌||◌, List, [], ◌∷◌, Option, Some, None}
+use Rattle.vt_spec.proofs.Common.{HasOwnParents, IsTree, Node, Tree, among_targets, cases_Bool, chain, common_steps, has_entry_to, is_among, is_directory_node, named_parent, or-false, parent_in, when}
 use Rattle.vt_laws_mounts.specs.Counts.Looking.{CountedTreeIsTheTree, DirectoriesLieAlike}
 
 pub counted_tree_is_the_tree : CountedTreeIsTheTree
@@ -31,10 +31,9 @@ module _ (tree : Tree ℕ) (is : IsTree tree) (own : HasOwnParents tree) (top : 
   -- a directory without a name is its own parent
   parent_is_own : (d : ℕ) → has_entry_to nat_eq tree (parent_in d (tree.node d)) d ≡ false
       → parent_in d (tree.node d) ≡ d
-  parent_is_own d unnamed = ⊎_elim (λ directory. own d directory (λ name.
-      true≢false (sym (among_targets name.1 (entries_in (tree.node name.0)) d name.2)
-      ∙ ap (λ p. has_entry_to nat_eq tree p d) (sym (is.one_parent name.0 name.1 d name.2 directory)) ∙ unnamed)))
-      (λ none. own_parent d (tree.node d) none) (cases_Bool (is_directory_node (tree.node d)))
+  parent_is_own d unnamed = ⊎_elim (λ directory. own d directory (λ name. true≢false
+      (sym (among_targets name.1 _ d name.2) ∙ ap (λ p. has_entry_to nat_eq tree p d)
+      (sym (is.one_parent name.0 name.1 d name.2 directory)) ∙ unnamed))) (λ none. own_parent d _ none) (cases_Bool _)
 
   repeats : (d : ℕ) → above d ≡ Some d → (most : ℕ) → among (chain most above d) ≡ nat_eq top d
   repeats d self zero = or-false (nat_eq top d)
@@ -43,7 +42,7 @@ module _ (tree : Tree ℕ) (is : IsTree tree) (own : HasOwnParents tree) (top : 
   alike : (most d : ℕ) → among (chain most above d) ≡ among (chain most named d)
   alike zero d = refl
   alike (suc most) d = at (nat_eq d tree.root) refl (has_entry_to nat_eq tree (parent_in d (tree.node d)) d) refl
-      (alike most (parent_in d (tree.node d))) (λ self. repeats d self most)
+      (alike most _) (λ self. repeats d self most)
     where
       at : (r : Bool) → nat_eq d tree.root ≡ r → (e : Bool) → has_entry_to nat_eq tree (parent_in d (tree.node d)) d ≡ e
           → among (chain most above (parent_in d (tree.node d))) ≡ among (chain most named (parent_in d (tree.node d)))
@@ -54,6 +53,5 @@ module _ (tree : Tree ℕ) (is : IsTree tree) (own : HasOwnParents tree) (top : 
 
 pub directories_lie_alike : DirectoriesLieAlike
 directories_lie_alike world filesystem inodes top directory is own counted =
-    (λ i. is_among nat_eq top (chain (counted.count i)
-    (λ d. cond (nat_eq d (counted.root i)) None (Some (parent_in d (counted.node d i)))) directory))
-    ∙ alike filesystem.files.tree is own top (length filesystem.files.numbers) directory
+    (λ i. is_among nat_eq top (chain (counted.count i) (λ d. cond (nat_eq d (counted.root i)) None
+    (Some (parent_in d (counted.node d i)))) directory)) ∙ alike _ is own top _ _

@@ -1,5 +1,5 @@
 -- A group that loses its last member hands its slaves on.
-use Rattle.std.proofs.Common.{arith, ◌≡◌, refl, ap, ℕ, suc, nat_eq, eqb-true, eq-eqb, Bool, true, false, find, length, true≢false, Option, Some, None, option_to_list}
+use Rattle.std.proofs.Common.{arith, ◌≡◌, refl, ap, ℕ, suc, nat_eq, eqb-true, eq-eqb, Bool, true, false, find, true≢false, Option, Some, None, option_to_list}
 use Rattle.vt_spec.proofs.Common.{Private, Propagation, Shared, Slave, Unbindable, World, and_parts, cases_Bool, chain, common_steps, find-chain_start, has_members, heir, inherited, is_lost_group, list_all, list_any, lost_a_group, map_alike, or_parts, regrouped, regrouped_by, source_of}
 use Rattle.vt_laws_mounts.specs.LettingGo.Groups.{GroupsLiveBut, NoGroupIsHandedOn, OneGroupIsHandedOn, hand_on, handed_on, is_group_or_lives, master_handed_on}
 use Rattle.vt_laws_mounts.proofs.letting_go.Lists.{among_from_list_all, any_among, map_same, none_among, or_right}
@@ -14,7 +14,7 @@ module _ (world : World ℕ) (group : ℕ) (live : GroupsLiveBut group world)
   lives = has_members nat_eq world.mounts
 
   heir_itself : (other : ℕ) → lives other ≡ true → heir nat_eq world (Some other) ≡ Some other
-  heir_itself other e = find-chain_start lives world.master (length world.mounts) other e
+  heir_itself other e = find-chain_start lives _ _ other e
 
   heir_of_group : heir nat_eq world (Some group) ≡ world.master group
   heir_of_group = grind (arith, common_steps, true≢false, find_after_start)
@@ -48,7 +48,7 @@ module _ (world : World ℕ) (group : ℕ) (live : GroupsLiveBut group world)
       grind (arith, common_steps, true≢false, eqb-true, any_among, or_right, none_among, and_parts, cases_Bool)
 
   one_handed_on : regrouped nat_eq world ≡ hand_on world group
-  one_handed_on = by (list_any (lost_a_group nat_eq world) world.mounts) refl
+  one_handed_on = by _ refl
     where
       by : (b : Bool) → list_any (lost_a_group nat_eq world) world.mounts ≡ b
           → regrouped_by nat_eq b world ≡ hand_on world group
