@@ -82,12 +82,6 @@ index_below mounts number one =
     let t = indexed mounts number one in
     subst (λ k. k < length mounts) (sym t.2) (slice_get_within mounts t.0 t.1 t.3)
 
--- a member of two groups
-one_group : (group other : ℕ) (mount : Mount ℕ) → is_member_of nat_eq group mount ≡ true
-    → is_member_of nat_eq other mount ≡ true → group ≡ other
-one_group group other mount m n =
-    same_Some group other (ap group_of (sym (member_shared group mount m) ∙ member_shared other mount n))
-
 -- a group with a member in a list, and its index there
 indexed_group : (parts : List (Mount ℕ)) (group : ℕ) → has_members nat_eq parts group ≡ true
     → (k : ℕ) × (part : Mount ℕ) × (index_of_group nat_eq parts group ≡ k) × (slice_get parts k ≡ Some part)
