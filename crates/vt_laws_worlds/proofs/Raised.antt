@@ -1,5 +1,5 @@
 -- Change numbers: no invariant reads one.
-use Rattle.std.proofs.Common.{arith, ◌≡◌, refl, sym, ap, subst, ◌∙◌, ◌≤◌, ℕ, nat_eq, Bool, false, List, [], ◌∷◌, ◌++◌, find, map, Option, is_some, option_to_list, unwrap_or, ◌&&◌}
+use Rattle.std.proofs.Common.{arith, ◌≡◌, refl, ap, subst, ◌∙◌, ◌≤◌, ℕ, nat_eq, Bool, false, List, [], ◌∷◌, find, map, Option, is_some, option_to_list, unwrap_or, ◌&&◌}
 use Rattle.vt_spec.proofs.Common.{All-map, Descriptor, FileTree, Filesystem, ForksAreCounted, HasOwnParents, IsTree, ListsNumbers, Location, Mount, MountInvariants, Namespace, NamespaceInvariants, Node, Task, TaskInvariants, TreeInvariants, World, all-map, all_locations, among-from_map, among_from_contains, common_steps, contains_from_among, filesystem_numbered, is_among, is_directory_node, is_fit_filesystem, is_kind_in, is_overlay, is_within_limits, list_all, locations_of, map_twice, mount_at, no_filesystem, pair-map, same_name, stands_alike}
 use Rattle.vt_spec.specs.declared.attributes.Kind.TheVariants.{File}
 use Rattle.vt_laws_mounts.proofs.letting_go.Lists.{any-map, flat_map-map}
@@ -44,7 +44,7 @@ module _ (of_filesystem : Filesystem ℕ → ℕ) (of_namespace : Namespace ℕ 
 
   same_listed : map (λ (namespace : Namespace ℕ). namespace.number) counted.namespaces
       ≡ map (λ namespace. namespace.number) world.namespaces
-  same_listed = map_twice (λ (namespace : Namespace ℕ). namespace.number) namespace_counted world.namespaces
+  same_listed = map_twice _ _ _
 
   same_locations : all_locations counted ≡ all_locations world
   same_locations = flat_map-map task_counted locations_of world.tasks (λ task. refl)
@@ -95,14 +95,10 @@ module _ (of_filesystem : Filesystem ℕ → ℕ) (of_namespace : Namespace ℕ 
 
   forks_counted : ForksAreCounted world → ForksAreCounted counted
   forks_counted is task other number rest m n e =
-      let one = among-from_map task_counted world.tasks task
-      (among_from_contains (map task_counted world.tasks) task m) in
-      let two = among-from_map task_counted world.tasks other
-      (among_from_contains (map task_counted world.tasks) other n) in
-      subst (λ k. number ≤ k) (sym (ap (λ (t : Task ℕ). t.forks) one.2))
-      (is one.0 two.0 number rest (contains_from_among world.tasks one.0 one.1)
-      (contains_from_among world.tasks two.0 two.1)
-      (sym (ap (λ (t : Task ℕ). t.name) two.2) ∙ e ∙ ap (λ (t : Task ℕ). t.name ++ (number ∷ rest)) one.2))
+      let one = among-from_map _ _ task (among_from_contains _ task m) in
+      let two = among-from_map _ _ other (among_from_contains _ other n) in
+      subst (λ k. number ≤ k) (cc) (is one.0 two.0 number rest (contains_from_among _ one.0 one.1)
+      (contains_from_among _ two.0 two.1) (cc))
 
   pub tasks_counted : TaskInvariants nat_eq world → TaskInvariants nat_eq counted
   tasks_counted is = record {

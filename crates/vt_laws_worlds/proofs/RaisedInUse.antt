@@ -55,9 +55,8 @@ module _ (of_filesystem : Filesystem ℕ → ℕ) (of_namespace : Namespace ℕ 
 
   lives_later : (filesystem : Filesystem ℕ) → filesystem_lives nat_eq later (filesystem_later filesystem)
       ≡ filesystem_lives nat_eq world filesystem
-  lives_later filesystem = ap (λ b. is_mounted nat_eq world filesystem.number || b)
-      (any-map (λ merged. has_layer_on nat_eq filesystem.number merged && is_mounted nat_eq world merged.number)
-      filesystem_later world.filesystems (λ f. refl))
+  lives_later filesystem = cc (any-map (λ merged. has_layer_on nat_eq filesystem.number merged && is_mounted nat_eq
+      world merged.number) filesystem_later world.filesystems (λ f. refl))
 
   pub in_use_later : AllInUse world → AllInUse later
   in_use_later is = record {
@@ -76,8 +75,7 @@ module _ (of_filesystem : Filesystem ℕ → ℕ) (of_namespace : Namespace ℕ 
 
   pub world_counted : IsWorld nat_eq world → IsPlain world → IsWorld nat_eq later × IsPlain later
   world_counted is plain =
-      let rest : IsWorldButForUse later =
-      unsettled_counted of_filesystem of_namespace of_task change world (unsettled_of world is plain) in
+      let rest : IsWorldButForUse later = unsettled_counted _ _ _ change world (unsettled_of world is plain) in
       (world_of later rest (nothing_goes later (in_use_later (all_in_use world is))), rest.plain)
 
 module _ (changed : List ℕ) (world : World ℕ) where
@@ -112,4 +110,4 @@ module _ (before : World ℕ) (name : TaskName) (changed : List ℕ) (world : Wo
       → IsWorld nat_eq (numbers_raised nat_eq before name changed world)
       × IsPlain (numbers_raised nat_eq before name changed world)
   raising_numbers_keeps_world is plain = subst (λ w. IsWorld nat_eq w × IsPlain w) (sym numbers_raised_are)
-      (world_counted (number_if changed world) namespace_if task_if (raised world.change) world is plain)
+      (world_counted _ _ _ _ world is plain)

@@ -1,6 +1,6 @@
 -- Tasks keep names of their own: what a fork names is a new name, where tasks have counted their forks.
-use Rattle.std.proofs.Common.{◌≡◌, refl, sym, ap, subst, ◌∙◌, ◌⊎◌, inl, inr, ⊎_elim, ℕ, nat_eq, Bool, true, false, cond, true≢false, filter, not, List, [], ◌∷◌, ◌++◌, ◌+◌, ◌≤◌, ◌||◌, append_assoc, arith, is_some, map}
-use Rattle.vt_spec.proofs.Common.{Among, Credentials, ForksAreCounted, Fresh, Mount, Task, TaskName, World, among-append, among-from_filter, among-from_map, among_from_contains, any_pair, bytes_decides, child_name, child_of, common_steps, contains_from_among, first_of_list, first_task, list_any, name-replaced_if_called, none_among, none_from_among, opening, or_parts, pair-filter, pair-map, pivoted_task, replaced_if_called, rest_of, same_name, same_task_name}
+use Rattle.std.proofs.Common.{◌≡◌, refl, sym, ap, subst, ◌∙◌, ◌⊎◌, inl, inr, ⊎_elim, ℕ, nat_eq, Bool, true, false, cond, true≢false, filter, not, List, [], ◌∷◌, ◌++◌, ◌+◌, ◌≤◌, ◌||◌, append_assoc, arith, map}
+use Rattle.vt_spec.proofs.Common.{Among, Credentials, ForksAreCounted, Fresh, Mount, Task, TaskName, World, among-append, among-from_filter, among-from_map, among_from_contains, any_pair, bytes_decides, child_name, child_of, common_steps, contains_from_among, first_task, list_any, name-replaced_if_called, none_among, none_from_among, opening, or_parts, pair-filter, pair-map, pivoted_task, replaced_if_called, same_name, same_task_name}
 
 -- A name that is put together in two ways
 module _ where
@@ -9,26 +9,24 @@ module _ where
   head_or d (a ∷ rest) = a
 
   some_cons : (a : ℕ) (rest : List ℕ) → [] ≡ a ∷ rest → ⊥
-  some_cons a rest e = true≢false (ap (λ (l : List ℕ). is_some (first_of_list l)) (sym e))
+  some_cons a rest e = true≢false (cc)
 
   none_append : (ys : List ℕ) (y : ℕ) (zs : List ℕ) → [] ≡ ys ++ (y ∷ zs) → ⊥
   none_append [] y zs e = some_cons y zs e
-  none_append (u ∷ us) y zs e = some_cons u (us ++ (y ∷ zs)) e
+  none_append (u ∷ us) y zs e = some_cons u _ e
 
   pub two_ways : (xs : List ℕ) (x : ℕ) (ys : List ℕ) (y : ℕ) (zs : List ℕ) → xs ++ (x ∷ []) ≡ ys ++ (y ∷ zs)
       → ((xs ≡ ys) × (x ≡ y)) ⊎ ((rest : List ℕ) × (xs ≡ ys ++ (y ∷ rest)))
-  two_ways [] x [] y zs e = inl (refl, ap (head_or x) e)
-  two_ways [] x (u ∷ us) y zs e = absurd (none_append us y zs (ap rest_of e))
-  two_ways (v ∷ vs) x [] y zs e = inr (vs, ap (λ h. h ∷ vs) (ap (head_or v) e))
+  two_ways [] x [] y zs e = inl (refl, cc)
+  two_ways [] x (u ∷ us) y zs e = absurd (none_append us y zs (cc))
+  two_ways (v ∷ vs) x [] y zs e = inr (vs, cc)
   two_ways (v ∷ vs) x (u ∷ us) y zs e =
-      let head : v ≡ u = ap (head_or v) e in
-      ⊎_elim (λ same. inl (ap (λ h. h ∷ vs) head ∙ ap (λ l. u ∷ l) same.0, same.1))
-      (λ longer. inr (longer.0, ap (λ h. h ∷ vs) head ∙ ap (λ l. u ∷ l) longer.1))
-      (two_ways vs x us y zs (ap rest_of e))
+      let head : v ≡ u = cc in
+      ⊎_elim (λ same. inl (cc, same.1)) (λ longer. inr (longer.0, cc)) (two_ways vs x us y zs (cc))
 
   pub not_longer : (xs : List ℕ) (y : ℕ) (zs : List ℕ) → xs ≡ xs ++ (y ∷ zs) → ⊥
   not_longer [] y zs e = some_cons y zs e
-  not_longer (x ∷ xs) y zs e = not_longer xs y zs (ap rest_of e)
+  not_longer (x ∷ xs) y zs e = not_longer xs y zs (cc)
 
 -- no two tasks have one name
 abbrev pub AreNamedApart : List (Task ℕ) → Type 0
@@ -36,9 +34,7 @@ AreNamedApart tasks = any_pair (λ (a b : Task ℕ). same_name a.name b.name) ta
 
 mapped_apart : (f : Task ℕ → Task ℕ) → ((task : Task ℕ) → (f task).name ≡ task.name) → (tasks : List (Task ℕ))
     → AreNamedApart tasks → AreNamedApart (map f tasks)
-mapped_apart f names tasks e =
-    pair-map (λ (a b : Task ℕ). same_name a.name b.name) (λ (a b : Task ℕ). same_name a.name b.name) f tasks
-    (λ a b m n h. ap (λ x. same_name x (f b).name) (names a) ∙ ap (same_name a.name) (names b) ∙ h) e
+mapped_apart f names tasks e = pair-map _ _ f tasks (λ a b m n h. cc (names a, names b)) e
 
 appended_apart : (tasks : List (Task ℕ)) (new : Task ℕ) → AreNamedApart tasks
     → ((task : Task ℕ) → Among task tasks → same_name task.name new.name ≡ false) → AreNamedApart (tasks ++ (new ∷ []))
@@ -75,11 +71,11 @@ AreCounted tasks = (task other : Task ℕ) (number : ℕ) (rest : TaskName) → 
 
 pub counted_among : (world : World ℕ) → ForksAreCounted world → AreCounted world.tasks
 counted_among world counted task other number rest m n =
-    counted task other number rest (contains_from_among world.tasks task m) (contains_from_among world.tasks other n)
+    counted task other number rest (contains_from_among _ task m) (contains_from_among _ other n)
 
 pub counted_from : (world : World ℕ) → AreCounted world.tasks → ForksAreCounted world
 counted_from world counted task other number rest m n =
-    counted task other number rest (among_from_contains world.tasks task m) (among_from_contains world.tasks other n)
+    counted task other number rest (among_from_contains _ task m) (among_from_contains _ other n)
 
 -- each task has the name of one that was there, and has forked no less
 abbrev ComeFrom : List (Task ℕ) → List (Task ℕ) → Type 0
@@ -92,7 +88,7 @@ counted_on before after come counted task other number rest m n e = grind (arith
 replaced_come : (new task : Task ℕ) (tasks : List (Task ℕ)) → Among task tasks → new.name ≡ task.name
     → task.forks ≤ new.forks → ComeFrom tasks (map (replaced_if_called new) tasks)
 replaced_come new task tasks there name forks other m =
-    let from = among-from_map (replaced_if_called new) tasks other m in grind (arith, common_steps)
+    let from = among-from_map _ tasks other m in grind (arith, common_steps)
 
 -- How the tasks go on: as they were, one changed, moved to the new root, without one, or with a child
 pub data GoOn (task : Task ℕ) (before : List (Task ℕ)) : List (Task ℕ) → Type 0 where
@@ -137,22 +133,19 @@ module _ (task : Task ℕ) (before : List (Task ℕ)) (there : Among task before
   above_child : (other : Task ℕ) → Among other (map (replaced_if_called parent) before) → (number : ℕ) (rest : TaskName)
       → child_name task ≡ other.name ++ (number ∷ rest) → number ≤ other.forks
   above_child other m number rest e =
-      let from = among-from_map (replaced_if_called parent) before other m in
+      let from = among-from_map _ before other m in
       subst (λ (t : Task ℕ). child_name task ≡ t.name ++ (number ∷ rest) → number ≤ t.forks) (sym from.2)
-      (by from.0 from.1 (same_name task.name from.0.name) refl) e
+      (by from.0 from.1 _ refl) e
     where
       last_one : (a b : ℕ) → a ≡ b → b ≤ a
       last_one a b h = omega (arith, h)
 
       by : (old : Task ℕ) → Among old before → (b : Bool) → same_name task.name old.name ≡ b
           → child_name task ≡ (cond b parent old).name ++ (number ∷ rest) → number ≤ (cond b parent old).forks
-      by old n true same h = ⊎_elim (λ one. last_one (task.forks + 1) number one.1)
-          (λ longer. absurd (not_longer task.name number longer.0 longer.1))
-          (two_ways task.name (task.forks + 1) task.name number rest h)
-      by old n false differ h =
-          ⊎_elim (λ one. absurd (true≢false (sym ((bytes_decides task.name old.name).1 one.0) ∙ differ)))
-          (λ longer. counted old task number longer.0 n there longer.1)
-          (two_ways task.name (task.forks + 1) old.name number rest h)
+      by old n true same h = ⊎_elim (λ one. last_one _ number one.1) (λ longer. absurd (not_longer _ number _ longer.1))
+          (two_ways _ _ _ number rest h)
+      by old n false differ h = ⊎_elim (λ one. absurd (true≢false (sym ((bytes_decides task.name old.name).1 one.0)
+          ∙ differ))) (λ longer. counted old task number longer.0 n there longer.1) (two_ways _ _ _ number rest h)
 
   pub go_on_counted : (after : List (Task ℕ)) → GoOn task before after → AreCounted after
   go_on_counted after (same_ones list e) = subst AreCounted (sym e) counted

@@ -1,16 +1,12 @@
 -- Worlds with the same mounts and masters, as changes of files and of tasks leave them.
-use Rattle.std.proofs.Common.{arith, ◌≡◌, refl, ap, ◌∙◌, sym, true, false, nat_eq, ℕ, Bool, List, [], ◌∷◌}
-use Rattle.vt_spec.proofs.Common.{Change, CopyUp, Fresh, Location, Mount, MountInvariants, SetBytes, Stands, World, all_from_among, among_from_all, at_root, bytes_in, common_steps, mount_in, node_at, on_parent, overwritten, pwritten, with_change, with_copy}
+use Rattle.std.proofs.Common.{arith, ◌≡◌, refl, sym, true, false, nat_eq, ℕ, Bool, List, [], ◌∷◌}
+use Rattle.vt_spec.proofs.Common.{Change, CopyUp, Fresh, Location, MountInvariants, SetBytes, Stands, World, all_from_among, among_from_all, at_root, bytes_in, common_steps, node_at, on_parent, overwritten, pwritten, with_change, with_copy}
 
 -- Standing is of the mounts alone.
 stands_alike : (a b : World ℕ) → a.mounts ≡ b.mounts → (number : ℕ) → Stands nat_eq a number → Stands nat_eq b number
-stands_alike a b same number (at_root it e) =
-    at_root it (ap (λ (mounts : List (Mount ℕ)). (mount_in nat_eq mounts it).mount_point) (sym same) ∙ e)
+stands_alike a b same number (at_root it e) = at_root it (cc)
 stands_alike a b same number (on_parent it place e f stands) =
-    on_parent it place (ap (λ (mounts : List (Mount ℕ)). (mount_in nat_eq mounts it).mount_point) (sym same) ∙ e)
-    (ap (λ (mounts : List (Mount ℕ)). (mount_in nat_eq mounts it).namespace) (sym same) ∙ f
-    ∙ ap (λ (mounts : List (Mount ℕ)). (mount_in nat_eq mounts place.mount).namespace) same)
-    (stands_alike a b same place.mount stands)
+    on_parent it place (cc) (cc) (stands_alike a b same _ stands)
 
 -- The invariants of mounts are of the mounts and of the masters of groups.
 pub same_mounts : (a b : World ℕ) → a.mounts ≡ b.mounts → a.master ≡ b.master → MountInvariants nat_eq a

@@ -1,6 +1,6 @@
 -- What is attached in a namespace of a task keeps the invariants of mounts: binds, new mounts and moves.
 use Rattle.std.proofs.Common.{◌≡◌, ap, subst, ◌∙◌, sym, true, nat_eq, ℕ, Bool, List, [], inl, inr, ◌⊎◌, ◌∷◌, ◌++◌, arith, flat_map, is_some, map, true≢false, ⊎_elim, ◌*◌, ◌+◌}
-use Rattle.vt_spec.proofs.Common.{Among, Filesystem, Fresh, Location, Mount, MountFlags, MountInvariants, Namespace, Serves, Task, World, among-append, among-append_left, among-append_right, among-flat_map, among-from_flat_map, among-map, among_numbers, and_parts, bound_at, false_from_ne_true, found_or_none, is_among, is_among_numbers, is_there, mount_at, mount_numbered, mounted, moved_to, number-mount_in, numbers_in_use, odds, plain_filesystem, served-distinct, used_by_filesystem, used_by_mount, with_new_filesystem}
+use Rattle.vt_spec.proofs.Common.{Among, Filesystem, Fresh, Location, MountFlags, MountInvariants, Namespace, Serves, Task, World, among-append, among-append_left, among-append_right, among-flat_map, among-from_flat_map, among-map, among_numbers, and_parts, bound_at, false_from_ne_true, found_or_none, is_among, is_among_numbers, is_there, mount_at, mount_numbered, mounted, moved_to, number-mount_in, numbers_in_use, odds, plain_filesystem, served-distinct, used_by_filesystem, used_by_mount, with_new_filesystem}
 use Rattle.vt_laws_mounts.specs.Mounts.Attached.{IsAttachedAt}
 use Rattle.vt_laws_mounts.specs.Mounts.Attaching.{is_mount, numbers_of}
 use Rattle.vt_laws_mounts.specs.Mounts.Moving.{CanMove}
@@ -56,9 +56,9 @@ module _ (world : World ℕ) (fresh : Fresh ℕ) (serves : Serves nat_eq world f
   }
     where
       own : (k : ℕ) → Among (odds fresh k) (used_by_filesystem new) → ⊥
-      own k m = ⊎_elim (λ e. let same : 2 * k + 1 ≡ 2 * 0 = served-distinct world fresh serves (2 * k + 1) (2 * 0) e in
+      own k m = ⊎_elim (λ e. let same : 2 * k + 1 ≡ 2 * 0 = served-distinct world fresh serves _ _ e in
           omega (arith, same)) (λ later. ⊎_elim
-          (λ e. let same : 2 * k + 1 ≡ 2 * 1 = served-distinct world fresh serves (2 * k + 1) (2 * 1) e in
+          (λ e. let same : 2 * k + 1 ≡ 2 * 1 = served-distinct world fresh serves _ _ e in
           omega (arith, same)) (λ none. none) later) m
 
 module _ (world : World ℕ) (task : Task ℕ) (place : Location ℕ) (destination : IsDestination world task place) where
@@ -67,7 +67,7 @@ module _ (world : World ℕ) (task : Task ℕ) (place : Location ℕ) (destinati
       (is_there nat_eq world (mount_at nat_eq world place).filesystem place.node) destination.directory.reached.there).0
 
   attached : IsAttachedAt world place
-  attached = ap is_some destination.own
+  attached = cc
 
   pub new_mount_kept : (fresh : Fresh ℕ) (flags : MountFlags) → Serves nat_eq world fresh → MountInvariants nat_eq world
       → MountInvariants nat_eq (mounted nat_eq (odds fresh) world place (plain_filesystem nat_eq fresh) flags)
@@ -101,12 +101,9 @@ module _ (world : World ℕ) (task : Task ℕ) (place : Location ℕ) (destinati
 
 -- a mount of a namespace is there
 pub own_there : (world : World ℕ) (task : Task ℕ) (mount : ℕ) → IsOwn world task mount → is_mount world mount ≡ true
-own_there world task mount own = ⊎_elim
-    (λ there. subst (λ n. is_mount world n ≡ true) (number-mount_in world.mounts mount)
-    (is_among_numbers (numbers_of world.mounts) (mount_numbered nat_eq world mount).number
-    (among-map (λ (x : Mount ℕ). x.number) world.mounts (mount_numbered nat_eq world mount) there)))
-    (λ none. absurd (true≢false (sym (ap is_some own) ∙ ap (λ (x : Mount ℕ). is_some x.namespace) none)))
-    (found_or_none world.mounts mount)
+own_there world task mount own = ⊎_elim (λ there. subst (λ n. is_mount world n ≡ true) (number-mount_in _ mount)
+    (is_among_numbers (numbers_of world.mounts) (mount_numbered nat_eq world mount).number (among-map _ _ _ there)))
+    (λ none. cc) (found_or_none _ mount)
 
 -- the root of a mount, by its number
 abbrev pub at_root_of : World ℕ → ℕ → Location ℕ

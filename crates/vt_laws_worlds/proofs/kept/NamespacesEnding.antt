@@ -1,8 +1,7 @@
 -- Namespaces that end with their last tasks, after an exit, an unshare or an entry.
-use Rattle.std.proofs.Common.{arith, ◌≡◌, refl, sym, ap, subst, ◌∙◌, inl, ⊎_elim, ℕ, nat_eq, Bool, true, false, true≢false, List, [], ◌∷◌, ◌++◌, Some, eqb-true, filter, flat_map, length, map, not, ◌&&◌, unwrap_or}
-use Rattle.vt_spec.proofs.Common.{Among, Fresh, Mount, Namespace, NamespaceInvariants, Serves, Task, World, after_going, among-append, among-append_left, among-append_right, among-filter, among-from_filter, among-from_map, among-map, and_parts, any_among, common_steps, contains_from_among, copied_mount, entered_at, evens, false_from_ne_true, has_tasks, holds_of, inheriting, is_among_numbers, is_going, is_in_ended, is_root_mount, list_any, mounts_of, namespace_entered, namespace_root, namespaces_ended, not-false, numbers_by, numbers_in_use, odds, pair-filter, same_Some, same_name, unshared, unshared_task, used_by_filesystem, used_by_mount, without_task}
+use Rattle.std.proofs.Common.{arith, ◌≡◌, refl, sym, ap, subst, ◌∙◌, inl, ⊎_elim, ℕ, nat_eq, Bool, true, false, true≢false, List, [], ◌∷◌, ◌++◌, Some, eqb-true, filter, flat_map, map, not, ◌&&◌}
+use Rattle.vt_spec.proofs.Common.{Among, Fresh, Mount, Namespace, NamespaceInvariants, Serves, Task, World, after_going, among-append, among-append_left, among-append_right, among-filter, among-from_filter, among-from_map, among-map, and_parts, any_among, common_steps, contains_from_among, copied_mount, evens, false_from_ne_true, has_tasks, inheriting, is_among_numbers, is_going, is_in_ended, list_any, mounts_of, namespace_entered, namespaces_ended, not-false, numbers_by, numbers_in_use, odds, pair-filter, same_Some, same_name, unshared, unshared_task, used_by_filesystem, used_by_mount, without_task}
 use Rattle.vt_laws_mounts.specs.Mounts.Invariants.{OneNumberEach}
-use Rattle.vt_laws_mounts.specs.Mounts.Ending.{root_mounts_in}
 use Rattle.vt_laws_mounts.proofs.ends.EndingCounts.{ended_namespaces_keep_roots}
 use Rattle.vt_laws_mounts.proofs.Groups.{mounts-regrouped}
 use Rattle.vt_laws_mounts.proofs.mounts.MountsNumbered.{pair-append}
@@ -58,16 +57,15 @@ module _ (world : World ℕ) where
   stays_listed : (old : Mount ℕ) (number : ℕ) → Among old world.mounts → old.namespace ≡ Some number
       → is_going nat_eq gone old.number ≡ false → IsListedIn ended.namespaces number
   stays_listed old number m e stays =
-      let outside : is_in_ended nat_eq world old ≡ false = false_from_ne_true (is_in_ended nat_eq world old) (λ is.
-      true≢false (sym (is_among_numbers gone old.number (among-map (λ (x : Mount ℕ). x.number) in_ended old
-      (among-filter (is_in_ended nat_eq world) world.mounts old m is))) ∙ stays)) in
+      let outside : is_in_ended nat_eq world old ≡ false = false_from_ne_true _ (λ is.
+      true≢false (cc (is_among_numbers gone old.number (among-map (λ (x : Mount ℕ). x.number) in_ended old
+      (among-filter (is_in_ended nat_eq world) world.mounts old m is))))) in
       let kept : list_any (is_kept number) world.namespaces ≡ true =
-      not-false (list_any (is_kept number) world.namespaces)
-      (ap (holds_of (λ n. not (list_any (is_kept n) world.namespaces))) (sym e) ∙ outside) in
+      not-false (list_any (is_kept number) world.namespaces) (cc) in
       let one = any_among (is_kept number) world.namespaces kept in
       let parts = and_parts (nat_eq number one.0.number) (has_tasks nat_eq world one.0) one.2 in (
         one.0,
-        among-filter (has_tasks nat_eq world) world.namespaces one.0 one.1 parts.1,
+        among-filter _ _ one.0 one.1 parts.1,
         eqb-true number one.0.number parts.0,
       )
 
@@ -109,14 +107,11 @@ exit_namespaces world task one are = ended_are_namespaces (without_task world ta
 pub entry_namespaces : (world : World ℕ) (task : Task ℕ) (namespace : ℕ) → OneNumberEach world → AreNamespaces world
     → IsListedIn world.namespaces namespace
     → AreNamespaces (namespaces_ended nat_eq (namespace_entered nat_eq world task namespace))
-entry_namespaces world task namespace one are at =
-    ended_are_namespaces (namespace_entered nat_eq world task namespace) one (record {
-      apart = are.listed.apart;
-      of_mounts = are.listed.of_mounts;
-      of_tasks = replaced_listed world.namespaces
-          (entered_at task namespace (unwrap_or (namespace_root nat_eq world namespace) task.root)) world.tasks at
-          are.listed.of_tasks;
-    }) are.roots
+entry_namespaces world task namespace one are at = ended_are_namespaces _ one (record {
+  apart = are.listed.apart;
+  of_mounts = are.listed.of_mounts;
+  of_tasks = replaced_listed _ _ _ at are.listed.of_tasks;
+}) are.roots
 
 -- an unshare
 module _ (world : World ℕ) (fresh : Fresh ℕ) (task : Task ℕ) (serves : Serves nat_eq world fresh)
@@ -132,18 +127,16 @@ module _ (world : World ℕ) (fresh : Fresh ℕ) (task : Task ℕ) (serves : Ser
 
   another : (namespace : Namespace ℕ) → Among namespace world.namespaces
       → nat_eq namespace.number (evens fresh 0) ≡ false
-  another namespace m = false_from_ne_true (nat_eq namespace.number (evens fresh 0)) (λ same.
-      true≢false (sym (is_among_numbers (numbers_in_use world) (evens fresh 0)
-      (subst (λ n. Among n (numbers_in_use world)) (eqb-true namespace.number (evens fresh 0) same)
+  another namespace m = false_from_ne_true _ (λ same. true≢false (sym (is_among_numbers (numbers_in_use world)
+      (evens fresh 0) (subst (λ n. Among n (numbers_in_use world)) (eqb-true namespace.number (evens fresh 0) same)
       (among-append_right (flat_map used_by_mount world.mounts ++ flat_map used_by_filesystem world.filesystems)
-      (map number_of world.namespaces) namespace.number (among-map number_of world.namespaces namespace m))))
-      ∙ serves.unused 0))
+      (map number_of world.namespaces) namespace.number (among-map _ _ _ m)))) ∙ serves.unused 0))
 
   new_is_listed : IsListedIn after.namespaces (evens fresh 0)
   new_is_listed = (new, among-append_right world.namespaces (new ∷ []) new (inl refl), refl)
 
   still_listed : (number : ℕ) → IsListedIn world.namespaces number → IsListedIn after.namespaces number
-  still_listed number at = (at.0, among-append_left world.namespaces (new ∷ []) at.0 at.1, at.2)
+  still_listed number at = (at.0, among-append_left _ _ at.0 at.1, at.2)
 
   unshared_listed : AreListed after
   unshared_listed = record {
@@ -165,16 +158,16 @@ module _ (world : World ℕ) (fresh : Fresh ℕ) (task : Task ℕ) (serves : Ser
       copies mount = copied_mount (numbers_by nat_eq (odds fresh) copied) (evens fresh 0) mount
 
   unshared_roots : HaveRoots after
-  unshared_roots namespace m = ⊎_elim (λ old.
-      ap (λ mounts. length (filter (is_root_mount nat_eq) mounts))
-      (unshare_leaves_namespaces world fresh task namespace.number (another namespace old)) ∙ are.roots namespace old)
-      (λ last.
-      ⊎_elim (λ e.
+  unshared_roots namespace m = ⊎_elim (λ old. cc (
+    unshare_leaves_namespaces world fresh task namespace.number
+        (another namespace old),
+    are.roots namespace old,
+  )) (λ last. ⊎_elim (λ e.
       let own = are.listed.of_tasks task there in
-      ap (λ (x : Namespace ℕ). root_mounts_in after x.number) e
-      ∙ (unshare_keeps_counts world fresh task (new_namespace_is_empty world fresh serves is.mounts_listed)).roots
-      ∙ ap (root_mounts_in world) own.2 ∙ are.roots own.0 own.1) (λ none. absurd none) last)
-      (among-append world.namespaces (new ∷ []) namespace m)
+      cc (
+        (unshare_keeps_counts world fresh task (new_namespace_is_empty world fresh serves is.mounts_listed)).roots,
+        are.roots own.0 own.1,
+      )) (λ none. absurd none) last) (among-append world.namespaces (new ∷ []) namespace m)
 
   pub unshare_namespaces : OneNumberEach (unshared nat_eq world fresh task)
       → AreNamespaces (namespaces_ended nat_eq (unshared nat_eq world fresh task))

@@ -1,6 +1,6 @@
 -- Each permit that fits keeps the invariants of namespaces.
-use Rattle.std.proofs.Common.{arith, ◌≡◌, refl, sym, ap, subst, None, Option, Some, flat_map, map, nat_eq, ℕ, ◌+◌}
-use Rattle.vt_spec.proofs.Common.{Among, Fresh, IsWorld, Location, Make, Mount, Move, NamespaceInvariants, Permit, Remove, Serves, Task, ToBind, ToChange, ToClose, ToEnterNamespace, ToExit, ToFork, ToMake, ToMountOverlay, ToMountPlain, ToMove, ToOpen, ToOpenNew, ToPivot, ToRemoveDirectory, ToRename, ToSetCredentials, ToSetDirectory, ToSetFlags, ToSetRoot, ToSetType, ToSetUmask, ToUnmount, ToUnmountLazily, ToUnshare, ToWritePart, World, apply, child_of, common_steps, evens, is_copied_up, mount_at, mount_numbered, mount_tree, mounts_on, odds, plain_filesystem, replaced_if_called, with_descriptor, without_descriptor, without_mounts_on, without_replaced}
+use Rattle.std.proofs.Common.{arith, ◌≡◌, refl, sym, ap, subst, None, Option, Some, map, nat_eq, ℕ, ◌+◌}
+use Rattle.vt_spec.proofs.Common.{Among, Fresh, IsWorld, Location, Make, Move, NamespaceInvariants, Permit, Remove, Serves, Task, ToBind, ToChange, ToClose, ToEnterNamespace, ToExit, ToFork, ToMake, ToMountOverlay, ToMountPlain, ToMove, ToOpen, ToOpenNew, ToPivot, ToRemoveDirectory, ToRename, ToSetCredentials, ToSetDirectory, ToSetFlags, ToSetRoot, ToSetType, ToSetUmask, ToUnmount, ToUnmountLazily, ToUnshare, ToWritePart, World, apply, child_of, common_steps, evens, is_copied_up, mount_at, mount_numbered, odds, plain_filesystem, replaced_if_called, with_descriptor, without_descriptor, without_mounts_on, without_replaced}
 use Rattle.vt_laws_mounts.proofs.ends.EndingCounts.{points_keep_roots, points_take_none_in, unmount_keeps_roots, unmount_takes_none_in}
 use Rattle.vt_laws_mounts.proofs.ends.EndingLazyCounts.{lazy_unmount_keeps_roots, lazy_unmount_takes_none_in}
 use Rattle.vt_laws_mounts.proofs.namespaces.MountsInvariants.{flags_keep_counts, type_keeps_counts}
@@ -47,8 +47,7 @@ module _ (world : World ℕ) (fresh : Fresh ℕ) (task : Task ℕ) (serves : Ser
   points : (directory : Location ℕ) → AreNamespaces (without_mounts_on nat_eq world directory)
   points directory =
       let left = without_mounts_on nat_eq world directory in
-      let others = all_but_mounts world (map (λ (mount : Mount ℕ). mount.number)
-      (flat_map (mount_tree nat_eq world.mounts) (mounts_on nat_eq world directory))) in
+      let others = all_but_mounts world _ in
       becomes left (record {
         namespaces = others.namespaces;
         mounts = taken_stay world left (points_take_none_in world directory);

@@ -1,5 +1,5 @@
 -- Namespaces of a world with their mounts and tasks, as facts on what stands in its lists.
-use Rattle.std.proofs.Common.{◌≡◌, refl, sym, ap, subst, ◌∙◌, ℕ, nat_eq, Bool, true, false, List, [], ◌∷◌, Option, Some, None, arith, eq-eqb, eqb-true, inl, is_some, length, map, true≢false, ⊎_elim, ◌&&◌, Contains, option_to_list}
+use Rattle.std.proofs.Common.{◌≡◌, refl, sym, subst, ◌∙◌, ℕ, nat_eq, Bool, true, false, List, [], ◌∷◌, Option, Some, None, arith, eq-eqb, eqb-true, inl, length, map, ⊎_elim, Contains, option_to_list}
 use Rattle.vt_spec.proofs.Common.{Among, Mount, Namespace, NamespaceInvariants, Task, World, among-filter, among-from_filter, among-from_map, among-map, among_from_all, among_from_contains, among_from_list_all, among_numbers, and_parts, any_among, any_from_among, any_pair, common_steps, has_one_root, has_tasks, has_too_many, holds_of, is_among_numbers, is_listed, list_all, list_all_from_among, mounts_of}
 use Rattle.vt_laws_mounts.specs.Mounts.Ending.{IsOutOrStays, TakesNoMountsIn, root_mounts_in}
 use Rattle.vt_laws_mounts.specs.Mounts.Moving.{StaysInNamespaces}
@@ -35,13 +35,12 @@ pub record AreNamespaces (world : World ℕ) : Type 0 where
 -- Tests and facts
 pub listed_in : (world : World ℕ) (number : ℕ) → is_listed nat_eq world number ≡ true
     → IsListedIn world.namespaces number
-listed_in world number is =
-    among-from_map number_of world.namespaces number (among_numbers (map number_of world.namespaces) number is)
+listed_in world number is = among-from_map _ _ number (among_numbers _ number is)
 
 is_listed_in : (world : World ℕ) (number : ℕ) → IsListedIn world.namespaces number
     → is_listed nat_eq world number ≡ true
 is_listed_in world number at = is_among_numbers (map number_of world.namespaces) number
-    (subst (λ n. Among n (map number_of world.namespaces)) (sym at.2) (among-map number_of world.namespaces at.0 at.1))
+    (subst (λ n. Among n (map number_of world.namespaces)) (sym at.2) (among-map _ _ at.0 at.1))
 
 pub tasks_in : (world : World ℕ) (namespace : Namespace ℕ) → has_tasks nat_eq world namespace ≡ true
     → IsLive world namespace
@@ -51,9 +50,7 @@ tasks_in world namespace has =
 
 pub has_tasks_in : (world : World ℕ) (namespace : Namespace ℕ) → IsLive world namespace
     → has_tasks nat_eq world namespace ≡ true
-has_tasks_in world namespace live =
-    any_from_among (λ (task : Task ℕ). nat_eq namespace.number task.namespace) world.tasks live.0 live.1
-    (eq-eqb namespace.number live.0.namespace live.2)
+has_tasks_in world namespace live = any_from_among _ _ live.0 live.1 (eq-eqb namespace.number live.0.namespace live.2)
 
 abbrev has_its_namespace : World ℕ → Option ℕ → Bool
 has_its_namespace world namespace = list_all (is_listed nat_eq world) (option_to_list namespace)
@@ -79,7 +76,7 @@ from_namespaces world are few = record {
     by : (found : Option ℕ) → ((number : ℕ) → found ≡ Some number → IsListedIn world.namespaces number)
         → has_its_namespace world found ≡ true
     by None at = refl
-    by (Some number) at = ap (λ b. b && true) (is_listed_in world number (at number refl))
+    by (Some number) at = cc (is_listed_in world number (at number refl))
 
 -- Changes that leave the namespaces
 
@@ -124,15 +121,14 @@ namespaces_stay before after keeps are = record {
 
 -- Mounts, by what is known of a change
 pub taken_stay : (before after : World ℕ) → TakesNoMountsIn before after → MountsStay before after
-taken_stay before after takes mount m number e = ⊎_elim
-    (λ none. absurd (true≢false (sym (ap is_some e) ∙ ap is_some none)))
-    (λ old. (old.0, among_from_contains before.mounts old.0 old.1, sym old.3 ∙ e))
-    (among_from_all (IsOutOrStays before) after.mounts takes mount m)
+taken_stay before after takes mount m number e = ⊎_elim (λ none. cc)
+    (λ old. (old.0, among_from_contains _ old.0 old.1, cc)) (among_from_all (IsOutOrStays before) after.mounts takes
+    mount m)
 
 pub attached_stay : (before after : World ℕ) → StaysInNamespaces before after → MountsStay before after
 attached_stay before after stays mount m number e =
     let old = among_from_all Stays after.mounts stays mount m number e in
-    (old.0, among_from_contains before.mounts old.0 old.1, old.2)
+    (old.0, among_from_contains _ old.0 old.1, old.2)
   where
     Stays : Mount ℕ → Type 0
     Stays one = (namespace : ℕ) → one.namespace ≡ Some namespace
@@ -144,11 +140,10 @@ pub counted_stay : (before after : World ℕ)
     → MountsStay before after
 counted_stay before after counts mount m number e =
     let lies_in = λ (x : Mount ℕ). holds_of (nat_eq number) x.namespace in
-    let there : lies_in mount ≡ true = ap (holds_of (nat_eq number)) e ∙ eq-eqb number number refl in
-    let one = some_of (mounts_of nat_eq after number) (mounts_of nat_eq before number) mount
-    (among-filter lies_in after.mounts mount m there) (counts number) in
+    let there : lies_in mount ≡ true = cc (eq-eqb number number refl) in
+    let one = some_of _ _ mount (among-filter _ _ mount m there) (counts number) in
     let old = among-from_filter lies_in before.mounts one.0 one.1 in
-    (one.0, old.0, inside one.0.namespace old.1)
+    (one.0, old.0, inside _ old.1)
   where
     some_of : (xs ys : List (Mount ℕ)) (x : Mount ℕ) → Among x xs → length xs ≡ length ys → (y : Mount ℕ) × Among y ys
     some_of [] ys x m same = absurd m
@@ -156,8 +151,8 @@ counted_stay before after counts mount m number e =
     some_of (first ∷ rest) (y ∷ ys) x m same = (y, inl refl)
 
     inside : (found : Option ℕ) → holds_of (nat_eq number) found ≡ true → found ≡ Some number
-    inside None h = absurd (true≢false (sym h))
-    inside (Some other) h = ap Some (sym (eqb-true number other h))
+    inside None h = cc
+    inside (Some other) h = cc (eqb-true number other h)
 
 -- Tasks
 pub same_tasks_stay : (tasks : List (Task ℕ)) → TasksStay tasks tasks

@@ -1,6 +1,6 @@
 -- The opening world has the invariants.
-use Rattle.std.proofs.Common.{arith, ◌≡◌, refl, sym, ap, ◌∙◌, ℕ, nat_eq, eq-eqb, true, false, cond, [], ◌||◌, ◌&&◌, Some, None, is_some, option_to_list, unwrap_or}
-use Rattle.vt_spec.proofs.Common.{All-cons, All-head, All-nil, All-weaker, Filesystem, Fresh, HasOwnParents, IsTree, ListsNumbers, Mount, MountInvariants, NamespaceInvariants, Stands, TaskInvariants, TreeInvariants, World, and_from, at_root, common_steps, directory_is_there, filesystem_numbered, first_mount, is_directory_at, is_directory_node, list_all, mount_at, mount_numbered, new_plain, no_mount, node_at, opening, root_of}
+use Rattle.std.proofs.Common.{arith, ◌≡◌, refl, sym, ap, ◌∙◌, ℕ, nat_eq, eq-eqb, true, false, [], ◌||◌, ◌&&◌, is_some, option_to_list}
+use Rattle.vt_spec.proofs.Common.{All-cons, All-head, All-nil, All-weaker, Filesystem, Fresh, HasOwnParents, IsTree, ListsNumbers, Mount, MountInvariants, NamespaceInvariants, Stands, TaskInvariants, TreeInvariants, World, and_from, at_root, common_steps, directory_is_there, filesystem_numbered, first_mount, is_directory_at, is_directory_node, list_all, mount_at, mount_numbered, new_plain, node_at, opening, root_of}
 use Rattle.vt_spec.specs.Machine.World.{first_location}
 use Rattle.vt_laws_mounts.specs.LettingGo.InUse.{AllInUse}
 use Rattle.vt_laws_mounts.proofs.letting_go.sweeps.InUse.{nothing_goes}
@@ -36,7 +36,7 @@ module _ (fresh : Fresh ℕ) where
   is_standing = (opening_has_trees fresh).1
 
   found_mount : mount_numbered nat_eq first_world (fresh 0) ≡ the_mount
-  found_mount = ap (λ b. unwrap_or (cond b (Some the_mount) None) (no_mount (fresh 0))) (itself 0)
+  found_mount = cc (itself 0)
 
   root_is_directory : is_directory_at nat_eq first_world (first_location nat_eq fresh) ≡ true
   root_is_directory =
@@ -71,9 +71,7 @@ module _ (fresh : Fresh ℕ) where
 
   located : (nat_eq (fresh 0) (fresh 0) || false) && is_some (node_at nat_eq first_world (first_location nat_eq fresh))
       ≡ true
-  located = and_from (nat_eq (fresh 0) (fresh 0)
-      || false) (is_some (node_at nat_eq first_world (first_location nat_eq fresh))) (ap (λ b. b || false) (itself 0))
-      (directory_is_there (node_at nat_eq first_world (first_location nat_eq fresh)) root_is_directory)
+  located = and_from _ _ (cc (itself 0)) (directory_is_there _ root_is_directory)
 
   seen : is_directory_at nat_eq first_world (first_location nat_eq fresh) && list_all (nat_eq (fresh 1)) (option_to_list
       (mount_at nat_eq first_world (first_location nat_eq fresh)).namespace) ≡ true

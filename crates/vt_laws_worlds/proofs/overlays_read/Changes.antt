@@ -1,6 +1,6 @@
 -- What a permit changes is no overlay without an upper layer.
-use Rattle.std.proofs.Common.{arith, Bool, List, None, Option, Some, [], ap, false, is_some, nat_eq, not, refl, subst, sym, true, true≢false, ℕ, ◌&&◌, ◌==◌, ◌∙◌, ◌∷◌, ◌≡◌}
-use Rattle.vt_spec.proofs.Common.{Access, Call, Change, CopyUp, Descriptor, Filesystem, Fresh, Location, Looks, Overlay, Permit, Task, ToOpen, World, among_from_list_all, and_true_left, and_true_right, common_steps, descriptor_found, descriptor_numbered, filesystem_at, found_among, has_no_upper, is_copied_up, is_overlay, lies_only_in_lowers, list_all, looks_of, mount_at, none_is_some, of_overlay, opens_for_writing, or_parts, overfills, overlay_or, when, ⊤}
+use Rattle.std.proofs.Common.{arith, Bool, List, None, Option, Some, [], ap, false, is_some, nat_eq, not, refl, subst, sym, true, true≢false, ℕ, ◌&&◌, ◌==◌, ◌∷◌, ◌≡◌}
+use Rattle.vt_spec.proofs.Common.{Access, Call, Change, CopyUp, Descriptor, Filesystem, Fresh, Location, Looks, Overlay, Permit, Task, ToOpen, World, among_from_list_all, and_true_left, and_true_right, common_steps, descriptor_found, descriptor_numbered, filesystem_at, found_among, has_no_upper, is_copied_up, is_overlay, lies_only_in_lowers, list_all, looks_of, mount_at, of_overlay, opens_for_writing, or_parts, overfills, overlay_or, when, ⊤}
 use Rattle.vt_laws_trees.specs.Calls.Inodes.{change_of, written_if_some}
 use Rattle.vt_laws_mounts.specs.Counts.BesideOverlays.{OverlaysHaveNoUpper}
 use Rattle.vt_laws_worlds.proofs.overlays_stay.left.Given.{given_to_task}
@@ -31,10 +31,8 @@ module _ (world : World ℕ) (task : Task ℕ) (fresh : Fresh ℕ) where
   written : (number : ℕ) (descriptor : Descriptor ℕ) → list_all (writes_to_a_layer world) task.descriptors ≡ true
       → descriptor_numbered task number ≡ Some descriptor → descriptor.writes ≡ true
       → has_no_upper looks descriptor.location ≡ false
-  written number descriptor well found writes = by (has_no_upper looks descriptor.location)
-      (ap (λ b. not (b && has_no_upper looks descriptor.location)) (sym writes)
-      ∙ among_from_list_all (writes_to_a_layer world) task.descriptors well descriptor
-      (found_among (λ (d : Descriptor ℕ). number == d.number) task.descriptors descriptor found))
+  written number descriptor well found writes = by _ (cc (among_from_list_all (writes_to_a_layer world) task.descriptors
+      well descriptor (found_among (λ (d : Descriptor ℕ). number == d.number) task.descriptors descriptor found)))
     where
       by : (b : Bool) → not b ≡ true → b ≡ false
       by true e = sym e
@@ -58,20 +56,18 @@ module _ (world : World ℕ) (task : Task ℕ) (fresh : Fresh ℕ) where
   granted_has_layer call permit well (makes_hard_link old new from place from_end end named passed) = passed.1.1.1.0
   granted_has_layer call permit well (unlinks path place end named passed) = passed.1.1.0
   granted_has_layer call permit well (removes_directory path place end word passed) = passed.1.1.1.0
-  granted_has_layer call permit well (renames old new from to names two passed) =
-      (or_parts (has_no_upper looks from.parent) (has_no_upper looks to.parent) passed.1.1.1.1.1.0).0
+  granted_has_layer call permit well (renames old new from to names two passed) = (or_parts _ _ passed.1.1.1.1.1.0).0
   granted_has_layer call permit well (changes_mode path mode here end passed) = passed.1.0
   granted_has_layer call permit well (changes_owner path uid gid here end passed) = passed.1.0
   granted_has_layer call permit well (changes_mark path mark here admin end passed) = passed.1.0
-  granted_has_layer call permit well (opens path access here room end passed) =
-      opened here.location access passed.1.1.1.0
+  granted_has_layer call permit well (opens path access here room end passed) = opened _ access passed.1.1.1.0
   granted_has_layer call permit well (opens_existing path access mode place file room end named there passed) =
       opened file access passed.1.1.1.0
   granted_has_layer call permit well (creates path access mode place room end named missing passed) = passed.1.0
   granted_has_layer call permit well (creates_exclusively path access mode place room end named passed) = passed.1.0
   granted_has_layer call permit well (writes_part number offset bytes descriptor found passed) =
-      let there = descriptor_found task number (λ (d : Descriptor ℕ). d.writes) descriptor found in
-      part_written descriptor.location offset bytes (written number descriptor well there.0 there.1)
+      let there = descriptor_found task number _ _ found in
+      part_written _ offset bytes (written number _ well there.0 there.1)
   granted_has_layer call permit well granted = tt
 
 -- the descriptors of the task that calls
@@ -84,9 +80,8 @@ caller_has_layers world fresh task permit well given =
 
 pub changes_have_layers : ChangesHaveLayers
 changes_have_layers world fresh task permit location change well given asks = subst (HasLayer world task fresh) asks
-    (granted_has_layer world task fresh given.call permit (caller_has_layers world fresh task permit well given)
-    (calls_are_granted nat_eq (looks_of nat_eq world) (overfills nat_eq fresh world task) task given.call permit
-    given.judged))
+    (granted_has_layer world task fresh _ permit (caller_has_layers world fresh task permit well given)
+    (calls_are_granted nat_eq _ _ task _ permit given.judged))
 
 -- where no overlay has an upper layer, one with an upper layer is none
 plain_there : (world : World ℕ) (location : Location ℕ) → OverlaysHaveNoUpper world
@@ -107,7 +102,7 @@ plain_there world location none layer = by (filesystem_at nat_eq world location)
 -- what changes something, open(2) aside, asks for that change
 asked_so : (fresh : Fresh ℕ) (world : World ℕ) (permit : Permit ℕ) (made : Location ℕ × Change ℕ)
     → change_of fresh world permit ≡ Some made → change_asked fresh world permit ≡ Some made
-asked_so fresh world (ToOpen file access) made e = none_is_some made e
+asked_so fresh world (ToOpen file access) made e = cc
 asked_so fresh world permit made e = e
 
 pub plain_ones_are_changed : PlainOnesAreChanged
@@ -116,7 +111,7 @@ plain_ones_are_changed world fresh task permit location change none well given a
     (asked_so fresh world permit (location, change) asks))
 
 pub opens_copy_nothing : OpensCopyNothing
-opens_copy_nothing world fresh task file access none well given = by (is_copied_up nat_eq world file access) refl
+opens_copy_nothing world fresh task file access none well given = by _ refl
   where
     -- what is copied up is in an overlay
     overlaid : (o : Option (Overlay ℕ)) (test : Overlay ℕ → Bool) → overlay_or false test o ≡ true → is_some o ≡ true
@@ -124,10 +119,11 @@ opens_copy_nothing world fresh task file access none well given = by (is_copied_
     overlaid (Some overlay) test e = refl
 
     by : (b : Bool) → is_copied_up nat_eq world file access ≡ b → b ≡ false
-    by true e = absurd (true≢false
-        (sym (overlaid (filesystem_at nat_eq world file).overlay (λ overlay. lies_only_in_lowers overlay file.node)
-        (and_true_right (opens_for_writing access) _ e)) ∙ plain_there world file none
-        (changes_have_layers world fresh task (ToOpen file access) file (CopyUp file.node) well
-        (given_to_task fresh world task (ToOpen file access) given)
-        (ap (λ copied. when copied (file, CopyUp file.node)) e))))
+    by true e = cc (
+      overlaid (filesystem_at nat_eq world file).overlay (λ overlay. lies_only_in_lowers overlay
+          file.node) (and_true_right (opens_for_writing access) _ e),
+      plain_there world file none (changes_have_layers world fresh task (ToOpen file access) file (CopyUp file.node)
+          well (given_to_task fresh world task (ToOpen file access) given)
+          (ap (λ copied. when copied (file, CopyUp file.node)) e)),
+    )
     by false e = refl

@@ -1,7 +1,7 @@
 -- Whether an overlay has an upper layer is as it was after the sweep, and where worlds are the same.
-use Rattle.std.proofs.Common.{arith, Bool, List, None, Some, [], ap, cond, eqb-true, false, filter, find, inr, is_some, map, nat_eq, not, refl, sym, true, true≢false, ℕ, ◌&&◌, ◌||◌, ◌∙◌, ◌∷◌, ◌≡◌, unwrap_or}
+use Rattle.std.proofs.Common.{arith, Bool, List, None, Some, [], cond, eqb-true, false, filter, find, inr, is_some, map, nat_eq, not, refl, sym, true, true≢false, ℕ, ◌&&◌, ◌||◌, ◌∙◌, ◌∷◌, ◌≡◌, unwrap_or}
 use Rattle.vt_laws_trees.proofs.trees.Lists.{find-filter}
-use Rattle.vt_spec.proofs.Common.{Among, Descriptor, Filesystem, Location, Mount, SameFilesystems, Task, World, all_from_among, all_locations, among-flat_map, among-map, among_from_all, among_from_list_all, any_from_among, common_steps, filesystem_numbered, has_layer_on, has_no_upper, is_among, is_mounted, is_overlay, list_all, list_all_from_among, list_any, locations_of, looks_of, mount_at, mount_in, nat_eq_itself, no_filesystem, number-only_used, of_overlay, only_used, only_used_by, overlay_or, settled, used_in, without_dead_filesystems, without_dead_in, without_dead_mounts}
+use Rattle.vt_spec.proofs.Common.{Among, Descriptor, Filesystem, Location, SameFilesystems, Task, World, all_from_among, all_locations, among-flat_map, among-map, among_from_all, among_from_list_all, any_from_among, common_steps, filesystem_numbered, has_layer_on, has_no_upper, is_among, is_mounted, is_overlay, list_all, list_all_from_among, list_any, locations_of, looks_of, mount_at, mount_in, nat_eq_itself, no_filesystem, number-only_used, of_overlay, only_used, only_used_by, settled, used_in, without_dead_filesystems, without_dead_in, without_dead_mounts}
 use Rattle.vt_laws_worlds.specs.OverlaysRead.Writers.{PlainWorldsHaveLayers, SameWorldsHaveLayersAlike, SweepsKeepWriters, WritersHaveLayers, writes_to_a_layer}
 use Rattle.vt_laws_trees.proofs.trees.TreesOfWorlds.{numbered_anyhow}
 
@@ -43,16 +43,14 @@ lacks_alike number [] [] same = refl
 lacks_alike number [] (other ∷ others) same = absurd same
 lacks_alike number (one ∷ ones) [] same = absurd same
 lacks_alike number (one ∷ ones) (other ∷ others) same =
-    ap (λ n. lacks_upper (unwrap_or (cond (nat_eq number n) (Some one)
-    (find (λ filesystem. nat_eq number filesystem.number) ones)) (no_filesystem number))) same.0.number
-    ∙ by (nat_eq number other.number) (lacks_alike number ones others same.1)
+    cc (by (nat_eq number other.number) (lacks_alike number ones others same.1))
   where
     by : (b : Bool) → lacks_upper (numbered number ones) ≡ lacks_upper (numbered number others)
         → lacks_upper (unwrap_or (cond b (Some one) (find (λ filesystem. nat_eq number filesystem.number) ones))
         (no_filesystem number))
         ≡ lacks_upper (unwrap_or (cond b (Some other) (find (λ filesystem. nat_eq number filesystem.number) others))
         (no_filesystem number))
-    by true later = ap (overlay_or false (λ overlay. not (is_some overlay.upper))) same.0.overlay
+    by true later = cc
     by false later = later
 
 -- filesystems that keep their numbers and upper layers
@@ -61,9 +59,7 @@ lacks_mapped : (change : Filesystem ℕ → Filesystem ℕ) → ((f : Filesystem
     → lacks_upper (numbered number (map change list)) ≡ lacks_upper (numbered number list)
 lacks_mapped change numbers uppers number [] = refl
 lacks_mapped change numbers uppers number (first ∷ list) =
-    ap (λ n. lacks_upper (unwrap_or (cond (nat_eq number n) (Some (change first))
-    (find (λ filesystem. nat_eq number filesystem.number) (map change list))) (no_filesystem number))) (numbers first)
-    ∙ by (nat_eq number first.number) (lacks_mapped change numbers uppers number list)
+    cc (numbers first, by (nat_eq number first.number) (lacks_mapped change numbers uppers number list))
   where
     by : (b : Bool) → lacks_upper (numbered number (map change list)) ≡ lacks_upper (numbered number list)
         → lacks_upper (unwrap_or (cond b (Some (change first))
@@ -77,7 +73,7 @@ lacks_mapped change numbers uppers number (first ∷ list) =
 module _ {A : Type 0} (test wanted : A → Bool) where
   found_never : (list : List A) → ((a : A) → wanted a ≡ true → test a ≡ false) → find wanted (filter test list) ≡ None
   found_never [] none = refl
-  found_never (first ∷ list) none = by (test first) refl (found_never list none)
+  found_never (first ∷ list) none = by _ refl (found_never list none)
     where
       by : (b : Bool) → test first ≡ b → find wanted (filter test list) ≡ None
           → find wanted (cond b (first ∷ filter test list) (filter test list)) ≡ None
@@ -102,8 +98,7 @@ lacks_less world false f = refl
 lacks_in : (chosen : Filesystem ℕ → Bool) (world : World ℕ) (number : ℕ)
     → lacks_upper (filesystem_numbered nat_eq (without_dead_in nat_eq chosen world) number)
     ≡ lacks_upper (filesystem_numbered nat_eq world number)
-lacks_in chosen world number =
-    lacks_mapped (λ f. only_used nat_eq world (chosen f) f) (λ f. number-only_used world (chosen f) f)
+lacks_in chosen world number = lacks_mapped _ (λ f. number-only_used world (chosen f) f)
     (λ f. lacks_less world (chosen f) f) number world.filesystems
 
 module _ (world : World ℕ) where
@@ -126,14 +121,13 @@ module _ (world : World ℕ) where
   upper_stays : (number : ℕ) → lacks_upper (filesystem_numbered nat_eq world number) ≡ false
       → lacks_upper (filesystem_numbered nat_eq (settled nat_eq world) number) ≡ false
   upper_stays number layer = lacks_in (λ f. not (is_overlay f)) (without_dead_in nat_eq is_overlay living) number
-      ∙ lacks_in is_overlay living number ∙ lacks_filtered lives_numbered number world.filesystems layer
+      ∙ lacks_in is_overlay living number ∙ lacks_filtered lives_numbered number _ layer
 
   swept_layer : (location : Location ℕ) → Among location (all_locations world)
       → has_no_upper (looks_of nat_eq world) location ≡ false
       → has_no_upper (looks_of nat_eq (settled nat_eq world)) location ≡ false
   swept_layer location m layer =
-      ap (λ (mount : Mount ℕ). lacks_upper (filesystem_numbered nat_eq (settled nat_eq world) mount.filesystem))
-      (mount_stays location m) ∙ upper_stays (mount_at nat_eq world location).filesystem layer
+      cc (mount_stays location m, upper_stays (mount_at nat_eq world location).filesystem layer)
 
 pub sweeps_keep_writers : SweepsKeepWriters
 sweeps_keep_writers world well = list_all_from_among (writes (settled nat_eq world)) world.tasks (λ task m.
@@ -173,12 +167,12 @@ same_worlds_have_layers_alike one other same = writers_alike one other layers ta
   where
     layers : (location : Location ℕ) → has_no_upper (looks_of nat_eq other) location
         ≡ has_no_upper (looks_of nat_eq one) location
-    layers location =
-        sym (lacks_alike (mount_at nat_eq one location).filesystem one.filesystems other.filesystems same.filesystems
+    layers location = sym (lacks_alike (mount_at nat_eq one location).filesystem _ _ same.filesystems
         ∙ (λ i. lacks_upper (numbered (mount_in nat_eq (same.mounts i) location.mount).filesystem other.filesystems)))
 
     tasks : (test : List (Descriptor ℕ) → Bool) → list_all (λ (task : Task ℕ). test task.descriptors) other.tasks
         ≡ list_all (λ (task : Task ℕ). test task.descriptors) one.tasks
-    tasks test = sym (all_write_alike test (λ (task : Task ℕ). record task { change = 0 }) (λ task. refl) other.tasks)
-        ∙ ap (list_all (λ (task : Task ℕ). test task.descriptors)) (sym same.tasks)
-        ∙ all_write_alike test (λ (task : Task ℕ). record task { change = 0 }) (λ task. refl) one.tasks
+    tasks test = cc (
+      all_write_alike test (λ (task : Task ℕ). record task { change = 0 }) (λ task. refl) other.tasks,
+      all_write_alike test (λ (task : Task ℕ). record task { change = 0 }) (λ task. refl) one.tasks,
+    )

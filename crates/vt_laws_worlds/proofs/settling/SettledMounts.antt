@@ -43,10 +43,8 @@ module _ (world : World ℕ) (unsettled : IsUnderWay world) where
         one_child = apart.by_place;
         standing = all_from_among (λ (mount : Mount ℕ). Stands nat_eq later mount.number) later.mounts (λ mount m.
             let was = among-from_filter (mount_lives nat_eq world) world.mounts mount m in
-            stands_still mount.number
-            (among_from_all (λ (other : Mount ℕ). Stands nat_eq world other.number) world.mounts
-            unsettled.mounts.standing mount was.0)
-            (ap (mount_lives nat_eq world) (itself world unsettled mount was.0) ∙ was.1));
+            stands_still _ (among_from_all (λ (other : Mount ℕ). Stands nat_eq world other.number) world.mounts
+            unsettled.mounts.standing mount was.0) (cc (itself world unsettled mount was.0)));
         nowhere = settling_keeps_nowhere world unsettled.mounts.nowhere;
         groups = all_live later
             (settling_keeps_groups world unsettled.mounts.nowhere (tested_live world unsettled.mounts.groups));

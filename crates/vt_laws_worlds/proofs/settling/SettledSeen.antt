@@ -1,6 +1,6 @@
 -- What is seen where tasks are, at the roots of mounts and at their places stays where what nothing uses goes.
-use Rattle.std.proofs.Common.{arith, ◌≡◌, refl, sym, ap, ◌∙◌, ℕ, nat_eq, eqb-true, eq-eqb, Bool, true, false, not, List, [], ◌∷◌, ◌++◌, find, map, filter, is_some, true≢false, filter_map, unwrap_or}
-use Rattle.vt_spec.proofs.Common.{Filesystem, Location, Mount, World, all_locations, common_steps, filesystem_lives, filesystem_numbered, is_among, is_located, is_mounted, is_overlay, located_in, map_twice, mount_at, mount_lives, mount_numbered, no_filesystem, node_at, only_used, root_of, settled, without_dead_filesystems, without_dead_in, without_dead_mounts}
+use Rattle.std.proofs.Common.{arith, ◌≡◌, refl, ap, ◌∙◌, ℕ, nat_eq, eqb-true, eq-eqb, Bool, true, false, not, List, [], ◌∷◌, ◌++◌, find, map, filter, is_some, true≢false, filter_map, unwrap_or}
+use Rattle.vt_spec.proofs.Common.{Filesystem, Location, Mount, World, all_locations, common_steps, filesystem_lives, filesystem_numbered, is_among, is_mounted, is_overlay, located_in, map_twice, mount_at, mount_lives, mount_numbered, no_filesystem, node_at, only_used, root_of, settled, without_dead_filesystems, without_dead_in, without_dead_mounts}
 use Rattle.vt_laws_mounts.proofs.letting_go.Lists.{Among, among-filter, among-map, among_from_list_all, any_from_among, is_among_numbers, or_left, or_right}
 use Rattle.vt_laws_mounts.proofs.letting_go.leaving.PlacesLeft.{found_in_filter, found_itself, nowhere_parts}
 use Rattle.vt_laws_trees.proofs.trees.TreesForgotten.{among_located, used_stays}
@@ -47,22 +47,20 @@ module _ (world : World ℕ) (unsettled : IsUnderWay world) where
 
   -- Mounts
   pub itself : (mount : Mount ℕ) → Among mount world.mounts → mount_numbered nat_eq world mount.number ≡ mount
-  itself mount m = found_itself world.mounts unsettled.mounts.one_number mount m
+  itself mount m = found_itself _ unsettled.mounts.one_number mount m
 
   -- a mount that lives is found as it was
   pub found_still : (number : ℕ) → mount_lives nat_eq world (mount_numbered nat_eq world number) ≡ true
       → mount_numbered nat_eq settled_world number ≡ mount_numbered nat_eq world number
-  found_still number lives = found_in_filter (mount_lives nat_eq world) world.mounts number
-      (λ mount m e. ap (mount_lives nat_eq world) (sym (itself mount m) ∙ ap (mount_numbered nat_eq world) e) ∙ lives)
+  found_still number lives = found_in_filter _ _ number (λ mount m e. cc (itself mount m))
 
   pub attached_lives : (mount : Mount ℕ) → is_some mount.namespace ≡ true → mount_lives nat_eq world mount ≡ true
-  attached_lives mount e = or_left (is_some mount.namespace) (is_located nat_eq world mount.number) e
+  attached_lives mount e = or_left _ _ e
 
   pub located_lives : (location : Location ℕ) → Among location (all_locations world) → (mount : Mount ℕ)
       → mount.number ≡ location.mount → mount_lives nat_eq world mount ≡ true
-  located_lives location m mount e = or_right (is_some mount.namespace) (is_located nat_eq world mount.number)
-      (any_from_among (λ l. nat_eq mount.number l.mount) (all_locations world) location m
-      (eq-eqb mount.number location.mount e))
+  located_lives location m mount e = or_right (is_some mount.namespace) _
+      (any_from_among _ _ location m (eq-eqb mount.number location.mount e))
 
   -- what has a place is in a namespace
   pub placed_attached : (mount : Mount ℕ) → Among mount world.mounts → is_some mount.mount_point ≡ true

@@ -27,9 +27,8 @@ module _ (world : World ℕ) (unsettled : IsUnderWay world) where
   -- Where tasks are
   located_there : (location : Location ℕ) → Among location (all_locations world)
       → Among (mount_at nat_eq world location) world.mounts
-  located_there location m = mount_in-among world.mounts location.mount
-      (and_parts (is_among nat_eq location.mount (map (λ (mount : Mount ℕ). mount.number) world.mounts)) _
-      (among_from_list_all (is_located_well nat_eq world) (all_locations world) unsettled.tasks.locations_live
+  located_there location m = mount_in-among _ _ (and_parts (is_among nat_eq location.mount
+      (map (λ (mount : Mount ℕ). mount.number) world.mounts)) _ (among_from_list_all _ _ unsettled.tasks.locations_live
       location m)).0
 
   mount_lives_at : (location : Location ℕ) → Among location (all_locations world)
@@ -70,26 +69,25 @@ module _ (world : World ℕ) (unsettled : IsUnderWay world) where
 
   on_directories : (task : Task ℕ) → Among task world.tasks → stands_on_directories nat_eq after task
       ≡ stands_on_directories nat_eq world task
-  on_directories task m = λ i. (is_directory_node (still_there task.root root i)
-      && list_all (nat_eq task.namespace) (option_to_list (same_mount task.root root i).namespace))
-      && (is_directory_node (still_there task.directory directory i)
-      && list_all (nat_eq task.namespace) (option_to_list (same_mount task.directory directory i).namespace))
+  on_directories task m = λ i. (is_directory_node (still_there _ root i) && list_all (nat_eq task.namespace)
+      (option_to_list (same_mount _ root i).namespace)) && (is_directory_node (still_there _ directory i) && list_all
+      (nat_eq task.namespace) (option_to_list (same_mount _ directory i).namespace))
     where
       root : Among task.root (all_locations world)
-      root = task_location task m task.root (inl refl)
+      root = task_location task m _ (inl refl)
 
       directory : Among task.directory (all_locations world)
-      directory = task_location task m task.directory (inr (inl refl))
+      directory = task_location task m _ (inr (inl refl))
 
   files_open : (task : Task ℕ) → Among task world.tasks → has_regular_files_open nat_eq world task ≡ true
       → has_regular_files_open nat_eq after task ≡ true
-  files_open task m h =
-      list_all_from_among (λ (descriptor : Descriptor ℕ). is_kind_in File (node_at nat_eq after descriptor.location))
-      task.descriptors (λ descriptor d.
-      ap (is_kind_in File) (still_there descriptor.location (task_location task m descriptor.location
-      (inr (inr (among-map (λ (x : Descriptor ℕ). x.location) task.descriptors descriptor d)))))
-      ∙ among_from_list_all (λ (x : Descriptor ℕ). is_kind_in File (node_at nat_eq world x.location)) task.descriptors h
-      descriptor d)
+  files_open task m h = list_all_from_among (λ (descriptor : Descriptor ℕ). is_kind_in File
+      (node_at nat_eq after descriptor.location)) task.descriptors (λ descriptor d. cc (
+        still_there descriptor.location (task_location task m descriptor.location
+            (inr (inr (among-map (λ (x : Descriptor ℕ). x.location) task.descriptors descriptor d)))),
+        among_from_list_all
+            (λ (x : Descriptor ℕ). is_kind_in File (node_at nat_eq world x.location)) task.descriptors h descriptor d,
+      ))
 
   pub settled_tasks : TaskInvariants nat_eq after
   settled_tasks = record {

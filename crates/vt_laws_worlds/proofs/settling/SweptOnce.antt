@@ -36,6 +36,5 @@ events_keep start kept one world (mount ∷ left) way = (
 )
 
 pub lazy_unmounts_are_swept_once : LazyUnmountsAreSweptOnce
-lazy_unmounts_are_swept_once world number trees uppers reals kept =
-    one_sweep_for_all_events_with_overlays world (taken_in_turn world number) trees uppers reals
-    (events_keep world kept number world (taken_in_turn world number) (begun world kept number))
+lazy_unmounts_are_swept_once world number trees uppers reals kept = one_sweep_for_all_events_with_overlays world
+    (taken_in_turn world number) trees uppers reals (events_keep world kept number world _ (begun world kept number))

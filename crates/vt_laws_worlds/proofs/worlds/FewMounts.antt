@@ -1,6 +1,6 @@
 -- Where no namespace gets mounts, none has too many.
-use Rattle.std.proofs.Common.{◌≡◌, refl, sym, ap, subst, ◌∙◌, true≢false, arith, inl, inr, ⊎_elim, ◌⊎◌, ℕ, nat_eq, nat_lt, Bool, true, false, cond, List, [], ◌∷◌, ◌≤◌, filter, map, length, None, le-ltb, ltb-false}
-use Rattle.vt_spec.proofs.Common.{Among, Change, Fresh, Location, Mount, Namespace, World, after_going, among-from_filter, common_steps, deepest_first, folded, has_tasks, has_too_many, holds_of, is_in_ended, lazily_unmounted, most_mounts, mount_numbered, mount_tree, namespaces_ended, none_among, none_from_among, regrouped, taken_away, unmounted_if_there, with_change, with_mounts}
+use Rattle.std.proofs.Common.{◌≡◌, refl, subst, arith, inl, inr, ⊎_elim, ◌⊎◌, ℕ, nat_eq, nat_lt, Bool, true, false, cond, List, [], ◌∷◌, ◌≤◌, filter, map, length, None, le-ltb, ltb-false}
+use Rattle.vt_spec.proofs.Common.{Among, Change, Fresh, Location, Mount, Namespace, World, after_going, among-from_filter, common_steps, deepest_first, folded, has_tasks, has_too_many, is_in_ended, lazily_unmounted, most_mounts, mount_numbered, mount_tree, namespaces_ended, none_among, none_from_among, regrouped, taken_away, unmounted_if_there, with_change, with_mounts}
 use Rattle.vt_laws_mounts.specs.Mounts.Ending.{count_in, is_in}
 
 abbrev pub NoMore : List (Mount ℕ) → List (Mount ℕ) → Type 0
@@ -13,27 +13,23 @@ StaysOrLeaves f mount = ((f mount).namespace ≡ mount.namespace) ⊎ ((f mount)
 pub mapped_no_more : (f : Mount ℕ → Mount ℕ) (mounts : List (Mount ℕ))
     → ((mount : Mount ℕ) → Among mount mounts → StaysOrLeaves f mount) → NoMore (map f mounts) mounts
 mapped_no_more f [] h number = omega arith
-mapped_no_more f (first ∷ rest) h number =
-    by (is_in number (f first)) (is_in number first) still (mapped_no_more f rest (λ mount m. h mount (inr m)) number)
+mapped_no_more f (first ∷ rest) h number = by _ _ still (mapped_no_more f rest (λ mount m. h mount (inr m)) number)
   where
     still : is_in number (f first) ≡ true → is_in number first ≡ true
-    still is = ⊎_elim (λ same. ap (holds_of (nat_eq number)) (sym same) ∙ is)
-        (λ none. absurd (true≢false (sym is ∙ ap (holds_of (nat_eq number)) none))) (h first (inl refl))
+    still is = ⊎_elim (λ same. cc) (λ none. cc) (h first (inl refl))
 
     by : (b c : Bool) → (b ≡ true → c ≡ true) → count_in (map f rest) number ≤ count_in rest number
         → length (cond b (f first ∷ filter (is_in number) (map f rest)) (filter (is_in number) (map f rest)))
         ≤ length (cond c (first ∷ filter (is_in number) rest) (filter (is_in number) rest))
     by true true imp le = omega (arith, le)
-    by true false imp le = absurd (true≢false (sym (imp refl)))
+    by true false imp le = cc (imp refl)
     by false true imp le = omega (arith, le)
     by false false imp le = le
 
 pub none_counted : (mounts : List (Mount ℕ)) (number : ℕ) → ((mount : Mount ℕ) → Among mount mounts
     → is_in number mount ≡ false) → count_in mounts number ≡ 0
 none_counted [] number h = refl
-none_counted (first ∷ rest) number h =
-    ap (λ b. length (cond b (first ∷ filter (is_in number) rest) (filter (is_in number) rest))) (h first (inl refl))
-    ∙ none_counted rest number (λ mount m. h mount (inr m))
+none_counted (first ∷ rest) number h = cc (h first (inl refl), none_counted rest number (λ mount m. h mount (inr m)))
 
 -- what is no more than enough is no more than that
 pub not_too_many : (a b : ℕ) → a ≤ b → nat_lt most_mounts b ≡ false → nat_lt most_mounts a ≡ false
@@ -41,18 +37,14 @@ not_too_many a b le few = grind (arith, common_steps, le-ltb, ltb-false most_mou
 
 pub few_of : (world : World ℕ) → has_too_many nat_eq world ≡ false → (namespace : Namespace ℕ)
     → Among namespace world.namespaces → nat_lt most_mounts (count_in world.mounts namespace.number) ≡ false
-few_of world few namespace m =
-    none_among (λ (n : Namespace ℕ). nat_lt most_mounts (count_in world.mounts n.number)) world.namespaces few
-    namespace m
+few_of world few namespace m = none_among _ _ few namespace m
 
 pub few_after : (world after : World ℕ) → NoMore after.mounts world.mounts
     → ((namespace : Namespace ℕ) → Among namespace after.namespaces → Among namespace world.namespaces)
     → has_too_many nat_eq world ≡ false → has_too_many nat_eq after ≡ false
 few_after world after no_more within few =
     none_from_among (λ (n : Namespace ℕ). nat_lt most_mounts (count_in after.mounts n.number)) after.namespaces
-    (λ namespace m.
-    not_too_many (count_in after.mounts namespace.number) (count_in world.mounts namespace.number)
-    (no_more namespace.number) (few_of world few namespace (within namespace m)))
+    (λ namespace m. not_too_many _ _ (no_more namespace.number) (few_of world few _ (within namespace m)))
 
 -- a world with the same namespaces, none of which has more mounts
 abbrev pub Shrinks : World ℕ → World ℕ → Type 0

@@ -84,8 +84,10 @@ module _ (fresh : Fresh ℕ) (world : World ℕ) (whole : IsWorld nat_eq world) 
 
   counts : (number : ℕ) → count_in (world.mounts ++ copies) number
       ≡ count_in world.mounts number + count_in copies number
-  counts number = ap length (filter-append (is_in number) world.mounts copies)
-      ∙ length-append (filter (is_in number) world.mounts) (filter (is_in number) copies)
+  counts number = cc (
+    filter-append (is_in number) world.mounts copies,
+    length-append (filter (is_in number) world.mounts) (filter (is_in number) copies),
+  )
 
   copy_is_new : (number : ℕ) → nat_eq number new ≡ false → (mount : Mount ℕ) → Among mount copies
       → is_in number mount ≡ false
@@ -104,10 +106,12 @@ module _ (fresh : Fresh ℕ) (world : World ℕ) (whole : IsWorld nat_eq world) 
 
   in_new : (number : ℕ) → nat_eq number new ≡ true → nat_lt most_mounts (count_in (world.mounts ++ copies) number)
       ≡ false
-  in_new number e = not_too_many (count_in (world.mounts ++ copies) number) (length own) (bound (counts number)
-      (ap (count_in world.mounts) (eqb-true number new e) ∙ none_counted world.mounts new none_in)
-      (length-filter_le (is_in number) copies)
-      (length-map own (copied_mount (numbers_by nat_eq (odds fresh) own) new))) few_own
+  in_new number e = not_too_many _ _ (bound (counts number) (cc (
+    eqb-true number new e,
+    none_counted world.mounts new
+        none_in,
+  )) (length-filter_le (is_in number) copies) (length-map own
+      (copied_mount (numbers_by nat_eq (odds fresh) own) new))) few_own
     where
       bound : count_in (world.mounts ++ copies) number ≡ count_in world.mounts number + count_in copies number
           → count_in world.mounts number ≡ 0 → count_in copies number ≤ length copies → length copies ≡ length own
@@ -122,7 +126,7 @@ module _ (fresh : Fresh ℕ) (world : World ℕ) (whole : IsWorld nat_eq world) 
   unshared_few : has_too_many nat_eq (unshared nat_eq world fresh task) ≡ false
   unshared_few = none_from_among (λ (n : Namespace ℕ). nat_lt most_mounts (count_in (world.mounts ++ copies) n.number))
       (world.namespaces ++ (record { number = new; change = 0 } ∷ [])) (λ namespace m.
-      by namespace (nat_eq namespace.number new) refl
+      by _ _ refl
       (among-append world.namespaces (record { number = new; change = 0 } ∷ []) namespace m))
     where
       by : (namespace : Namespace ℕ) (b : Bool) → nat_eq namespace.number new ≡ b

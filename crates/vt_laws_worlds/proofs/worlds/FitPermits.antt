@@ -1,6 +1,6 @@
 -- What the walks and the rules of a call say of what its permit names.
 use Rattle.std.proofs.Common.{arith, Bool, Ok, Option, ap, eqb-true, length, ok_or, option_map, refl, suc, sym, true≢false, zero, ◌||◌, ◌∙◌, None, Some, false, is_some, nat_eq, option_to_list, true, unwrap_or, ℕ, ◌≡◌}
-use Rattle.vt_spec.proofs.Common.{Among, Descriptor, Here, IsWorld, Location, Looks, Place, Task, TaskName, World, among_from_list_all, chain, common_steps, descriptor_at, found_among, holds_of, is_directory_at, is_elsewhere, is_kind_in, is_listed, is_no_root, is_on_descendant, is_special, lies_under_location, list_any, looks_of, mount_at, mount_numbered, node_at, none_is_not, or-false, rest_of, same_Some, task_called}
+use Rattle.vt_spec.proofs.Common.{Among, Descriptor, Here, IsWorld, Location, Looks, Place, Task, TaskName, World, among_from_list_all, chain, common_steps, descriptor_at, found_among, holds_of, is_directory_at, is_elsewhere, is_kind_in, is_listed, is_no_root, is_on_descendant, is_special, lies_under_location, list_any, looks_of, mount_at, mount_numbered, node_at, none_is_not, or-false, rest_of, task_called}
 use Rattle.vt_laws_mounts.proofs.namespaces.Topmost.{topmost_is_free}
 use Rattle.vt_spec.specs.declared.attributes.Kind.TheVariants.{File, White}
 use Rattle.vt_spec.specs.declared.errors.Deny.{Deny}
@@ -14,7 +14,7 @@ use Rattle.vt_laws_worlds.specs.Worlds.Permits.{IsDestination, IsOwn, IsReachedD
 -- a step that succeeds where something is there
 pub ok_or_some : {A : Type 0} (o : Option A) (deny : Deny) (a : A) → ok_or o deny ≡ Ok a → o ≡ Some a
 ok_or_some {A} None deny a e = grind (arith, common_steps, true≢false)
-ok_or_some (Some x) deny a e = ap Some (ok_same x a (Ok x) refl e)
+ok_or_some (Some x) deny a e = cc (ok_same x a (Ok x) refl e)
 
 -- a test of what may be there
 pub any_of_option : {A : Type 0} (test : A → Bool) (o : Option A) → list_any test (option_to_list o) ≡ holds_of test o
@@ -23,13 +23,13 @@ any_of_option test (Some a) = or-false (test a)
 
 -- what is there of an option
 pub some_of : {A : Type 0} (o : Option A) (default : A) → is_some o ≡ true → o ≡ Some (unwrap_or o default)
-some_of None default is = absurd (true≢false (sym is))
+some_of None default is = cc
 some_of (Some a) default is = refl
 
 -- the first two of several tests that all fail
 pub first_two : (a b c d e : Bool) → (a || b || c || d || e) ≡ false → (a ≡ false) × (b ≡ false)
-first_two true b c d e h = absurd (true≢false h)
-first_two false true c d e h = absurd (true≢false h)
+first_two true b c d e h = cc
+first_two false true c d e h = cc
 first_two false false c d e h = (refl, refl)
 
 -- what follows a start goes by where the first step leads
@@ -50,8 +50,7 @@ module _ (world : World ℕ) (whole : IsWorld nat_eq world) (task : Task ℕ)
 
   pub reached_directory : (here : Here ℕ) → HereDirectory world whole task called here
       → IsReachedDirectory world task here.location
-  reached_directory here is =
-      is_reached_directory world whole task here.location (directory_found world whole task here.location is) is.1
+  reached_directory here is = is_reached_directory world whole task _ (directory_found world whole task _ is) is.1
 
   pub destination : (here : Here ℕ) → IsTopmost world whole task called here
       → is_elsewhere nat_eq looks task here.location ≡ false → IsDestination world task here.location
@@ -59,13 +58,12 @@ module _ (world : World ℕ) (whole : IsWorld nat_eq world) (task : Task ℕ)
 
   pub parent_directory : {P : Location ℕ → Type 0} (place : Place ℕ) → IsPlaceIn world whole task called P place
       → is_special place.last ≡ false → IsReachedDirectory world task place.parent
-  parent_directory place is plain = is_reached_directory world whole task place.parent is.0 (is.1 plain)
+  parent_directory place is plain = is_reached_directory world whole task _ is.0 (is.1 plain)
 
   -- what is at the end of a walk, and is no directory and no whiteout, is a regular file
   pub end_is_file : (file : Location ℕ) → End world whole task called file → is_directory_at nat_eq world file ≡ false
       → is_kind_in White (node_at nat_eq world file) ≡ false → is_kind_in File (node_at nat_eq world file) ≡ true
-  end_is_file file end no_directory no_whiteout =
-      others_are_files (node_at nat_eq world file) end.0.1 end.1 no_directory no_whiteout
+  end_is_file file end no_directory no_whiteout = others_are_files _ end.0.1 end.1 no_directory no_whiteout
 
   -- a descriptor that is found is one of the task's
   pub descriptor_among : (number : ℕ) (fits : Descriptor ℕ → Bool) (descriptor : Descriptor ℕ)
@@ -75,9 +73,8 @@ module _ (world : World ℕ) (whole : IsWorld nat_eq world) (task : Task ℕ)
   -- the place below a mount is that of the mount, whatever inode it is seen at
   pub below_at : (new : Location ℕ) → is_on_descendant nat_eq looks task.root.mount new ≡ true → (node : ℕ)
       → is_on_descendant nat_eq looks task.root.mount (record { mount = new.mount; node = node }) ≡ true
-  below_at new h node = ap (list_any (λ (place : Location ℕ). nat_eq task.root.mount place.mount))
-      (rest_same (length world.mounts) (λ (place : Location ℕ). (mount_at nat_eq world place).mount_point)
-      (record { mount = new.mount; node = node }) new refl) ∙ h
+  below_at new h node = cc (rest_same (length world.mounts) (λ (place : Location ℕ).
+      (mount_at nat_eq world place).mount_point) (record { mount = new.mount; node = node }) new refl)
 
   pub under_root : (new put : Location ℕ) → lies_under_location nat_eq looks new put ≡ true
       → is_no_root nat_eq looks new ≡ false → (node : ℕ) → node ≡ (mount_numbered nat_eq world new.mount).root
@@ -91,11 +88,10 @@ module _ (world : World ℕ) (whole : IsWorld nat_eq world) (task : Task ℕ)
   pub namespace_listed : (name : TaskName) (namespace : ℕ)
       → option_map (λ (t : Task ℕ). t.namespace) (task_called world name) ≡ Some namespace
       → is_listed nat_eq world namespace ≡ true
-  namespace_listed name = by (task_called world name) refl
+  namespace_listed name = by _ refl
     where
       by : (found : Option (Task ℕ)) → task_called world name ≡ found → (namespace : ℕ)
           → option_map (λ (t : Task ℕ). t.namespace) found ≡ Some namespace → is_listed nat_eq world namespace ≡ true
-      by None f namespace e = none_is_not None namespace refl e
-      by (Some target) f namespace e = ap (is_listed nat_eq world) (sym (same_Some target.namespace namespace e))
-          ∙ among_from_list_all (λ (t : Task ℕ). is_listed nat_eq world t.namespace) world.tasks
-          whole.namespaces.tasks_listed target (called_there world.tasks name target f)
+      by None f namespace e = none_is_not None _ refl e
+      by (Some target) f namespace e = cc (among_from_list_all (λ (t : Task ℕ). is_listed nat_eq world t.namespace)
+          world.tasks whole.namespaces.tasks_listed target (called_there world.tasks name target f))

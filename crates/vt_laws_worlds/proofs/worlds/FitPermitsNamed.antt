@@ -1,5 +1,5 @@
 -- Whatever is permitted in a world that has the invariants fits it.
-use Rattle.std.proofs.Common.{arith, Bool, Ok, not, option_map, refl, sym, true≢false, ◌∙◌, List, Some, false, is_some, nat_eq, true, ℕ, ◌≡◌}
+use Rattle.std.proofs.Common.{arith, Bool, Ok, not, option_map, refl, true≢false, ◌∙◌, List, Some, false, is_some, nat_eq, true, ℕ, ◌≡◌}
 use Rattle.vt_spec.proofs.Common.{Call, Descriptor, Fresh, Here, IsWorld, Location, Looks, Permit, Place, Serves, Task, World, among_from_list_all, common_steps, denial, destination_walk, directory_walk, file_walk, has_regular_files_open, is_directory_at, is_directory_there, is_elsewhere, is_kind_in, is_no_root, is_on_descendant, is_shared, is_special, lies_under_location, looks_of, mount_at, new_leaf_walk, new_walk, node_at, object_there, object_walk, old_leaf_walk, old_walk, or_false_left, or_parts, overfills, rename_new_walk, source_walk, special_word, task_called}
 use Rattle.vt_laws_rules.proofs.given.Inversion.{calls_are_granted}
 use Rattle.vt_laws_rules.proofs.same.SameMany.{attaches}
@@ -32,44 +32,39 @@ module _ (fresh : Fresh ℕ) (world : World ℕ) (whole : IsWorld nat_eq world) 
   -- where walks end
   object_is : (path : List ℕ) (here : Here ℕ) → object_walk nat_eq looks task path ≡ Ok here
       → End world whole task called here.location
-  object_is path here = at_end _ (object_walk nat_eq looks task path) here (object_end world whole task called path)
+  object_is path here = at_end _ _ here (object_end world whole task called path)
 
   directory_is : (path : List ℕ) (here : Here ℕ) → directory_walk nat_eq looks task path ≡ Ok here
       → FoundDirectory world whole task called here.location
-  directory_is path here =
-      at_end _ (directory_walk nat_eq looks task path) here (directory_walk_end world whole task called path)
+  directory_is path here = at_end _ _ here (directory_walk_end world whole task called path)
 
   source_is : (path : List ℕ) (here : Here ℕ) → source_walk nat_eq looks task path ≡ Ok here
       → HereDirectory world whole task called here
-  source_is path here =
-      at_end _ (source_walk nat_eq looks task path) here (source_walk_end world whole task called path)
+  source_is path here = at_end _ _ here (source_walk_end world whole task called path)
 
   topmost_is : (path : List ℕ) (here : Here ℕ) → destination_walk nat_eq looks task path ≡ Ok here
       → IsTopmost world whole task called here
-  topmost_is path here =
-      at_end _ (destination_walk nat_eq looks task path) here (destination_walk_end world whole task called path)
+  topmost_is path here = at_end _ _ here (destination_walk_end world whole task called path)
 
   file_is : (path : List ℕ) (place : Place ℕ) → file_walk nat_eq looks task path ≡ Ok place
       → IsEndPlace world whole task called place
-  file_is path place = at_end _ (file_walk nat_eq looks task path) place (file_walk_end world whole task called path)
+  file_is path place = at_end _ _ place (file_walk_end world whole task called path)
 
   new_is : (path : List ℕ) (place : Place ℕ) → new_walk nat_eq looks task path ≡ Ok place
       → IsFoundPlace world whole task called place
-  new_is path place = at_end _ (new_walk nat_eq looks task path) place (new_walk_found world whole task called path)
+  new_is path place = at_end _ _ place (new_walk_found world whole task called path)
 
   new_leaf_is : (path : List ℕ) (place : Place ℕ) → new_leaf_walk nat_eq looks task path ≡ Ok place
       → IsFoundPlace world whole task called place
-  new_leaf_is path place =
-      at_end _ (new_leaf_walk nat_eq looks task path) place (new_leaf_walk_found world whole task called path)
+  new_leaf_is path place = at_end _ _ place (new_leaf_walk_found world whole task called path)
 
   old_leaf_is : (path : List ℕ) (place : Place ℕ) → old_leaf_walk nat_eq looks task path ≡ Ok place
       → IsOldPlace world whole task called place
-  old_leaf_is path place =
-      at_end _ (old_leaf_walk nat_eq looks task path) place (old_leaf_walk_found world whole task called path)
+  old_leaf_is path place = at_end _ _ place (old_leaf_walk_found world whole task called path)
 
   found_there : (place : Place ℕ) → IsOldPlace world whole task called place
       → Found world whole task called (object_there place)
-  found_there place is = is.0.2 (object_there place) (some_of place.object place.parent is.1)
+  found_there place is = is.0.2 (object_there place) (some_of _ place.parent is.1)
 
   -- a parent of a new name, an object, and a regular file
   made_in : {P : Location ℕ → Type 0} (place : Place ℕ) → IsPlaceIn world whole task called P place
@@ -209,12 +204,12 @@ module _ (fresh : Fresh ℕ) (world : World ℕ) (whole : IsWorld nat_eq world) 
       → mounts_overlay call ≡ false → too_many permit ≡ false
   granted_leaves_room call permit (mounts_tmpfs path flags here admin end passed) is plain = passed.1.0
   granted_leaves_room call permit (mounts_overlayfs path words flags here layers admin end walked layered passed) is
-      plain = absurd (true≢false plain)
+      plain = cc
   granted_leaves_room call permit (binds source path recursive from here admin from_end end passed) is plain =
       passed.1.1.0
   granted_leaves_room call permit (moves_mount source path from here admin from_end end passed) is plain =
       passed.1.1.1.1.1.0
-  granted_leaves_room call permit granted is plain = absurd (true≢false (sym is))
+  granted_leaves_room call permit granted is plain = cc
 
   fitting : Serves nat_eq world fresh → (call : Call) (permit : Permit ℕ) → mounts_overlay call ≡ false
       → Granted call permit → IsFitPermit fresh world task permit
@@ -222,9 +217,8 @@ module _ (fresh : Fresh ℕ) (world : World ℕ) (whole : IsWorld nat_eq world) 
       grind (arith, common_steps, granted_names call permit plain granted, granted_leaves_room, few_left)
 
 pub all_permits_fit : AllPermitsFit
-all_permits_fit world fresh task call permit whole serves called files judged =
-    fitting fresh world whole task called serves call permit files
-    (calls_are_granted nat_eq (looks_of nat_eq world) (overfills nat_eq fresh world task) task call permit judged)
+all_permits_fit world fresh task call permit whole serves called files judged = fitting fresh world whole task called
+    serves call permit files (calls_are_granted nat_eq _ _ task call permit judged)
 
 pub permits_fit : PermitsFit
 permits_fit world fresh task call permit whole plain serves called files judged =

@@ -1,6 +1,6 @@
 -- Where a task gets: to mounts of its namespace, or where it stands.
 use Rattle.std.proofs.Common.{arith, ◌≡◌, refl, sym, ap, subst, ◌∙◌, ◌⊎◌, inl, inr, ⊎_elim, ℕ, nat_eq, true, List, Option, Some, None, Ok, Err, Result, length, eqb-true, ok_or, option_map}
-use Rattle.vt_spec.proofs.Common.{Among, Dot, DotDot, IsWorld, LastWord, Location, Mount, Named, NoWord, Stands, Task, World, among_from_all, among_from_list_all, and_parts, child_at, common_steps, denial, entry_location, found_among, found_or_none, found_passes, hops, is_directory_seen_in, last_or, last_word, looks_of, mount_at, mount_numbered, none_is_some, number-mount_in, root_of, same_Some, stands_at, stands_on_directories, start_of, stepped, topmost, up_from, words}
+use Rattle.vt_spec.proofs.Common.{Among, Dot, DotDot, IsWorld, LastWord, Location, Mount, Named, NoWord, Stands, Task, World, among_from_all, among_from_list_all, and_parts, child_at, common_steps, denial, entry_location, found_among, found_or_none, found_passes, is_directory_seen_in, last_word, looks_of, mount_at, mount_numbered, none_is_some, number-mount_in, root_of, same_Some, stands_at, start_of, stepped, topmost, up_from}
 use Rattle.vt_spec.specs.declared.errors.Deny.{Deny}
 use Rattle.vt_spec.specs.declared.errors.Rule.TheVariants.{W6}
 use Rattle.vt_spec.specs.Machine.Walking.{hop}
@@ -31,13 +31,13 @@ module _ (world : World ℕ) (is : IsWorld nat_eq world) (task : Task ℕ) (ther
       × (is_directory_seen_in nat_eq world task.namespace task.directory ≡ true)
   stood = and_parts (is_directory_seen_in nat_eq world task.namespace task.root)
       (is_directory_seen_in nat_eq world task.namespace task.directory)
-      (among_from_list_all (stands_on_directories nat_eq world) world.tasks is.tasks.directories task there)
+      (among_from_list_all _ _ is.tasks.directories task there)
 
   pub root_ground : OnGround task.root
-  root_ground = ⊎_elim inl (λ none. inr (none, inl refl)) (seen task.root stood.0)
+  root_ground = ⊎_elim inl (λ none. inr (none, inl refl)) (seen _ stood.0)
 
   pub directory_ground : OnGround task.directory
-  directory_ground = ⊎_elim inl (λ none. inr (none, inr refl)) (seen task.directory stood.1)
+  directory_ground = ⊎_elim inl (λ none. inr (none, inr refl)) (seen _ stood.1)
 
   pub start_ground : (directory : Location ℕ) (text : List ℕ) → OnGround directory
       → OnGround (start_of task directory text)
@@ -68,9 +68,7 @@ module _ (world : World ℕ) (is : IsWorld nat_eq world) (task : Task ℕ) (ther
           (ap (λ (x : Mount ℕ). x.namespace) (sym itself) ∙ same ∙ none.0))) ground)
 
   pub topmost_ground : (location : Location ℕ) → OnGround location → OnGround (topmost nat_eq world.mounts location)
-  topmost_ground location ground =
-      chain_ends_at OnGround (λ here. option_map root_of (child_at nat_eq world.mounts here)) child_ground
-      (length world.mounts) location location ground
+  topmost_ground location ground = chain_ends_at _ _ child_ground (length world.mounts) location _ ground
 
   -- so is a parent
   pub parent_ground : (number : ℕ) (point : Location ℕ) → IsGround number
@@ -100,10 +98,9 @@ module _ (world : World ℕ) (is : IsWorld nat_eq world) (task : Task ℕ) (ther
       → stepped nat_eq (looks_of nat_eq world) task here word ≡ Ok next → OnGround next
   step_ground here next NoWord ground e = let same : here ≡ next = cc in subst OnGround same ground
   step_ground here next Dot ground e = let same : here ≡ next = cc in subst OnGround same ground
-  step_ground here next DotDot ground e = up_ground (last_or here (hops nat_eq (looks_of nat_eq world) task here)) next
-      (chain_ends_at OnGround (hop nat_eq (looks_of nat_eq world) task) hop_ground (length world.mounts) here here
+  step_ground here next DotDot ground e = up_ground _ next (chain_ends_at _ _ hop_ground (length world.mounts) here here
       ground) e
-  step_ground here next (Named name) ground e = by (entry_location nat_eq (looks_of nat_eq world) here name) refl e
+  step_ground here next (Named name) ground e = by _ refl e
     where
       by : (o : Option (Location ℕ)) → entry_location nat_eq (looks_of nat_eq world) here name ≡ o
           → ok_or (option_map (topmost nat_eq world.mounts) o) (denial W6) ≡ Ok next → OnGround next
@@ -126,9 +123,7 @@ module _ (world : World ℕ) (is : IsWorld nat_eq world) (task : Task ℕ) (ther
       way_ground next last rest walked way (step_ground at next (last_word word) ground e)
   way_ground here end path_words passed (follows at link inside last word text rest in_text walked e linked text_way
       way) ground = way_ground inside last rest walked way
-      (way_ground (start_of task at text) inside (words text) in_text text_way (start_ground at text ground))
+      (way_ground _ inside _ _ text_way (start_ground at text ground))
 
   pub searched_ground : (path : List ℕ) (end : Location ℕ) → IsSearchedTo world task path end → OnGround end
-  searched_ground path end searched =
-      way_ground (start_of task task.directory path) end (words path) searched.passed searched.way
-      (start_ground task.directory path directory_ground)
+  searched_ground path end searched = way_ground _ end _ _ searched.way (start_ground _ path directory_ground)

@@ -1,5 +1,5 @@
 -- A permit that fits keeps filesystems plain, with numbers of their own.
-use Rattle.std.proofs.Common.{◌≡◌, refl, sym, ap, subst, ◌∙◌, inl, inr, ⊎_elim, ℕ, nat_eq, Bool, true, false, List, [], ◌∷◌, ◌++◌, ◌||◌, map}
+use Rattle.std.proofs.Common.{◌≡◌, refl, sym, ap, subst, ◌∙◌, inl, inr, ⊎_elim, ℕ, nat_eq, Bool, true, false, List, [], ◌∷◌, ◌++◌, map}
 use Rattle.vt_spec.proofs.Common.{Among, Change, CopyUp, Filesystem, Fresh, Location, Make, Move, Permit, Remove, Serves, Task, ToChange, ToEnterNamespace, ToExit, ToMake, ToMountOverlay, ToMountPlain, ToOpen, ToOpenNew, ToRemoveDirectory, ToRename, ToSetType, ToUnmount, ToUnmountLazily, ToUnshare, ToWritePart, World, among-append, any_pair, apply, evens, filesystems-taken_away, filesystems-without_replaced, going, is_copied_up, is_overlay, list_any, mount_at, mount_numbered, namespace_entered, nat_eq_false_turned, none_among, none_from_among, odds, or_parts, plain_filesystem, pwritten, replaced_if_numbered, unshared, with_change, with_copy, without_mounts_on, without_replaced, without_task}
 use Rattle.vt_laws_mounts.proofs.mounts.MountsRetyped.{types_are_of_mounts}
 use Rattle.vt_laws_mounts.proofs.ends.UnmountingEnds.{lazy_is_of_mounts}
@@ -28,33 +28,33 @@ numbers list = map (λ (f : Filesystem ℕ). f.number) list
 any_by_numbers : (number : ℕ) (list : List (Filesystem ℕ))
     → list_any (λ (other : Filesystem ℕ). nat_eq number other.number) list ≡ list_any (nat_eq number) (numbers list)
 any_by_numbers number [] = refl
-any_by_numbers number (first ∷ rest) = ap (λ b. nat_eq number first.number || b) (any_by_numbers number rest)
+any_by_numbers number (first ∷ rest) = cc (any_by_numbers number rest)
 
 pair_by_numbers : (list : List (Filesystem ℕ))
     → any_pair (λ (a b : Filesystem ℕ). nat_eq a.number b.number) list ≡ any_pair nat_eq (numbers list)
 pair_by_numbers [] = refl
-pair_by_numbers (first ∷ rest) =
-    ap (λ b. b || any_pair (λ (a b : Filesystem ℕ). nat_eq a.number b.number) rest) (any_by_numbers first.number rest)
-    ∙ ap (λ b. list_any (nat_eq first.number) (numbers rest) || b) (pair_by_numbers rest)
+pair_by_numbers (first ∷ rest) = cc (any_by_numbers first.number rest, pair_by_numbers rest)
 
 pub appended_apart : (list : List (Filesystem ℕ)) (new : Filesystem ℕ) → AreApart list
     → ((old : Filesystem ℕ) → Among old list → nat_eq old.number new.number ≡ false) → AreApart (list ++ (new ∷ []))
 appended_apart [] new e differ = refl
 appended_apart (first ∷ rest) new e differ =
-    let parts = or_parts (list_any (λ (b : Filesystem ℕ). nat_eq first.number b.number) rest)
-    (any_pair (λ (a b : Filesystem ℕ). nat_eq a.number b.number) rest) e in
-    ap (λ b. b || any_pair (λ (a b : Filesystem ℕ). nat_eq a.number b.number) (rest ++ (new ∷ [])))
-    (none_from_among (λ (b : Filesystem ℕ). nat_eq first.number b.number) (rest ++ (new ∷ [])) (λ b m.
-    ⊎_elim (none_among (λ (x : Filesystem ℕ). nat_eq first.number x.number) rest parts.0 b)
-    (λ r. ⊎_elim (λ same. ap (λ (x : Filesystem ℕ). nat_eq first.number x.number) same ∙ differ first (inl refl))
-    (λ none. absurd none) r) (among-append rest (new ∷ []) b m)))
-    ∙ appended_apart rest new parts.1 (λ old m. differ old (inr m))
+    let parts = or_parts _ _ e in
+    cc (
+      none_from_among (λ (b : Filesystem ℕ). nat_eq first.number b.number) (rest ++ (new ∷ []))
+          (λ b m. ⊎_elim (none_among (λ (x : Filesystem ℕ). nat_eq first.number x.number) rest parts.0 b)
+          (λ r. ⊎_elim (λ same. ap (λ (x : Filesystem ℕ). nat_eq first.number x.number) same ∙ differ first (inl refl))
+          (λ none. absurd none) r) (among-append rest (new ∷ []) b m)),
+      appended_apart rest new parts.1 (λ old m. differ old (inr m)),
+    )
 
 go_on_apart : (before after : List (Filesystem ℕ)) → FilesystemsGoOn before after → AreApart before → AreApart after
 go_on_apart before after (same_ones list e) apart_all = subst AreApart (sym e) apart_all
-go_on_apart before after (one_changed new list one e) apart_all = subst AreApart (sym e)
-    (pair_by_numbers (map (replaced_if_numbered nat_eq new) before) ∙ ap (any_pair nat_eq) (numbers-replaced new before)
-    ∙ sym (pair_by_numbers before) ∙ apart_all)
+go_on_apart before after (one_changed new list one e) apart_all = subst AreApart (sym e) (cc (
+  pair_by_numbers (map (replaced_if_numbered nat_eq new) before),
+  numbers-replaced new before,
+  pair_by_numbers before,
+))
 go_on_apart before after (one_more new list one differ e) apart_all =
     subst AreApart (sym e) (appended_apart before new apart_all differ)
 
@@ -124,5 +124,4 @@ module _ (world : World ℕ) (fresh : Fresh ℕ) (task : Task ℕ) (plain : IsPl
 
 pub permits_keep_filesystem_numbers : KeptByPermits OneFilesystemANumber
 permits_keep_filesystem_numbers world fresh task permit is plain serves called fits =
-    go_on_apart world.filesystems (after world fresh task plain serves permit).filesystems
-    (filesystems_go_on world fresh task plain serves permit fits.names) is.files.one_filesystem
+    go_on_apart _ _ (filesystems_go_on world fresh task plain serves permit fits.names) is.files.one_filesystem

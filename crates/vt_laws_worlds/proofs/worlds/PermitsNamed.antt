@@ -1,7 +1,7 @@
 -- A permit that fits keeps the names of tasks apart, where tasks have counted their forks; and they go on counting
 -- them.
-use Rattle.std.proofs.Common.{refl, ap, ◌∙◌, ℕ, nat_eq, map, unwrap_or}
-use Rattle.vt_spec.proofs.Common.{ForksAreCounted, Fresh, Location, Make, Move, Permit, Remove, Task, ToChange, ToClose, ToEnterNamespace, ToExit, ToFork, ToMake, ToMountOverlay, ToOpen, ToOpenNew, ToPivot, ToRemoveDirectory, ToRename, ToSetCredentials, ToSetDirectory, ToSetRoot, ToSetType, ToSetUmask, ToUnmount, ToUnmountLazily, ToUnshare, ToWritePart, World, apply, entered_at, evens, going, is_copied_up, mount_at, mount_numbered, mounts_of, namespace_entered, namespace_root, numbers_by, odds, replaced_if_called, tasks-taken_away, tasks-with_change, tasks-without_replaced, unshared, unshared_task, with_descriptor, without_descriptor, without_mounts_on, without_replaced, without_task}
+use Rattle.std.proofs.Common.{refl, ◌∙◌, ℕ, nat_eq, unwrap_or}
+use Rattle.vt_spec.proofs.Common.{ForksAreCounted, Fresh, Location, Make, Move, Permit, Remove, Task, ToChange, ToClose, ToEnterNamespace, ToExit, ToFork, ToMake, ToMountOverlay, ToOpen, ToOpenNew, ToPivot, ToRemoveDirectory, ToRename, ToSetCredentials, ToSetDirectory, ToSetRoot, ToSetType, ToSetUmask, ToUnmount, ToUnmountLazily, ToUnshare, ToWritePart, World, apply, entered_at, evens, going, is_copied_up, mount_at, mount_numbered, mounts_of, namespace_entered, namespace_root, numbers_by, odds, tasks-taken_away, tasks-with_change, tasks-without_replaced, unshared, unshared_task, with_descriptor, without_descriptor, without_mounts_on, without_replaced, without_task}
 use Rattle.vt_laws_mounts.proofs.mounts.MountsRetyped.{types_are_of_mounts}
 use Rattle.vt_laws_mounts.proofs.ends.UnmountingEnds.{lazy_is_of_mounts}
 use Rattle.vt_laws_worlds.specs.Worlds.Kept.{KeptByAllPermits, KeptByPermits}
@@ -34,13 +34,11 @@ module _ (world : World ℕ) (fresh : Fresh ℕ) (task : Task ℕ) where
       (Move from.node old to.node new object.node) ∙ tasks-without_replaced world replaced)
   tasks_go_on (ToOpen file access) fits =
       one_changed (with_descriptor task file access) (after (ToOpen file access)).tasks refl refl
-      (ap (map (replaced_if_called (with_descriptor task file access)))
-      (tasks-with_copy fresh world (is_copied_up nat_eq world file access) file))
+      (cc (tasks-with_copy fresh world (is_copied_up nat_eq world file access) file))
   tasks_go_on (ToOpenNew directory name node access) fits =
       let file : Location ℕ = record { mount = directory.mount; node = evens fresh 0 } in
       one_changed (with_descriptor task file access) (after (ToOpenNew directory name node access)).tasks refl refl
-      (ap (map (replaced_if_called (with_descriptor task file access))) (tasks-with_change (odds fresh) world directory
-      (Make directory.node name (evens fresh 0) node)))
+      (cc (tasks-with_change (odds fresh) world directory (Make directory.node name (evens fresh 0) node)))
   tasks_go_on (ToWritePart file offset bytes) fits =
       same_ones (after (ToWritePart file offset bytes)).tasks (tasks-pwritten fresh world file offset bytes)
   tasks_go_on (ToClose descriptor) fits = one_changed (without_descriptor task descriptor)

@@ -1,6 +1,6 @@
 -- A permit that fits keeps what is seen.
-use Rattle.std.proofs.Common.{arith, ◌≡◌, refl, sym, subst, ◌∙◌, ℕ, nat_eq, Bool, true, false, filter, flat_map, List, [], ◌∷◌, Option, Some, None, map, All}
-use Rattle.vt_spec.proofs.Common.{Change, CopyUp, Fresh, IsWorld, Location, Make, Mount, Move, Permit, Remove, Serves, Stands, Task, ToBind, ToChange, ToClose, ToEnterNamespace, ToExit, ToFork, ToMake, ToMountOverlay, ToMountPlain, ToMove, ToOpen, ToOpenNew, ToPivot, ToRemoveDirectory, ToRename, ToSetCredentials, ToSetDirectory, ToSetFlags, ToSetRoot, ToSetType, ToSetUmask, ToUnmount, ToUnmountLazily, ToUnshare, ToWritePart, World, among_from_all, apply, bind_tree, common_steps, copied_mount, evens, files_at, filesystems-taken_away, filesystems-without_replaced, going, is_copied_up, is_in_ended, is_overlay, mount_at, mount_numbered, mount_tree, mounts_of, mounts_on, namespace_entered, namespaces_ended, numbers_by, odds, plain_filesystem, pwritten, taken_away, unshared, with_change, with_copy, without_mounts_on, without_replaced, without_task}
+use Rattle.std.proofs.Common.{arith, ◌≡◌, refl, sym, subst, ◌∙◌, ℕ, nat_eq, Bool, true, false, flat_map, List, [], ◌∷◌, Option, Some, None, map, All}
+use Rattle.vt_spec.proofs.Common.{Change, CopyUp, Fresh, IsWorld, Location, Make, Mount, Move, Permit, Remove, Serves, Stands, Task, ToBind, ToChange, ToClose, ToEnterNamespace, ToExit, ToFork, ToMake, ToMountOverlay, ToMountPlain, ToMove, ToOpen, ToOpenNew, ToPivot, ToRemoveDirectory, ToRename, ToSetCredentials, ToSetDirectory, ToSetFlags, ToSetRoot, ToSetType, ToSetUmask, ToUnmount, ToUnmountLazily, ToUnshare, ToWritePart, World, among_from_all, apply, bind_tree, common_steps, evens, files_at, filesystems-taken_away, filesystems-without_replaced, going, is_copied_up, is_overlay, mount_at, mount_numbered, mount_tree, mounts_of, mounts_on, namespace_entered, namespaces_ended, odds, plain_filesystem, pwritten, taken_away, unshared, with_change, with_copy, without_mounts_on, without_replaced, without_task}
 use Rattle.vt_laws_worlds.specs.Worlds.Kept.{IsPlain}
 use Rattle.vt_laws_worlds.specs.Worlds.Permits.{NamesWhatIsThere, SetsBytesOfFiles}
 use Rattle.vt_laws_worlds.proofs.worlds.Seen.{KeepsWhatIsSeen, same_seen, seen_alike, seen_on}
@@ -24,7 +24,7 @@ gone_on world location = map (λ (mount : Mount ℕ). mount.number)
 
 pub point_removed_seen : (world : World ℕ) (location : Location ℕ)
     → KeepsWhatIsSeen world (without_mounts_on nat_eq world location)
-point_removed_seen world location = taken_seen world (gone_on world location)
+point_removed_seen world location = taken_seen world _
 
 pub replaced_seen : (world : World ℕ) (replaced : Option (Location ℕ))
     → KeepsWhatIsSeen world (without_replaced nat_eq world replaced)
@@ -37,16 +37,13 @@ replaced_plain world None plain = plain
 replaced_plain world (Some location) plain = taken_plain world (gone_on world location) plain
 
 pub namespaces_ended_seen : (world : World ℕ) → KeepsWhatIsSeen world (namespaces_ended nat_eq world)
-namespaces_ended_seen world =
-    ended_seen world (map (λ (mount : Mount ℕ). mount.number) (filter (is_in_ended nat_eq world) world.mounts))
-    (namespaces_ended nat_eq world) refl refl
+namespaces_ended_seen world = ended_seen world _ _ refl refl
 
 pub unshared_seen : (world : World ℕ) (fresh : Fresh ℕ) (task : Task ℕ)
     → KeepsWhatIsSeen world (unshared nat_eq world fresh task)
 unshared_seen world fresh task =
     let copied = mounts_of nat_eq world task.namespace in
-    copied_seen world (unshared nat_eq world fresh task)
-    (map (copied_mount (numbers_by nat_eq (odds fresh) copied) (evens fresh 0)) copied) refl refl
+    copied_seen world _ _ refl refl
 
 -- a change in a world with these filesystems
 pub change_seen_in : (fresh : Fresh ℕ) (world middle : World ℕ) → UppersAreElsewhere world → AreNewInodes fresh world

@@ -27,8 +27,7 @@ module _ (world : World ℕ) (fresh : Fresh ℕ) (task : Task ℕ) (is : IsWorld
       → KeepsWhatIsSeen middle (with_change nat_eq supply middle location change)
       → AllShow (with_change nat_eq supply middle location change)
   changing supply middle show location change seen =
-      all_show_after middle (with_change nat_eq supply middle location change) seen
-      (mounts-with_change middle supply location change) show
+      all_show_after middle _ seen (mounts-with_change middle supply location change) show
 
   copying : (b : Bool) (file : Location ℕ) → AllShow (with_copy nat_eq b fresh world file)
   copying true file = changing fresh world shows file (CopyUp file.node)
@@ -43,7 +42,7 @@ module _ (world : World ℕ) (fresh : Fresh ℕ) (task : Task ℕ) (is : IsWorld
 
   replacing : (replaced : Option (Location ℕ)) → AllShow (without_replaced nat_eq world replaced)
   replacing None = shows
-  replacing (Some location) = taken_show world (gone_on world location) shows
+  replacing (Some location) = taken_show world _ shows
 
   -- mounts and filesystems are as they were
   alike : (before later : World ℕ) → later.mounts ≡ before.mounts → later.filesystems ≡ before.filesystems
@@ -120,8 +119,7 @@ module _ (world : World ℕ) (fresh : Fresh ℕ) (task : Task ℕ) (is : IsWorld
 
 pub all_permits_keep_mounts_showing : KeptByAllPermits MountsShow
 all_permits_keep_mounts_showing world fresh task permit is serves called fits =
-    mounts_show (after world fresh task is serves permit)
-    (permits_keep_all_shown world fresh task is serves permit fits.names)
+    mounts_show _ (permits_keep_all_shown world fresh task is serves permit fits.names)
 
 pub permits_keep_mounts_showing : KeptByPermits MountsShow
 permits_keep_mounts_showing world fresh task permit is plain serves called fits =

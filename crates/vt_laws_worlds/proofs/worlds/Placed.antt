@@ -1,5 +1,5 @@
 -- Where tasks stand, and what they have open, is there in each world that keeps what is seen.
-use Rattle.std.proofs.Common.{arith, ◌≡◌, refl, ap, ◌∙◌, ◌⊎◌, inl, inr, ⊎_elim, ℕ, nat_eq, true, List, [], ◌∷◌, map}
+use Rattle.std.proofs.Common.{arith, ◌≡◌, refl, ap, ◌∙◌, ◌⊎◌, inl, inr, ⊎_elim, ℕ, nat_eq, true, List, map}
 use Rattle.vt_spec.proofs.Common.{Among, Descriptor, Location, Task, World, all_locations, among-flat_map, among-from_flat_map, among-from_map, among-map, among_from_list_all, and_from, and_parts, common_steps, has_regular_files_open, is_directory_at, is_directory_seen_in, is_kind_in, is_located_well, list_all_from_among, locations_of, mount_at, node_at, replaced_if_called, stands_on_directories}
 use Rattle.vt_spec.specs.declared.attributes.Kind.TheVariants.{File}
 use Rattle.vt_laws_worlds.specs.Worlds.Tasks.{LocationsAreThere, OpenFilesAreRegular, TasksStandOnDirectories}
@@ -27,10 +27,10 @@ module _ (before after : World ℕ) (seen : KeepsWhatIsSeen before after) where
   pub stands_after : (namespace : ℕ) (location : Location ℕ) → StandsAt before namespace location
       → StandsAt after namespace location
   stands_after namespace location at =
-      let is = mount_of_located before after seen location at.located in
+      let is = mount_of_located before after seen _ at.located in
       record {
-        located = located_after before after seen location at.located;
-        directory = directory_after before after seen location is at.directory;
+        located = located_after before after seen _ at.located;
+        directory = directory_after before after seen _ is at.directory;
         inside = (seen.views location.mount is).namespace namespace at.inside;
       }
 
@@ -99,12 +99,8 @@ module _ (world : World ℕ) (placed : ArePlaced world world.tasks) where
   pub tasks_stand_on_directories : TasksStandOnDirectories world
   tasks_stand_on_directories = list_all_from_among (stands_on_directories nat_eq world) world.tasks (λ task m.
       let at = placed task m in
-      and_from (is_directory_seen_in nat_eq world task.namespace task.root)
-      (is_directory_seen_in nat_eq world task.namespace task.directory)
-      (and_from (is_directory_at nat_eq world task.root)
-      (is_in task.namespace (mount_at nat_eq world task.root)) at.root.directory at.root.inside)
-      (and_from (is_directory_at nat_eq world task.directory)
-      (is_in task.namespace (mount_at nat_eq world task.directory)) at.directory.directory at.directory.inside))
+      and_from _ _ (and_from _ _ at.root.directory at.root.inside) (and_from _ _ at.directory.directory
+      at.directory.inside))
 
   pub open_files_are_regular : OpenFilesAreRegular world
   open_files_are_regular = list_all_from_among (has_regular_files_open nat_eq world) world.tasks (λ task m.
@@ -115,4 +111,4 @@ module _ (world : World ℕ) (placed : ArePlaced world world.tasks) where
 pub placed_with : (world : World ℕ) (new : Task ℕ) (tasks : List (Task ℕ)) → ArePlaced world tasks → IsPlaced world new
     → ArePlaced world (map (replaced_if_called new) tasks)
 placed_with world new tasks placed at task m =
-    let from = among-from_map (replaced_if_called new) tasks task m in grind (arith, common_steps)
+    let from = among-from_map _ tasks task m in grind (arith, common_steps)

@@ -1,10 +1,10 @@
 -- Where one step of a walk leads: to what is there, on a mount of the task's namespace or on one that is in none.
-use Rattle.std.proofs.Common.{arith, ◌≡◌, refl, sym, ap, subst, ◌∙◌, true≢false, ⊎_elim, ℕ, nat_eq, Bool, true, false, cond, List, [], ◌∷◌, ◌&&◌, ◌||◌, length, Option, Some, None, is_some, option_map, ok_or, Ok, Err, option_to_list}
-use Rattle.vt_spec.proofs.Common.{Among, Dot, DotDot, IsWorld, LastWord, Location, Mount, Named, NoWord, Node, Stands, Task, World, among_from_all, and_from, at_root, child_at, common_steps, denial, directory_used, entries_in, entry_named, files_at, found_or_none, hop, is_among, is_directory_at, is_directory_node, is_kind_in, is_lost, last_or, list_all, mount_at, mount_numbered, node_at, none_is_not, number-mount_in, on_parent, parent_location, root_of, same_Some, same_location, stands_at, symlink_text, topmost, unless}
+use Rattle.std.proofs.Common.{arith, ◌≡◌, refl, sym, ap, subst, ◌∙◌, true≢false, ⊎_elim, ℕ, nat_eq, Bool, true, false, cond, List, [], ◌∷◌, length, Option, Some, None, is_some, option_map, ok_or, Ok, Err, option_to_list}
+use Rattle.vt_spec.proofs.Common.{Among, Dot, DotDot, IsWorld, LastWord, Location, Mount, Named, NoWord, Node, Stands, Task, World, among_from_all, and_from, at_root, child_at, common_steps, denial, directory_used, entries_in, entry_named, files_at, found_or_none, hop, is_among, is_directory_at, is_directory_node, is_kind_in, list_all, mount_at, mount_numbered, node_at, none_is_not, number-mount_in, on_parent, parent_location, root_of, same_Some, stands_at, symlink_text, topmost, unless}
 use Rattle.vt_spec.specs.declared.attributes.Kind.TheVariants.{File, White}
 use Rattle.vt_spec.specs.declared.errors.Deny.{Deny}
 use Rattle.vt_spec.specs.declared.errors.Rule.TheVariants.{W6, W8}
-use Rattle.vt_spec.proofs.Walk.{entry_location, hops, is_top, stepped, up_from}
+use Rattle.vt_spec.proofs.Walk.{entry_location, stepped, up_from}
 use Rattle.vt_laws_mounts.specs.Mounts.Attaching.{numbers_of}
 use Rattle.vt_laws_mounts.proofs.mounts.MountsFound.{found_in, placed_among}
 use Rattle.vt_laws_mounts.proofs.mounts.MountsNumbered.{is_one_of}
@@ -24,7 +24,7 @@ directory_no_link (Some node) is = grind (arith, common_steps, true≢false)
 -- what is there, and is no directory, whiteout or link, is a regular file
 pub others_are_files : (o : Option (Node ℕ)) → is_some o ≡ true → symlink_text o ≡ None → is_directory_node o ≡ false
     → is_kind_in White o ≡ false → is_kind_in File o ≡ true
-others_are_files None there no_link no_directory no_whiteout = absurd (true≢false (sym there))
+others_are_files None there no_link no_directory no_whiteout = cc
 others_are_files (Some node) there no_link no_directory no_whiteout = grind (arith, common_steps, true≢false)
 
 -- a mount that stands at a place is in the namespace of the mount below
@@ -32,8 +32,7 @@ pub namespace_below : (world : World ℕ) (number : ℕ) (place : Location ℕ) 
     → (mount_numbered nat_eq world number).mount_point ≡ Some place
     → (mount_numbered nat_eq world number).namespace ≡ (mount_numbered nat_eq world place.mount).namespace
 namespace_below world number place (at_root it e) f = none_is_not _ place e f
-namespace_below world number place (on_parent it on e same stands) f =
-    same ∙ ap (λ (p : Location ℕ). (mount_numbered nat_eq world p.mount).namespace) (same_Some on place (sym e ∙ f))
+namespace_below world number place (on_parent it on e same stands) f = cc
 
 module _ (world : World ℕ) (whole : IsWorld nat_eq world) (task : Task ℕ) where
   -- a mount of the task's namespace, or one that is in none
@@ -64,55 +63,52 @@ module _ (world : World ℕ) (whole : IsWorld nat_eq world) (task : Task ℕ) wh
   directory_there location is = directory_used (files_at nat_eq world location).tree location.node is
 
   pub directory_found : (location : Location ℕ) → IsFoundDirectory location → IsFound location
-  directory_found location is = (is.0, directory_there location is.1)
+  directory_found location is = (is.0, directory_there _ is.1)
 
   pub directory_end : (location : Location ℕ) → IsFoundDirectory location → IsEnd location
-  directory_end location is = (directory_found location is, directory_no_link (node_at nat_eq world location) is.1)
+  directory_end location is = (directory_found _ is, directory_no_link _ is.1)
 
   pub is_reached : (location : Location ℕ) → IsFound location → IsReached world task location
   is_reached location is = record { there = and_from _ _ is.0.0 is.1; seen = is.0.1 }
 
   pub is_reached_directory : (location : Location ℕ) → IsFound location → IsDirectory location
       → IsReachedDirectory world task location
-  is_reached_directory location is directory = record { reached = is_reached location is; directory = directory }
+  is_reached_directory location is directory = record { reached = is_reached _ is; directory = directory }
 
   -- a mount over a place
   child_found : (a b : Location ℕ) → IsOn a.mount → option_map root_of (child_at nat_eq world.mounts a) ≡ Some b
       → IsFoundDirectory b
-  child_found a b on e = by (child_at nat_eq world.mounts a) refl e
+  child_found a b on e = by _ refl e
     where
       by : (o : Option (Mount ℕ)) → child_at nat_eq world.mounts a ≡ o → option_map root_of o ≡ Some b
           → IsFoundDirectory b
       by None is h = none_is_not None b refl h
       by (Some mount) is h =
-          let found : Among mount world.mounts × (stands_at nat_eq a mount ≡ true) =
-          found_in (stands_at nat_eq a) world.mounts mount is in
-          let itself = found_itself world.mounts whole.mounts.one_number mount found.0 in
-          let below = namespace_below world mount.number a
-          (among_from_all (λ (m : Mount ℕ). Stands nat_eq world m.number) world.mounts whole.mounts.standing mount
-          found.0) (ap (λ (m : Mount ℕ). m.mount_point) itself ∙ stands_there a mount found.1) in
-          subst IsFoundDirectory (same_Some (root_of mount) b h) (
+          let found : Among mount world.mounts × (stands_at nat_eq a mount ≡ true) = found_in _ _ mount is in
+          let itself = found_itself _ whole.mounts.one_number mount found.0 in
+          let below = namespace_below world _ a (among_from_all (λ (m : Mount ℕ). Stands nat_eq world m.number)
+          world.mounts whole.mounts.standing mount found.0) (cc (stands_there a mount found.1)) in
+          subst IsFoundDirectory (cc) (
             (
-              is_one_of world.mounts mount found.0,
-              ap (λ o. list_all (nat_eq task.namespace) (option_to_list o)) below ∙ on.1,
+              is_one_of _ mount found.0,
+              cc,
             ),
             among_from_all (λ m. is_directory_at nat_eq world (root_of m) ≡ true) world.mounts
                 (worlds_are_standing world whole).roots mount found.0,
           )
 
   pub topmost_found : (location : Location ℕ) → IsFound location → IsFound (topmost nat_eq world.mounts location)
-  topmost_found location is = chain_ends_at IsFound (λ here. option_map root_of (child_at nat_eq world.mounts here))
-      (λ a b found e. directory_found b (child_found a b found.0 e)) (length world.mounts) location location is
+  topmost_found location is = chain_ends_at _ _
+      (λ a b found e. directory_found b (child_found a b found.0 e)) (length world.mounts) location _ is
 
   pub topmost_end : (location : Location ℕ) → IsEnd location → IsEnd (topmost nat_eq world.mounts location)
-  topmost_end location is = chain_ends_at IsEnd (λ here. option_map root_of (child_at nat_eq world.mounts here))
-      (λ a b end e. directory_end b (child_found a b end.0.0 e)) (length world.mounts) location location is
+  topmost_end location is = chain_ends_at IsEnd _
+      (λ a b end e. directory_end b (child_found a b end.0.0 e)) (length world.mounts) location _ is
 
   pub topmost_directory : (location : Location ℕ) → IsFoundDirectory location
       → IsFoundDirectory (topmost nat_eq world.mounts location)
   topmost_directory location is =
-      chain_ends_at IsFoundDirectory (λ here. option_map root_of (child_at nat_eq world.mounts here))
-      (λ a b found e. child_found a b found.0 e) (length world.mounts) location location is
+      chain_ends_at _ _ (λ a b found e. child_found a b found.0 e) (length world.mounts) location _ is
 
   -- the place of a mount
   pub place_found : (number : ℕ) (place : Location ℕ) → IsOn number → (mount_numbered nat_eq world
@@ -140,37 +136,34 @@ module _ (world : World ℕ) (whole : IsWorld nat_eq world) (task : Task ℕ) wh
       )
 
   hop_found : (a b : Location ℕ) → IsFoundDirectory a → hop nat_eq world task a ≡ Some b → IsFoundDirectory b
-  hop_found a b is e = by (same_location nat_eq a task.root) (nat_eq a.node (mount_at nat_eq world a).root) e
+  hop_found a b is e = by _ _ e
     where
       by : (p q : Bool) → cond p None (cond q (mount_at nat_eq world a).mount_point None) ≡ Some b → IsFoundDirectory b
       by true q h = none_is_not None b refl h
-      by false true h = place_found a.mount b is.0 h
+      by false true h = place_found _ b is.0 h
       by false false h = none_is_not None b refl h
 
   parent_found : (location : Location ℕ) → IsFoundDirectory location
       → IsFoundDirectory (parent_location nat_eq world location)
   parent_found location is =
-      (is.0, (directory_in_tree world whole.files.trees location is.1).parent_directory location.node is.1)
+      (is.0, (directory_in_tree world whole.files.trees _ is.1).parent_directory location.node is.1)
 
   no_denial : (deny : Deny) (a : Location ℕ) → Err deny ≡ Ok a → ⊥
   no_denial deny a e = grind (arith, common_steps, true≢false)
 
   up_found : (location reached : Location ℕ) → IsFoundDirectory location
       → up_from nat_eq world task location ≡ Ok reached → IsFound reached
-  up_found location reached is e = by (is_top nat_eq world task location) (is_lost nat_eq world location) e
+  up_found location reached is e = by _ _ e
     where
       by : (p q : Bool) → cond p (Ok location) (unless ((q, W8) ∷ []) (Ok (topmost nat_eq world.mounts
           (parent_location nat_eq world location)))) ≡ Ok reached → IsFound reached
-      by true q h = subst IsFound (ok_same location reached (Ok location) refl h) (directory_found location is)
-      by false true h = absurd (no_denial (denial W8) reached h)
-      by false false h =
-          subst IsFound (ok_same (topmost nat_eq world.mounts (parent_location nat_eq world location)) reached _ refl h)
-          (topmost_found (parent_location nat_eq world location)
-          (directory_found (parent_location nat_eq world location) (parent_found location is)))
+      by true q h = subst IsFound (ok_same _ _ _ refl h) (directory_found _ is)
+      by false true h = absurd (no_denial _ _ h)
+      by false false h = subst IsFound (ok_same _ _ _ refl h) (topmost_found _ (directory_found _ (parent_found _ is)))
 
   pub entry_found : (here : Location ℕ) (name : List ℕ) (object : Location ℕ) → IsFoundDirectory here
       → entry_location nat_eq world here name ≡ Some object → IsFound object
-  entry_found here name object is e = by (entry_named name (entries_in (node_at nat_eq world here))) refl e
+  entry_found here name object is e = by _ refl e
     where
       by : (o : Option ℕ) → entry_named name (entries_in (node_at nat_eq world here)) ≡ o
           → option_map (λ number. record { mount = here.mount; node = number }) o ≡ Some object → IsFound object
@@ -183,14 +176,13 @@ module _ (world : World ℕ) (whole : IsWorld nat_eq world) (task : Task ℕ) wh
   -- one word
   pub step_found : (here : Location ℕ) (word : LastWord) (reached : Location ℕ) → IsFoundDirectory here
       → stepped nat_eq world task here word ≡ Ok reached → IsFound reached
-  step_found here NoWord reached is e = subst IsFound (ok_same here reached (Ok here) refl e) (directory_found here is)
-  step_found here Dot reached is e = subst IsFound (ok_same here reached (Ok here) refl e) (directory_found here is)
-  step_found here DotDot reached is e = up_found (last_or here (hops nat_eq world task here)) reached
-      (chain_ends_at IsFoundDirectory (hop nat_eq world task) hop_found (length world.mounts) here here is) e
-  step_found here (Named name) reached is e = by (entry_location nat_eq world here name) refl e
+  step_found here NoWord reached is e = subst IsFound (ok_same here _ _ refl e) (directory_found here is)
+  step_found here Dot reached is e = subst IsFound (ok_same here _ _ refl e) (directory_found here is)
+  step_found here DotDot reached is e = up_found _ _ (chain_ends_at _ _ hop_found (length world.mounts) here here is) e
+  step_found here (Named name) reached is e = by _ refl e
     where
       by : (o : Option (Location ℕ)) → entry_location nat_eq world here name ≡ o
           → ok_or (option_map (topmost nat_eq world.mounts) o) (denial W6) ≡ Ok reached → IsFound reached
-      by None f h = absurd (no_denial (denial W6) reached h)
-      by (Some object) f h = subst IsFound (ok_same (topmost nat_eq world.mounts object) reached _ refl h)
+      by None f h = absurd (no_denial _ _ h)
+      by (Some object) f h = subst IsFound (ok_same _ _ _ refl h)
           (topmost_found object (entry_found here name object is f))

@@ -71,11 +71,8 @@ module _ (world : World ℕ) (whole : IsWorld nat_eq world) (task : Task ℕ)
       ))
 
   pub place_walk_found : (path : List ℕ) → Ends IsFoundPlace (place_walk nat_eq world task path)
-  place_walk_found path = ends_next IsFoundPlace (path_text path) _ (λ text.
-      ends_then HereEnd IsFoundPlace
-      (prefix_walked nat_eq world task (followed nat_eq world task) (walk_start task text) (reverse (words text))) _
-      (front_end world whole task called (walk_start task text) (walk_start_end world whole task called text)
-      (reverse (words text)))
+  place_walk_found path = ends_next _ (path_text path) _ (λ text. ends_then _ _ _ _
+      (front_end world whole task called _ (walk_start_end world whole task called text) (reverse (words text)))
       (λ here end. placed_found here end (final_word (reverse (words text))) (ends_in_slash text)))
 
   pub new_walk_found : (path : List ℕ) → Ends IsFoundPlace (new_walk nat_eq world task path)

@@ -1,6 +1,6 @@
 -- Where the walks of a task end: at what is there, on a mount of the task's namespace or on one that is in none.
 use Rattle.std.proofs.Common.{arith, ◌≡◌, refl, ℕ, zero, suc, nat_eq, Bool, true, false, not, cond, List, [], ◌∷◌, ◌+◌, reverse, Option, Some, None, Ok, Result, inl, inr}
-use Rattle.vt_spec.proofs.Common.{Among, Dot, DotDot, Follow, Here, IsWorld, LastWord, Location, Named, NoWord, Stop, Task, World, all_locations, among-flat_map, among_from_list_all, and_parts, common_steps, ends_in_slash, final_word, followed, if_symlink, is_absolute, is_directory_at, is_directory_seen_in, is_located_well, last_walked, last_word, locations_of, most_symlinks, node_at, path_text, path_walked, prefix_walked, start_of, symlink_text, task_called, walk_start, walk_unless, words}
+use Rattle.vt_spec.proofs.Common.{Among, Dot, DotDot, Follow, Here, IsWorld, LastWord, Location, Named, NoWord, Stop, Task, World, all_locations, among-flat_map, among_from_list_all, and_parts, common_steps, ends_in_slash, final_word, followed, if_symlink, is_directory_at, is_directory_seen_in, is_located_well, last_walked, last_word, locations_of, most_symlinks, node_at, path_text, path_walked, prefix_walked, start_of, symlink_text, task_called, walk_start, walk_unless, words}
 use Rattle.vt_spec.specs.declared.errors.Rule.TheVariants.{W3}
 use Rattle.vt_spec.proofs.Walk.{directory_walk, follow_rules, symlink_start, symlink_walk, symlink_walk_by, symlink_walked, object_walk, search_rules, slash_rules, stepped, steps_with, word_walked, words_walked}
 use Rattle.vt_laws_trees.proofs.trees.TreesWalked.{Ends, ends_next, ends_step, ends_then, ends_unless, not-false}
@@ -21,7 +21,7 @@ module _ (world : World ℕ) (whole : IsWorld nat_eq world) (task : Task ℕ)
 
   -- a task that is called is there
   pub task_among : Among task world.tasks
-  task_among = called_there world.tasks task.name task called
+  task_among = called_there _ _ task called
 
   -- the task's own root and directory
   own_place : (location : Location ℕ) → Among location (locations_of task)
@@ -34,17 +34,16 @@ module _ (world : World ℕ) (whole : IsWorld nat_eq world) (task : Task ℕ)
       ((located.0, parts.1), parts.0)
 
   pub root_found : FoundDirectory task.root
-  root_found = own_place task.root (inl refl) (and_parts _ _ (called_stands world whole task called)).0
+  root_found = own_place _ (inl refl) (and_parts _ _ (called_stands world whole task called)).0
 
   pub own_directory_found : FoundDirectory task.directory
-  own_directory_found =
-      own_place task.directory (inr (inl refl)) (and_parts _ _ (called_stands world whole task called)).1
+  own_directory_found = own_place _ (inr (inl refl)) (and_parts _ _ (called_stands world whole task called)).1
 
   pub start_end : (directory : Location ℕ) (path : List ℕ) → End directory → End (start_of task directory path)
-  start_end directory path is = by (is_absolute path)
+  start_end directory path is = by _
     where
       by : (b : Bool) → End (cond b task.root directory)
-      by true = directory_end world whole task task.root root_found
+      by true = directory_end world whole task _ root_found
       by false = is
 
   abbrev pub EndsFound : Result (Here ℕ) (Stop ℕ) → Type 0
@@ -54,8 +53,7 @@ module _ (world : World ℕ) (whole : IsWorld nat_eq world) (task : Task ℕ)
   EndsAtEnd walk = Ends (λ here. End here.location) walk
 
   pub walk_start_end : (path : List ℕ) → End (walk_start task path).location
-  walk_start_end path =
-      start_end task.directory path (directory_end world whole task task.directory own_directory_found)
+  walk_start_end path = start_end _ path (directory_end world whole task _ own_directory_found)
 
   -- one word
   word_found : (here : Here ℕ) (word : LastWord) → Found here.location → EndsFound
@@ -108,8 +106,7 @@ module _ (world : World ℕ) (whole : IsWorld nat_eq world) (task : Task ℕ)
   followed_end directory link text is = link_end (most_symlinks + 1) directory link text is
 
   path_end : (path : List ℕ) → EndsAtEnd (path_walked nat_eq world task path)
-  path_end path = ends_next (λ here. End here.location) (path_text path) _ (λ text.
-      words_end (followed nat_eq world task) followed_end (walk_start task text) (walk_start_end text)
+  path_end path = ends_next _ (path_text path) _ (λ text. words_end _ followed_end _ (walk_start_end text)
       (reverse (words text)))
 
   pub object_end : (path : List ℕ) → EndsAtEnd (object_walk nat_eq world task path)
@@ -133,7 +130,7 @@ module _ (world : World ℕ) (whole : IsWorld nat_eq world) (task : Task ℕ)
   pub front_end : (here : Here ℕ) → End here.location → (list : List (List ℕ))
       → EndsAtEnd (prefix_walked nat_eq world task (followed nat_eq world task) here list)
   front_end here is [] = is
-  front_end here is (word ∷ front) = words_end (followed nat_eq world task) followed_end here is front
+  front_end here is (word ∷ front) = words_end _ followed_end here is front
 
   last_found : (here : Here ℕ) (word : LastWord) → Found here.location → EndsFound
       (last_walked nat_eq world task here word)

@@ -1,8 +1,8 @@
 -- Directories at which a task may come to stand: the root of a mount of its namespace, also through mounts over it,
 -- and the
 -- copies of where it stood.
-use Rattle.std.proofs.Common.{arith, ◌≡◌, refl, sym, ap, subst, ◌∙◌, inl, inr, ⊎_elim, ℕ, zero, suc, nat_eq, eqb-true, eq-eqb, Bool, true, false, cond, true≢false, find, filter, length, List, [], ◌∷◌, ◌==◌, Option, Some, None, is_some, map, option_map, if◌then◌else◌, option_to_list, unwrap_or}
-use Rattle.vt_spec.proofs.Common.{Among, Fresh, IsWorld, Location, Mount, Namespace, Serves, Stands, Task, World, among-append_right, among-filter, among-from_filter, among-from_map, among-map, among_from_all, among_from_list_all, among_numbers, and_from, and_parts, any_among, at_root, chain, chain_ends, chain_goes_on, child_at, common_steps, copied_mount, evens, filesystem_numbered, found_or_none, has_one_root, holds_of, is_among_numbers, is_copied, is_directory_at, is_directory_node, is_listed, is_root_mount, last_or, list_all, location_on_copy, mount_at, mount_numbered, mounts_of, moved_location, namespace_root, node_at, none_among, number-mount_in, numbers_by, odds, on_parent, pivoted_location, pivoted_task, root_mount, root_of, stands_at, topmost, unshared, unshared_task}
+use Rattle.std.proofs.Common.{arith, ◌≡◌, refl, sym, ap, subst, ◌∙◌, inl, inr, ⊎_elim, ℕ, zero, suc, nat_eq, eqb-true, eq-eqb, Bool, true, false, true≢false, find, filter, length, List, [], ◌∷◌, ◌==◌, Option, Some, None, is_some, map, option_map, if◌then◌else◌, option_to_list, unwrap_or}
+use Rattle.vt_spec.proofs.Common.{Among, Fresh, IsWorld, Location, Mount, Namespace, Serves, Stands, Task, World, among-append_right, among-filter, among-from_filter, among-from_map, among-map, among_from_all, among_from_list_all, among_numbers, and_from, and_parts, any_among, at_root, chain, chain_ends, chain_goes_on, child_at, common_steps, copied_mount, evens, filesystem_numbered, found_or_none, has_one_root, holds_of, is_among_numbers, is_copied, is_directory_at, is_directory_node, is_listed, is_root_mount, last_or, list_all, location_on_copy, mount_at, mount_numbered, mounts_of, moved_location, namespace_root, node_at, none_among, number-mount_in, numbers_by, odds, on_parent, pivoted_location, pivoted_task, root_mount, root_of, topmost, unshared, unshared_task}
 use Rattle.vt_laws_mounts.specs.Mounts.Attaching.{is_mount, numbers_of}
 use Rattle.vt_laws_mounts.proofs.mounts.MountsFound.{found_in, found_there}
 use Rattle.vt_laws_mounts.proofs.mounts.MountsNumbered.{unshare_keeps_numbers}
@@ -18,7 +18,7 @@ pub use Rattle.vt_spec.proofs.NodeChanges.{directory_is_there}
 pub last_has : {A : Type 0} (P : A → Type 0) (next : A → Option A) → ((a b : A) → P a → next a ≡ Some b → P b)
     → (n : ℕ) (a d : A) → P a → P (last_or d (chain n next a))
 last_has {A = A} P next step zero a d p = p
-last_has {A = A} P next step (suc n) a d p = by (next a) refl (λ b q. last_has P next step n b a q)
+last_has {A = A} P next step (suc n) a d p = by _ refl (λ b q. last_has P next step n b a q)
   where
     by : (o : Option A) → next a ≡ o → ((b : A) → P b → P (last_or a (chain n next b)))
         → P (last_or d (chain (suc n) next a))
@@ -28,23 +28,22 @@ last_has {A = A} P next step (suc n) a d p = by (next a) refl (λ b q. last_has 
 pub found_some : {A : Type 0} (test : A → Bool) (xs : List A) (x : A) → Among x xs → test x ≡ true
     → (y : A) × (find test xs ≡ Some y) × Among y xs
 found_some {A = A} test [] x m e = absurd m
-found_some {A = A} test (first ∷ rest) x m e = by (test first) refl (found_some test rest x)
+found_some {A = A} test (first ∷ rest) x m e = by _ refl (found_some test rest x)
   where
     by : (b : Bool) → test first ≡ b
         → (Among x rest → test x ≡ true → (y : A) × (find test rest ≡ Some y) × Among y rest)
         → (y : A) × (find test (first ∷ rest) ≡ Some y) × Among y (first ∷ rest)
-    by true h later = (first, ap (λ b. cond b (Some first) (find test rest)) h, inl refl)
-    by false h later = ⊎_elim (λ same. absurd (true≢false (sym e ∙ ap test same ∙ h)))
+    by true h later = (first, cc, inl refl)
+    by false h later = ⊎_elim (λ same. cc)
         (λ l. let t : (y : A) × (find test rest ≡ Some y) × Among y rest = later l e in
-        (t.0, ap (λ b. cond b (Some first) (find test rest)) h ∙ t.1, inr t.2)) m
+        (t.0, cc, inr t.2)) m
 
 one_is_some : {A : Type 0} (xs : List A) → (length xs == 1) ≡ true → (x : A) × Among x xs
-one_is_some [] e = absurd (true≢false (sym e))
+one_is_some [] e = cc
 one_is_some (x ∷ xs) e = (x, inl refl)
 
 pub in_own : (own : ℕ) (mount : Mount ℕ) → mount.namespace ≡ Some own → is_in own mount ≡ true
-in_own own mount e =
-    ap (λ o. list_all (nat_eq own) (option_to_list o)) e ∙ and_from (nat_eq own own) true (eq-eqb own own refl) refl
+in_own own mount e = cc (and_from (nat_eq own own) true (eq-eqb own own refl) refl)
 
 module _ (world : World ℕ) (is : IsWorld nat_eq world) where
   -- a mount that is in a namespace is there
@@ -55,11 +54,10 @@ module _ (world : World ℕ) (is : IsWorld nat_eq world) where
       (found_or_none world.mounts mount)
 
   pub itself : (mount : Mount ℕ) → Among mount world.mounts → mount_numbered nat_eq world mount.number ≡ mount
-  itself mount m = found_itself world.mounts is.mounts.one_number mount m
+  itself mount m = found_itself _ is.mounts.one_number mount m
 
   pub is_numbered : (mount : Mount ℕ) → Among mount world.mounts → is_mount world mount.number ≡ true
-  is_numbered mount m = is_among_numbers (numbers_of world.mounts) mount.number
-      (among-map (λ (x : Mount ℕ). x.number) world.mounts mount m)
+  is_numbered mount m = is_among_numbers (numbers_of world.mounts) mount.number (among-map _ _ mount m)
 
   pub root_is_directory : (mount : Mount ℕ) → Among mount world.mounts
       → is_directory_at nat_eq world (root_of mount) ≡ true
@@ -71,10 +69,9 @@ module _ (world : World ℕ) (is : IsWorld nat_eq world) where
   root_stands own mount m inside =
       let directory = root_is_directory mount m in
       record {
-        located = and_from (is_mount world mount.number) (is_some (node_at nat_eq world (root_of mount)))
-            (is_numbered mount m) (directory_is_there (node_at nat_eq world (root_of mount)) directory);
+        located = and_from _ _ (is_numbered mount m) (directory_is_there _ directory);
         directory = directory;
-        inside = ap (is_in own) (itself mount m) ∙ inside;
+        inside = cc (itself mount m);
       }
 
   -- what stands over a place is in its namespace
@@ -85,31 +82,25 @@ module _ (world : World ℕ) (is : IsWorld nat_eq world) where
       (itself child m)
     where
       by : Stands nat_eq world child.number → mount_numbered nat_eq world child.number ≡ child → is_in own child ≡ true
-      by (at_root number e) same =
-          absurd (true≢false (sym (ap is_some at) ∙ ap (λ (x : Mount ℕ). is_some x.mount_point) (sym same)
-          ∙ ap is_some e))
+      by (at_root number e) same = cc
       by (on_parent number place e namespace later) same =
-          let it : Some place ≡ Some here = sym e ∙ ap (λ (x : Mount ℕ). x.mount_point) same ∙ at in
-          ap (is_in own) (sym same) ∙ ap (λ o. list_all (nat_eq own) (option_to_list o)) namespace
-          ∙ ap (λ o. list_all (nat_eq own) (option_to_list (mount_at nat_eq world (unwrap_or o here)).namespace)) it
-          ∙ inside
+          let it : Some place ≡ Some here = cc in
+          cc
 
   over_stands : (own : ℕ) (here : Location ℕ) → StandsAt world own here
       → StandsAt world own (topmost nat_eq world.mounts here)
-  over_stands own here at =
-      last_has (StandsAt world own) (λ place. option_map root_of (child_at nat_eq world.mounts place)) step
-      (length world.mounts) here here at
+  over_stands own here at = last_has _ _ step (length world.mounts) here here at
     where
       step : (a b : Location ℕ) → StandsAt world own a → option_map root_of (child_at nat_eq world.mounts a) ≡ Some b
           → StandsAt world own b
-      step a b stands e = by (child_at nat_eq world.mounts a) refl e
+      step a b stands e = by _ refl e
         where
           by : (o : Option (Mount ℕ)) → child_at nat_eq world.mounts a ≡ o → option_map root_of o ≡ Some b
               → StandsAt world own b
-          by None none f = absurd (true≢false (sym (ap is_some f)))
+          by None none f = cc
           by (Some child) found f =
-              let t = found_in (stands_at nat_eq a) world.mounts child found in
-              subst (StandsAt world own) (ap (λ o. unwrap_or o b) f)
+              let t = found_in _ _ child found in
+              subst (StandsAt world own) (cc)
               (root_stands own child t.0 (child_in own child t.0 a (stands_there a child t.1) stands.inside))
 
   found_root : (own : ℕ) (default : Location ℕ) (found : Option (Mount ℕ)) (mount : Mount ℕ) → found ≡ Some mount
@@ -144,8 +135,8 @@ module _ {world : World ℕ} {after : World ℕ} (seen : KeepsWhatIsSeen world a
   pivoted_stands location at = by _
     where
       by : (b : Bool) → StandsAt after namespace (if b then root_of new else location)
-      by true = stands_after world after seen namespace (root_of new) at_new
-      by false = stands_after world after seen namespace location at
+      by true = stands_after world after seen _ _ at_new
+      by false = stands_after world after seen _ _ at
 
   pub pivoted_placed : (task : Task ℕ) → IsPlaced world task
       → IsPlaced after (pivoted_task nat_eq namespace root new task)
@@ -159,10 +150,10 @@ module _ {world : World ℕ} {after : World ℕ} (seen : KeepsWhatIsSeen world a
           let own : namespace ≡ task.namespace = eqb-true namespace task.namespace e in
           record {
             root = subst (λ n. StandsAt after n (pivoted_location nat_eq root new task.root)) own
-                (pivoted_stands task.root (subst (λ n. StandsAt world n task.root) (sym own) at.root));
+                (pivoted_stands _ (subst (λ n. StandsAt world n task.root) (sym own) at.root));
             directory = subst (λ n. StandsAt after n (pivoted_location nat_eq root new task.directory)) own
-                (pivoted_stands task.directory (subst (λ n. StandsAt world n task.directory) (sym own) at.directory));
-            files = λ descriptor m. opens_after world after seen descriptor.location (at.files descriptor m);
+                (pivoted_stands _ (subst (λ n. StandsAt world n task.directory) (sym own) at.directory));
+            files = λ descriptor m. opens_after world after seen _ (at.files descriptor m);
           }
       by false e = record {
         root = stands_after world after seen task.namespace task.root at.root;
@@ -184,17 +175,17 @@ module _ (world : World ℕ) (fresh : Fresh ℕ) (task : Task ℕ) (is : IsWorld
 
   copy_there : (mount : Mount ℕ) → Among mount copied → Among (copied_mount copy (evens fresh 0) mount) after.mounts
   copy_there mount m = among-append_right world.mounts (map (copied_mount copy (evens fresh 0)) copied)
-      (copied_mount copy (evens fresh 0) mount) (among-map (copied_mount copy (evens fresh 0)) copied mount m)
+      (copied_mount copy (evens fresh 0) mount) (among-map _ copied mount m)
 
   pub found_copy : (mount : Mount ℕ) → Among mount copied
       → mount_numbered nat_eq after (copy mount.number) ≡ copied_mount copy (evens fresh 0) mount
-  found_copy mount m = found_itself after.mounts (unshare_keeps_numbers world fresh task serves is.mounts.one_number)
-      (copied_mount copy (evens fresh 0) mount) (copy_there mount m)
+  found_copy mount m = found_itself _ (unshare_keeps_numbers world fresh task serves is.mounts.one_number)
+      _ (copy_there mount m)
 
   copied_mount_found : (mount : Mount ℕ) → Among mount copied → (location : Location ℕ) → location.mount ≡ mount.number
       → mount_at nat_eq world location ≡ mount
-  copied_mount_found mount m location same = ap (mount_numbered nat_eq world) same ∙ itself world is mount
-      (among-from_filter (λ (x : Mount ℕ). holds_of (nat_eq task.namespace) x.namespace) world.mounts mount m).0
+  copied_mount_found mount m location same = cc (itself world is mount
+      (among-from_filter (λ (x : Mount ℕ). holds_of (nat_eq task.namespace) x.namespace) world.mounts mount m).0)
 
   pub copy_stands : (location : Location ℕ) → StandsAt world task.namespace location → (mount : Mount ℕ)
       → Among mount copied

@@ -1,7 +1,7 @@
 -- What a change of a world keeps of what is seen: mounts stay and show what they showed, in their namespace or in
 -- none, and
 -- inodes stay and keep their kind.
-use Rattle.std.proofs.Common.{arith, ◌≡◌, refl, sym, ap, ◌∙◌, ℕ, nat_eq, Bool, true, ◌&&◌, Option, Some, None, is_some, option_to_list}
+use Rattle.std.proofs.Common.{arith, ◌≡◌, refl, ◌∙◌, ℕ, nat_eq, Bool, true, Option, Some, None, is_some, option_to_list}
 use Rattle.vt_spec.proofs.Common.{Location, Mount, Node, World, and_parts, common_steps, holds_of, is_directory, is_directory_at, is_directory_node, is_kind, is_kind_in, is_located_well, is_there, kind_of, list_all, mount_at, mount_numbered, node_at}
 use Rattle.vt_spec.specs.declared.attributes.Kind.{Kind}
 use Rattle.vt_spec.specs.declared.attributes.Kind.TheVariants.{File}
@@ -48,16 +48,16 @@ kind_is kind (Some node) = refl
 
 module _ (before after : Option (Node ℕ)) (kept : KeepsKind before after) where
   pub there_kept : is_some before ≡ true → is_some after ≡ true
-  there_kept e = there_is after ∙ kept (λ (kind : Kind). true) (sym (there_is before) ∙ e)
+  there_kept e = there_is after ∙ kept (λ (kind : Kind). true) (cc (there_is before))
 
   pub directory_kept : is_directory_node before ≡ true → is_directory_node after ≡ true
-  directory_kept e = directory_is after ∙ kept is_directory (sym (directory_is before) ∙ e)
+  directory_kept e = directory_is after ∙ kept is_directory (cc (directory_is before))
 
   pub kind_kept : (kind : Kind) → is_kind_in kind before ≡ true → is_kind_in kind after ≡ true
-  kind_kept kind e = kind_is kind after ∙ kept (is_kind kind) (sym (kind_is kind before) ∙ e)
+  kind_kept kind e = kind_is kind after ∙ kept (is_kind kind) (cc (kind_is kind before))
 
 pub same_kind : (before after : Option (Node ℕ)) → kind_seen after ≡ kind_seen before → KeepsKind before after
-same_kind before after same test e = ap (holds_of test) same ∙ e
+same_kind before after same test e = cc
 
 -- One change after another
 pub same_view : (mount : Mount ℕ) → KeepsView mount mount
@@ -100,8 +100,7 @@ module _ (before after : World ℕ) (seen : KeepsWhatIsSeen before after) where
   pub node_kept : (location : Location ℕ) → is_mount before location.mount ≡ true
       → KeepsKind (node_at nat_eq before location) (node_at nat_eq after location)
   node_kept location is test e =
-      ap (λ f. holds_of test (kind_seen (inode_in after f location.node))) (same_filesystem location is)
-      ∙ seen.nodes (mount_at nat_eq before location).filesystem location.node test e
+      cc (same_filesystem location is, seen.nodes (mount_at nat_eq before location).filesystem location.node test e)
 
   pub mount_of_located : (location : Location ℕ) → is_located_well nat_eq before location ≡ true
       → is_mount before location.mount ≡ true
@@ -111,10 +110,12 @@ module _ (before after : World ℕ) (seen : KeepsWhatIsSeen before after) where
   pub located_after : (location : Location ℕ) → is_located_well nat_eq before location ≡ true
       → is_located_well nat_eq after location ≡ true
   located_after location e =
-      let is = mount_of_located location e in
+      let is = mount_of_located _ e in
       let there = (and_parts (is_mount before location.mount) (is_some (node_at nat_eq before location)) e).1 in
-      ap (λ b. b && is_some (node_at nat_eq after location)) (seen.listed location.mount is)
-      ∙ there_kept (node_at nat_eq before location) (node_at nat_eq after location) (node_kept location is) there
+      cc (
+        seen.listed location.mount is,
+        there_kept (node_at nat_eq before location) (node_at nat_eq after location) (node_kept location is) there,
+      )
 
   pub directory_after : (location : Location ℕ) → is_mount before location.mount ≡ true
       → is_directory_at nat_eq before location ≡ true → is_directory_at nat_eq after location ≡ true

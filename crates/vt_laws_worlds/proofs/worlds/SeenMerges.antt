@@ -1,8 +1,8 @@
 -- A change of an overlay keeps each inode that is there, and its kind, in the merged tree and in the upper layer; so
 -- what is seen stays in a change of any filesystem.
-use Rattle.std.proofs.Common.{arith, ◌≡◌, ◌≢◌, refl, sym, ap, subst, ◌∙◌, inl, ⊎_elim, ◌++◌, not, ℕ, ◌+◌, ◌*◌, nat_eq, ne_eqb, eq-eqb, Bool, true, false, cond, true≢false, List, [], ◌∷◌, Option, Some, None, is_some, map, All, option_to_list}
+use Rattle.std.proofs.Common.{arith, ◌≡◌, ◌≢◌, refl, sym, ap, subst, ◌∙◌, inl, ⊎_elim, ◌++◌, not, ℕ, ◌+◌, ◌*◌, nat_eq, ne_eqb, eq-eqb, Bool, true, false, true≢false, List, [], ◌∷◌, Option, Some, None, is_some, map, All, option_to_list}
 use Rattle.vt_laws_mounts.proofs.mounts.MountsLeft.{mounts-with_change}
-use Rattle.vt_spec.proofs.Common.{AddName, Among, Change, CopyUp, FileTree, Filesystem, Fresh, Layer, ListsNumbers, Location, Make, Merge, Mount, Move, Node, Overlay, OverlayInvariants, Remove, Serves, SetAttr, SetBytes, SetMark, Stack, World, a_name, all_from_among, among_from_list_all, and_parts, changed, changed_node, common_steps, content_with_parent, copied_content, copied_each, copied_up, copy_named, copy_of, copy_of_node, copy_parent, entries_in, entry_named, evens, evens-distinct, files_at, filesystem_at, filesystem_changed, filesystem_numbered, hides_directory, is_directory_at, is_in_upper, is_overlay, is_plain_layer, kind_of, layers_of, list_all, merge_changed, merge_of, merge_with_moved, merge_with_new, merge_without_name, mount_at, mount_in, name_left_by, node_at, node_with_attr, node_with_bytes, node_with_mark, node_with_parent, node_without_entries, odds, odds-distinct, odds-no_evens, of_overlay, overlay_changed, overlay_or, replaced_if_numbered, shown_in_lowers_at, stack_of, upper_directory_named, upper_of, whiteout_of, with_change, with_files, with_filesystem, with_inode, with_mark, with_moved, with_name, without_contents, without_name, without_parent}
+use Rattle.vt_spec.proofs.Common.{AddName, Among, Change, CopyUp, FileTree, Filesystem, Fresh, Layer, ListsNumbers, Location, Make, Merge, Mount, Move, Node, Overlay, OverlayInvariants, Remove, Serves, SetAttr, SetBytes, SetMark, Stack, World, a_name, all_from_among, among_from_list_all, and_parts, changed, changed_node, common_steps, content_with_parent, copied_content, copied_each, copied_up, copy_named, copy_of, copy_of_node, copy_parent, entries_in, entry_named, evens, evens-distinct, files_at, filesystem_at, filesystem_changed, filesystem_numbered, hides_directory, is_directory_at, is_in_upper, is_overlay, is_plain_layer, kind_of, layers_of, list_all, merge_changed, merge_of, merge_with_moved, merge_with_new, merge_without_name, mount_at, mount_in, name_left_by, node_at, node_with_attr, node_with_bytes, node_with_mark, node_without_entries, odds, odds-distinct, odds-no_evens, of_overlay, overlay_changed, overlay_or, replaced_if_numbered, shown_in_lowers_at, stack_of, upper_directory_named, upper_of, whiteout_of, with_change, with_files, with_filesystem, with_inode, with_mark, with_moved, with_name, without_contents, without_name, without_parent}
 use Rattle.vt_laws_trees.proofs.trees.ChangesNodes.{part_stays}
 use Rattle.vt_laws_trees.proofs.trees.TreesOfWorlds.{number_numbered, numbered, numbered_all}
 use Rattle.vt_laws_worlds.proofs.worlds.Seen.{KeepsKind, KeepsWhatIsSeen, kind_seen, same_kind, same_seen, seen_by_nodes, seen_on}
@@ -20,7 +20,7 @@ keeps_both : (a b c : FileTree ℕ) → Keeps a b → Keeps b c → Keeps a c
 keeps_both a b c r s k test e = s k test (r k test e)
 
 keeps_kinds : (a b : FileTree ℕ) → SameKinds a b → Keeps a b
-keeps_kinds a b same k = same_kind (a.tree.node k) (b.tree.node k) (same k)
+keeps_kinds a b same k = same_kind _ _ (same k)
 
 -- what is not there
 abbrev IsVacant : FileTree ℕ → ℕ → Type 0
@@ -28,15 +28,14 @@ IsVacant files number = files.tree.node number ≡ None
 
 none_seen : (o : Option (Node ℕ)) → kind_seen o ≡ None → o ≡ None
 none_seen None e = refl
-none_seen (Some node) e = absurd (true≢false (ap is_some e))
+none_seen (Some node) e = cc
 
 vacant_kinds : (a b : FileTree ℕ) → SameKinds a b → (number : ℕ) → IsVacant a number → IsVacant b number
-vacant_kinds a b same number e = none_seen (b.tree.node number) (same number ∙ ap kind_seen e)
+vacant_kinds a b same number e = none_seen _ (cc (same number))
 
 vacant_inode : (files : FileTree ℕ) (copy : ℕ) (node : Node ℕ) (number : ℕ) → number ≢ copy → IsVacant files number
     → IsVacant (with_inode nat_eq files copy node) number
-vacant_inode files copy node number differ e =
-    ap (λ b. cond b (Some node) (files.tree.node number)) (ne_eqb number copy differ) ∙ e
+vacant_inode files copy node number differ e = cc (ne_eqb number copy differ)
 
 -- One copy
 module _ (merge : Merge ℕ) (object copy : ℕ) (node : Node ℕ) (vacant : IsVacant merge.upper copy) where
@@ -80,7 +79,7 @@ copied_once : (fresh : Fresh ℕ) (k : ℕ) (merge : Merge ℕ) (object : ℕ) (
 copied_once fresh k merge object None b vacant = (refl, keeps_same merge.upper, λ number differ e. e)
 copied_once fresh k merge object (Some node) true vacant = (refl, keeps_same merge.upper, λ number differ e. e)
 copied_once fresh k merge object (Some node) false vacant =
-    (refl, copy_keeps merge object (fresh k) node vacant, copy_vacant merge object (fresh k) node vacant)
+    (refl, copy_keeps merge object _ node vacant, copy_vacant merge object _ node vacant)
 
 copied_on : (fresh : Fresh ℕ) → ((i j : ℕ) → fresh i ≡ fresh j → i ≡ j) → (k : ℕ) (merge : Merge ℕ) (list : List ℕ)
     → ((j : ℕ) → IsVacant merge.upper (fresh (j + k))) → IsCopied fresh merge (copied_each nat_eq fresh k merge list)
@@ -115,25 +114,24 @@ up_copied fresh distinct merge object vacant = grind (arith, common_steps, copie
 
 -- Parts of a change of the upper layer
 kinds_marked : (b : Bool) (files : FileTree ℕ) (object : ℕ) → SameKinds files (with_mark nat_eq b files object)
-kinds_marked true files object k = part_stays files object (node_with_mark true) kind_seen (kind-with_mark true) k
+kinds_marked true files object k = part_stays files object _ _ (kind-with_mark true) k
 kinds_marked false files object k = refl
 
 kind_bare : (o : Option (Node ℕ)) → kind_seen (node_without_entries o) ≡ kind_seen o
 kind_bare None = refl
-kind_bare (Some node) = ap Some (kind-with_entries node.content [])
+kind_bare (Some node) = cc (kind-with_entries node.content [])
 
 kinds_emptied : (files : FileTree ℕ) (o : Option ℕ) → SameKinds files (without_contents nat_eq files o)
 kinds_emptied files None k = refl
-kinds_emptied files (Some object) k =
-    kinds-without_parent (changed_node nat_eq files object node_without_entries) (Some object) k
-    ∙ part_stays files object node_without_entries kind_seen kind_bare k
+kinds_emptied files (Some object) k = kinds-without_parent (changed_node nat_eq files object node_without_entries)
+    (Some object) k ∙ part_stays files object _ _ kind_bare k
 
 kinds_moved : (files : FileTree ℕ) (from : ℕ) (old : List ℕ) (to : ℕ) (name : List ℕ) (object : ℕ)
     → SameKinds files (with_moved nat_eq files from old to name object)
 kinds_moved files from old to name object k =
     let first = without_parent nat_eq files (entry_named name (entries_in (files.tree.node to))) in
     let second = without_name nat_eq first from old in
-    part_stays (with_name nat_eq second to name object) object (node_with_parent to) kind_seen (kind-with_parent to) k
+    part_stays (with_name nat_eq second to name object) object _ _ (kind-with_parent to) k
     ∙ kinds-with_name second to name object k ∙ kinds-without_name first from old k
     ∙ kinds-without_parent files (entry_named name (entries_in (files.tree.node to))) k
 
@@ -297,8 +295,7 @@ module _ (fresh : Fresh ℕ) (world : World ℕ) (elsewhere : UppersAreElsewhere
   one_seen : (before : World ℕ) (new : Filesystem ℕ)
       → ((k : ℕ) → KeepsKind ((numbered new.number before.filesystems).files.tree.node k) (new.files.tree.node k))
       → KeepsWhatIsSeen before (with_filesystem nat_eq before new)
-  one_seen before new keeps =
-      seen_by_nodes before (with_filesystem nat_eq before new) refl (replaced_keeps new before.filesystems keeps)
+  one_seen before new keeps = seen_by_nodes before _ refl (replaced_keeps new _ keeps)
 
   at_old : (files : FileTree ℕ) → Keeps old.files files → (k : ℕ)
       → KeepsKind ((numbered old.number world.filesystems).files.tree.node k) (files.tree.node k)

@@ -1,6 +1,6 @@
 -- Changes of mounts keep what is seen: mounts that are taken away, attached, moved, copied or changed.
-use Rattle.std.proofs.Common.{arith, ◌≡◌, refl, sym, ap, subst, ◌∙◌, inl, inr, ⊎_elim, ℕ, zero, suc, nat_eq, eqb-true, Bool, true, false, true≢false, length, List, [], ◌∷◌, ◌++◌, map}
-use Rattle.vt_spec.proofs.Common.{Among, Copies, Filesystem, Fresh, Location, Mount, MountFlags, Stands, TypeWord, World, among-from_filter, among-from_flat_map, among-from_map, among_numbers, at_root, attach, children, common_steps, copy_at, deepest_first, filesystems-taken_away, folded, graft_of, group_of, holds_of, is_among, is_among_left, is_among_numbers, lazily_unmounted, mount_at, mount_in, mount_numbered, mount_tree, mounted, new_mount, number-mount_in, number-pivoted_mount, on_parent, parts_of, pivoted, pivoted_mount, stands_on, taken_away, tree_among, tree_from, twig_of, unmounted_if_there, with_mount, with_mounts, with_new_filesystem, with_type}
+use Rattle.std.proofs.Common.{arith, ◌≡◌, refl, sym, ap, subst, ◌∙◌, inl, inr, ⊎_elim, ℕ, zero, suc, nat_eq, eqb-true, Bool, true, false, length, List, [], ◌∷◌, ◌++◌, map}
+use Rattle.vt_spec.proofs.Common.{Among, Copies, Filesystem, Fresh, Location, Mount, MountFlags, Stands, TypeWord, World, among-from_filter, among-from_flat_map, among-from_map, among_numbers, at_root, attach, common_steps, copy_at, deepest_first, filesystems-taken_away, folded, graft_of, group_of, is_among, is_among_left, is_among_numbers, lazily_unmounted, mount_at, mount_in, mount_numbered, mount_tree, mounted, new_mount, number-mount_in, number-pivoted_mount, on_parent, parts_of, pivoted, pivoted_mount, stands_on, taken_away, tree_among, tree_from, twig_of, unmounted_if_there, with_mount, with_mounts, with_new_filesystem, with_type}
 use Rattle.vt_laws_mounts.specs.Mounts.Attaching.{OneNumberAMount, is_mount, numbers_of}
 use Rattle.vt_laws_mounts.proofs.mounts.MountsAttached.{arrives, arriving, attach_keeps_mounts, found_attached, moved_mounts_show, moved_ones, numbers_attached, others, push_keeps, supplied}
 use Rattle.vt_laws_mounts.proofs.mounts.MountsFound.{found-map_there, numbers-map}
@@ -18,8 +18,8 @@ module _ (world : World ℕ) (gone : List ℕ) where
   taken_view number = grind (arith, common_steps, taken_are_detached, others_are_kept)
 
   pub taken_seen : KeepsWhatIsSeen world (taken_away nat_eq world gone)
-  taken_seen = seen_by_mounts world (taken_away nat_eq world gone) (filesystems-taken_away world gone)
-      (λ number is. ap (is_among nat_eq number) (numbers_taken world gone) ∙ is) (λ number is. taken_view number)
+  taken_seen = seen_by_mounts world _ (filesystems-taken_away world gone)
+      (λ number is. cc (numbers_taken world gone)) (λ number is. taken_view number)
 
 lazy_step : (world : World ℕ) (mount : Mount ℕ) → KeepsWhatIsSeen world (unmounted_if_there nat_eq world mount)
 lazy_step world mount = grind (arith, common_steps, taken_seen, same_seen)
@@ -29,7 +29,7 @@ lazy_steps : (mounts : List (Mount ℕ)) (world : World ℕ)
 lazy_steps [] world = same_seen world
 lazy_steps (mount ∷ mounts) world =
     let next = unmounted_if_there nat_eq world mount in
-    seen_on world next (folded (unmounted_if_there nat_eq) next mounts) (lazy_step world mount) (lazy_steps mounts next)
+    seen_on world next _ (lazy_step world mount) (lazy_steps mounts next)
 
 pub lazy_seen : (world : World ℕ) (number : ℕ) → KeepsWhatIsSeen world (lazily_unmounted nat_eq world number)
 lazy_seen world number =
@@ -39,31 +39,30 @@ pub ended_seen : (world : World ℕ) (gone : List ℕ) (after : World ℕ)
     → after.mounts ≡ (taken_away nat_eq world gone).mounts
     → after.filesystems ≡ (taken_away nat_eq world gone).filesystems → KeepsWhatIsSeen world after
 ended_seen world gone after mounts filesystems =
-    seen_on world (taken_away nat_eq world gone) after (taken_seen world gone)
-    (seen_alike (taken_away nat_eq world gone) after mounts filesystems)
+    seen_on world _ after (taken_seen world gone) (seen_alike _ after mounts filesystems)
 
 -- Mounts are attached
 pub attached_seen : (world : World ℕ) (fresh : Fresh ℕ) (place : Location ℕ) (mounts : List (Mount ℕ))
     → KeepsWhatIsSeen world (attach nat_eq world fresh place false mounts)
 attached_seen world fresh place mounts =
     let new = supplied world fresh place mounts in
-    seen_by_mounts world (attach nat_eq world fresh place false mounts) refl (λ number is.
-    ap (is_among nat_eq number) (numbers_attached world new place false mounts)
-    ∙ is_among_left number (numbers_of world.mounts) (numbers_of (others world new place false mounts)) is)
-    (λ number is.
+    seen_by_mounts world _ refl (λ number is. cc (
+      numbers_attached world new place false mounts,
+      is_among_left number
+          (numbers_of world.mounts) (numbers_of (others world new place false mounts)) is,
+    )) (λ number is.
     let kept = attach_keeps_mounts world fresh place mounts number is in
     record {
       filesystem = kept.filesystem;
       root = kept.root;
-      namespace = λ own in_it.
-          ap (λ n. is_in own (record (mount_numbered nat_eq world number) { namespace = n })) kept.namespace ∙ in_it;
+      namespace = λ own in_it. cc;
     })
 
 -- a filesystem is added
 module _ (filesystem : Filesystem ℕ) where
   added_keeps : (list : List (Filesystem ℕ)) (number k : ℕ) → KeepsKind ((numbered number list).files.tree.node k)
       ((numbered number (list ++ (filesystem ∷ []))).files.tree.node k)
-  added_keeps [] number k test e = absurd (true≢false (sym e))
+  added_keeps [] number k test e = cc
   added_keeps (first ∷ rest) number k test e = grind (arith, common_steps, added_keeps rest number k test)
 
   pub added_seen : (world : World ℕ) → KeepsWhatIsSeen world (with_new_filesystem world filesystem)
@@ -76,22 +75,19 @@ module _ (filesystem : Filesystem ℕ) where
 pub mounted_seen : (world : World ℕ) (fresh : Fresh ℕ) (place : Location ℕ) (filesystem : Filesystem ℕ)
     (flags : MountFlags) → KeepsWhatIsSeen world (mounted nat_eq fresh world place filesystem flags)
 mounted_seen world fresh place filesystem flags =
-    seen_on world (with_new_filesystem world filesystem) (mounted nat_eq fresh world place filesystem flags)
-    (added_seen filesystem world) (attached_seen (with_new_filesystem world filesystem) fresh place
+    seen_on world _ _ (added_seen _ world) (attached_seen (with_new_filesystem world filesystem) fresh place
     (new_mount filesystem.number filesystem.files.tree.root flags ∷ []))
 
 -- Mounts change their types or flags
 pub retyped_seen : (world : World ℕ) (fresh : Fresh ℕ) (one : ℕ) (word : TypeWord) (recursive : Bool)
     → KeepsWhatIsSeen world (with_type nat_eq fresh world one word recursive)
-retyped_seen world fresh one word recursive = seen_by_mounts world (with_type nat_eq fresh world one word recursive)
-    (types_are_of_mounts world fresh one word recursive).filesystems
-    (λ number is. ap (is_among nat_eq number) (numbers_with_type world fresh one word recursive) ∙ is) (λ number is.
+retyped_seen world fresh one word recursive = seen_by_mounts world _ (types_are_of_mounts world fresh one word
+    recursive).filesystems (λ number is. cc (numbers_with_type world fresh one word recursive)) (λ number is.
     let kept = type_is_all_that_changes world fresh one word recursive number in
     record {
       filesystem = kept.filesystem;
       root = kept.root;
-      namespace = λ own in_it.
-          ap (λ n. is_in own (record (mount_numbered nat_eq world number) { namespace = n })) kept.namespace ∙ in_it;
+      namespace = λ own in_it. cc;
     })
 
 pub flags_seen : (world : World ℕ) (one : ℕ) (flags : MountFlags) → KeepsWhatIsSeen world
@@ -111,12 +107,11 @@ module _ (root new : Mount ℕ) (put : Location ℕ) where
 
   pub pivoted_seen : (world : World ℕ) (namespace : ℕ)
       → KeepsWhatIsSeen world (pivoted nat_eq world namespace root new put)
-  pivoted_seen world namespace = seen_by_mounts world (pivoted nat_eq world namespace root new put) refl
-      (λ number is. ap (is_among nat_eq number)
-      (numbers-map (pivoted_mount nat_eq root new put) (number-pivoted_mount root new put) world.mounts) ∙ is)
-      (λ number is.
-      subst (KeepsView (mount_numbered nat_eq world number)) (sym (found-map_there (pivoted_mount nat_eq root new put)
-      (number-pivoted_mount root new put) world.mounts number is)) (pivoted_view (mount_numbered nat_eq world number)))
+  pivoted_seen world namespace = seen_by_mounts world _ refl (λ number is. cc
+      (numbers-map (pivoted_mount nat_eq root new put) (number-pivoted_mount root new put) world.mounts))
+      (λ number is. subst (KeepsView (mount_numbered nat_eq world number))
+      (sym (found-map_there _ (number-pivoted_mount root new put) _ number is))
+      (pivoted_view (mount_numbered nat_eq world number)))
 
 -- The mounts of a namespace are copied
 pub copied_seen : (world after : World ℕ) (copies : List (Mount ℕ)) → after.mounts ≡ world.mounts ++ copies
@@ -138,29 +133,25 @@ module _ (world : World ℕ) (one : OneNumberAMount world.mounts)
     (stand : (mount : Mount ℕ) → Among mount world.mounts → Stands nat_eq world mount.number) where
   child_namespace : (child : Mount ℕ) → Among child world.mounts → (parent : ℕ) → stands_on nat_eq parent child ≡ true
       → child.namespace ≡ (mount_numbered nat_eq world parent).namespace
-  child_namespace child m parent on = by (stand child m) (found_itself world.mounts one child m)
+  child_namespace child m parent on = by (stand child m) (found_itself _ one child m)
     where
       by : Stands nat_eq world child.number → mount_numbered nat_eq world child.number ≡ child
           → child.namespace ≡ (mount_numbered nat_eq world parent).namespace
-      by (at_root number e) itself =
-          absurd (true≢false (sym on ∙ ap (holds_of (λ (place : Location ℕ). nat_eq parent place.mount))
-          (ap (λ (x : Mount ℕ). x.mount_point) (sym itself) ∙ e)))
+      by (at_root number e) itself = cc
       by (on_parent number place e same later) itself =
-          let it : parent ≡ place.mount = eqb-true parent place.mount
-          (sym (ap (holds_of (λ (at : Location ℕ). nat_eq parent at.mount))
-          (ap (λ (x : Mount ℕ). x.mount_point) (sym itself) ∙ e)) ∙ on) in
-          ap (λ (x : Mount ℕ). x.namespace) (sym itself) ∙ same
-          ∙ ap (λ n. (mount_numbered nat_eq world n).namespace) (sym it)
+          let it : parent ≡ place.mount = eqb-true parent place.mount (cc) in
+          cc
 
   pub tree_namespace : (depth : ℕ) (top : Mount ℕ) → mount_numbered nat_eq world top.number ≡ top → (mount : Mount ℕ)
       → Among mount (tree_from nat_eq depth world.mounts top) → mount.namespace ≡ top.namespace
-  tree_namespace zero top itself mount m = ⊎_elim (λ e. ap (λ (x : Mount ℕ). x.namespace) e) (λ none. absurd none) m
-  tree_namespace (suc depth) top itself mount m = ⊎_elim (λ e. ap (λ (x : Mount ℕ). x.namespace) e) (λ later.
-      let under = among-from_flat_map (tree_from nat_eq depth world.mounts)
-      (children nat_eq world.mounts top.number) mount later in
+  tree_namespace zero top itself mount m = ⊎_elim (λ e. cc) (λ none. absurd none) m
+  tree_namespace (suc depth) top itself mount m = ⊎_elim (λ e. cc) (λ later.
+      let under = among-from_flat_map _ _ mount later in
       let child = among-from_filter (stands_on nat_eq top.number) world.mounts under.0 under.1 in
-      tree_namespace depth under.0 (found_itself world.mounts one under.0 child.0) mount under.2
-      ∙ child_namespace under.0 child.0 top.number child.1 ∙ ap (λ (x : Mount ℕ). x.namespace) itself) m
+      cc (
+        tree_namespace depth under.0 (found_itself world.mounts one under.0 child.0) mount under.2,
+        child_namespace under.0 child.0 top.number child.1,
+      )) m
 
 -- the namespaces of mounts that are replaced, where each new one is in that of the old one
 namespaces_replaced : (before mounts copies : List (Mount ℕ))

@@ -1,7 +1,7 @@
 -- A change of a tree keeps each inode that is there, and its kind; so do changes of filesystems in a world without
 -- overlays.
-use Rattle.std.proofs.Common.{arith, ◌≡◌, refl, sym, ap, ◌∙◌, ◌⊎◌, inr, ℕ, nat_eq, eqb-true, eq-eqb, Bool, true, false, cond, true≢false, flat_map, List, [], ◌∷◌, ◌++◌, Option, Some, None, map, All}
-use Rattle.vt_spec.proofs.Common.{AddName, Among, Change, Content, CopyUp, Directory, FileTree, Filesystem, Fresh, ListsNumbers, Location, Make, Move, Node, Regular, Remove, Serves, SetAttr, SetBytes, SetMark, Symlink, Whiteout, World, all_from_among, among-append_left, among-append_right, among-flat_map, among_from_all, among_numbers, changed, common_steps, entries_in, entries_of, entry_named, filesystem_at, filesystem_changed, holds_of, is_among, is_overlay, kind_of, mount_at, no_filesystem, node_with_attr, node_with_bytes, node_with_entry, node_with_mark, node_with_parent, node_without_entry, none_among, none_from_not_some, numbers_in_use, replaced_if_numbered, used_by_filesystem, used_by_mount, with_change, with_entries, with_entry, with_files, with_filesystem, with_inode, with_name, without_entry, without_name, without_parent, ⊤}
+use Rattle.std.proofs.Common.{arith, ◌≡◌, refl, sym, ◌∙◌, ◌⊎◌, inr, ℕ, nat_eq, eqb-true, eq-eqb, Bool, true, false, true≢false, flat_map, List, [], ◌∷◌, ◌++◌, Option, Some, None, map, All}
+use Rattle.vt_spec.proofs.Common.{AddName, Among, Change, Content, CopyUp, Directory, FileTree, Filesystem, Fresh, ListsNumbers, Location, Make, Move, Node, Regular, Remove, Serves, SetAttr, SetBytes, SetMark, Symlink, Whiteout, World, all_from_among, among-append_left, among-append_right, among-flat_map, among_from_all, among_numbers, changed, common_steps, entries_in, entries_of, entry_named, filesystem_at, is_among, is_overlay, kind_of, mount_at, no_filesystem, node_with_attr, node_with_bytes, node_with_entry, node_with_mark, node_with_parent, node_without_entry, none_among, none_from_not_some, numbers_in_use, replaced_if_numbered, used_by_filesystem, used_by_mount, with_change, with_entries, with_entry, with_files, with_filesystem, with_inode, with_name, without_entry, without_name, without_parent, ⊤}
 use Rattle.vt_spec.specs.declared.attributes.Attr.{Attr}
 use Rattle.vt_laws_trees.proofs.trees.ChangesNodes.{part_stays}
 use Rattle.vt_laws_trees.proofs.trees.TreesOfWorlds.{number_numbered, numbered, numbered_anyhow}
@@ -21,13 +21,12 @@ kind-with_entries Whiteout entries = refl
 kind-with_entry : (name : List ℕ) (number : ℕ) (o : Option (Node ℕ))
     → kind_seen (node_with_entry name number o) ≡ kind_seen o
 kind-with_entry name number None = refl
-kind-with_entry name number (Some node) = ap Some
-    (kind-with_entries node.content (with_entry name number (entries_of node.content)))
+kind-with_entry name number (Some node) = cc (kind-with_entries node.content
+    (with_entry name number (entries_of node.content)))
 
 kind-without_entry : (name : List ℕ) (o : Option (Node ℕ)) → kind_seen (node_without_entry name o) ≡ kind_seen o
 kind-without_entry name None = refl
-kind-without_entry name (Some node) =
-    ap Some (kind-with_entries node.content (without_entry name (entries_of node.content)))
+kind-without_entry name (Some node) = cc (kind-with_entries node.content (without_entry name (entries_of node.content)))
 
 pub kind-with_bytes : (bytes : List ℕ) (o : Option (Node ℕ)) → kind_seen (node_with_bytes bytes o) ≡ kind_seen o
 kind-with_bytes bytes None = refl
@@ -51,19 +50,16 @@ SameKinds before after = (k : ℕ) → kind_seen (after.tree.node k) ≡ kind_se
 
 pub kinds-with_name : (files : FileTree ℕ) (directory : ℕ) (name : List ℕ) (number : ℕ)
     → SameKinds files (with_name nat_eq files directory name number)
-kinds-with_name files directory name number =
-    part_stays files directory (node_with_entry name number) kind_seen (kind-with_entry name number)
+kinds-with_name files directory name number = part_stays files directory _ _ (kind-with_entry name number)
 
 pub kinds-without_name : (files : FileTree ℕ) (directory : ℕ) (name : List ℕ)
     → SameKinds files (without_name nat_eq files directory name)
-kinds-without_name files directory name =
-    part_stays files directory (node_without_entry name) kind_seen (kind-without_entry name)
+kinds-without_name files directory name = part_stays files directory _ _ (kind-without_entry name)
 
 pub kinds-without_parent : (files : FileTree ℕ) (object : Option ℕ)
     → SameKinds files (without_parent nat_eq files object)
 kinds-without_parent files None k = refl
-kinds-without_parent files (Some object) k =
-    part_stays files object (node_with_parent object) kind_seen (kind-with_parent object) k
+kinds-without_parent files (Some object) k = part_stays files object _ _ (kind-with_parent object) k
 
 -- a number that is made is a new one
 abbrev pub MakesNew : FileTree ℕ → Change ℕ → Type 0
@@ -82,27 +78,28 @@ keeps-with_inode files number node none k test e = grind (arith, common_steps, t
 
 pub changes_keep_kinds : (files : FileTree ℕ) (change : Change ℕ) → MakesNew files change
     → (k : ℕ) → KeepsKind (files.tree.node k) ((changed nat_eq files change).tree.node k)
-changes_keep_kinds files (Make directory name number node) new k = λ test e.
-    ap (holds_of test) (kinds-with_name (with_inode nat_eq files number node) directory name number k)
-    ∙ keeps-with_inode files number node new k test e
+changes_keep_kinds files (Make directory name number node) new k = λ test e. cc (
+  kinds-with_name (with_inode nat_eq files number node) directory name number k,
+  keeps-with_inode files number node new k test e,
+)
 changes_keep_kinds files (AddName directory name object) new k =
-    same_kind (files.tree.node k) _ (kinds-with_name files directory name object k)
-changes_keep_kinds files (Remove directory name object) new k = same_kind (files.tree.node k) _
+    same_kind _ _ (kinds-with_name files directory name object k)
+changes_keep_kinds files (Remove directory name object) new k = same_kind _ _
     (kinds-without_parent (without_name nat_eq files directory name) (Some object) k
     ∙ kinds-without_name files directory name k)
 changes_keep_kinds files (Move from old to new_name object) new k =
     let first = without_parent nat_eq files (entry_named new_name (entries_in (files.tree.node to))) in
     let second = without_name nat_eq first from old in
     let third = with_name nat_eq second to new_name object in
-    same_kind (files.tree.node k) _ (part_stays third object (node_with_parent to) kind_seen (kind-with_parent to) k
+    same_kind _ _ (part_stays third object _ _ (kind-with_parent to) k
     ∙ kinds-with_name second to new_name object k ∙ kinds-without_name first from old k
     ∙ kinds-without_parent files (entry_named new_name (entries_in (files.tree.node to))) k)
 changes_keep_kinds files (SetBytes file bytes) new k =
-    same_kind (files.tree.node k) _ (part_stays files file (node_with_bytes bytes) kind_seen (kind-with_bytes bytes) k)
+    same_kind _ _ (part_stays files file _ _ (kind-with_bytes bytes) k)
 changes_keep_kinds files (SetAttr object attr) new k =
-    same_kind (files.tree.node k) _ (part_stays files object (node_with_attr attr) kind_seen (kind-with_attr attr) k)
-changes_keep_kinds files (SetMark directory opaque) new k = same_kind (files.tree.node k) _
-    (part_stays files directory (node_with_mark opaque) kind_seen (kind-with_mark opaque) k)
+    same_kind _ _ (part_stays files object _ _ (kind-with_attr attr) k)
+changes_keep_kinds files (SetMark directory opaque) new k = same_kind _ _
+    (part_stays files directory _ _ (kind-with_mark opaque) k)
 changes_keep_kinds files (CopyUp object) new k = λ test e. e
 
 -- the inode that is made
@@ -110,8 +107,7 @@ pub made_kind : (files : FileTree ℕ) (directory : ℕ) (name : List ℕ) (numb
     → kind_seen ((changed nat_eq files (Make directory name number node)).tree.node number) ≡ Some
     (kind_of node.content)
 made_kind files directory name number node =
-    kinds-with_name (with_inode nat_eq files number node) directory name number number
-    ∙ ap (λ b. kind_seen (cond b (Some node) (files.tree.node number))) (eq-eqb number number refl)
+    cc (kinds-with_name (with_inode nat_eq files number node) directory name number number, eq-eqb number number refl)
 
 -- A filesystem in the place of the one with its number
 module _ (new : Filesystem ℕ) where
@@ -121,9 +117,7 @@ module _ (new : Filesystem ℕ) where
   pub numbers-replaced : (list : List (Filesystem ℕ))
       → map (λ (f : Filesystem ℕ). f.number) (replaced list) ≡ map (λ (f : Filesystem ℕ). f.number) list
   numbers-replaced [] = refl
-  numbers-replaced (first ∷ rest) =
-      ap (λ n. n ∷ map (λ (f : Filesystem ℕ). f.number) (replaced rest)) (number-replaced_if_numbered new first)
-      ∙ ap (λ ns. first.number ∷ ns) (numbers-replaced rest)
+  numbers-replaced (first ∷ rest) = cc (number-replaced_if_numbered new first, numbers-replaced rest)
 
   pub found_other : (list : List (Filesystem ℕ)) (number : ℕ) → nat_eq new.number number ≡ false
       → numbered number (replaced list) ≡ numbered number list
@@ -153,8 +147,7 @@ module _ (fresh : Fresh ℕ) (world : World ℕ) (plain : IsPlain world) (locati
   changed_one = with_files old (changed nat_eq old.files change)
 
   pub change_of_plain : with_change nat_eq fresh world location change ≡ with_filesystem nat_eq world changed_one
-  change_of_plain = ap (λ o. filesystem_changed nat_eq fresh world old o change) (none_from_not_some old.overlay
-      (numbered_anyhow (λ filesystem. is_overlay filesystem ≡ false)
+  change_of_plain = cc (none_from_not_some old.overlay (numbered_anyhow (λ filesystem. is_overlay filesystem ≡ false)
       (mount_at nat_eq world location).filesystem world.filesystems plain refl))
 
   pub old_number : old.number ≡ (mount_at nat_eq world location).filesystem
@@ -163,8 +156,7 @@ module _ (fresh : Fresh ℕ) (world : World ℕ) (plain : IsPlain world) (locati
 -- A number that is handed in is that of no inode
 pub unused_number : (world : World ℕ) (fresh : Fresh ℕ) → Serves nat_eq world fresh → (k number : ℕ)
     → Among number (numbers_in_use world) → nat_eq (fresh k) number ≡ false
-unused_number world fresh serves k number m = none_among (nat_eq (fresh k)) (numbers_in_use world)
-    (serves.unused k) number m
+unused_number world fresh serves k number m = none_among _ _ (serves.unused k) number m
 
 pub unused_by_filesystem : (world : World ℕ) (fresh : Fresh ℕ) → Serves nat_eq world fresh → (k : ℕ)
     → (filesystem : Filesystem ℕ) → Among filesystem world.filesystems → (number : ℕ)

@@ -1,6 +1,6 @@
 -- What mounts show, and where they stand, stays there when mounts are taken away, changed or copied.
-use Rattle.std.proofs.Common.{arith, ◌≡◌, refl, sym, ap, subst, ◌∙◌, ⊎_elim, ℕ, nat_eq, eqb-true, eq-eqb, Bool, true, false, true≢false, List, [], ◌∷◌, Option, Some, None, is_some, length, map, option_map, if◌then◌else◌, option_to_list, unwrap_or}
-use Rattle.vt_spec.proofs.Common.{Among, Fresh, IsWorld, Location, Mount, MountFlags, Serves, Stands, Task, TypeWord, World, after_going, among-append, among-filter, among-from_filter, among-from_map, among_from_all, among_from_list_all, and_from, and_parts, at_root, common_steps, copied_mount, deepest_first, detached, directory_is_there, evens, folded, going, has_its_root, holds_of, inheriting, is_directory_at, is_directory_node, is_going, lazily_unmounted, list_all, list_all_from_among, location_on_copy, mount_at, mount_numbered, mount_point_left, mount_point_of_parent, mount_tree, mounts_of, named_mounts, namespaces_ended, node_at, number-mount_in, numbers_by, odds, on_parent, pivoted, pivoted_mount, replaced_if_same, same_Some, taken_away, unmounted, unmounted_if_there, unshared, with_mount, with_mounts, with_type}
+use Rattle.std.proofs.Common.{arith, ◌≡◌, refl, sym, ap, subst, ◌∙◌, ⊎_elim, ℕ, nat_eq, eqb-true, eq-eqb, Bool, true, false, true≢false, List, [], ◌∷◌, Option, Some, None, is_some, length, map, option_map, if◌then◌else◌, option_to_list}
+use Rattle.vt_spec.proofs.Common.{Among, Fresh, IsWorld, Location, Mount, MountFlags, Serves, Stands, Task, TypeWord, World, after_going, among-append, among-filter, among-from_filter, among-from_map, among_from_all, among_from_list_all, and_from, and_parts, at_root, common_steps, copied_mount, deepest_first, detached, directory_is_there, evens, folded, has_its_root, holds_of, inheriting, is_directory_at, is_directory_node, lazily_unmounted, list_all, list_all_from_among, location_on_copy, mount_at, mount_numbered, mount_point_left, mount_point_of_parent, mount_tree, mounts_of, named_mounts, namespaces_ended, node_at, number-mount_in, numbers_by, odds, on_parent, pivoted, pivoted_mount, replaced_if_same, same_Some, taken_away, unmounted, unmounted_if_there, unshared, with_mount, with_mounts, with_type}
 use Rattle.vt_laws_mounts.specs.Mounts.Attaching.{is_mount}
 use Rattle.vt_laws_mounts.proofs.Groups.{mounts-regrouped}
 use Rattle.vt_laws_mounts.proofs.mounts.MountsFound.{found_there}
@@ -54,15 +54,13 @@ shows_alike world one other filesystem root place shows = record {
 
 -- The invariant says so
 pub mounts_show : (world : World ℕ) → AllShow world → MountsShow world
-mounts_show world shows = list_all_from_among (has_its_root nat_eq world) world.mounts (λ mount m.
-    and_from (is_directory_node (inode_in world mount.filesystem mount.root))
-    (list_all (is_directory_at nat_eq world) (option_to_list mount.mount_point))
-    (shows mount m).root (by mount.mount_point (λ place e. ((shows mount m).mount_point place e).directory)))
+mounts_show world shows = list_all_from_among (has_its_root nat_eq world) world.mounts
+    (λ mount m. and_from _ _ (shows mount m).root (by _ (λ place e. ((shows mount m).mount_point place e).directory)))
   where
     by : (o : Option (Location ℕ)) → ((place : Location ℕ) → o ≡ Some place → is_directory_at nat_eq world place ≡ true)
         → list_all (is_directory_at nat_eq world) (option_to_list o) ≡ true
     by None h = refl
-    by (Some place) h = and_from (is_directory_at nat_eq world place) true (h place refl) refl
+    by (Some place) h = and_from _ true (h place refl) refl
 
 module _ (world : World ℕ) (is : IsWorld nat_eq world) where
   -- where a mount stands is on a mount of its namespace
@@ -74,13 +72,10 @@ module _ (world : World ℕ) (is : IsWorld nat_eq world) where
     where
       by : Stands nat_eq world mount.number → mount_numbered nat_eq world mount.number ≡ mount
           → mount.namespace ≡ (mount_at nat_eq world place).namespace
-      by (at_root number e) same =
-          absurd (true≢false (sym (ap is_some at) ∙ ap (λ (x : Mount ℕ). is_some x.mount_point) (sym same)
-          ∙ ap is_some e))
+      by (at_root number e) same = cc
       by (on_parent number other e namespace later) same =
-          let it : Some other ≡ Some place = sym e ∙ ap (λ (x : Mount ℕ). x.mount_point) same ∙ at in
-          ap (λ (x : Mount ℕ). x.namespace) (sym same) ∙ namespace
-          ∙ ap (λ o. (mount_at nat_eq world (unwrap_or o place)).namespace) it
+          let it : Some other ≡ Some place = cc in
+          cc
 
   placed_is_attached : (mount : Mount ℕ) → Among mount world.mounts → (place : Location ℕ)
       → mount.mount_point ≡ Some place → is_some mount.namespace ≡ true
@@ -88,13 +83,13 @@ module _ (world : World ℕ) (is : IsWorld nat_eq world) where
 
   pub place_listed : (mount : Mount ℕ) → Among mount world.mounts → (place : Location ℕ)
       → mount.mount_point ≡ Some place → is_mount world place.mount ≡ true
-  place_listed mount m place at = by (mount_at nat_eq world place).namespace refl
+  place_listed mount m place at = by _ refl
     where
       by : (o : Option ℕ) → (mount_at nat_eq world place).namespace ≡ o → is_mount world place.mount ≡ true
       by None e = absurd (true≢false (sym (placed_is_attached mount m place at)
           ∙ ap is_some (parent_namespace mount m place at) ∙ ap is_some e))
-      by (Some own) e = subst (λ n. is_mount world n ≡ true) (number-mount_in world.mounts place.mount)
-          (is_numbered world is (mount_at nat_eq world place) (own_there world is place.mount own e))
+      by (Some own) e = subst (λ n. is_mount world n ≡ true) (number-mount_in _ _)
+          (is_numbered world is _ (own_there world is _ own e))
 
   pub world_shows : AllShow world
   world_shows mount m =
@@ -117,29 +112,27 @@ module _ (world : World ℕ) (is : IsWorld nat_eq world) where
 -- Mounts are taken away
 module _ (world : World ℕ) (gone : List ℕ) (shows : AllShow world) where
   step : (a b : Location ℕ) → IsPlace world a → mount_point_of_parent nat_eq world gone a ≡ Some b → IsPlace world b
-  step a b at e = by (is_going nat_eq gone a.mount) e
+  step a b at e = by _ e
     where
       by : (c : Bool) → (if c then (mount_at nat_eq world a).mount_point else None) ≡ Some b → IsPlace world b
-      by true f = (shows (mount_at nat_eq world a) (found_there world.mounts a.mount at.listed)).mount_point b f
-      by false f = absurd (true≢false (sym (ap is_some f)))
+      by true f = (shows (mount_at nat_eq world a) (found_there _ _ at.listed)).mount_point b f
+      by false f = cc
 
   left_is_place : (place : Location ℕ) → IsPlace world place → IsPlace world (mount_point_left nat_eq world gone place)
-  left_is_place place at = last_has (IsPlace world) (mount_point_of_parent nat_eq world gone) step
-      (length world.mounts) place place at
+  left_is_place place at = last_has _ _ step (length world.mounts) place place at
 
   going_shows : (mount : Mount ℕ) → ShowsWell world mount → ShowsWell world (after_going nat_eq world gone mount)
-  going_shows mount well = by (is_going nat_eq gone mount.number)
+  going_shows mount well = by _
     where
       left : (o : Option (Location ℕ)) → mount.mount_point ≡ o → (at : Location ℕ)
           → option_map (mount_point_left nat_eq world gone) o ≡ Some at → IsPlace world at
-      left None e at f = absurd (true≢false (sym (ap is_some f)))
-      left (Some place) e at f = subst (IsPlace world) (same_Some (mount_point_left nat_eq world gone place) at f)
-          (left_is_place place (well.mount_point place e))
+      left None e at f = cc
+      left (Some place) e at f = subst (IsPlace world) (cc) (left_is_place place (well.mount_point place e))
 
       by : (b : Bool) → ShowsWell world (if b then detached mount else
           (record mount { mount_point = option_map (mount_point_left nat_eq world gone) mount.mount_point }))
-      by true = record { root = well.root; mount_point = λ at f. absurd (true≢false (sym (ap is_some f))) }
-      by false = record { root = well.root; mount_point = λ at f. left mount.mount_point refl at f }
+      by true = record { root = well.root; mount_point = λ at f. cc }
+      by false = record { root = well.root; mount_point = λ at f. left _ refl at f }
 
   pub taken_show : AllShow (taken_away nat_eq world gone)
   taken_show mount m =
@@ -152,17 +145,16 @@ module _ (world : World ℕ) (gone : List ℕ) (shows : AllShow world) where
       (subst (ShowsWell world) (sym from.2) (record { root = well.root; mount_point = well.mount_point }))
 
 lazy_show_step : (world : World ℕ) (mount : Mount ℕ) → AllShow world → AllShow (unmounted_if_there nat_eq world mount)
-lazy_show_step world mount shows = by (is_some (mount_numbered nat_eq world mount.number).namespace)
+lazy_show_step world mount shows = by _
   where
     by : (b : Bool) → AllShow (if b then unmounted nat_eq world mount.number else world)
-    by true = taken_show world (going nat_eq world (mount_numbered nat_eq world mount.number)) shows
+    by true = taken_show world _ shows
     by false = shows
 
 lazy_show_steps : (mounts : List (Mount ℕ)) (world : World ℕ) → AllShow world
     → AllShow (folded (unmounted_if_there nat_eq) world mounts)
 lazy_show_steps [] world shows = shows
-lazy_show_steps (mount ∷ mounts) world shows =
-    lazy_show_steps mounts (unmounted_if_there nat_eq world mount) (lazy_show_step world mount shows)
+lazy_show_steps (mount ∷ mounts) world shows = lazy_show_steps mounts _ (lazy_show_step world mount shows)
 
 pub lazy_show : (world : World ℕ) (number : ℕ) → AllShow world → AllShow (lazily_unmounted nat_eq world number)
 lazy_show world number = lazy_show_steps (deepest_first nat_eq world
@@ -234,8 +226,8 @@ module _ (world : World ℕ) (fresh : Fresh ℕ) (task : Task ℕ) (is : IsWorld
   after = unshared nat_eq world fresh task
 
   is_own : (namespace : Option ℕ) → holds_of (nat_eq task.namespace) namespace ≡ true → namespace ≡ Some task.namespace
-  is_own None e = absurd (true≢false (sym e))
-  is_own (Some n) e = ap Some (sym (eqb-true task.namespace n e))
+  is_own None e = cc
+  is_own (Some n) e = cc (eqb-true task.namespace n e)
 
   copy_mount_point : (mount : Mount ℕ) → Among mount copied → (place : Location ℕ) → mount.mount_point ≡ Some place
       → IsPlace after (location_on_copy copy place)

@@ -1,6 +1,6 @@
 -- What mounts show, and where they stand, is there where a tree of mounts is attached.
-use Rattle.std.proofs.Common.{◌≡◌, refl, sym, ap, subst, ◌∙◌, ◌⊎◌, inl, inr, ⊎_elim, ℕ, nat_eq, eqb-true, eq-eqb, Bool, true, false, true≢false, flat_map, not, List, [], ◌∷◌, ◌++◌, ◌&&◌, Option, Some, None, is_some, length, map, option_map, if◌then◌else◌, unwrap_or}
-use Rattle.vt_spec.proofs.Common.{Among, Copies, Graft, Location, Mount, Twig, World, added_mounts, among-append, among-append_left, among-append_right, among-flat_map, among-folded_mounts, among-from_filter, among-from_flat_map, among-from_map, among-map, and_from, and_parts, attached_by, child_at, copies_at, copy_at, copy_mount_point, copy_number, group_of, is_among_numbers, is_directory_at, is_directory_node, is_top, mount_at, mount_numbered, mount_point_on_copy, number-mount_in, pushed_onto, receiver_stood_on, receivers_of, rest_of, root_of, same_Some, stands_at, takes_part, top_of_copies, twig_of, with_moved_mounts}
+use Rattle.std.proofs.Common.{◌≡◌, refl, sym, ap, subst, ◌∙◌, ◌⊎◌, inl, inr, ⊎_elim, ℕ, nat_eq, eqb-true, eq-eqb, Bool, true, false, flat_map, not, List, [], ◌∷◌, ◌++◌, ◌&&◌, Option, Some, None, is_some, length, map, option_map, if◌then◌else◌, unwrap_or}
+use Rattle.vt_spec.proofs.Common.{Among, Copies, Graft, Location, Mount, Twig, World, added_mounts, among-append, among-append_left, among-append_right, among-flat_map, among-folded_mounts, among-from_filter, among-from_flat_map, among-from_map, among-map, and_from, and_parts, attached_by, child_at, copies_at, copy_at, copy_mount_point, copy_number, group_of, is_among_numbers, is_directory_at, is_directory_node, is_top, mount_at, mount_numbered, mount_point_on_copy, number-mount_in, pushed_onto, receiver_stood_on, receivers_of, rest_of, root_of, same_Some, takes_part, top_of_copies, twig_of, with_moved_mounts}
 use Rattle.vt_spec.specs.Machine.Attach.{reaches}
 use Rattle.vt_laws_mounts.specs.Mounts.Attaching.{OneNumberAMount, is_mount, numbers_of}
 use Rattle.vt_laws_mounts.proofs.attached.Attaching.{taker_there}
@@ -17,12 +17,11 @@ module _ (world : World ℕ) (mounts : List (Mount ℕ))
     (roots : (mount : Mount ℕ) → Among mount mounts → IsPlace world (root_of mount)) where
   over_step : (a b : Location ℕ) → IsPlace world a → option_map root_of (child_at nat_eq mounts a) ≡ Some b
       → IsPlace world b
-  over_step a b at e = by (child_at nat_eq mounts a) refl e
+  over_step a b at e = by _ refl e
     where
       by : (o : Option (Mount ℕ)) → child_at nat_eq mounts a ≡ o → option_map root_of o ≡ Some b → IsPlace world b
-      by None none f = absurd (true≢false (sym (ap is_some f)))
-      by (Some child) found f = subst (IsPlace world) (same_Some (root_of child) b f)
-          (roots child (found_in (stands_at nat_eq a) mounts child found).0)
+      by None none f = cc
+      by (Some child) found f = subst (IsPlace world) (cc) (roots child (found_in _ mounts child found).0)
 
 pub top_is_place : (world : World ℕ) (mounts : List (Mount ℕ))
     → ((mount : Mount ℕ) → Among mount mounts → IsPlace world (root_of mount))
@@ -76,28 +75,26 @@ module _ (world : World ℕ) (new : Copies ℕ) (place : Location ℕ) (moves : 
   added = added_mounts moves (copies destination)
 
   copy_among : (part origin : Mount ℕ) → Among origin mounts → Among (copy part origin) (copies part)
-  copy_among part origin m = among-map (made part) (map twig mounts) (twig origin) (among-map twig mounts origin m)
+  copy_among part origin m = among-map _ _ _ (among-map twig mounts origin m)
 
   copied_from : (part mount : Mount ℕ) → Among mount (copies part)
       → (origin : Mount ℕ) × Among origin mounts × (mount ≡ copy part origin)
   copied_from part mount m =
-      let from = among-from_map (made part) (map twig mounts) mount m in
+      let from = among-from_map _ _ mount m in
       let origin = among-from_map twig mounts from.0 from.1 in
-      (origin.0, origin.1, from.2 ∙ ap (made part) origin.2)
+      (origin.0, origin.1, cc)
 
   -- a copy that is new is in the list, and found there
   copy_after : (part : Mount ℕ) → Among part (rest_of all_parts) ⊎ ((part ≡ destination) × (moves ≡ false))
       → (mount : Mount ℕ) → Among mount (copies part) → Among mount after.mounts
   copy_after part (inl m) mount n = among-append_right (pushed ++ added) (flat_map copies (rest_of all_parts)) mount
-      (among-flat_map copies (rest_of all_parts) part mount m n)
-  copy_after part (inr here) mount n = among-append_left (pushed ++ added) (flat_map copies (rest_of all_parts)) mount
-      (among-append_right pushed added mount
+      (among-flat_map copies _ part mount m n)
+  copy_after part (inr here) mount n = among-append_left _ _ mount (among-append_right pushed added mount
       (subst (λ b. Among mount (added_mounts b (copies destination))) (sym here.1)
       (subst (λ p. Among mount (copies p)) here.0 n)))
 
   listed_after : (mount : Mount ℕ) → Among mount after.mounts → is_mount after mount.number ≡ true
-  listed_after mount m = is_among_numbers (numbers_of after.mounts) mount.number
-      (among-map (λ (x : Mount ℕ). x.number) after.mounts mount m)
+  listed_after mount m = is_among_numbers (numbers_of after.mounts) mount.number (among-map _ _ mount m)
 
   -- what a copy, or what moved, shows
   copy_view : (part : Mount ℕ) → Among part all_parts → (origin : Mount ℕ) → Among origin mounts
@@ -133,8 +130,7 @@ module _ (world : World ℕ) (new : Copies ℕ) (place : Location ℕ) (moves : 
   -- the place seen through a part
   part_place : (part : Mount ℕ) → Among part all_parts
       → IsPlace after (record { mount = part.number; node = place.node })
-  part_place part m = place_after world after seen (record { mount = part.number; node = place.node })
-      (⊎_elim here rest m)
+  part_place part m = place_after world after seen _ (⊎_elim here rest m)
     where
       through : is_mount world part.number ≡ true
           → (mount_numbered nat_eq world part.number).filesystem ≡ destination.filesystem
@@ -146,10 +142,8 @@ module _ (world : World ℕ) (new : Copies ℕ) (place : Location ℕ) (moves : 
 
       here : part ≡ destination → IsPlace world (record { mount = part.number; node = place.node })
       here e =
-          let number : part.number ≡ place.mount = ap (λ (x : Mount ℕ). x.number) e
-          ∙ number-mount_in world.mounts place.mount in
-          through (ap (is_mount world) number ∙ at_place.listed)
-          (ap (λ n. (mount_numbered nat_eq world n).filesystem) number)
+          let number : part.number ≡ place.mount = cc (number-mount_in world.mounts place.mount) in
+          through (cc) (cc)
 
       rest : Among part (rest_of all_parts) → IsPlace world (record { mount = part.number; node = place.node })
       rest n =
@@ -160,10 +154,8 @@ module _ (world : World ℕ) (new : Copies ℕ) (place : Location ℕ) (moves : 
           && nat_eq destination.filesystem part.filesystem) (reaches nat_eq world place.node part) takes).0 in
           let same = (and_parts (not (nat_eq place.mount part.number) && is_some part.namespace)
           (nat_eq destination.filesystem part.filesystem) before_reach).1 in
-          through (is_among_numbers (numbers_of world.mounts) part.number
-          (among-map (λ (x : Mount ℕ). x.number) world.mounts part there))
-          (ap (λ (x : Mount ℕ). x.filesystem) (found_itself world.mounts one part there)
-          ∙ sym (eqb-true destination.filesystem part.filesystem same))
+          through (is_among_numbers (numbers_of world.mounts) part.number (among-map _ _ part there))
+          (cc (found_itself world.mounts one part there, eqb-true destination.filesystem part.filesystem same))
 
   copy_shows : (part : Mount ℕ) → Among part all_parts → (origin : Mount ℕ) → Among origin mounts
       → ShowsWell after (copy part origin)
@@ -192,30 +184,27 @@ module _ (world : World ℕ) (new : Copies ℕ) (place : Location ℕ) (moves : 
   -- what stood at a receiver goes onto a copy
   top_place : (part : Mount ℕ) → Among part (rest_of all_parts)
       → IsPlace after (top_of_copies nat_eq (copies part) place)
-  top_place part m = top_is_place after (copies part) (λ mount n.
+  top_place part m = top_is_place after _ (λ mount n.
       let from = copied_from part mount n in
       let there = copy_after part (inl m) mount n in
-      let directory : is_directory_at nat_eq after (root_of mount) ≡ true =
-      ap (λ (x : Mount ℕ). is_directory_node (inode_in after x.filesystem mount.root))
-      (found_itself after.mounts one_after mount there)
-      ∙ (subst (ShowsWell after) (sym from.2) (copy_shows part (inr m) from.0 from.1)).root in
+      let directory : is_directory_at nat_eq after (root_of mount) ≡ true = cc (
+        found_itself after.mounts one_after mount there,
+        (subst (ShowsWell after) (sym from.2) (copy_shows part (inr m) from.0 from.1)).root,
+      ) in
       record { listed = listed_after mount there; directory = directory })
       place (place_after world after seen place at_place)
 
   push_shows : (mount : Mount ℕ) → ShowsWell after mount → ShowsWell after (push world new place moves mounts mount)
-  push_shows mount well = by (receiver_stood_on nat_eq tree all_parts mount) refl
+  push_shows mount well = by _ refl
     where
       by : (o : Option (Mount ℕ)) → receiver_stood_on nat_eq tree all_parts mount ≡ o
           → ShowsWell after (pushed_onto nat_eq world new tree all_parts mount o)
       by None e = well
       by (Some part) e =
-          let found = found_in
-          (λ (x : Mount ℕ). stands_at nat_eq (record { mount = x.number; node = place.node }) mount)
-          (rest_of all_parts) part e in
+          let found = found_in _ _ part e in
           record {
             root = well.root;
-            mount_point = λ at f. subst (IsPlace after) (same_Some (top_of_copies nat_eq (copies part) place) at f)
-                (top_place part found.0);
+            mount_point = λ at f. subst (IsPlace after) (cc) (top_place part found.0);
           }
 
   arrived_shows : (mount : Mount ℕ) → Among mount (copies destination) → ShowsWell after mount
@@ -238,11 +227,10 @@ module _ (world : World ℕ) (new : Copies ℕ) (place : Location ℕ) (moves : 
 
   pub attached_show : AllShow after
   attached_show mount m = ⊎_elim (λ front. ⊎_elim (λ old.
-      let from = among-from_map (push world new place moves mounts)
-      (moved_ones world new place moves mounts) mount old in
+      let from = among-from_map _ _ mount old in
       subst (ShowsWell after) (sym from.2) (push_shows from.0 (moved_shows moves from.0 from.1)))
       (added_shows moves mount) (among-append pushed added mount front)) (λ later.
-      let part = among-from_flat_map copies (rest_of all_parts) mount later in
+      let part = among-from_flat_map copies _ mount later in
       let from = copied_from part.0 mount part.2 in
       subst (ShowsWell after) (sym from.2) (copy_shows part.0 (inr part.1) from.0 from.1))
       (among-append (pushed ++ added) (flat_map copies (rest_of all_parts)) mount m)

@@ -1,6 +1,6 @@
 -- Binds, new mounts and moves leave mounts that show what is there, and stand on what is there.
-use Rattle.std.proofs.Common.{◌≡◌, refl, sym, ap, subst, ◌∙◌, ◌⊎◌, inl, inr, ⊎_elim, ℕ, zero, suc, ◌+◌, ◌*◌, arith, nat_eq, eqb-true, eq-eqb, Bool, true, false, cond, true≢false, find, flat_map, filter, List, [], ◌∷◌, ◌++◌, Some, None, length, map, unwrap_or}
-use Rattle.vt_spec.proofs.Common.{Among, Filesystem, Fresh, IsWorld, Location, Mount, MountFlags, Serves, World, among-append, among-append_left, among-append_right, among-flat_map, among-from_filter, among-from_flat_map, attach, bind_tree, bindable_children, bindable_tree, bound, bound_at, children, common_steps, first_of_list, group_of, holds_of, is_directory_at, is_directory_node, is_top, mount_at, mount_numbered, mount_tree, mounted, new_directory, new_mount, no_filesystem, none_from_among, number-mount_in, numbers_in_use, odds, plain_filesystem, root_attr, stands_on, stands_under, tree_among, tree_from, twig_of, used_by_filesystem, used_by_mount, with_new_filesystem}
+use Rattle.std.proofs.Common.{◌≡◌, refl, sym, ap, subst, ◌∙◌, ◌⊎◌, inl, inr, ⊎_elim, ℕ, zero, suc, ◌+◌, ◌*◌, arith, nat_eq, eqb-true, eq-eqb, Bool, true, false, cond, true≢false, flat_map, filter, List, [], ◌∷◌, ◌++◌, Some, None, length, map}
+use Rattle.vt_spec.proofs.Common.{Among, Filesystem, Fresh, IsWorld, Location, Mount, MountFlags, Serves, World, among-append, among-append_left, among-append_right, among-flat_map, among-from_filter, among-from_flat_map, attach, bind_tree, bindable_children, bindable_tree, bound, bound_at, children, common_steps, first_of_list, group_of, holds_of, is_directory_at, is_directory_node, is_top, mount_at, mount_numbered, mount_tree, mounted, new_directory, new_mount, none_from_among, number-mount_in, numbers_in_use, odds, plain_filesystem, root_attr, stands_on, stands_under, tree_among, tree_from, twig_of, used_by_filesystem, used_by_mount, with_new_filesystem}
 use Rattle.vt_laws_mounts.proofs.attached.BindsStand.{binds_keep_numbers, moves_keep_numbers, new_mounts_keep_numbers}
 use Rattle.vt_laws_mounts.proofs.mounts.MountsAttached.{graft, supplied}
 use Rattle.vt_laws_mounts.proofs.mounts.Standing.{bindable_child}
@@ -63,22 +63,20 @@ module _ (world : World ℕ) (is : IsWorld nat_eq world) where
       let whole = bind_tree nat_eq world source true in
       let under = bindable_children nat_eq world.mounts source.mount in
       let chosen = filter (stands_under nat_eq world source) under in
-      let from = among-from_flat_map (bindable_tree nat_eq (length world.mounts) world.mounts) chosen mount later in
-      let child = bindable_child world source.mount from.0
+      let from = among-from_flat_map _ chosen mount later in
+      let child = bindable_child world _ from.0
       (among-from_filter (stands_under nat_eq world source) under from.0 from.1).0 in
-      inr (⊎_elim (λ e. subst (HasParent whole) (sym e) (child_of (bound nat_eq world source) from.0
-      (subst (λ n. Among from.0 (children nat_eq world.mounts n))
-      (sym (number-mount_in world.mounts source.mount)) child) whole (inl refl)))
-      (wider (bindable_tree nat_eq (length world.mounts) world.mounts from.0) whole mount
-      (λ x n. inr (among-flat_map (bindable_tree nat_eq (length world.mounts) world.mounts) chosen from.0 x from.1 n)))
-      (bindable_parents (length world.mounts) from.0 mount from.2))) m
+      inr (⊎_elim (λ e. subst (HasParent whole) (sym e) (child_of _ from.0
+      (subst (λ n. Among from.0 (children nat_eq world.mounts n)) (sym (number-mount_in _ _)) child) whole (inl refl)))
+      (wider _ whole mount (λ x n. inr (among-flat_map _ chosen from.0 x from.1 n)))
+      (bindable_parents _ from.0 mount from.2))) m
 
   -- a mount of the list shows the filesystem of its number
   abbrev IsNumberedWell : Mount ℕ → Type 0
   IsNumberedWell mount = (mount_numbered nat_eq world mount.number).filesystem ≡ mount.filesystem
 
   listed_well : (mount : Mount ℕ) → Among mount world.mounts → IsNumberedWell mount
-  listed_well mount m = ap (λ (x : Mount ℕ). x.filesystem) (itself world is mount m)
+  listed_well mount m = cc (itself world is mount m)
 
   -- so its child stands on what is there
   pub stands_there_well : (mounts : List (Mount ℕ)) → ((mount : Mount ℕ) → Among mount mounts → IsNumberedWell mount)
@@ -87,15 +85,11 @@ module _ (world : World ℕ) (is : IsWorld nat_eq world) where
       × (is_directory_node (inode_in world on.filesystem at.node) ≡ true)
   stands_there_well mounts well mount has at e =
       let on = has.1.0 in
-      let number : on.number ≡ at.mount =
-      eqb-true on.number at.mount (sym (ap (holds_of (λ (place : Location ℕ). nat_eq on.number place.mount)) e)
-      ∙ has.1.2) in (
+      let number : on.number ≡ at.mount = eqb-true on.number at.mount (cc) in (
         on,
         has.1.1,
         number,
-        ap (λ f. is_directory_node (inode_in world f at.node))
-            (sym (well on has.1.1) ∙ ap (λ n. (mount_numbered nat_eq world n).filesystem) number)
-            ∙ ((world_shows world is mount has.0).mount_point at e).directory,
+        cc (well on has.1.1, ((world_shows world is mount has.0).mount_point at e).directory),
       )
 
   -- Binds
@@ -214,11 +208,8 @@ module _ (world : World ℕ) (is : IsWorld nat_eq world) (fresh : Fresh ℕ) (se
   found_behind : (list : List (Filesystem ℕ))
       → ((old : Filesystem ℕ) → Among old list → nat_eq filesystem.number old.number ≡ false)
       → numbered filesystem.number (list ++ (filesystem ∷ [])) ≡ filesystem
-  found_behind [] none = ap (λ b. unwrap_or (cond b (Some filesystem) None) (no_filesystem filesystem.number))
-      (eq-eqb filesystem.number filesystem.number refl)
-  found_behind (first ∷ rest) none = ap (λ b. unwrap_or (cond b (Some first)
-      (find (λ (f : Filesystem ℕ). nat_eq filesystem.number f.number) (rest ++ (filesystem ∷ []))))
-      (no_filesystem filesystem.number)) (none first (inl refl)) ∙ found_behind rest (λ old m. none old (inr m))
+  found_behind [] none = cc (eq-eqb filesystem.number filesystem.number refl)
+  found_behind (first ∷ rest) none = cc (none first (inl refl), found_behind rest (λ old m. none old (inr m)))
 
   pub mounted_show : (place : Location ℕ) (flags : MountFlags) → IsPlace world place
       → AllShow (mounted nat_eq (odds fresh) world place (plain_filesystem nat_eq fresh) flags)

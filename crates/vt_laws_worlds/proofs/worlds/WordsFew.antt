@@ -1,6 +1,6 @@
 -- The groups that a line names are at most 32.
-use Rattle.std.proofs.Common.{arith, ◌≡◌, refl, sym, ap, ◌∙◌, ℕ, Bool, true, false, cond, List, [], ◌∷◌, Option, Some, None, option_map, codes, length, nat_le, bytes_eq}
-use Rattle.vt_spec.proofs.Common.{Access, Asking, Call, Calling, CapabilityWord, Creation, Fork, Grammar, Mkdir, MountOverlay, Nobody, One, OpenFile, Request, Someone, Two, Version, Who, asked_by, call_read, call_words, capabilities_word, common_steps, each_of, groups_word, identity_word, no_more, parts, path_word, raw_tokens, request_of, request_of_texts, task_word, then_some, token_text, when, word_then, ⊤}
+use Rattle.std.proofs.Common.{arith, ◌≡◌, refl, ◌∙◌, ℕ, Bool, true, false, cond, List, [], ◌∷◌, Option, Some, None, option_map, codes, length, nat_le, bytes_eq}
+use Rattle.vt_spec.proofs.Common.{Access, Asking, Call, Calling, CapabilityWord, Creation, Fork, Grammar, Mkdir, MountOverlay, Nobody, One, OpenFile, Request, Someone, Two, Version, Who, asked_by, call_read, call_words, capabilities_word, common_steps, each_of, groups_word, identity_word, no_more, parts, path_word, raw_tokens, request_of, request_of_texts, then_some, token_text, when, word_then, ⊤}
 use Rattle.vt_spec.specs.Language.Script.{access_word, bytes_word, descriptor_word, flags_word, kept_or_identity, mode_word, offset_word, type_word, yes_or_no_word, attribute_words, chown_call, creation_words, descriptor_words, fork_words, may_have, mount_words, mounting_words, naming_words, second_words, task_words, who_of}
 use Rattle.vt_laws_trees.specs.Trees.Limits.{names_few_groups}
 
@@ -19,20 +19,18 @@ few_numbers (Some numbers) = nat_le (length numbers) 32
 
 few_groups : (text : List ℕ) → few_numbers (groups_word text) ≡ true
 unfolding few_numbers
-few_groups text =
-    by (bytes_eq text (codes "-")) (nat_le (length (parts 44 text)) 32) refl (each_of identity_word (parts 44 text))
-    (each_has_length identity_word (parts 44 text))
+few_groups text = by _ _ refl _ (each_has_length identity_word (parts 44 text))
   where
     by : (none few : Bool) → nat_le (length (parts 44 text)) 32 ≡ few → (each : Option (List ℕ))
         → HasLength (length (parts 44 text)) each → few_numbers (cond none (Some []) (cond few each None)) ≡ true
     by true few e each h = refl
     by false true e None h = refl
-    by false true e (Some numbers) h = ap (λ n. nat_le n 32) h ∙ e
+    by false true e (Some numbers) h = cc
     by false false e each h = refl
 
 small : (text groups : List ℕ) → groups_word text ≡ Some groups → nat_le (length groups) 32 ≡ true
 unfolding few_numbers
-small text groups g = ap few_numbers (sym g) ∙ few_groups text
+small text groups g = cc (few_groups text)
 
 -- Calls
 abbrev few : Option Call → Bool
@@ -102,13 +100,13 @@ few_mount version kind words = grind (arith, common_steps, few_if, few_word, few
 -- a path, or two
 few_path : (read : List ℕ → Option (List ℕ)) (call : List ℕ → Call) (words : List (List ℕ))
     → ((path : List ℕ) → names_few_groups (call path) ≡ true) → Few (word_then read (λ path. no_more (call path)) words)
-few_path read call words h = few_word read _ words (λ one rest path e. few_end (call path) rest (h path))
+few_path read call words h = few_word read _ words (λ one rest path e. few_end _ rest (h path))
 
 few_paths : (read : List ℕ → Option (List ℕ)) (call : List ℕ → List ℕ → Call) (words : List (List ℕ))
     → ((first second : List ℕ) → names_few_groups (call first second) ≡ true)
     → Few (word_then read (λ first. word_then read (λ second. no_more (call first second))) words)
 few_paths read call words h = few_word read _ words (λ one rest first e. few_word read _ rest
-    (λ two more second f. few_end (call first second) more (h first second)))
+    (λ two more second f. few_end _ more (h first second)))
 
 few_second : (version : Version) (name : List ℕ) (words : List (List ℕ)) → Few (second_words version name words)
 few_second One name words = none
@@ -134,13 +132,12 @@ few_mounting version name words = few_if (bytes_eq name (codes "mount")) _ _
 few_task : (version : Version) (name : List ℕ) (words : List (List ℕ)) → Few (task_words version name words)
 few_task version name words = few_if (bytes_eq name (codes "chdir")) _ _ (few_path path_word _ words (λ path. refl))
     (few_if (bytes_eq name (codes "chroot")) _ _ (few_path path_word _ words (λ path. refl))
-    (few_if (bytes_eq name (codes "umask")) _ _ (few_word mode_word _ words (λ one rest mode e. few_end _ rest refl))
-    (few_if (bytes_eq name (codes "drop")) _ _
-    (few_word capabilities_word _ words (λ one rest which e. few_end _ rest refl))
-    (few_if (bytes_eq name (codes "fork")) _ _ (few_fork words)
-    (few_if (bytes_eq name (codes "exit")) _ _ (few_end _ words refl)
-    (few_if (bytes_eq name (codes "unshare")) _ _ (few_end _ words refl) (few_if (bytes_eq name (codes "setns")) _ _
-    (few_word task_word _ words (λ one rest task e. few_end _ rest refl)) (few_mounting version name words))))))))
+    (few_if (bytes_eq name (codes "umask")) _ _ (few_word _ _ words (λ one rest mode e. few_end _ rest refl))
+    (few_if (bytes_eq name (codes "drop")) _ _ (few_word _ _ words (λ one rest which e. few_end _ rest refl))
+    (few_if (bytes_eq name (codes "fork")) _ _ (few_fork words) (few_if (bytes_eq name (codes "exit")) _ _
+    (few_end _ words refl) (few_if (bytes_eq name (codes "unshare")) _ _ (few_end _ words refl)
+    (few_if (bytes_eq name (codes "setns")) _ _ (few_word _ _ words (λ one rest task e. few_end _ rest refl))
+    (few_mounting version name words))))))))
 
 few_descriptor : (version : Version) (name : List ℕ) (words : List (List ℕ)) → Few (descriptor_words version name words)
 few_descriptor version name words = few_if (bytes_eq name (codes "open")) _ _
@@ -197,8 +194,7 @@ few_asked : (grammar : Grammar) (who : Option Who) (words : List (List ℕ))
     → request_names_few (asked_by grammar who words) ≡ true
 few_asked grammar None words = refl
 few_asked grammar (Some (Someone task)) [] = refl
-few_asked grammar (Some (Someone task)) (name ∷ words) =
-    by (grammar.knows name) (call_words grammar.version name words) (few_call grammar.version name words)
+few_asked grammar (Some (Someone task)) (name ∷ words) = by _ _ (few_call grammar.version name words)
   where
     read_few : (call : Call) → names_few_groups (call_read grammar.options call) ≡ names_few_groups call
     read_few (MountOverlay path options given) = refl

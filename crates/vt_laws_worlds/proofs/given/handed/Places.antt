@@ -1,5 +1,5 @@
 -- Counts with the numbers of several inodes among them are a supply with room.
-use Rattle.std.proofs.Common.{◌≡◌, refl, sym, ap, ◌∙◌, true≢false, ℕ, ◌==◌, ◌+◌, ◌*◌, ◌%◌, Bool, true, false, cond, not, ◌&&◌, ◌||◌, ◌/◌, nat_lt, List, [], ◌∷◌, arith, eq-eqb, ne_eqb, eqb-true}
+use Rattle.std.proofs.Common.{◌≡◌, refl, ap, true≢false, ℕ, ◌==◌, ◌+◌, ◌*◌, ◌%◌, Bool, true, false, cond, not, ◌&&◌, List, [], ◌∷◌, arith, eq-eqb, ne_eqb, eqb-true}
 use Rattle.vt_spec.proofs.Common.{and_parts, any_pair, common_steps, list_all, list_any, not-true, or_parts}
 use Rattle.vt_laws_rules.proofs.numbers.Allotments.{kept_lot}
 use Rattle.vt_laws_rules.proofs.numbers.NamedWorlds.{named_is_kept}
@@ -27,23 +27,22 @@ beside next all number counted others = λ i. counted i && not (others i)
 module _ (next : ℕ) (placed : Placed) (rest : List Placed) (before : Supply next rest) (even : placed.1 % 2 ≡ 0)
     (apart : list_any (λ (other : Placed). placed.1 == other.1) rest ≡ false) where
   counted : is_counted_before next placed.1 ≡ true
-  counted = ap (λ b. b || (placed.1 % 4 == 1 && nat_lt (placed.1 / 4) next)) (eq-eqb (placed.1 % 2) 0 even)
+  counted = cc (eq-eqb (placed.1 % 2) 0 even)
 
   kept : before.allotment.lot placed.1 ≡ Kept
-  kept = kept_lot (before.allotment.lot placed.1) (before.keep placed.1 (beside next rest placed.1 counted apart))
+  kept = kept_lot _ (before.keep placed.1 (beside next rest _ counted apart))
 
   abbrev with_one : Allotment
   with_one = with_number before.allotment placed.0 placed.1 kept
 
   one_from_hand : (number : ℕ) → is_kept with_one number ≡ true → may_be_given number ≡ true
-  one_from_hand number = by (number == placed.1) (number == before.allotment.new placed.0) refl
+  one_from_hand number = by _ _ refl
     where
       by : (here there : Bool) → (number == before.allotment.new placed.0) ≡ there
           → is_kept_lot (cond here (New placed.0) (cond there Kept (before.allotment.lot number))) ≡ true
           → may_be_given number ≡ true
-      by true there second e = absurd (true≢false (sym e))
-      by false true second e =
-          ap may_be_given (eqb-true number (before.allotment.new placed.0) second) ∙ before.given placed.0
+      by true there second e = cc
+      by false true second e = cc (eqb-true number (before.allotment.new placed.0) second, before.given placed.0)
       by false false second e = before.from_hand number e
 
   one_stays : (number : ℕ) → may_be_given number ≡ true → is_in_hand with_one number ≡ true

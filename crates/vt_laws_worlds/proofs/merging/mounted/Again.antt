@@ -1,7 +1,6 @@
 -- An overlay that is mounted anew over layers that lead where they led shows the same tree.
-use Rattle.std.proofs.Common.{◌≡◌, refl, sym, ap, subst, ◌∙◌, arith, ◌<◌, ℕ, suc, length, nat_eq, Bool, true, false, not, cond, ◌||◌, List, [], ◌∷◌, map, Option, Some, Ok, find, unwrap_or, is_ok, ok_or}
-use Rattle.vt_spec.proofs.Common.{Done, Filesystem, Fresh, IsWorld, Layer, LayerLocations, MountFlags, MountOverlay, Outcome, OverlayWords, SameObject, Task, World, after, answer-finished_by, call_outcome, denial, evens, filesystem_numbered, filesystems_changed_by, finished, finished_by, judge_in, list_any, no_filesystem, node_at_path, number_at_path, numbers_raised, only_looks, open_layer, overlay_filesystem, policy, raised, raised_if_changed, shown_layers, task_called, then_some}
-use Rattle.vt_spec.specs.declared.errors.Rule.TheVariants.{S2}
+use Rattle.std.proofs.Common.{◌≡◌, refl, sym, ap, subst, ◌∙◌, arith, ◌<◌, ℕ, suc, length, nat_eq, Bool, true, false, not, cond, ◌||◌, List, [], ◌∷◌, map, Option, Some, Ok, find, unwrap_or, is_ok}
+use Rattle.vt_spec.proofs.Common.{Done, Filesystem, Fresh, IsWorld, Layer, LayerLocations, MountFlags, MountOverlay, Outcome, OverlayWords, SameObject, Task, World, answer-finished_by, call_outcome, evens, filesystem_numbered, filesystems_changed_by, finished, finished_by, judge_in, no_filesystem, node_at_path, number_at_path, numbers_raised, only_looks, open_layer, overlay_filesystem, policy, raised, raised_if_changed, shown_layers, task_called, then_some}
 use Rattle.vt_spec.proofs.Tables.{layers_walked, overlay_at}
 use Rattle.vt_laws_trees.specs.Layers.Layers.Mounted.{AreAsOthers, AreLayers, IsAlike}
 use Rattle.vt_laws_trees.specs.Layers.Layers.Mounting.{AreNewNumbers}
@@ -16,9 +15,7 @@ pub files_raised : (changed : List ℕ) (number : ℕ) (list : List (Filesystem 
     → (unwrap_or (find (λ f. nat_eq number f.number) (map (raised_if_changed nat_eq changed) list))
     (no_filesystem number)).files ≡ (unwrap_or (find (λ f. nat_eq number f.number) list) (no_filesystem number)).files
 files_raised changed number [] = refl
-files_raised changed number (filesystem ∷ list) = by (list_any (λ n. nat_eq n filesystem.number) changed)
-    (find (λ f. nat_eq number f.number) (map (raised_if_changed nat_eq changed) list))
-    (find (λ f. nat_eq number f.number) list) (files_raised changed number list)
+files_raised changed number (filesystem ∷ list) = by _ _ _ (files_raised changed number list)
   where
     pick : (one : Filesystem ℕ) → one.files ≡ filesystem.files → (c : Bool) (rest was : Option (Filesystem ℕ))
         → (unwrap_or rest (no_filesystem number)).files ≡ (unwrap_or was (no_filesystem number)).files
@@ -34,9 +31,8 @@ files_raised changed number (filesystem ∷ list) = by (list_any (λ n. nat_eq n
         (Some (cond b (record filesystem { change = raised filesystem.change }) filesystem)) rest)
         (no_filesystem number)).files
         ≡ (unwrap_or (cond (nat_eq number filesystem.number) (Some filesystem) was) (no_filesystem number)).files
-    by true rest was later = pick (record filesystem { change = raised filesystem.change }) refl
-        (nat_eq number filesystem.number) rest was later
-    by false rest was later = pick filesystem refl (nat_eq number filesystem.number) rest was later
+    by true rest was later = pick _ refl (nat_eq number filesystem.number) rest was later
+    by false rest was later = pick _ refl (nat_eq number filesystem.number) rest was later
 
 module _ {fresh : Fresh ℕ} {later : World ℕ} (conditions : IsWorld nat_eq later)
     (are_new : AreNewNumbers fresh later) {task : Task ℕ} (is : task_called later task.name ≡ Some task)
@@ -51,10 +47,7 @@ module _ {fresh : Fresh ℕ} {later : World ℕ} (conditions : IsWorld nat_eq la
 
   policy_is : policy nat_eq fresh later task.name (MountOverlay path (Some words) flags)
       ≡ finished nat_eq later task.name (MountOverlay path (Some words) flags) changed mounted
-  policy_is = ap (λ o. after later (ok_or o (denial S2))
-      (λ t. finished nat_eq later task.name (MountOverlay path (Some words) flags)
-      (filesystems_changed_by nat_eq later (judge_in nat_eq fresh later t (MountOverlay path (Some words) flags)))
-      (call_outcome nat_eq fresh later t (MountOverlay path (Some words) flags)))) is
+  policy_is = cc
 
   pub granted_so : mounted.answer ≡ Ok Done
   granted_so = sym (answer-finished_by (only_looks (MountOverlay path (Some words) flags) || not
@@ -109,9 +102,8 @@ kept_as_others before later (layer ∷ layers) kept = (
 )
 
 pub mounted_over_the_same_layers : MountedOverTheSameLayers
-mounted_over_the_same_layers fresh before later number left task path words flags places conditions is
-    later_conditions are_new task_is grants walked same kept =
-    mounted_anew_shows_the_same fresh before later number left task path words flags places conditions is
-    later_conditions are_new task_is grants walked
+mounted_over_the_same_layers fresh before later number left task path words flags places conditions is later_conditions
+    are_new task_is grants walked same kept = mounted_anew_shows_the_same fresh before later number left task path words
+    flags places conditions is later_conditions are_new task_is grants walked
     (subst (λ layers. AreAsOthers (map (open_layer nat_eq before) (shown_layers left))
-    (map (open_layer nat_eq later) layers)) (sym same) (kept_as_others before later (shown_layers left) kept))
+    (map (open_layer nat_eq later) layers)) (sym same) (kept_as_others before later _ kept))

@@ -1,5 +1,5 @@
 -- An overlay that is mounted anew over the same layers has the same names of each inode.
-use Rattle.std.proofs.Common.{◌≡◌, refl, sym, ap, subst, ◌∙◌, true≢false, arith, ◌<◌, ℕ, suc, length, nat_eq, true, false, List, [], ◌∷◌, ◌++◌, map, Option, Some, None, is_some, option_map, option_to_list, ◌↔◌}
+use Rattle.std.proofs.Common.{◌≡◌, refl, sym, ap, subst, ◌∙◌, arith, ◌<◌, ℕ, suc, length, nat_eq, true, false, List, [], ◌∷◌, ◌++◌, map, Option, Some, None, is_some, option_map, option_to_list, ◌↔◌}
 use Rattle.vt_spec.proofs.Common.{FileTree, Filesystem, Fresh, IsMerged, IsTree, IsWorld, Layer, Node, OpenLayer, Overlay, Real, SameObject, World, evens, filesystem_numbered, merged_at, number_at_path, open_layer, overlay_filesystem, real_node, real_object, real_shown, shown_layers, then_some}
 use Rattle.vt_spec.proofs.Tables.{overlay_at}
 use Rattle.vt_laws_trees.proofs.layers.directories.Fit.{new_overlay_is_tree}
@@ -24,8 +24,7 @@ AtTheSame one other = (path : List (List ℕ)) → is_some (number_at_path one p
 -- what names lead to is there
 there : (files : FileTree ℕ) → IsTree files.tree → (path : List (List ℕ)) (number : ℕ)
     → number_at_path files path ≡ Some number → is_some (files.tree.node number) ≡ true
-there files tree path number e =
-    led_is_there (record { tree = files.tree; directory = files.tree.root }) tree tree.root_directory path number e
+there files tree path number e = led_is_there _ tree tree.root_directory path number e
 
 at_the_same : (one other : Filesystem ℕ) → IsTree one.files.tree → IsTree other.files.tree → ShowTheSame one other
     → AtTheSame one.files other.files
@@ -58,18 +57,15 @@ module _ {world later : World ℕ} {one other : Filesystem ℕ} {overlay another
     (same : AtTheSame one.files other.files) where
   links_along : (path second : List (List ℕ)) → number_at_path one.files path ≡ number_at_path one.files second
       → number_at_path other.files path ≡ number_at_path other.files second
-  links_along path second e = by (number_at_path one.files path) refl (number_at_path other.files path) refl
-      (number_at_path other.files second) refl
+  links_along path second e = by _ refl _ refl _ refl
     where
       by : (a : Option ℕ) → number_at_path one.files path ≡ a → (b : Option ℕ) → number_at_path other.files path ≡ b
           → (c : Option ℕ) → number_at_path other.files second ≡ c → b ≡ c
       by a f None g None h = refl
-      by a f None g (Some m) h =
-          absurd (true≢false (sym (ap is_some h) ∙ sym (same second) ∙ ap is_some (sym e) ∙ same path ∙ ap is_some g))
-      by a f (Some m) g None h =
-          absurd (true≢false (sym (ap is_some g) ∙ sym (same path) ∙ ap is_some e ∙ same second ∙ ap is_some h))
-      by None f (Some m) g (Some k) h = absurd (true≢false (sym (ap is_some g) ∙ sym (same path) ∙ ap is_some f))
-      by (Some n) f (Some m) g (Some k) h = ap Some (is_other.one_to_one m k
+      by a f None g (Some m) h = cc (same second, same path)
+      by a f (Some m) g None h = cc (same path, same second)
+      by None f (Some m) g (Some k) h = cc (same path)
+      by (Some n) f (Some m) g (Some k) h = cc (is_other.one_to_one m k
           (real_is_there later another (other.files.tree.node m) (another.real m) (is_other.real_objects m)
           (there other.files other_tree path m g)) (is_other.names path m g ∙ sym (seen path) ∙ sym (is.names path n f)
           ∙ is.names second n (sym e ∙ f) ∙ seen second ∙ sym (is_other.names second k h)))
@@ -105,9 +101,8 @@ module _ (fresh : Fresh ℕ) (before later : World ℕ) (number : ℕ) (left ane
   made_so = made later later_conditions anew layered fresh distinct
 
   seen : (path : List (List ℕ)) → real_shown nat_eq later made_so path ≡ real_shown nat_eq before left path
-  seen path =
-      (λ i. real_of_layers (upper i) (map (open_layer nat_eq later) (option_to_list (upper i) ++ lowers i)) path)
-      ∙ ap (λ layers. real_of_layers left.upper layers path) (kept_layers before later (shown_layers left) kept)
+  seen path = (λ i. real_of_layers (upper i) (map (open_layer nat_eq later) (option_to_list (upper i) ++ lowers i))
+      path) ∙ ap (λ layers. real_of_layers left.upper layers path) (kept_layers before later _ kept)
 
   new_tree : IsTree new.files.tree
   new_tree = new_overlay_is_tree fresh later anew later_conditions layered distinct

@@ -1,6 +1,6 @@
 -- What `mount overlay` leaves is a world with all invariants.
-use Rattle.std.proofs.Common.{◌≡◌, refl, sym, ap, subst, ◌∙◌, true≢false, arith, inl, inr, ⊎_elim, ℕ, ◌+◌, ◌*◌, nat_eq, eq-eqb, Bool, true, false, not, cond, List, [], ◌∷◌, ◌++◌, filter, flat_map, map, Option, Some, None, is_some, unwrap_or, filter_map, option_map}
-use Rattle.vt_spec.proofs.Common.{Among, Filesystem, Fresh, IsWorld, Location, Merged, MergedInode, Mount, MountFlags, MountInvariants, MountOverlay, Namespace, NamespaceInvariants, Node, OpenLayer, Overlay, OverlayWords, Permit, Serves, Task, TaskInvariants, World, among-append, among-append_left, among-append_right, among-from_flat_map, among-from_map, and_parts, apply, call_outcome, common_steps, cons_option, each_once, evens, evens-distinct, has_its_root, has_too_many, index_from, inode_count, is_directory_node, is_one_inode, is_there, layer_node, list_all, looks_of, merged_inode, merged_objects, mount_at, mounted, nat_eq_itself, new_mount, no_filesystem, none_from_among, numbers_in_use, odds, open_layer, overfills, overlay_filesystem, overlay_mounted, served-distinct, shown_layers, task_called, used_by_filesystem, used_by_mount, with_new_filesystem, ⊤}
+use Rattle.std.proofs.Common.{◌≡◌, refl, sym, ap, subst, ◌∙◌, true≢false, arith, inl, inr, ⊎_elim, ℕ, ◌+◌, ◌*◌, nat_eq, eq-eqb, Bool, true, false, not, cond, List, [], ◌∷◌, ◌++◌, filter, flat_map, map, Option, Some, None, unwrap_or, filter_map, option_map}
+use Rattle.vt_spec.proofs.Common.{Among, Filesystem, Fresh, IsWorld, Location, Merged, MergedInode, Mount, MountFlags, MountInvariants, MountOverlay, Namespace, NamespaceInvariants, Node, OpenLayer, Overlay, OverlayWords, Permit, Serves, Task, TaskInvariants, World, among-append, among-append_left, among-append_right, among-from_flat_map, among-from_map, and_parts, apply, call_outcome, common_steps, cons_option, each_once, evens, evens-distinct, has_its_root, has_too_many, index_from, inode_count, is_directory_node, is_one_inode, is_there, list_all, looks_of, merged_inode, merged_objects, mount_at, mounted, nat_eq_itself, new_mount, no_filesystem, none_from_among, numbers_in_use, odds, open_layer, overfills, overlay_filesystem, overlay_mounted, served-distinct, shown_layers, task_called, used_by_filesystem, used_by_mount, with_new_filesystem, ⊤}
 use Rattle.vt_spec.proofs.Tables.{destination_walk, overlay_at}
 use Rattle.vt_laws_mounts.specs.Mounts.Attached.{IsAttachedAt}
 use Rattle.vt_laws_mounts.specs.Mounts.Attaching.{is_mount}
@@ -44,12 +44,12 @@ AreOf fresh (number ∷ list) = ((k : ℕ) × (number ≡ fresh k)) × AreOf fre
 one_of : (fresh : Fresh ℕ) (list : List ℕ) → AreOf fresh list → (number : ℕ) → Among number list
     → (k : ℕ) × (number ≡ fresh k)
 one_of fresh [] are number m = absurd m
-one_of fresh (first ∷ list) are number (inl e) = (are.0.0, e ∙ are.0.1)
+one_of fresh (first ∷ list) are number (inl e) = (are.0.0, cc)
 one_of fresh (first ∷ list) are number (inr m) = one_of fresh list are.1 number m
 
 filtered_are : (fresh : Fresh ℕ) (test : ℕ → Bool) (list : List ℕ) → AreOf fresh list → AreOf fresh (filter test list)
 filtered_are fresh test [] are = tt
-filtered_are fresh test (number ∷ list) are = by (test number) (filtered_are fresh test list are.1)
+filtered_are fresh test (number ∷ list) are = by _ (filtered_are fresh test list are.1)
   where
     by : (b : Bool) → AreOf fresh (filter test list)
         → AreOf fresh (cond b (number ∷ filter test list) (filter test list))
@@ -67,8 +67,7 @@ made_are : (fresh : Fresh ℕ) (has_upper : Bool) (layers : List (OpenLayer ℕ)
     → AreOf fresh (map (λ (inode : MergedInode ℕ). inode.number)
     (filter_map (merged_inode nat_eq fresh has_upper layers objects) list))
 made_are fresh has_upper layers objects [] = tt
-made_are fresh has_upper layers objects (object ∷ list) =
-    by (layer_node layers object.seen) (made_are fresh has_upper layers objects list)
+made_are fresh has_upper layers objects (object ∷ list) = by _ (made_are fresh has_upper layers objects list)
   where
     rest : List (MergedInode ℕ)
     rest = filter_map (merged_inode nat_eq fresh has_upper layers objects) list
@@ -130,7 +129,7 @@ module _ (world : World ℕ) (is : IsWorld nat_eq world) (fresh : Fresh ℕ) (se
     not_used : (k number : ℕ) → Among number (used_by_filesystem new) → nat_eq (odds fresh k) number ≡ false
     not_used k number m =
         let even = made_even number m in
-        ap (nat_eq (odds fresh k)) even.1 ∙ served-differ world fresh serves (2 * k + 1) (2 * even.0) (apart even.0)
+        cc (served-differ world fresh serves (2 * k + 1) (2 * even.0) (apart even.0))
       where
         apart : (j : ℕ) → 2 * k + 1 ≡ 2 * j → ⊥
         apart j e = omega (arith, e)
@@ -175,7 +174,7 @@ module _ (world : World ℕ) (is : IsWorld nat_eq world) (fresh : Fresh ℕ) (se
           destination.directory.reached.there).0
 
       attached : IsAttachedAt world place
-      attached = ap is_some destination.own
+      attached = cc
 
       mounts_kept : MountInvariants nat_eq later
       mounts_kept = record {
@@ -203,7 +202,7 @@ module _ (world : World ℕ) (is : IsWorld nat_eq world) (fresh : Fresh ℕ) (se
 
       tasks_kept : TaskInvariants nat_eq later
       tasks_kept =
-          let placed = all_placed_after world later seen world.tasks
+          let placed = all_placed_after world later seen _
           (all_are_placed world is.tasks.locations_live is.tasks.directories is.tasks.open_files) in
           record {
             one_task = is.tasks.one_task;
@@ -289,4 +288,4 @@ module _ (world : World ℕ) (is : IsWorld nat_eq world) (fresh : Fresh ℕ) (se
 
 pub mounting_leaves_a_world : MountingLeavesAWorld
 mounting_leaves_a_world fresh world task path options flags is serves called =
-    leaves_a_world world is fresh serves task called path options flags
+    leaves_a_world world is fresh serves task called path _ flags

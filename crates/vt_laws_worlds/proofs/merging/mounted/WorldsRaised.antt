@@ -1,12 +1,12 @@
 -- Change numbers are read by no invariant, of overlays neither.
 use Rattle.std.proofs.Common.{◌≡◌, refl, sym, ap, subst, ◌∙◌, ℕ, nat_eq, Bool, true, false, not, cond, ◌&&◌, ◌||◌, List, [], ◌∷◌, filter, find, flat_map, map, Option, Some, None, is_some, slice_get, unwrap_or, is_ok, ok_or, option_map}
-use Rattle.vt_spec.proofs.Common.{Filesystem, IsMerged, IsReached, IsWorld, Layer, Lower, MountOverlay, Namespace, OpenLayer, Overlay, OverlayInvariants, Real, SameObject, Task, Upper, World, after, all-map, any_pair, call_outcome, denial, filesystem_numbered, filesystems_changed_by, finished, finished_by, has_fit_layers, holds_of, is_directory_node, is_kind_in, is_object_of, is_opaque_in, is_overlay, is_plain_layer, is_under, judge_in, layer_node, layers_of, lies_or_counts_under, list_all, list_any, live_lowers, live_upper_and_work, merged_at, no_filesystem, node_at_path, number_at_path, of_overlay, only_looks, overlay_or, overlays, raised, real_node, real_object, settled, shown, shown_layers, task_called, then_some, upper_and_work}
+use Rattle.vt_spec.proofs.Common.{Filesystem, IsMerged, IsReached, IsWorld, Layer, Lower, MountOverlay, Namespace, OpenLayer, Overlay, OverlayInvariants, Real, SameObject, Task, Upper, World, after, all-map, any_pair, call_outcome, denial, filesystem_numbered, filesystems_changed_by, finished, finished_by, has_fit_layers, holds_of, is_directory_node, is_kind_in, is_object_of, is_opaque_in, is_overlay, is_plain_layer, is_under, judge_in, layer_node, layers_of, lies_or_counts_under, list_all, list_any, live_lowers, live_upper_and_work, merged_at, no_filesystem, node_at_path, number_at_path, of_overlay, only_looks, overlay_or, overlays, real_node, real_object, settled, shown, shown_layers, task_called, then_some, upper_and_work}
 use Rattle.vt_spec.specs.declared.errors.Rule.TheVariants.{S2}
 use Rattle.vt_spec.specs.declared.attributes.Kind.TheVariants.{White}
 use Rattle.vt_laws_mounts.proofs.letting_go.sweeps.InUse.{nothing_goes}
 use Rattle.vt_laws_mounts.proofs.letting_go.Lists.{any-map, flat_map-map}
 use Rattle.vt_laws_worlds.proofs.Raised.{FilesBy, counted, files_by, mounts_counted, namespaces_counted, roots_counted, same_files, tasks_counted, trees_counted}
-use Rattle.vt_laws_worlds.proofs.RaisedInUse.{in_use_later, namespace_if, number_if, numbers_raised_are, task_if}
+use Rattle.vt_laws_worlds.proofs.RaisedInUse.{in_use_later, numbers_raised_are}
 use Rattle.vt_laws_worlds.specs.Merging.MountedAnew.{PolicyMountsAWorld, RaisingKeepsWorlds}
 use Rattle.vt_laws_worlds.proofs.worlds.CallsKept.{name_found}
 use Rattle.vt_laws_worlds.proofs.merging.mounted.Left.{mounting_lets_nothing_go}
@@ -50,7 +50,7 @@ module _ (of_filesystem : Filesystem ℕ → ℕ) (of_namespace : Namespace ℕ 
       → (unwrap_or (find (λ f. nat_eq number f.number) (map filesystem_later list)) (no_filesystem number)).overlay
       ≡ (unwrap_or (find (λ f. nat_eq number f.number) list) (no_filesystem number)).overlay
   overlay_in number [] = refl
-  overlay_in number (filesystem ∷ list) = by (nat_eq number filesystem.number) (overlay_in number list)
+  overlay_in number (filesystem ∷ list) = by _ (overlay_in number list)
     where
       by : (b : Bool)
           → (unwrap_or (find (λ f. nat_eq number f.number) (map filesystem_later list)) (no_filesystem number)).overlay
@@ -69,13 +69,13 @@ module _ (of_filesystem : Filesystem ℕ → ℕ) (of_namespace : Namespace ℕ 
   filtered : (list : List (Filesystem ℕ))
       → filter is_overlay (map filesystem_later list) ≡ map filesystem_later (filter is_overlay list)
   filtered [] = refl
-  filtered (filesystem ∷ list) = by (is_overlay filesystem) (filtered list)
+  filtered (filesystem ∷ list) = by _ (filtered list)
     where
       by : (b : Bool) → filter is_overlay (map filesystem_later list) ≡ map filesystem_later (filter is_overlay list)
           → cond b (filesystem_later filesystem ∷ filter is_overlay (map filesystem_later list))
           (filter is_overlay (map filesystem_later list))
           ≡ map filesystem_later (cond b (filesystem ∷ filter is_overlay list) (filter is_overlay list))
-      by true rest = ap (λ l. filesystem_later filesystem ∷ l) rest
+      by true rest = cc
       by false rest = rest
 
   overlays_same : overlays later ≡ map filesystem_later (overlays world)
@@ -177,13 +177,11 @@ module _ (of_filesystem : Filesystem ℕ → ℕ) (of_namespace : Namespace ℕ 
 
 pub raising_keeps_worlds : RaisingKeepsWorlds
 raising_keeps_worlds before name changed world is =
-    subst (IsWorld nat_eq) (sym (numbers_raised_are before name changed world))
-    (world_counted (number_if changed world) (namespace_if before name changed world)
-    (task_if before name changed world) (raised world.change) world is)
+    subst (IsWorld nat_eq) (sym (numbers_raised_are before name _ world)) (world_counted _ _ _ _ world is)
 
 -- so the policy leaves a world at each mount of an overlay
 pub policy_mounts_a_world : PolicyMountsAWorld
-policy_mounts_a_world fresh world name path options flags is serves = by (task_called world name) refl
+policy_mounts_a_world fresh world name path options flags is serves = by _ refl
   where
     last : (task : Task ℕ) → task_called world task.name ≡ Some task → (b : Bool) (changed : List ℕ)
         → IsWorld nat_eq (finished_by nat_eq b world name changed
@@ -200,7 +198,5 @@ policy_mounts_a_world fresh world name path options flags is serves = by (task_c
         (filesystems_changed_by nat_eq world (judge_in nat_eq fresh world task (MountOverlay path options flags)))
         (call_outcome nat_eq fresh world task (MountOverlay path options flags)))).world
     by None e = is
-    by (Some task) e = last task (ap (task_called world) (sym (name_found world name task e)) ∙ e)
-        (only_looks (MountOverlay path options flags) || not
-        (is_ok (call_outcome nat_eq fresh world task (MountOverlay path options flags)).answer))
-        (filesystems_changed_by nat_eq world (judge_in nat_eq fresh world task (MountOverlay path options flags)))
+    by (Some task) e = last task (cc (name_found world name task e)) (only_looks (MountOverlay path options flags)
+        || not (is_ok (call_outcome nat_eq fresh world task (MountOverlay path options flags)).answer)) _

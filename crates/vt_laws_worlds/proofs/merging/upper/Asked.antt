@@ -17,12 +17,12 @@ module _ (stack : Stack ℕ) (merge : Merge ℕ) (whole : IsWhole stack merge) w
   -- what is there has a real object,
   real_of : (object : ℕ) → is_some (merge.files.tree.node object) ≡ true
       → (real : Real ℕ) × (merge.real object ≡ Some real)
-  real_of object there = by (merge.real object) refl (whole.shown.real_objects object)
+  real_of object there = by _ refl (whole.shown.real_objects object)
     where
       by : (o : Option (Real ℕ)) → merge.real object ≡ o
           → SameObject (merge.files.tree.node object) (then_some o (inode_behind stack merge))
           → (real : Real ℕ) × (merge.real object ≡ Some real)
-      by None e same = absurd (nothing_is_no_object (merge.files.tree.node object) there same)
+      by None e same = absurd (nothing_is_no_object _ there same)
       by (Some real) e same = (real, e)
 
   -- what has no name, and is not the root, has no path,
@@ -78,7 +78,7 @@ asked_changes_have_places stack merge (AddName directory name object) whole aske
       links old.0 free.reached.0 directory object name (free.reached.1, free.in_directory) (asked.is_there, old.1),
     )
 asked_changes_have_places stack merge (Remove directory name object) whole asked =
-    let path = path_of stack merge whole directory name object asked.named in
+    let path = path_of stack merge whole _ name object asked.named in
     (RemoveAt path.0 name, removes path.0 directory object name path.1)
 asked_changes_have_places stack merge (Move from old to new object) whole asked =
     let path = path_of stack merge whole from old object asked.0.named in (

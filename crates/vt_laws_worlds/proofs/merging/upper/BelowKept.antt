@@ -1,6 +1,6 @@
 -- What lower layers show in two overlays over them: where that is the same, and where it is nothing.
 use Rattle.std.proofs.Common.{arith, ◌≡◌, refl, sym, ap, subst, ◌∙◌, true≢false, ℕ, suc, ◌+◌, nat_eq, Bool, true, false, cond, List, [], ◌∷◌, ◌++◌, map, Option, Some, None, is_some, option_and_then, append-nil}
-use Rattle.vt_spec.proofs.Common.{Merge, OpenLayer, SameObject, Shown, Stack, Tree, Upper, View, common_steps, cuts, directory_no_whiteout, entry_at, hides, hides_directory, is_directory_node, is_directory_shown, is_in_upper, layer_node, led, list_any, node_led, none_from_not_some, none_is_some, number_at_path, prefixes, same_Some, shown, shown_from, shown_over, then_some, upper_object, upper_of, view_of}
+use Rattle.vt_spec.proofs.Common.{Merge, OpenLayer, SameObject, Shown, Stack, Tree, Upper, View, common_steps, cuts, directory_no_whiteout, hides, hides_directory, is_directory_node, is_directory_shown, is_in_upper, layer_node, led, list_any, node_led, none_from_not_some, number_at_path, prefixes, same_Some, shown, shown_from, shown_over, then_some, upper_object, upper_of, view_of}
 use Rattle.vt_laws_trees.specs.Layers.Layers.Mounted.{IsAlike}
 use Rattle.vt_laws_trees.specs.Layers.Layers.Views.{view_in}
 use Rattle.vt_laws_trees.proofs.layers.layers.ShownDirectories.{AreOpen, ShowsDirectory, append_assoc, last_of, led_is_there, longer_is_not_empty}
@@ -24,21 +24,19 @@ use Rattle.vt_laws_worlds.proofs.merging.upper.Places.{path_there, seen_same}
 pub uncut_prefix : (test : List (List ℕ) → Bool) (way front rest : List (List ℕ)) → front ++ rest ≡ way
     → list_any test (prefixes way) ≡ false → list_any test (prefixes front) ≡ false
 uncut_prefix test way [] rest e none = refl
-uncut_prefix test way (word ∷ front) rest e none =
-    prefixes_fail test way (word ∷ front) (rest, e, cons_is_not_empty word front) none
+uncut_prefix test way (word ∷ front) rest e none = prefixes_fail test way _ (rest, e, cons_is_not_empty word front) none
 
 -- the fronts of a path that leads somewhere lead somewhere
 pub front_leads : (tree : Tree ℕ) (front rest : List (List ℕ)) (from to : ℕ) → led tree from (front ++ rest) ≡ Some to
     → (n : ℕ) × (led tree from front ≡ Some n)
 front_leads tree [] rest from to e = (from, refl)
-front_leads tree (word ∷ front) rest from to e =
-    by (entry_at tree from word) (λ next. front_leads tree front rest next to) e
+front_leads tree (word ∷ front) rest from to e = by _ (λ next. front_leads tree front rest next to) e
   where
     by : (o : Option ℕ) → ((next : ℕ) → led tree next (front ++ rest) ≡ Some to
         → (n : ℕ) × (led tree next front ≡ Some n))
         → option_and_then (λ next. led tree next (front ++ rest)) o ≡ Some to
         → (n : ℕ) × (option_and_then (λ next. led tree next front) o ≡ Some n)
-    by None on e = none_is_some to e
+    by None on e = cc
     by (Some next) on e = on next e
 
 -- One overlay
@@ -121,17 +119,14 @@ module _ (stack : Stack ℕ) (m : Merge ℕ) (whole : IsWhole stack m) where
   -- nothing is shown below where the upper layer cuts,
   pub cut_none : (way : List (List ℕ)) (name : List ℕ) → cuts view way ≡ true
       → seen_below stack m.upper (way ++ name ∷ []) ≡ None
-  cut_none way name cut =
-      ap (λ p. cond (cuts view p) None (shown_from 1 lowers (way ++ name ∷ []))) (without_last_of_longer way name)
-      ∙ ap (λ b. cond b None (shown_from 1 lowers (way ++ name ∷ []))) cut
+  cut_none way name cut = cc (without_last_of_longer way name)
 
   -- nor, unless lower layers show a directory above,
   pub shown_none : (way : List (List ℕ)) (name : List ℕ)
       → (cuts view way ≡ false → (seen : Shown ℕ) → shown_from 1 lowers (way ++ name ∷ []) ≡ Some seen → ⊥)
       → seen_below stack m.upper (way ++ name ∷ []) ≡ None
   shown_none way name out =
-      ap (λ p. cond (cuts view p) None (shown_from 1 lowers (way ++ name ∷ []))) (without_last_of_longer way name)
-      ∙ by (cuts view way) refl (shown_from 1 lowers (way ++ name ∷ [])) refl
+      cc (without_last_of_longer way name, by (cuts view way) refl (shown_from 1 lowers (way ++ name ∷ [])) refl)
     where
       by : (b : Bool) → cuts view way ≡ b → (o : Option (Shown ℕ)) → shown_from 1 lowers (way ++ name ∷ []) ≡ o
           → cond b None o ≡ None
@@ -144,7 +139,7 @@ module _ (stack : Stack ℕ) (m : Merge ℕ) (whole : IsWhole stack m) where
       → ((directory : ℕ) → LeadsToDirectory m way directory → cuts view way ≡ false → ⊥)
       → seen_below stack m.upper (way ++ name ∷ []) ≡ None
   none_below way name out = shown_none way name (λ uncut seen e.
-      let shows = shown_longer stack.lowers lowers_open 1 [] way name seen e in
+      let shows = shown_longer _ lowers_open 1 [] way name seen e in
       let found = open_leads way shows uncut in
       out found.0 found.1 uncut)
 
@@ -182,14 +177,13 @@ module _ (stack : Stack ℕ) (m later : Merge ℕ) (whole : IsWhole stack m) (wh
   pub hides_kept : (n : ℕ) → later.real n ≡ m.real n
       → ((u : ℕ) → m.real n ≡ Some (Upper u) → IsAlike (m.upper.tree.node u) (later.upper.tree.node u))
       → HidesAsBefore n
-  hides_kept n real alike = ap (λ r. hides (then_some (upper_object r) later.upper.tree.node)) real ∙ by (m.real n) refl
+  hides_kept n real alike = cc (by (m.real n) refl)
     where
       by : (r : Option (Rattle.vt_spec.specs.Machine.World.Real ℕ)) → m.real n ≡ r
           → hides (then_some (upper_object r) later.upper.tree.node)
           ≡ hides (then_some (upper_object r) m.upper.tree.node)
       by None e = refl
-      by (Some (Upper u)) e = hiding_alike (m.upper.tree.node u) (later.upper.tree.node u)
-          (hides_so (m.upper.tree.node u) (later.upper.tree.node u) (alike u e))
+      by (Some (Upper u)) e = hiding_alike _ _ (hides_so _ _ (alike u e))
       by (Some (Rattle.vt_spec.specs.Machine.World.Real.Lower layer path)) e = refl
 
   -- A way is cut alike if its fronts lead to the same inodes, and these hide what they hid.
@@ -212,7 +206,7 @@ module _ (stack : Stack ℕ) (m later : Merge ℕ) (whole : IsWhole stack m) (wh
       → ((front rest : List (List ℕ)) (n : ℕ) → front ++ rest ≡ way → number_at_path m.files front ≡ Some n
       → HidesAsBefore n) → seen_below stack later.upper (way ++ name ∷ []) ≡ seen_below stack m.upper (way ++ name ∷ [])
   kept_below way name same hiding = same_below way name (λ d is. same_cuts way d is.0 same hiding)
-      (λ d is. same_cuts way d (sym (same way [] (append-nil way)) ∙ is.0) same hiding)
+      (λ d is. same_cuts way d (cc (same way [] (append-nil way))) same hiding)
 
   -- Under a name where lower layers show a directory, if what the upper layer has there later hides that, and under
   -- one where they show none, nothing is shown below.

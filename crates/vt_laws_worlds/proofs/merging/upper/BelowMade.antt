@@ -34,7 +34,7 @@ pub at_each_path : (P : List (List ℕ) → Type 0) → P [] → ((way : List (L
     → (path : List (List ℕ)) → P path
 at_each_path P root named [] = root
 at_each_path P root named (word ∷ rest) =
-    let last = last_of (word ∷ rest) (not_empty word rest) in subst P last.2 (named last.0 last.1)
+    let last = last_of _ (not_empty word rest) in subst P last.2 (named last.0 last.1)
 
 -- Copies
 module _ (fresh : Fresh ℕ) (stack : Stack ℕ) (merge : Merge ℕ) (whole : IsWhole stack merge)
@@ -93,8 +93,10 @@ not_named files d w way front rest e none =
 
 pub marked_hides : (files : FileTree ℕ) (c : ℕ) (b : Bool) → b ≡ true → is_some (files.tree.node c) ≡ true
     → hides ((with_mark nat_eq b files c).tree.node c) ≡ true
-marked_hides files c b e used = ap (λ x. hides ((with_mark nat_eq x files c).tree.node c)) e
-    ∙ ap hides (node_set files.tree c (node_with_mark true (files.tree.node c))) ∙ mark_hides (files.tree.node c) used
+marked_hides files c b e used = cc (
+  node_set files.tree c (node_with_mark true (files.tree.node c)),
+  mark_hides (files.tree.node c) used,
+)
 
 -- A new object
 module _ (fresh : Fresh ℕ) {stack : Stack ℕ} {m : Merge ℕ} (whole : IsWhole stack m) {d : ℕ} {w : List ℕ}
@@ -114,7 +116,7 @@ module _ (fresh : Fresh ℕ) {stack : Stack ℕ} {m : Merge ℕ} (whole : IsWhol
   grown = changed nat_eq m.upper (Make ud w (fresh 0) new_node)
 
   ud_directory : IsDirectory m.upper.tree ud
-  ud_directory = directory_stands stack m whole d ud (upper_real m d stands) ∙ may.name_is_free.in_directory
+  ud_directory = cc (directory_stands stack m whole d ud (upper_real m d stands))
 
   number_later : (path : List (List ℕ)) → number_at_path later.files path
       ≡ cond (names_entry (view_in m.files m.files.tree.root) d w path) (Some number) (number_at_path m.files path)
@@ -125,9 +127,8 @@ module _ (fresh : Fresh ℕ) {stack : Stack ℕ} {m : Merge ℕ} (whole : IsWhol
 
   alike : (b : Bool) (u : ℕ) → u ≢ fresh 0
       → IsAlike (m.upper.tree.node u) ((with_mark nat_eq b grown (fresh 0)).tree.node u)
-  alike true u differ = alike_both (m.upper.tree.node u) (grown.tree.node u) _
-      ((make_adds_inode m.upper m.upper.tree.root ud (fresh 0) w new_node ud_directory vacant).1 u differ)
-      (alike_same (grown.tree.node u) _ (kept_elsewhere grown (fresh 0) (node_with_mark true) u
+  alike true u differ = alike_both _ _ _ ((make_adds_inode m.upper m.upper.tree.root ud (fresh 0) w new_node
+      ud_directory vacant).1 u differ) (alike_same _ _ (kept_elsewhere grown _ (node_with_mark true) u
       (ne_eqb u (fresh 0) differ)))
   alike false u differ =
       (make_adds_inode m.upper m.upper.tree.root ud (fresh 0) w new_node ud_directory vacant).1 u differ
@@ -145,8 +146,7 @@ module _ (fresh : Fresh ℕ) {stack : Stack ℕ} {m : Merge ℕ} (whole : IsWhol
   elsewhere : (way : List (List ℕ)) → goes_through (view_in m.files m.files.tree.root) d w way ≡ false
       → (front rest : List (List ℕ))
       → front ++ rest ≡ way → number_at_path later.files front ≡ number_at_path m.files front
-  elsewhere way none front rest is = number_later front
-      ∙ ap (λ b. cond b (Some number) (number_at_path m.files front)) (not_named m.files d w way front rest is none)
+  elsewhere way none front rest is = cc (number_later front, not_named m.files d w way front rest is none)
 
   -- under the new name
   none_after : (to rest : List (List ℕ)) (name : List ℕ) → number_at_path m.files to ≡ Some d
@@ -203,8 +203,8 @@ module _ {stack : Stack ℕ} {m : Merge ℕ} (whole : IsWhole stack m) {d : ℕ}
   }) may.no_directory path
 
   no_directory : ¬ (IsDirectory further.files.tree object)
-  no_directory is = true≢false (sym is ∙ directory_alike (m.files.tree.node object) (further.files.tree.node object)
-      (names_leave_inodes m.files (AddName d w object) m.files.tree.root object refl) ∙ may.no_directory)
+  no_directory is = true≢false (cc (directory_alike (m.files.tree.node object) (further.files.tree.node object)
+      (names_leave_inodes m.files (AddName d w object) m.files.tree.root object refl)))
 
   pub linked_below : (path : List (List ℕ)) → seen_below stack further.upper path ≡ seen_below stack m.upper path
   linked_below = at_each_path (λ path. seen_below stack further.upper path ≡ seen_below stack m.upper path) refl

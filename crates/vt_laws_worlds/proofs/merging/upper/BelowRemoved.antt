@@ -1,6 +1,6 @@
 -- What lower layers show after a name was removed, and after a move.
-use Rattle.std.proofs.Common.{arith, ◌≡◌, ◌≢◌, refl, sym, ap, subst, ◌∙◌, true≢false, eqb-true, eq-eqb, ne_eqb, ℕ, nat_eq, Bool, true, false, cond, List, [], ◌∷◌, ◌++◌, Option, Some, None, is_some, option_and_then}
-use Rattle.vt_spec.proofs.Common.{FileTree, Fresh, Merge, Move, Stack, Upper, changed, common_steps, entry_at, hides, hides_directory, is_directory_node, led, led-append, merge_with_moved, merge_without_name, name_left_by, node_other, node_with_entry, node_with_mark, node_without_entry, none_is_some, number_at_path, shown_in_lowers_at, then_some, upper_directory_named, upper_object, upper_of, whiteout_of, with_inode, with_mark, without_contents}
+use Rattle.std.proofs.Common.{arith, ◌≡◌, ◌≢◌, refl, sym, ap, subst, ◌∙◌, true≢false, eqb-true, eq-eqb, ne_eqb, ℕ, nat_eq, Bool, true, false, cond, List, [], ◌∷◌, ◌++◌, Option, Some, None, is_some}
+use Rattle.vt_spec.proofs.Common.{FileTree, Fresh, Merge, Move, Stack, Upper, changed, common_steps, entry_at, hides, hides_directory, is_directory_node, led, led-append, merge_with_moved, merge_without_name, name_left_by, node_other, node_with_mark, none_is_some, number_at_path, shown_in_lowers_at, then_some, upper_directory_named, upper_object, upper_of, whiteout_of, with_inode, with_mark, without_contents}
 use Rattle.vt_laws_trees.specs.Trees.{MayMove, MayRemove}
 use Rattle.vt_laws_trees.specs.Layers.Layers.ChangesUpper.{StandsInUpper}
 use Rattle.vt_laws_trees.specs.Layers.Layers.Mounted.{IsAlike}
@@ -60,11 +60,9 @@ left_alike : (fresh : Fresh ℕ) (stack : Stack ℕ) (upper : FileTree ℕ) (b :
     → u ≢ fresh 0 → IsAlike (upper.tree.node u) ((name_left_by nat_eq b fresh stack upper directory name).tree.node u)
 left_alike fresh stack upper true directory name u differ =
     let white = with_inode nat_eq upper (fresh 0) (whiteout_of stack.mounter) in
-    alike_both (upper.tree.node u) (white.tree.node u) _ (alike_same (upper.tree.node u) (white.tree.node u)
-    (node_other upper.tree (fresh 0) (Some (whiteout_of stack.mounter)) u differ))
-    (alike_after white directory (node_with_entry name (fresh 0)) (entry_keeps name (fresh 0)) u)
-left_alike fresh stack upper false directory name u differ =
-    alike_after upper directory (node_without_entry name) (without_entry_keeps name) u
+    alike_both _ _ _ (alike_same _ _ (node_other upper.tree _ (Some (whiteout_of stack.mounter)) u differ))
+    (alike_after white directory _ (entry_keeps name (fresh 0)) u)
+left_alike fresh stack upper false directory name u differ = alike_after upper directory _ (without_entry_keeps name) u
 
 -- A removed name
 module _ (fresh : Fresh ℕ) {stack : Stack ℕ} {m : Merge ℕ} (whole : IsWhole stack m) {d : ℕ} {w : List ℕ}
@@ -81,10 +79,8 @@ module _ (fresh : Fresh ℕ) {stack : Stack ℕ} {m : Merge ℕ} (whole : IsWhol
   alike u used =
       let left = name_left_by nat_eq (is_some (shown_in_lowers_at nat_eq stack m d w)) fresh stack m.upper
       (upper_of m d) w in
-      alike_both (m.upper.tree.node u) (left.tree.node u) _
-      (left_alike fresh stack m.upper (is_some (shown_in_lowers_at nat_eq stack m d w)) (upper_of m d) w u
-      (λ same. true≢false (sym used ∙ ap (λ k. is_some (m.upper.tree.node k)) same ∙ ap is_some vacant)))
-      (emptied_alike left (upper_directory_named m d w) u)
+      alike_both _ _ _ (left_alike fresh stack m.upper (is_some (shown_in_lowers_at nat_eq stack m d w)) (upper_of m d)
+      w u (λ same. true≢false (cc))) (emptied_alike left (upper_directory_named m d w) u)
 
   pub removed_kept : (way : List (List ℕ)) (name : List ℕ)
       → goes_through (view_in m.files m.files.tree.root) d w way ≡ false
@@ -131,19 +127,17 @@ module _ (fresh : Fresh ℕ) (stack : Stack ℕ) (m : Merge ℕ) (whole : IsWhol
   unmarked_alike : (u : ℕ) → u ≢ fresh 0 → IsAlike (m.upper.tree.node u) (unmarked.tree.node u)
   unmarked_alike u differ =
       let at_new = changed nat_eq empty (Move (upper_of m f) old (upper_of m t) new uo) in
-      alike_both (m.upper.tree.node u) (at_new.tree.node u) (unmarked.tree.node u)
-      (alike_both (m.upper.tree.node u) (empty.tree.node u) (at_new.tree.node u)
-      (emptied_alike m.upper (upper_directory_named m t new) u)
+      alike_both _ _ _ (alike_both _ _ _ (emptied_alike m.upper (upper_directory_named m t new) u)
       (names_leave_inodes empty (Move (upper_of m f) old (upper_of m t) new uo) empty.tree.root u refl))
       (left_alike fresh stack at_new (is_some (shown_in_lowers_at nat_eq stack m f old)) (upper_of m f) old u differ)
 
   not_white : (u : ℕ) → is_some (m.upper.tree.node u) ≡ true → u ≢ fresh 0
-  not_white u used same = true≢false (sym used ∙ ap (λ k. is_some (m.upper.tree.node k)) same ∙ ap is_some vacant)
+  not_white u used same = true≢false (cc)
 
   alike_moved : (b : Bool) (u : ℕ) → u ≢ fresh 0 → u ≢ uo
       → IsAlike (m.upper.tree.node u) ((with_mark nat_eq b unmarked uo).tree.node u)
-  alike_moved true u differ other = alike_both (m.upper.tree.node u) (unmarked.tree.node u) _ (unmarked_alike u differ)
-      (alike_same (unmarked.tree.node u) _ (kept_elsewhere unmarked uo (node_with_mark true) u (ne_eqb u uo other)))
+  alike_moved true u differ other = alike_both _ _ _ (unmarked_alike u differ)
+      (alike_same _ _ (kept_elsewhere unmarked uo (node_with_mark true) u (ne_eqb u uo other)))
   alike_moved false u differ other = unmarked_alike u differ
 
   can : CanMove m.files.tree f old t new o
@@ -171,10 +165,10 @@ module _ (fresh : Fresh ℕ) (stack : Stack ℕ) (m : Merge ℕ) (whole : IsWhol
   elsewhere : (way : List (List ℕ)) → through_new way ≡ false → through_old way ≡ false
       → (front rest : List (List ℕ)) → front ++ rest ≡ way
       → number_at_path then_moved.files front ≡ number_at_path m.files front
-  elsewhere way no_new no_old front rest is = number_else front
-      (uncut_prefix (names_entry (view_in m.files m.files.tree.root) t new) way front rest is no_new)
-      ∙ ap (λ b. cond b None (number_at_path m.files front))
-      (uncut_prefix (names_entry (view_in m.files m.files.tree.root) f old) way front rest is no_old)
+  elsewhere way no_new no_old front rest is = cc (
+    number_else front (uncut_prefix (names_entry (view_in m.files m.files.tree.root) t new) way front rest is no_new),
+    uncut_prefix (names_entry (view_in m.files m.files.tree.root) f old) way front rest is no_old,
+  )
 
   -- what is moved is at no front of another way, if it is a directory, and hides what it hid, if it is none
   hiding : (way : List (List ℕ)) → through_old way ≡ false → (front rest : List (List ℕ)) (n : ℕ) → front ++ rest ≡ way
@@ -219,11 +213,9 @@ module _ (fresh : Fresh ℕ) (stack : Stack ℕ) (m : Merge ℕ) (whole : IsWhol
 
   -- the way to the new directory goes through neither name
   to_not_old : (to : List (List ℕ)) → number_at_path m.files to ≡ Some t → through_old to ≡ false
-  to_not_old to leads = fails (through_old to) (λ through.
+  to_not_old to leads = fails _ (λ through.
       let parts = through_is_split m.files m.files.tree.root f old to through in
-      may.not_under parts.1 (sym (ap (option_and_then (λ next. led m.files.tree next parts.1)) may.named)
-      ∙ sym (led_parts m.files.tree parts.0 (old ∷ parts.1) m.files.tree.root f parts.3)
-      ∙ ap (number_at_path m.files) parts.2 ∙ leads))
+      may.not_under parts.1 (cc (led_parts m.files.tree parts.0 (old ∷ parts.1) m.files.tree.root f parts.3)))
 
   to_not_new : (to : List (List ℕ)) → number_at_path m.files to ≡ Some t → through_new to ≡ false
   to_not_new to leads = by (entry_at m.files.tree t new) refl

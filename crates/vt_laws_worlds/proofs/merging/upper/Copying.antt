@@ -1,7 +1,7 @@
 -- Copies of what a path leads to, front by front.
-use Rattle.std.proofs.Common.{arith, ◌≡◌, ◌≤◌, refl, sym, ap, subst, ◌∙◌, true≢false, ℕ, zero, suc, ◌+◌, nat_eq, Bool, true, false, List, [], ◌∷◌, ◌++◌, length, map, reverse, Option, Some, None, is_some, option_and_then, unwrap_or}
+use Rattle.std.proofs.Common.{arith, ◌≡◌, refl, sym, ap, subst, ◌∙◌, true≢false, ℕ, zero, suc, ◌+◌, nat_eq, Bool, true, false, List, [], ◌∷◌, ◌++◌, length, reverse, Option, Some, None, is_some, option_and_then}
 use Rattle.vt_laws_trees.proofs.layers.directories.Lower.{enough}
-use Rattle.vt_spec.proofs.Common.{Content, FileTree, Fresh, IsDirectory, IsTree, ListsNumbers, Make, Merge, Node, Real, SameObject, Stack, Tree, a_name, bytes_eq-Decides, chain, changed, common_steps, copied_content, copied_each, copied_up, copy_named, copy_of, copy_of_node, copy_parent, directories_to, entry_at, folded, folded-snoc, is_in_upper, is_kind_in, led, length-reverse, line_by, line_to, map-append, named_parent, none_is_some, nothing_is_no_object, number_at_path, prefixes, same_Some, same_content, then_some, upper_of, with_inode, without_last}
+use Rattle.vt_spec.proofs.Common.{Content, FileTree, Fresh, IsDirectory, IsTree, ListsNumbers, Make, Merge, Node, Real, SameObject, Stack, Tree, a_name, bytes_eq-Decides, chain, changed, common_steps, copied_content, copied_each, copied_up, copy_named, copy_of, copy_of_node, copy_parent, directories_to, entry_at, folded-snoc, is_in_upper, is_kind_in, led, length-reverse, line_by, line_to, map-append, named_parent, none_is_some, nothing_is_no_object, number_at_path, prefixes, same_Some, same_content, then_some, upper_of, with_inode, without_last}
 use mathlib.Core.List.{reverse-cons}
 use Rattle.vt_laws_trees.proofs.layers.layers.UpperChain.{depth_bound, up_at_root, up_from}
 use Rattle.vt_laws_trees.proofs.layers.layers.UpperLine.{ReachedIn, has_entries, is_reached_in, named_so}
@@ -23,43 +23,42 @@ use Rattle.vt_laws_trees.proofs.layers.layers.CopyingLast.{copied_one_more}
 module _ (files : FileTree ℕ) (tree : IsTree files.tree) (numbers : ListsNumbers nat_eq files) where
   chain_length : (steps directory : ℕ) (r : ReachedIn files.tree steps directory)
       → length (chain steps (named_parent nat_eq files.tree) directory) ≡ suc steps
-  chain_length zero directory r = ap length (up_at_root files tree 0 directory r)
-  chain_length (suc steps) directory r = ap length (up_from files tree steps steps directory r)
-      ∙ ap suc (chain_length steps r.0 r.2)
+  chain_length zero directory r = cc (up_at_root files tree 0 directory r)
+  chain_length (suc steps) directory r = cc (up_from files tree steps steps directory r, chain_length steps r.0 r.2)
 
   directories_are : (steps directory : ℕ) → ReachedIn files.tree steps directory
       → directories_to nat_eq files directory ≡ reverse (chain steps (named_parent nat_eq files.tree) directory)
-  directories_are steps directory r = ap (λ l. reverse l)
-      (enough files tree numbers steps directory r (length files.numbers)
+  directories_are steps directory r = cc (enough files tree numbers steps directory r (length files.numbers)
       (depth_bound files tree numbers steps directory r))
 
   pub directories_count : (steps directory : ℕ) → ReachedIn files.tree steps directory
       → length (directories_to nat_eq files directory) ≡ suc steps
-  directories_count steps directory r = ap length (directories_are steps directory r)
-      ∙ length-reverse (chain steps (named_parent nat_eq files.tree) directory) ∙ chain_length steps directory r
+  directories_count steps directory r = cc (
+    directories_are steps directory r,
+    length-reverse (chain steps (named_parent nat_eq files.tree) directory),
+    chain_length steps directory r,
+  )
 
   -- the line to a directory is that of the directories down to it
   pub line_is : (steps directory : ℕ) → ReachedIn files.tree steps directory
       → line_to nat_eq files directory ≡ directories_to nat_eq files directory
-  line_is steps directory r = by (a_name nat_eq files directory) refl steps r
+  line_is steps directory r = by _ refl steps r
     where
       by : (o : Option (ℕ × List ℕ)) → a_name nat_eq files directory ≡ o
           → (steps : ℕ) (r : ReachedIn files.tree steps directory)
           → line_by nat_eq files directory o ≡ directories_to nat_eq files directory
-      by None e zero r = sym (ap (λ l. reverse l) (up_at_root files tree (length files.numbers) directory r))
-      by None e (suc steps) r = absurd
-          (true≢false (sym (has_a_name files numbers r.0 r.1 directory r.3) ∙ ap is_some e))
-      by (Some name) e zero r = absurd
-          (tree.root_unnamed name.0 name.1 (named_so files tree directory name e ∙ ap Some r))
+      by None e zero r = cc (up_at_root files tree (length files.numbers) directory r)
+      by None e (suc steps) r = cc (has_a_name files numbers r.0 r.1 directory r.3)
+      by (Some name) e zero r = absurd (tree.root_unnamed name.0 name.1 (cc (named_so files tree directory name e)))
       by (Some name) e (suc steps) r =
-          let parent : name.0 ≡ r.0 = sym
-          (tree.one_parent name.0 name.1 directory (named_so files tree directory name e) r.4)
+          let parent : name.0 ≡ r.0 = sym (tree.one_parent name.0 name.1 directory (named_so files tree _ name e) r.4)
           ∙ tree.one_parent r.0 r.1 directory r.3 r.4 in
-          ap (λ p. directories_to nat_eq files p ++ directory ∷ []) parent
-          ∙ ap (λ l. l ++ directory ∷ []) (directories_are steps r.0 r.2)
-          ∙ sym (reverse-cons directory (chain steps (named_parent nat_eq files.tree) r.0))
-          ∙ ap (λ l. reverse l) (sym (up_from files tree steps steps directory r))
-          ∙ sym (directories_are (suc steps) directory r)
+          cc (
+            directories_are steps r.0 r.2,
+            reverse-cons directory (chain steps (named_parent nat_eq files.tree) r.0),
+            up_from files tree steps steps directory r,
+            directories_are (suc steps) directory r,
+          )
 
   -- as many steps lead to a directory as its path has names
   pub reached_at : (steps : ℕ) (path : List (List ℕ)) (directory : ℕ) → length path ≡ steps
@@ -94,7 +93,7 @@ module _ (fresh : Fresh ℕ) (stack : Stack ℕ) (merge : Merge ℕ) (whole : Is
       → copy_of nat_eq m object copy o b ≡ m
   one_stays m object copy None b e = refl
   one_stays m object copy (Some node) true e = refl
-  one_stays m object copy (Some node) false e = absurd (true≢false (sym e))
+  one_stays m object copy (Some node) false e = cc
 
   -- an object with a name is copied after the directory of that
   pub copied_after : (object : ℕ) (name : ℕ × List ℕ) → a_name nat_eq merge.files object ≡ Some name
@@ -163,17 +162,15 @@ module _ (fresh : Fresh ℕ) {stack : Stack ℕ} {merge : Merge ℕ} (whole : Is
 
   -- the upper layer has it there, if it stands there, and else nothing
   pub led_stands : StandsInUpper merge object → led_above stack merge.upper path ≡ Some (upper_of merge object)
-  led_stands stands = named_above stack merge whole path object (upper_of merge object) leads
-      (upper_real merge object stands)
+  led_stands stands = named_above stack merge whole path object _ leads (upper_real merge object stands)
 
   pub led_none : is_in_upper merge object ≡ false → led_above stack merge.upper path ≡ None
-  led_none low = by (led_above stack merge.upper path) refl
+  led_none low = by _ refl
     where
       no_real : (o : Option (Real ℕ)) → merge.real object ≡ o → o ≡ None → ⊥
-      no_real None e n = nothing_is_no_object (merge.files.tree.node object) there
-          (subst (λ o. SameObject (merge.files.tree.node object) (then_some o (inode_behind stack merge))) e
-          (whole.shown.real_objects object))
-      no_real (Some r) e n = none_is_some r (sym n)
+      no_real None e n = nothing_is_no_object _ there (subst (λ o. SameObject (merge.files.tree.node object)
+          (then_some o (inode_behind stack merge))) e (whole.shown.real_objects object))
+      no_real (Some r) e n = cc
 
       at : (u : ℕ) (white : Bool) → is_kind_in White (merge.upper.tree.node u) ≡ white
           → led_above stack merge.upper path ≡ Some u → ⊥
@@ -203,13 +200,14 @@ module _ (fresh : Fresh ℕ) (stack : Stack ℕ) (m : Merge ℕ) (whole : IsWhol
   path = front ++ name ∷ []
 
   parent_is : object_above stack m.upper (without_last path) ≡ upper_of m parent
-  parent_is = ap (object_above stack m.upper) (without_last_of_longer front name)
-      ∙ ap (λ o. unwrap_or o 0) (named_above stack m whole front parent (upper_of m parent) above
-      (upper_real m parent stands))
+  parent_is = cc (
+    without_last_of_longer front name,
+    named_above stack m whole front parent (upper_of m parent) above (upper_real m parent stands),
+  )
 
   pub one_is_copied : (copy_of nat_eq m object (fresh (length path)) (m.files.tree.node object)
       (is_in_upper m object)).upper ≡ copied_at fresh stack m.upper path
-  one_is_copied = by (m.files.tree.node object) refl (is_in_upper m object) refl
+  one_is_copied = by _ refl _ refl
     where
       copy : ℕ
       copy = fresh (length path)
@@ -231,27 +229,29 @@ module _ (fresh : Fresh ℕ) (stack : Stack ℕ) (m : Merge ℕ) (whole : IsWhol
 
       by : (o : Option (Node ℕ)) → m.files.tree.node object ≡ o → (b : Bool) → is_in_upper m object ≡ b
           → (copy_of nat_eq m object (fresh (length path)) o b).upper ≡ copied_at fresh stack m.upper path
-      by None e b low = absurd (true≢false (sym there ∙ ap is_some e))
-      by (Some node) e true low = sym (ap (λ o. copy_over fresh stack m.upper path o (node_seen stack m.upper path))
-          (led_stands fresh whole object there path leads low))
-      by (Some node) e false low = seen node low (node_seen stack m.upper path)
-          (subst (λ o. SameObject o (node_seen stack m.upper path)) e (same_seen fresh whole object there path leads))
-          ∙ sym (ap (λ o. copy_over fresh stack m.upper path o (node_seen stack m.upper path))
-          (led_none fresh whole object there path leads low))
+      by None e b low = cc
+      by (Some node) e true low = cc (led_stands fresh whole object there path leads low)
+      by (Some node) e false low = cc (
+        seen node low (node_seen stack m.upper path)
+            (subst (λ o. SameObject o (node_seen stack m.upper path)) e
+            (same_seen fresh whole object there path leads)),
+        led_none fresh whole object there path leads low,
+      )
 
 -- Fronts of a longer path
 prefixes_longer : (path : List (List ℕ)) (name : List ℕ)
     → prefixes (path ++ name ∷ []) ≡ prefixes path ++ (path ++ name ∷ []) ∷ []
 prefixes_longer [] name = refl
 prefixes_longer (first ∷ path) name =
-    ap (λ l. (first ∷ []) ∷ map (λ front. first ∷ front) l) (prefixes_longer path name)
-    ∙ ap (λ l. (first ∷ []) ∷ l) (map-append (λ front. first ∷ front) (prefixes path) ((path ++ name ∷ []) ∷ []))
+    cc (prefixes_longer path name, map-append (λ front. first ∷ front) (prefixes path) ((path ++ name ∷ []) ∷ []))
 
 pub copied_longer : (fresh : Fresh ℕ) (stack : Stack ℕ) (upper : FileTree ℕ) (path : List (List ℕ)) (name : List ℕ)
     → copied_to fresh stack upper (path ++ name ∷ []) ≡ copied_at fresh stack (copied_to fresh stack upper path)
     (path ++ name ∷ [])
-copied_longer fresh stack upper path name = ap (folded (copied_at fresh stack) upper) (prefixes_longer path name)
-    ∙ folded-snoc (copied_at fresh stack) upper (prefixes path) (path ++ name ∷ [])
+copied_longer fresh stack upper path name = cc (
+  prefixes_longer path name,
+  folded-snoc (copied_at fresh stack) upper (prefixes path) (path ++ name ∷ []),
+)
 
 -- where the upper layer has the object of a path, nothing is copied
 led_before : (tree : Tree ℕ) (from : ℕ) (path : List (List ℕ)) (name : List ℕ)

@@ -1,6 +1,6 @@
 -- An object at a path is copied with the fronts of that: what leads where, and which numbers are still new.
 use Rattle.std.proofs.Common.{arith, ◌≡◌, ◌≢◌, ◌<◌, refl, sym, ap, subst, ◌∙◌, true≢false, ℕ, zero, suc, ◌+◌, nat_eq, ne_eqb, Bool, true, false, cond, List, [], ◌∷◌, ◌++◌, length, Option, Some, None, is_some, option_and_then, unwrap_or, append-nil}
-use Rattle.vt_spec.proofs.Common.{FileTree, Fresh, IsDirectory, IsTree, Lower, Make, Merge, Node, Real, SameObject, Shown, Stack, Upper, a_name, changed, common_steps, copied_up, copy_of, cuts, directories_to, directory_no_whiteout, directory_used, entries_of-copied_content, entry_at, hides, is_directory_node, is_in_upper, is_some-node_with_entry, last_or, led, led-append, line_to, node_led, node_other, node_with_entry, none_from_not_some, none_is_some, nothing_is_no_object, number_at_path, part-changed_node, real_object, same_Some, shown, then_some, upper_object, upper_of, with_inode, without_last}
+use Rattle.vt_spec.proofs.Common.{FileTree, Fresh, IsDirectory, IsTree, Lower, Make, Merge, Node, Real, SameObject, Shown, Stack, a_name, changed, common_steps, copied_up, copy_of, cuts, directories_to, directory_no_whiteout, directory_used, entries_of-copied_content, entry_at, hides, is_directory_node, is_in_upper, is_some-node_with_entry, last_or, led, led-append, line_to, node_led, node_other, node_with_entry, none_from_not_some, none_is_some, nothing_is_no_object, number_at_path, part-changed_node, real_object, same_Some, shown, then_some, upper_object, upper_of, with_inode, without_last}
 use Rattle.vt_laws_trees.specs.Layers.Layers.ChangesUpper.{StandsInUpper}
 use Rattle.vt_laws_trees.specs.Layers.Layers.Views.{names_entry, view_in}
 use Rattle.vt_laws_trees.proofs.layers.layers.ShownDirectories.{append_assoc, last_of, led_is_there}
@@ -13,7 +13,6 @@ use Rattle.vt_laws_trees.proofs.layers.views.Fronts.{prefixes_agree, hides_so, h
 use Rattle.vt_laws_trees.proofs.layers.views.Moves.{led_parts}
 use Rattle.vt_laws_trees.proofs.layers.views.Names.{make_adds_inode, make_adds_path}
 use Rattle.vt_laws_trees.specs.Overlays.WhatIsShown.{IsWhole, inode_behind, layers_under}
-use Rattle.vt_laws_trees.proofs.overlays.steps.WholeParts.{real_by}
 use Rattle.vt_laws_trees.proofs.overlays.steps.WholeAttributes.{upper_real}
 use Rattle.vt_laws_trees.proofs.overlays.steps.WholeLines.{IsLineCopied, object_copied, stands_copied, to_object}
 use Rattle.vt_laws_trees.proofs.overlays.steps.WholeNames.{above_named, directory_stands, entry_named_so, named_above}
@@ -39,7 +38,7 @@ longer_by (x ∷ a) b = let rest = longer_by a b in let h : suc (length (a ++ b)
 led_front : (tree : Rattle.vt_spec.specs.Tree.Tree ℕ) (front rest : List (List ℕ)) (from : ℕ)
     → is_some (led tree from (front ++ rest)) ≡ true → is_some (led tree from front) ≡ true
 led_front tree [] rest from e = refl
-led_front tree (word ∷ front) rest from e = by (entry_at tree from word) (λ next. led_front tree front rest next) e
+led_front tree (word ∷ front) rest from e = by _ (λ next. led_front tree front rest next) e
   where
     by : (o : Option ℕ) → ((next : ℕ) → is_some (led tree next (front ++ rest)) ≡ true
         → is_some (led tree next front) ≡ true)
@@ -60,7 +59,7 @@ none_changes fresh stack upper path unused has = record {
 }
   where
     by : (front : List (List ℕ)) (o : Option ℕ) → is_some o ≡ true → o ≡ Some (unwrap_or o (fresh (length front)))
-    by front None e = absurd (true≢false (sym e))
+    by front None e = cc
     by front (Some u) e = refl
 
 -- One copy more
@@ -86,8 +85,7 @@ module _ (fresh : Fresh ℕ) (distinct : (j k : ℕ) → fresh j ≡ fresh k →
   not_front rest e = let all = sym (longer_by path rest) ∙ ap length e in let no : ⊥ = omega (arith, longer, all) in no
 
   no_entry : entry_at before.tree parent name ≡ None
-  no_entry = sym (ap (option_and_then (λ d. entry_at before.tree d name)) leads)
-      ∙ sym (last_name before.tree stack.directory front name) ∙ copies.others path not_front ∙ free
+  no_entry = cc (last_name before.tree stack.directory front name, copies.others path not_front)
 
   leads_now : (other : List (List ℕ)) → led_above stack one_more other
       ≡ cond (names_entry (view_in before stack.directory) parent name other) (Some copy) (led_above stack before other)
@@ -99,29 +97,28 @@ module _ (fresh : Fresh ℕ) (distinct : (j k : ℕ) → fresh j ≡ fresh k →
   entry_only : (other : List (List ℕ)) → names_entry (view_in before stack.directory) parent name other ≡ true
       → other ≡ path
   entry_only other e =
-      let named = is_named before stack.directory parent name other e in
-      sym named.1 ∙ ap (λ way. way ++ name ∷ [])
-      (one_path before.tree tree stack.directory named.0 front parent named.2 leads directory)
+      let named = is_named before _ parent name other e in
+      cc (one_path before.tree tree stack.directory named.0 front parent named.2 leads directory)
 
   other_leads : (other : List (List ℕ)) → other ≢ path → led_above stack one_more other ≡ led_above stack before other
-  other_leads other differs = by (names_entry (view_in before stack.directory) parent name other) refl
+  other_leads other differs = by _ refl
     where
       by : (b : Bool) → names_entry (view_in before stack.directory) parent name other ≡ b
           → led_above stack one_more other ≡ led_above stack before other
       by true e = absurd (differs (entry_only other e))
-      by false e = leads_now other ∙ ap (λ b. cond b (Some copy) (led_above stack before other)) e
+      by false e = cc (leads_now other)
 
   here : led_above stack one_more path ≡ Some copy
-  here = leads_now path ∙ ap (λ b. cond b (Some copy) (led_above stack before path))
-      (entry_named_so before stack.directory parent name front leads)
+  here = cc (leads_now path, entry_named_so before stack.directory parent name front leads)
 
   still_new : (j : ℕ) → length path < j → one_more.tree.node (fresh j) ≡ None
-  still_new j h = none_from_not_some _
-      (part-changed_node is_some (with_inode nat_eq before copy (copy_node parent node)) parent
-      (node_with_entry name copy) (is_some-node_with_entry name copy) (fresh j)
-      ∙ ap is_some (node_other before.tree copy (Some (copy_node parent node)) (fresh j)
-      (λ e. let same = distinct j (length path) e in let no : ⊥ = omega (arith, same, h) in no)
-      ∙ copies.vacant j (omega (arith, longer, h))))
+  still_new j h = none_from_not_some _ (cc (
+    part-changed_node is_some (with_inode nat_eq before copy (copy_node parent node)) parent
+        (node_with_entry name copy) (is_some-node_with_entry name copy) (fresh j),
+    node_other before.tree copy (Some (copy_node parent node)) (fresh j) (λ e. let same = distinct j (length path) e
+        in let no : ⊥ = omega (arith, same, h) in no),
+    copies.vacant j (omega (arith, longer, h)),
+  ))
 
   -- and where its path is no front nothing else is cut
   pub cut_elsewhere : IsDirectory before.tree stack.directory → (other : List (List ℕ))
@@ -179,24 +176,23 @@ module _ (stack : Stack ℕ) (merge : Merge ℕ) (whole : IsWhole stack merge) (
     (low : is_in_upper merge object ≡ false) where
   below_is : (path : List (List ℕ)) → is_some (merge.files.tree.node object) ≡ true
       → number_at_path merge.files path ≡ Some object → (layer : ℕ) × (merge.real object ≡ Some (Lower layer path))
-  below_is path there leads = by (shown (layers_under stack merge) path) refl
+  below_is path there leads = by _ refl
     where
       no_real : (o : Option (Real ℕ)) → merge.real object ≡ o → o ≡ None → ⊥
-      no_real None e n = nothing_is_no_object (merge.files.tree.node object) there
-          (subst (λ o. SameObject (merge.files.tree.node object) (then_some o (inode_behind stack merge))) e
-          (whole.shown.real_objects object))
-      no_real (Some r) e n = none_is_some r (sym n)
+      no_real None e n = nothing_is_no_object _ there (subst (λ o. SameObject (merge.files.tree.node object)
+          (then_some o (inode_behind stack merge))) e (whole.shown.real_objects object))
+      no_real (Some r) e n = cc
 
       at : (layer found : ℕ) → merge.real object ≡ Some
           (real_object true layer (record { path = path; seen = record { layer = layer; object = found } }))
           → (depth : ℕ) × (merge.real object ≡ Some (Lower depth path))
-      at zero found e = absurd (true≢false (sym (ap (λ r. is_some (upper_object r)) e) ∙ low))
+      at zero found e = cc
       at (suc layer) found e = (layer, e)
 
       by : (o : Option (Shown ℕ)) → shown (layers_under stack merge) path ≡ o
           → (layer : ℕ) × (merge.real object ≡ Some (Lower layer path))
-      by None e = absurd (no_real (merge.real object) refl (whole.shown.names path object leads ∙ ap (real_by path) e))
-      by (Some seen) e = at seen.layer seen.object (whole.shown.names path object leads ∙ ap (real_by path) e)
+      by None e = absurd (no_real _ refl (cc (whole.shown.names path object leads)))
+      by (Some seen) e = at seen.layer seen.object (cc (whole.shown.names path object leads))
 
   pub one_way : (path other : List (List ℕ)) → is_some (merge.files.tree.node object) ≡ true
       → number_at_path merge.files path ≡ Some object → number_at_path merge.files other ≡ Some object → path ≡ other
@@ -222,10 +218,10 @@ module _ (fresh : Fresh ℕ) (distinct : (j k : ℕ) → fresh j ≡ fresh k →
       let has = ap is_some (led_stands fresh whole object there path leads stands) in
       let same = stays fresh stack merge whole object stands in
       record {
-        is = ap (λ m. m.upper) same ∙ sym (none_copied fresh stack merge.upper (length path) path refl has);
-        else = λ number out. ap (λ m. m.real number) same;
+        is = cc (none_copied fresh stack merge.upper (length path) path refl has);
+        else = λ number out. cc;
         copies = subst (λ m. Copies fresh stack merge.upper path m.upper) (sym same)
-            (none_changes fresh stack merge.upper path unused has);
+            (none_changes fresh stack _ path unused has);
       }
 
   -- what lies only below is copied after the directory that has its name
@@ -234,8 +230,7 @@ module _ (fresh : Fresh ℕ) (distinct : (j k : ℕ) → fresh j ≡ fresh k →
       (there : is_some (merge.files.tree.node object) ≡ true) (low : is_in_upper merge object ≡ false)
       (before : IsCopiedTo front parent) where
     leads : at (front ++ name ∷ []) ≡ Some object
-    leads = last_name merge.files.tree merge.files.tree.root front name
-        ∙ ap (option_and_then (λ d. entry_at merge.files.tree d name)) above ∙ entry
+    leads = cc (last_name merge.files.tree merge.files.tree.root front name)
 
     parent_there : is_some (merge.files.tree.node parent) ≡ true
     parent_there = directory_used merge.files.tree parent (has_entries merge.files.tree parent name object entry)
@@ -295,7 +290,7 @@ module _ (fresh : Fresh ℕ) (distinct : (j k : ℕ) → fresh j ≡ fresh k →
         (λ lies. ap (λ files. a_name nat_eq files object) line.copied.files ∙ name_is)
 
     free : led_above stack merge.upper (front ++ name ∷ []) ≡ None
-    free = led_none fresh whole object there (front ++ name ∷ []) leads low
+    free = led_none fresh whole object there _ leads low
 
     still_free : led_above stack m.upper (front ++ name ∷ []) ≡ None
     still_free = before.copies.others (front ++ name ∷ [])
@@ -357,18 +352,17 @@ module _ (fresh : Fresh ℕ) (distinct : (j k : ℕ) → fresh j ≡ fresh k →
 
     -- the copy is the object's alone
     real_later : (number : ℕ) → number ≢ object → (copied_up nat_eq fresh merge object).real number ≡ m.real number
-    real_later number other =
-        ap (λ n. n.real number) (copied_after fresh stack merge whole object (parent, name) name_is)
-        ∙ by (m.files.tree.node object) (is_in_upper m object)
+    real_later number other = cc (
+      copied_after fresh stack merge whole object (parent, name) name_is,
+      by (m.files.tree.node object) (is_in_upper m object),
+    )
       where
         by : (o : Option (Node ℕ)) (b : Bool)
             → (copy_of nat_eq m object (fresh (length (directories_to nat_eq merge.files parent))) o b).real number
             ≡ m.real number
         by None b = refl
         by (Some node) true = refl
-        by (Some node) false =
-            ap (λ c. cond c (Some (Upper (fresh (length (directories_to nat_eq merge.files parent))))) (m.real number))
-            (ne_eqb number object other)
+        by (Some node) false = cc (ne_eqb number object other)
 
     real_else : (number : ℕ) → ((way rest : List (List ℕ)) → way ++ rest ≡ front ++ name ∷ [] → at way ≢ Some number)
         → (copied_up nat_eq fresh merge object).real number ≡ merge.real number

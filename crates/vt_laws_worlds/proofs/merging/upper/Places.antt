@@ -1,7 +1,7 @@
 -- What copies make of the upper layer, for an object at a path or without a name, and what lower layers show beside
 -- them.
 use Rattle.std.proofs.Common.{arith, ◌≡◌, ◌≢◌, refl, sym, ap, subst, ◌∙◌, true≢false, ℕ, suc, ◌+◌, nat_eq, eq-eqb, ne_eqb, Bool, true, false, cond, not, List, [], ◌∷◌, ◌++◌, length, map, Option, Some, None, is_some, unwrap_or, append-nil}
-use Rattle.vt_spec.proofs.Common.{FileTree, Fresh, Lower, Merge, Node, OpenLayer, Real, SameObject, Shown, Stack, Upper, View, a_name, common_steps, copied_content, copied_each, copied_up, copy_named, copy_of, copy_parent, cuts, is_directory_shown, is_in_upper, is_kind_in, led-append, line_by, none_is_some, number_at_path, same_Some, shown_from, shown_over, then_some, upper_object, upper_of, view_of, when, with_inode, without_last}
+use Rattle.vt_spec.proofs.Common.{FileTree, Fresh, Lower, Merge, Node, OpenLayer, Real, SameObject, Shown, Stack, Upper, View, a_name, common_steps, copied_content, copied_each, copied_up, copy_named, copy_of, copy_parent, cuts, is_directory_shown, is_in_upper, is_kind_in, led-append, line_by, number_at_path, same_Some, shown_from, shown_over, then_some, upper_object, upper_of, view_of, when, with_inode, without_last}
 use Rattle.vt_laws_trees.specs.Layers.Layers.Views.{view_in}
 use Rattle.vt_laws_trees.proofs.layers.layers.UpperLine.{is_reached_in, named_so}
 use Rattle.vt_laws_trees.proofs.layers.layers.UpperShown.{without_last_of_longer, way_to}
@@ -103,9 +103,7 @@ copies_are_of_prefixes fresh stack merge object place whole new there is =
 -- what a path of an overlay leads to is there
 pub path_there : (stack : Stack ℕ) (merge : Merge ℕ) → IsWhole stack merge → (path : List (List ℕ)) (object : ℕ)
     → number_at_path merge.files path ≡ Some object → is_some (merge.files.tree.node object) ≡ true
-path_there stack merge whole path object leads =
-    led_is_there (record { tree = merge.files.tree; directory = merge.files.tree.root }) whole.tree
-    whole.tree.root_directory path object leads
+path_there stack merge whole path object leads = led_is_there _ whole.tree whole.tree.root_directory path object leads
 
 pub prefixes_lead_to_copies : FrontsLeadToCopies
 prefixes_lead_to_copies fresh stack merge whole new path some = by (number_at_path merge.files path) refl some
@@ -126,8 +124,8 @@ prefixes_lead_to_copies fresh stack merge whole new path some = by (number_at_pa
 -- what lower layers show is of a lower layer
 lower_place : (views : List (View ℕ)) (k : ℕ) (path : List (List ℕ)) (seen : Shown ℕ)
     → shown_from (k + 1) views path ≡ Some seen → (n : ℕ) × (seen.layer ≡ suc n)
-lower_place [] k path seen e = none_is_some seen e
-lower_place (view ∷ views) k path seen e = by (view.leads path) (cuts view path) e (lower_place views (k + 1) path seen)
+lower_place [] k path seen e = cc
+lower_place (view ∷ views) k path seen e = by _ _ e (lower_place views _ path seen)
   where
     by : (o : Option ℕ) (b : Bool) → shown_over view (k + 1) o b (shown_from ((k + 1) + 1) views path) ≡ Some seen
         → (shown_from ((k + 1) + 1) views path ≡ Some seen → (n : ℕ) × (seen.layer ≡ suc n))
@@ -136,13 +134,13 @@ lower_place (view ∷ views) k path seen e = by (view.leads path) (cuts view pat
       where
         at : (white : Bool) → when (not white) (record { layer = k + 1; object = object }) ≡ Some seen
             → (n : ℕ) × (seen.layer ≡ suc n)
-        at true e = none_is_some seen e
+        at true e = cc
         at false e = (
           k,
           sym (ap (λ s. s.layer) (same_Some (record { layer = k + 1; object = object }) seen e))
               ∙ (let h : k + 1 ≡ suc k = omega arith in h),
         )
-    by None true e rest = none_is_some seen e
+    by None true e rest = cc
     by None false e rest = rest e
 
 -- so it is a directory whatever the top layer is
@@ -163,9 +161,7 @@ module _ (stack : Stack ℕ) (one other : FileTree ℕ) (way : List (List ℕ)) 
   lower_seen = shown_from 1 (map view_of stack.lowers) (way ++ name ∷ [])
 
   pub seen_same : seen_below stack other (way ++ name ∷ []) ≡ seen_below stack one (way ++ name ∷ [])
-  seen_same = ap (λ p. cond (cuts (view_in other stack.directory) p) None lower_seen) (without_last_of_longer way name)
-      ∙ ap (λ b. cond b None lower_seen) cut
-      ∙ ap (λ p. cond (cuts (view_in one stack.directory) p) None lower_seen) (sym (without_last_of_longer way name))
+  seen_same = cc (without_last_of_longer way name)
 
   pub directory_same : directory_below stack other (way ++ name ∷ []) ≡ directory_below stack one (way ++ name ∷ [])
   directory_same = ap (is_directory_shown (layers_with stack other)) seen_same
@@ -198,16 +194,17 @@ copies_hide_nothing fresh stack merge whole new path way directory name some lea
 led_real : (stack : Stack ℕ) (merge : Merge ℕ) → IsWhole stack merge → (path : List (List ℕ)) (number u : ℕ)
     → number_at_path merge.files path ≡ Some number → led_above stack merge.upper path ≡ Some u
     → merge.real number ≡ Some (Upper u)
-led_real stack merge whole path number u leads led = by (is_in_upper merge number) refl
+led_real stack merge whole path number u leads led = by _ refl
   where
     there : is_some (merge.files.tree.node number) ≡ true
     there = path_there stack merge whole path number leads
 
     by : (b : Bool) → is_in_upper merge number ≡ b → merge.real number ≡ Some (Upper u)
-    by true stands = upper_real merge number stands ∙ ap (λ o. Some (Upper o)) (same_Some (upper_of merge number) u
-        (sym (named_above stack merge whole path number (upper_of merge number) leads
-        (upper_real merge number stands)) ∙ led))
-    by false low = none_is_some u (sym (led_none (λ k. k) whole number there path leads low) ∙ led)
+    by true stands = cc (
+      upper_real merge number stands,
+      named_above stack merge whole path number (upper_of merge number) leads (upper_real merge number stands),
+    )
+    by false low = cc (led_none (λ k. k) whole number there path leads low)
 
 pub prefixes_have_their_copies : FrontsHaveTheirCopies
 prefixes_have_their_copies fresh stack merge whole new path object leads =
@@ -223,12 +220,12 @@ prefixes_have_their_copies fresh stack merge whole new path object leads =
     )
 
 pub held_have_their_copies : HeldHaveTheirCopies
-held_have_their_copies fresh stack merge whole new object number held there is other =
-    ap (λ n. (copied_each nat_eq fresh 0 merge (line_by nat_eq merge.files object n)).real number)
-    (no_name fresh stack merge whole new object there is.1)
-    ∙ by (merge.files.tree.node object) (is_in_upper merge object)
+held_have_their_copies fresh stack merge whole new object number held there is other = cc (
+  no_name fresh stack merge whole new object there is.1,
+  by (merge.files.tree.node object) (is_in_upper merge object),
+)
   where
     by : (o : Option (Node ℕ)) (b : Bool) → (copy_of nat_eq merge object (fresh 0) o b).real number ≡ merge.real number
     by None b = refl
     by (Some node) true = refl
-    by (Some node) false = ap (λ c. cond c (Some (Upper (fresh 0))) (merge.real number)) (ne_eqb number object other)
+    by (Some node) false = cc (ne_eqb number object other)

@@ -1,7 +1,7 @@
 -- What lies only below in an overlay of a world with all invariants has a name in one directory, and what stands in the
 -- upper layer is under directories that stand there. So what is copied up does not depend on the order of the numbers.
 use Rattle.std.proofs.Common.{arith, ◌≡◌, refl, sym, ap, subst, ◌∙◌, ◌⊎◌, inl, inr, ℕ, zero, suc, nat_eq, Bool, true, false, not, List, [], ◌∷◌, ◌++◌, length, map, find, filter_map, reverse, Option, Some, None, is_some, option_map}
-use Rattle.vt_spec.proofs.Common.{FileTree, IsTree, IsWorld, Merge, Real, SameFiles, Tree, World, a_name, ancestors, chain, common_steps, entries_in, entry_at, entry_from, filesystem_numbered, first_of_list, has_entry_to, is_among, is_in_upper, line_by, line_to, name_in, named_parent, same_Some, then_some, upper_object}
+use Rattle.vt_spec.proofs.Common.{FileTree, IsTree, IsWorld, Merge, Real, SameFiles, Tree, World, a_name, chain, common_steps, entries_in, entry_at, entry_from, filesystem_numbered, first_of_list, has_entry_to, is_among, is_in_upper, line_by, line_to, name_in, named_parent, same_Some, then_some, upper_object}
 use mathlib.Core.List.{reverse-cons}
 use Rattle.vt_laws_trees.proofs.layers.layers.UpperLine.{named_so}
 use Rattle.vt_laws_trees.proofs.layers.layers.UpperWorld.{above_upper, overlay_tree}
@@ -36,12 +36,11 @@ name_told files object directory = among (entries_in (files.tree.node directory)
 name_same : (one other : FileTree ℕ) → SameFiles one other → (object : ℕ)
     → ((a b : ℕ) → has_entry_to nat_eq one.tree a object ≡ true → has_entry_to nat_eq one.tree b object ≡ true → a ≡ b)
     → a_name nat_eq one object ≡ a_name nat_eq other object
-name_same one other same object alone = first_told (name_in nat_eq one object) one.numbers
-    ∙ ap (λ found. then_some found (name_in nat_eq one object))
-    (one_found (λ directory. is_some (name_in nat_eq one object directory)) one.numbers other.numbers same.numbers
-    (λ a b first second. alone a b (sym (name_told one object a) ∙ first) (sym (name_told one object b) ∙ second)))
-    ∙ (λ i. then_some (find (λ directory. is_some (named i directory)) other.numbers) (named i))
-    ∙ sym (first_told (name_in nat_eq other object) other.numbers)
+name_same one other same object alone = first_told (name_in nat_eq one object) one.numbers ∙ ap
+    (λ found. then_some found (name_in nat_eq one object)) (one_found _ _ _ same.numbers
+    (λ a b first second. alone a b (cc (name_told one object a)) (cc (name_told one object b))))
+    ∙ (λ i. then_some (find (λ directory. is_some (named i directory)) other.numbers) (named i)) ∙ sym
+    (first_told (name_in nat_eq other object) other.numbers)
   where
     named : name_in nat_eq one object ≡ name_in nat_eq other object
     named = λ i. name_in nat_eq (record { tree = same.tree i; numbers = [] }) object
@@ -66,15 +65,14 @@ module _ (merge : Merge ℕ) (tree : IsTree merge.files.tree) (above : HasUppers
   chain_upper : (most directory : ℕ) → is_in_upper merge directory ≡ true
       → AllUpper merge (chain most (named_parent nat_eq merge.files.tree) directory)
   chain_upper zero directory stands = (stands, tt)
-  chain_upper (suc most) directory stands =
-      by (named_parent nat_eq merge.files.tree directory) refl (λ parent up. chain_upper most parent up)
+  chain_upper (suc most) directory stands = by _ refl (λ parent up. chain_upper most parent up)
     where
       by : (o : Option ℕ) → named_parent nat_eq merge.files.tree directory ≡ o
           → ((parent : ℕ) → is_in_upper merge parent ≡ true
           → AllUpper merge (chain most (named_parent nat_eq merge.files.tree) parent)) → AllUpper merge
           (elim o [ None ↦ directory ∷ [] | Some b ↦ directory ∷ chain most (named_parent nat_eq merge.files.tree) b ])
       by None e later = (stands, tt)
-      by (Some parent) e later = (stands, later parent (parent_upper directory parent e stands))
+      by (Some parent) e later = (stands, later parent (parent_upper _ parent e stands))
 
   all_append : (front back : List ℕ) → AllUpper merge front → AllUpper merge back → AllUpper merge (front ++ back)
   all_append [] back first second = second
@@ -83,24 +81,23 @@ module _ (merge : Merge ℕ) (tree : IsTree merge.files.tree) (above : HasUppers
   all_reversed : (list : List ℕ) → AllUpper merge list → AllUpper merge (reverse list)
   all_reversed [] all = tt
   all_reversed (object ∷ rest) all = subst (AllUpper merge) (sym (reverse-cons object rest))
-      (all_append (reverse rest) (object ∷ []) (all_reversed rest all.1) (all.0, tt))
+      (all_append _ _ (all_reversed rest all.1) (all.0, tt))
 
   line_upper : (object : ℕ) → is_in_upper merge object ≡ true → AllUpper merge (line_to nat_eq merge.files object)
-  line_upper object stands = by (a_name nat_eq merge.files object) refl
+  line_upper object stands = by _ refl
     where
       by : (named : Option (ℕ × List ℕ)) → a_name nat_eq merge.files object ≡ named
           → AllUpper merge (line_by nat_eq merge.files object named)
       by None e = (stands, tt)
-      by (Some name) e = all_append (reverse (ancestors nat_eq merge.files name.0)) (object ∷ [])
-          (all_reversed (ancestors nat_eq merge.files name.0) (chain_upper (length merge.files.numbers) name.0
-          (above name.0 name.1 object (named_so merge.files tree object name e) stands))) (stands, tt)
+      by (Some name) e = all_append _ _ (all_reversed _ (chain_upper (length merge.files.numbers) name.0
+          (above name.0 name.1 object (named_so _ tree object name e) stands))) (stands, tt)
 
 -- two overlays that are alike copy alike, if this holds of one of them
 lines_alike : (one other : Merge ℕ) → MergesAlike one other → IsTree one.files.tree
     → HasUppersAbove one.files.tree one.real
     → ((object a b : ℕ) → is_in_upper one object ≡ false → has_entry_to nat_eq one.files.tree a object ≡ true
     → has_entry_to nat_eq one.files.tree b object ≡ true → a ≡ b) → LinesAlike one other
-lines_alike one other same tree above alone object = by (is_in_upper one object) refl
+lines_alike one other same tree above alone object = by _ refl
   where
     above_too : HasUppersAbove other.files.tree other.real
     above_too =
@@ -113,7 +110,7 @@ lines_alike one other same tree above alone object = by (is_in_upper one object)
       line_upper other (subst IsTree same.files.tree tree) above_too object
           (sym (λ i. is_some (upper_object (same.real i object))) ∙ stands),
     )
-    by false low = inl (name_same one.files other.files same.files object (λ a b. alone object a b low))
+    by false low = inl (name_same _ _ same.files object (λ a b. alone object a b low))
 
 pub copies_of_worlds : (one other : World ℕ) → Alike one other → IsWorld nat_eq one → CopiesAlike one other
 copies_of_worlds one other same is number overlay again upper next merged has over top = lines_alike _ _ (record {
@@ -126,7 +123,7 @@ copies_of_worlds one other same is number overlay again upper next merged has ov
     (λ object a b low. worlds_have_one_name one is number overlay merged object a b (ap not low))
   where
     alike : overlay ≡ again
-    alike = same_Some overlay again (sym merged ∙ (found_alike one other same number).overlay ∙ over)
+    alike = cc ((found_alike one other same number).overlay)
 
     below : upper ≡ next
     below = same_Some upper next (sym has ∙ (λ i. (alike i).upper) ∙ top)

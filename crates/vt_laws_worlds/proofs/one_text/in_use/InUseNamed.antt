@@ -1,6 +1,6 @@
 -- Each number that a world has is in use, those of its overlays too.
 use Rattle.std.proofs.Common.{arith, eqb-true, ◌≡◌, refl, sym, ap, subst, ◌∙◌, ⊎_elim, inl, inr, true≢false, ℕ, nat_eq, Bool, true, false, cond, not, List, [], ◌∷◌, ◌++◌, map, flat_map, Option, Some, None, is_some, option_to_list, is_eq}
-use Rattle.vt_spec.proofs.Common.{Content, Descriptor, Directory, Entries, Filesystem, HasLivingGroups, IsMerged, IsTree, IsWorld, Layer, ListsNumbers, Location, Lower, Mount, Namespace, Node, Overlay, Private, Propagation, Real, Regular, Shared, Slave, Symlink, Task, Tree, Unbindable, Upper, Whiteout, World, all_locations, and_parts, below_all, common_steps, directory_used, entries_in, entry_named, entry_named-below, eq_by_cmp, filesystem_numbered, group_of, has_its_root, has_members, holds_of, is_directory_node, is_listed, is_located_well, is_member_of, is_overlay, is_plain_layer, is_sorted, is_there, list_all, list_all-append, locations_of, mount_at, name_cmp, nat_list_cmp_total, node_at, none_from_not_some, numbers_in_use, parent_in, source_of, tied_itself, used_by_filesystem, used_by_mount}
+use Rattle.vt_spec.proofs.Common.{Content, Descriptor, Directory, Entries, Filesystem, HasLivingGroups, IsMerged, IsTree, IsWorld, Layer, ListsNumbers, Location, Lower, Mount, Namespace, Node, Overlay, Private, Propagation, Real, Regular, Shared, Slave, Symlink, Task, Tree, Unbindable, Upper, Whiteout, World, all_locations, and_parts, below_all, common_steps, directory_used, entries_in, entry_named, entry_named-below, eq_by_cmp, filesystem_numbered, group_of, has_members, holds_of, is_directory_node, is_listed, is_located_well, is_member_of, is_overlay, is_plain_layer, is_sorted, is_there, list_all, list_all-append, locations_of, name_cmp, nat_list_cmp_total, none_from_not_some, numbers_in_use, parent_in, source_of, tied_itself, used_by_filesystem, used_by_mount}
 use Rattle.vt_laws_rules.specs.Numbers.{FilesystemNamed, IsFoundAmong, OverlayIfAnyNamed, WorldNamed, content_named, descriptor_named, layer_named, location_named, mount_named, namespace_named, node_named, none_or, propagation_named, real_named, task_named}
 use Rattle.vt_laws_mounts.proofs.letting_go.Lists.{Among, all_from_among, among-append_left, among-append_right, among-flat_map, among-from_map, among-map, among_from_all, among_from_list_all, among_numbers, any_among, is_among_numbers, list_all_from_among}
 use Rattle.vt_laws_worlds.specs.OneText.InUse.{AnyWorldsHaveNumbersInUse}
@@ -39,10 +39,10 @@ found_by_name (first ∷ entries) entry sorted (inr among) =
 -- the group of a member is its source
 member_source : (number : ℕ) (kind : Propagation ℕ) → holds_of (nat_eq number) (group_of kind) ≡ true
     → source_of kind ≡ Some number
-member_source number (Shared group) e = ap Some (sym (eqb-true number group e))
-member_source number (Slave master) e = absurd (true≢false (sym e))
-member_source number Private e = absurd (true≢false (sym e))
-member_source number Unbindable e = absurd (true≢false (sym e))
+member_source number (Shared group) e = cc (eqb-true number group e)
+member_source number (Slave master) e = cc
+member_source number Private e = cc
+member_source number Unbindable e = cc
 
 module _ (world : World ℕ) (whole : IsWorld nat_eq world) where
   abbrev Used : ℕ → Type 0
@@ -79,10 +79,9 @@ module _ (world : World ℕ) (whole : IsWorld nat_eq world) where
   -- Inodes
   listed_used : (filesystem : Filesystem ℕ) → Among filesystem world.filesystems → (number : ℕ)
       → is_some (filesystem.files.tree.node number) ≡ true → Used number
-  listed_used filesystem there number is = used_filesystem filesystem number there
-      (inr (among_numbers number filesystem.files.numbers
-      (among_from_all (λ (f : Filesystem ℕ). ListsNumbers nat_eq f.files) world.filesystems whole.files.numbers
-      filesystem there number ∙ is)))
+  listed_used filesystem there number is = used_filesystem _ number there
+      (inr (among_numbers number filesystem.files.numbers (among_from_all (λ (f : Filesystem ℕ). ListsNumbers nat_eq
+      f.files) world.filesystems whole.files.numbers filesystem there number ∙ is)))
 
   abbrev ThereIsUsed : Filesystem ℕ → Type 0
   ThereIsUsed filesystem = Used filesystem.number
@@ -106,18 +105,16 @@ module _ (world : World ℕ) (whole : IsWorld nat_eq world) where
       → location_named (is_in_use world) location ≡ true
   located_named location is =
       let parts = and_parts _ _ is in
-      let found = among-from_map (λ (mount : Mount ℕ). mount.number) world.mounts location.mount
-      (among_numbers location.mount (map (λ (mount : Mount ℕ). mount.number) world.mounts) parts.0) in
-      and_from (is_in_use world location.mount) (is_in_use world location.node)
-      (used_mount found.0 location.mount found.1 (inl found.2))
-      (found_used (mount_at nat_eq world location).filesystem location.node parts.1).1
+      let found = among-from_map _ _ _
+      (among_numbers _ (map (λ (mount : Mount ℕ). mount.number) world.mounts) parts.0) in
+      and_from _ _ (used_mount _ _ found.1 (inl found.2)) (found_used _ _ parts.1).1
 
   -- Groups
   member_of : (number : ℕ) → has_members nat_eq world.mounts number ≡ true
       → (mount : Mount ℕ) × Among mount world.mounts × (source_of mount.propagation ≡ Some number)
   member_of number has =
       let found = any_among (is_member_of nat_eq number) world.mounts has in
-      (found.0, found.1, member_source number found.0.propagation found.2)
+      (found.0, found.1, member_source number _ found.2)
 
   source_used : (mount : Mount ℕ) (number : ℕ) → Among mount world.mounts → source_of mount.propagation ≡ Some number
       → Used number
@@ -127,7 +124,7 @@ module _ (world : World ℕ) (whole : IsWorld nat_eq world) where
   members_used : (number : ℕ) → has_members nat_eq world.mounts number ≡ true → Used number
   members_used number has =
       let found = member_of number has in
-      source_used found.0 number found.1 found.2
+      source_used _ number found.1 found.2
 
   masterless : (number : ℕ) → has_members nat_eq world.mounts number ≡ false → world.master number ≡ None
   masterless = (all_in_use world whole).groups
@@ -140,23 +137,22 @@ module _ (world : World ℕ) (whole : IsWorld nat_eq world) where
     where
       none : (number : ℕ) → is_in_use world number ≡ false → (b : Bool) → has_members nat_eq world.mounts number ≡ b
           → world.master number ≡ None
-      none number out true e = absurd (true≢false (sym (members_used number e) ∙ out))
+      none number out true e = cc (members_used number e)
       none number out false e = masterless number e
 
       only : (number : ℕ) (o : Option ℕ) → world.master number ≡ o → (b : Bool)
           → has_members nat_eq world.mounts number ≡ b → none_or (is_in_use world) o ≡ true
       only number None e b f = refl
-      only number (Some above) e false f = absurd (true≢false (ap is_some (sym e ∙ masterless number f)))
+      only number (Some above) e false f = cc (masterless number f)
       only number (Some above) e true f =
           let found = member_of number f in
-          members_used above (master_has_members world.master (has_members nat_eq world.mounts) number above
-          (among_from_all (HasLivingGroups nat_eq world) world.mounts whole.mounts.groups found.0 found.1 number
-          found.2) e)
+          members_used above (master_has_members _ _ number above (among_from_all (HasLivingGroups nat_eq world)
+          world.mounts whole.mounts.groups found.0 found.1 number found.2) e)
 
   propagation_of : (mount : Mount ℕ) → Among mount world.mounts → (kind : Propagation ℕ) → mount.propagation ≡ kind
       → propagation_named (is_in_use world) kind ≡ true
-  propagation_of mount there (Shared group) e = source_used mount group there (ap source_of e)
-  propagation_of mount there (Slave master) e = source_used mount master there (ap source_of e)
+  propagation_of mount there (Shared group) e = source_used mount group there (cc)
+  propagation_of mount there (Slave master) e = source_used mount master there (cc)
   propagation_of mount there Private e = refl
   propagation_of mount there Unbindable e = refl
 
@@ -171,23 +167,15 @@ module _ (world : World ℕ) (whole : IsWorld nat_eq world) where
   place_of mount there None e = refl
   place_of mount there (Some place) e =
       let shown = (world_shows world whole mount there).mount_point place e in
-      located_named place (and_from _ (is_some (node_at nat_eq world place)) shown.listed
-      (directory_is_there (node_at nat_eq world place) shown.directory))
+      located_named place (and_from _ _ shown.listed (directory_is_there _ shown.directory))
 
   mount_is : (mount : Mount ℕ) → Among mount world.mounts → mount_named (is_in_use world) mount ≡ true
   mount_is mount there =
-      let root = found_used mount.filesystem mount.root
-      (directory_is_there ((filesystem_numbered nat_eq world mount.filesystem).files.tree.node mount.root)
-      (and_parts _ _ (among_from_list_all (has_its_root nat_eq world) world.mounts whole.roots mount there)).0) in
-      and_from _ (propagation_named (is_in_use world) mount.propagation) (and_from _ (is_in_use world mount.root)
-      (and_from _ (is_in_use world mount.filesystem)
-      (and_from _ (none_or (location_named (is_in_use world)) mount.mount_point)
-      (and_from (is_in_use world mount.number) (none_or (is_in_use world) mount.namespace)
-      (used_mount mount mount.number there (inl refl)) (namespace_of mount.namespace
-      (among_from_list_all (λ (m : Mount ℕ). list_all (is_listed nat_eq world) (option_to_list m.namespace))
-      world.mounts
-      whole.namespaces.mounts_listed mount there))) (place_of mount there mount.mount_point refl)) root.0) root.1)
-      (propagation_of mount there mount.propagation refl)
+      let root = found_used _ _ (directory_is_there _ (and_parts _ _ (among_from_list_all _ _ whole.roots mount
+      there)).0) in
+      and_from _ _ (and_from _ _ (and_from _ _ (and_from _ _ (and_from _ _ (used_mount mount _ there (inl refl))
+      (namespace_of _ (among_from_list_all _ _ whole.namespaces.mounts_listed mount there)))
+      (place_of mount there _ refl)) root.0) root.1) (propagation_of mount there _ refl)
 
   -- Filesystems
   module _ (filesystem : Filesystem ℕ) (there : Among filesystem world.filesystems) where
@@ -203,14 +191,12 @@ module _ (world : World ℕ) (whole : IsWorld nat_eq world) where
     content_is number node (Directory parent entries opaque) e f =
         let here : tree.node number ≡ Some (record { attr = node.attr; content = Directory parent entries opaque }) =
         e ∙ (λ i. Some (record { attr = node.attr; content = f i })) in
-        and_from (is_in_use world parent) (list_all (λ (entry : List ℕ × ℕ). is_in_use world entry.1) entries)
-        (listed_used filesystem there parent (directory_used tree parent
+        and_from _ _ (listed_used _ there parent (directory_used tree parent
         (subst (λ (o : Option (Node ℕ)). is_directory_node (tree.node (parent_in number o)) ≡ true) here
-        (is_tree.parent_directory number (ap is_directory_node here)))))
-        (list_all_from_among (λ (entry : List ℕ × ℕ). is_in_use world entry.1) entries (λ entry among.
-        listed_used filesystem there entry.1 (is_tree.alive number entry.0 entry.1
-        (ap (λ (o : Option (Node ℕ)). entry_named entry.0 (entries_in o)) here ∙ found_by_name entries entry
-        (ap (λ (o : Option (Node ℕ)). is_sorted name_cmp (entries_in o)) (sym here) ∙ is_tree.in_order number) among))))
+        (is_tree.parent_directory number (cc))))) (list_all_from_among (λ (entry : List ℕ × ℕ). is_in_use world entry.1)
+        entries (λ entry among. listed_used _ there _ (is_tree.alive number entry.0 entry.1
+        (cc (found_by_name entries entry (ap (λ (o : Option (Node ℕ)). is_sorted name_cmp (entries_in o)) (sym here)
+        ∙ is_tree.in_order number) among)))))
     content_is number node (Regular bytes) e f = refl
     content_is number node (Symlink text) e f = refl
     content_is number node Whiteout e f = refl
@@ -218,12 +204,12 @@ module _ (world : World ℕ) (whole : IsWorld nat_eq world) where
     node_is : (number : ℕ) (o : Option (Node ℕ)) → tree.node number ≡ o
         → none_or (node_named (is_in_use world)) o ≡ true
     node_is number None e = refl
-    node_is number (Some node) e = content_is number node node.content e refl
+    node_is number (Some node) e = content_is number node _ e refl
 
     node_out : (number : ℕ) → is_in_use world number ≡ false → (b : Bool) → is_some (tree.node number) ≡ b
         → tree.node number ≡ None
-    node_out number out true e = absurd (true≢false (sym (listed_used filesystem there number e) ∙ out))
-    node_out number out false e = none_from_not_some (tree.node number) e
+    node_out number out true e = cc (listed_used filesystem there number e)
+    node_out number out false e = none_from_not_some _ e
 
     overlay_is : (o : Option (Overlay ℕ)) → filesystem.overlay ≡ o → OverlayIfAnyNamed (is_in_use world) o
     overlay_is None e = tt

@@ -19,7 +19,7 @@ trees_by world number = (filesystem_numbered nat_eq world number).files.tree
 -- One tree with its numbers in another order
 module _ (one other : FileTree ℕ) (same : SameFiles one other) where
   numbers_listed : ListsNumbers nat_eq one → ListsNumbers nat_eq other
-  numbers_listed lists number = sym (list_any-IsPermutation (nat_eq number) one.numbers other.numbers same.numbers)
+  numbers_listed lists number = sym (list_any-IsPermutation _ _ _ same.numbers)
       ∙ lists number ∙ (λ i. is_some ((same.tree i).node number))
 
   abbrev fits : Tree ℕ → ℕ → Bool
@@ -28,7 +28,7 @@ module _ (one other : FileTree ℕ) (same : SameFiles one other) where
       && has_fit_text (record { tree = tree; numbers = [] }) number
 
   fit_alike : list_all (fits one.tree) one.numbers ≡ list_all (fits other.tree) other.numbers
-  fit_alike = list_all-IsPermutation (fits one.tree) one.numbers other.numbers same.numbers
+  fit_alike = list_all-IsPermutation (fits one.tree) _ _ same.numbers
       ∙ (λ i. list_all (fits (same.tree i)) other.numbers)
 
 -- Two worlds with the very same mounts
@@ -96,12 +96,11 @@ module _ (one second : World ℕ) (same : Alike one (with_mounts_of one second))
 
   forks_keep : ForksAreCounted one → ForksAreCounted other
   forks_keep is task again number rest m n e =
-      let first = each_among SameTask one.tasks other.tasks same.tasks task (among_from_contains other.tasks task m) in
-      let next = each_among SameTask one.tasks other.tasks same.tasks again (among_from_contains other.tasks again n) in
-      subst (λ k. number ≤ k) (λ i. (first.2 i).forks)
-      (is first.0 next.0 number rest (contains_from_among one.tasks first.0 first.1)
-      (contains_from_among one.tasks next.0 next.1)
-      ((λ i. (next.2 i).name) ∙ e ∙ (λ i. (sym first.2 i).name ++ (number ∷ rest))))
+      let first = each_among _ _ _ same.tasks task (among_from_contains _ task m) in
+      let next = each_among _ _ _ same.tasks again (among_from_contains _ again n) in
+      subst (λ k. number ≤ k) (λ i. (first.2 i).forks) (is first.0 next.0 number rest (contains_from_among _ _ first.1)
+      (contains_from_among _ next.0 next.1) ((λ i. (next.2 i).name) ∙ e
+      ∙ (λ i. (sym first.2 i).name ++ (number ∷ rest))))
 
   pub tasks_keep : TaskInvariants nat_eq one → TaskInvariants nat_eq other
   tasks_keep is = record {

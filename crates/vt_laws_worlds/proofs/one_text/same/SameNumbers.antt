@@ -12,9 +12,8 @@ use Rattle.vt_spec.proofs.Options.{cons-first}
 -- what stands in a list that a change leaves is left by it
 each_left : {A : Type 0} (f : A → A) (list : List A) → map f list ≡ list → (a : A) → Among a list → f a ≡ a
 each_left f [] same a among = absurd among
-each_left f (first ∷ rest) same a among = ⊎_elim
-    (λ e. ap f e ∙ cons-first (f first) first (map f rest) rest same ∙ sym e)
-    (λ later. each_left f rest (cons-rest (f first) first (map f rest) rest same) a later) among
+each_left f (first ∷ rest) same a among = ⊎_elim (λ e. cc (cons-first (f first) first (map f rest) rest same))
+    (λ later. each_left f rest (cons-rest _ first _ rest same) a later) among
 
 -- a change that leaves each of one list leaves each of the other
 module _ {A : Type 0} (R : A → A → Type 0) (f : A → A) (goes : (a b : A) → R a b → f a ≡ a → f b ≡ b) where
@@ -22,8 +21,8 @@ module _ {A : Type 0} (R : A → A → Type 0) (f : A → A) (goes : (a b : A) �
   each_left_alike [] [] each same = refl
   each_left_alike [] (b ∷ others) each same = absurd each
   each_left_alike (a ∷ ones) [] each same = absurd each
-  each_left_alike (a ∷ ones) (b ∷ others) each same = λ i. goes a b each.0 (cons-first (f a) a (map f ones) ones same) i
-      ∷ each_left_alike ones others each.1 (cons-rest (f a) a (map f ones) ones same) i
+  each_left_alike (a ∷ ones) (b ∷ others) each same = λ i. goes a b each.0 (cons-first _ a _ ones same) i
+      ∷ each_left_alike ones others each.1 (cons-rest _ a _ ones same) i
 
 module _ (renaming : Renaming ℕ ℕ) where
   abbrev there : ℕ → ℕ

@@ -84,14 +84,9 @@ module _ (one other : World ℕ) (same : Alike one other) where
 
   overlaps_same : (others : List (Layer ℕ)) (layer : Layer ℕ)
       → overlaps_one_of nat_eq one others layer ≡ overlaps_one_of nat_eq other others layer
-  overlaps_same others layer =
-      list_any-IsPermutation (λ object. lies_or_counts_under nat_eq one layer.filesystem object layer
-      && list_any (lies_or_counts_under nat_eq one layer.filesystem object) others)
-      (filesystem_numbered nat_eq one layer.filesystem).files.numbers
-      (filesystem_numbered nat_eq other layer.filesystem).files.numbers
-      (found_alike one other same layer.filesystem).files.numbers
-      ∙ (λ i. list_any (λ object. lies_or_counts_same layer.filesystem object layer i
-      && list_any (λ other_layer. lies_or_counts_same layer.filesystem object other_layer i) others)
+  overlaps_same others layer = list_any-IsPermutation _ _ _ (found_alike one other same layer.filesystem).files.numbers
+      ∙ (λ i. list_any (λ object. lies_or_counts_same layer.filesystem object layer i && list_any
+      (λ other_layer. lies_or_counts_same layer.filesystem object other_layer i) others)
       (filesystem_numbered nat_eq other layer.filesystem).files.numbers)
 
   pub overlays_keep : OverlayInvariants nat_eq one → OverlayInvariants nat_eq other

@@ -76,8 +76,7 @@ module _ {world : World ℕ} (whole : IsWorld nat_eq world) {task : Task ℕ}
   seen_in : (place : Place ℕ) (plain : is_special place.last ≡ false) (is : IsOldPlace world task place)
       → node_at nat_eq world (object_there place)
       ≡ (files_at nat_eq world place.parent).tree.node (object_there place).node
-  seen_in place plain is = ap (λ m. node_at nat_eq world (record { mount = m; node = (object_there place).node }))
-      (old_mount world task place plain is)
+  seen_in place plain is = cc (old_mount world task place plain is)
 
   -- an open file is a regular one
   open_file_is : (number : ℕ) (descriptor : Descriptor ℕ) → descriptor_numbered task number ≡ Some descriptor
@@ -109,9 +108,8 @@ module _ {world : World ℕ} (whole : IsWorld nat_eq world) {task : Task ℕ}
   written_asked file offset [] kind short = tt
   written_asked file offset (byte ∷ bytes) kind short =
       let old = bytes_in (node_at nat_eq world file) in
-      let there = file_is_there (node_at nat_eq world file) kind in
-      let small = leb-true (length old) largest_file
-      (bytes_small (node_at nat_eq world file) kind (file_fits file there)) in
+      let there = file_is_there _ kind in
+      let small = leb-true (length old) largest_file (bytes_small _ kind (file_fits file there)) in
       let room = ltb-false largest_file (offset + length (byte ∷ bytes)) short in (
         there,
         le-leb (length (overwritten offset (byte ∷ bytes) old)) largest_file (omega (
@@ -208,5 +206,4 @@ module _ {world : World ℕ} (whole : IsWorld nat_eq world) {task : Task ℕ}
 
 pub permits_ask_well : PermitsAskWell
 permits_ask_well world fresh task call permit whole serves called judged =
-    granted_asks whole called serves call permit
-    (calls_are_granted nat_eq (looks_of nat_eq world) (overfills nat_eq fresh world task) task call permit judged)
+    granted_asks whole called serves call permit (calls_are_granted nat_eq _ _ task call permit judged)

@@ -1,5 +1,5 @@
 -- What a permit asks of an overlay with an upper layer.
-use Rattle.std.proofs.Common.{arith, ◌≡◌, ap, subst, ◌∙◌, ℕ, nat_eq, true, false, List, [], ◌∷◌, map, Option, Some, is_some, option_to_list}
+use Rattle.std.proofs.Common.{arith, ◌≡◌, subst, ℕ, nat_eq, true, false, List, [], ◌∷◌, map, Option, Some, option_to_list}
 use Rattle.vt_spec.proofs.Common.{Change, Layer, Location, Overlay, World, common_steps, files_at, filesystem_at, has_lower_directory, is_overlay, merge_of, open_layer, overlay_or, stack_of}
 use Rattle.vt_laws_trees.specs.Trees.{IsProper}
 use Rattle.vt_laws_trees.specs.Overlays.WholeChanges.{IsAskedWell}
@@ -20,17 +20,14 @@ permits_ask_properly world fresh task call permit location change whole serves c
 module _ (world : World ℕ) (location : Location ℕ) (overlay : Overlay ℕ) (upper : Layer ℕ)
     (is : (filesystem_at nat_eq world location).overlay ≡ Some overlay) (has : overlay.upper ≡ Some upper) where
   an_overlay : is_overlay (filesystem_at nat_eq world location) ≡ true
-  an_overlay = ap is_some is
+  an_overlay = cc
 
   -- O1, in the words of a change of an overlay
   below_by : (o : Option (Overlay ℕ)) (u : Option (Layer ℕ)) (path : List (List ℕ)) → (overlay.upper ≡ u)
       → (o ≡ Some overlay) → u ≡ Some upper → overlay_or false (λ (v : Overlay ℕ). has_lower_directory
       (map (open_layer nat_eq world) (option_to_list v.upper)) (map (open_layer nat_eq world) v.lowers) path) o
       ≡ has_lower_directory (open_layer nat_eq world upper ∷ []) (map (open_layer nat_eq world) overlay.lowers) path
-  below_by o u path e f g = ap (overlay_or false (λ (v : Overlay ℕ). has_lower_directory
-      (map (open_layer nat_eq world) (option_to_list v.upper)) (map (open_layer nat_eq world) v.lowers) path)) f
-      ∙ ap (λ x. has_lower_directory (map (open_layer nat_eq world) (option_to_list x))
-      (map (open_layer nat_eq world) overlay.lowers) path) (e ∙ g)
+  below_by o u path e f g = cc
 
   asked_well : (change : Change ℕ) → AsksWell world location change → IsAskedWell (stack_of nat_eq world overlay upper)
       (merge_of nat_eq world (filesystem_at nat_eq world location) overlay upper) change

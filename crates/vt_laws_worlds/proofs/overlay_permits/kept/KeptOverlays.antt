@@ -1,6 +1,6 @@
 -- A granted call that changes an overlay keeps the invariants of overlays.
 use Rattle.std.proofs.Common.{arith, ◌≡◌, refl, sym, ap, subst, ◌∙◌, ℕ, nat_eq, Bool, true, false, List, [], ◌∷◌, Option, Some, None}
-use Rattle.vt_spec.proofs.Common.{Change, CopyUp, Filesystem, Fresh, IsMerged, Location, Move, Overlay, OverlayInvariants, Permit, Remove, Task, ToChange, ToMake, ToOpen, ToOpenNew, ToRemoveDirectory, ToRename, ToWritePart, TreeInvariants, World, apply, common_steps, filesystem_changed, filesystem_numbered, is_copied_up, mount_at, when, with_change, with_copy, without_mounts_on, ⊤}
+use Rattle.vt_spec.proofs.Common.{Change, CopyUp, Filesystem, Fresh, IsMerged, Location, Overlay, OverlayInvariants, Permit, Task, ToChange, ToMake, ToOpen, ToOpenNew, ToRemoveDirectory, ToRename, ToWritePart, TreeInvariants, World, apply, common_steps, filesystem_changed, filesystem_numbered, is_copied_up, mount_at, when, with_change, with_copy, ⊤}
 use Rattle.vt_laws_trees.proofs.layers.layers.LowersMounts.{same_filesystems_without, same_mounted_without}
 use Rattle.vt_laws_trees.proofs.overlays.whole.ApartInvariants.{overlay_invariants_stay, tree_invariants_stay}
 use Rattle.vt_laws_worlds.specs.OverlayPermits.Asked.{change_asked}
@@ -33,8 +33,7 @@ module _ (fresh : Fresh ℕ) (change : Change ℕ) where
       → (with_change nat_eq fresh a location change).filesystems
       ≡ (with_change nat_eq fresh b location change).filesystems
   unfolding after_in
-  changed_same a b location same mounted =
-      ap (after_in a) mounted ∙ after_same a b same (mount_at nat_eq b location).filesystem
+  changed_same a b location same mounted = cc (after_same a b same (mount_at nat_eq b location).filesystem)
 
 -- the filesystems after a permit
 abbrev Makes : World ℕ → Fresh ℕ → Task ℕ → Permit ℕ → Option (Location ℕ × Change ℕ) → Type 0
@@ -57,16 +56,12 @@ makes : (world : World ℕ) (fresh : Fresh ℕ) (task : Task ℕ) (permit : Perm
     → Makes world fresh task permit (change_asked fresh world permit)
 makes world fresh task (ToChange location change) = refl
 makes world fresh task (ToMake directory name node) = refl
-makes world fresh task (ToRemoveDirectory parent name directory) =
-    changed_same fresh (Remove parent.node name directory.node) (without_mounts_on nat_eq world directory) world parent
+makes world fresh task (ToRemoveDirectory parent name directory) = changed_same fresh _ _ world parent
     (same_filesystems_without world directory) (same_mounted_without world directory parent)
 makes world fresh task (ToRename from old to new object None) = refl
-makes world fresh task (ToRename from old to new object (Some replaced)) =
-    changed_same fresh (Move from.node old to.node new object.node) (without_mounts_on nat_eq world replaced) world from
+makes world fresh task (ToRename from old to new object (Some replaced)) = changed_same fresh _ _ world from
     (same_filesystems_without world replaced) (same_mounted_without world replaced from)
-makes world fresh task (ToOpen file access) =
-    as_made (when (is_copied_up nat_eq world file access) (file, CopyUp file.node))
-    (opens world fresh file (is_copied_up nat_eq world file access))
+makes world fresh task (ToOpen file access) = as_made _ (opens world fresh file (is_copied_up nat_eq world file access))
   where
     as_made : (o : Option (Location ℕ × Change ℕ)) → Opens world fresh file (is_copied_up nat_eq world file access) o
         → Makes world fresh task (ToOpen file access) o

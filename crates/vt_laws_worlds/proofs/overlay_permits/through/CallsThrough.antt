@@ -1,6 +1,6 @@
 -- A granted call goes through the filesystem of the location that it changes.
-use Rattle.std.proofs.Common.{arith, ◌≡◌, ◌≢◌, refl, sym, ap, subst, ◌∙◌, true≢false, ne_eqb, ℕ, nat_eq, ◌*◌, ◌+◌, Bool, true, false, [], ◌∷◌, Option, Some, None, Ok, is_some}
-use Rattle.vt_spec.proofs.Common.{AddName, Among, Call, Change, CopyUp, FileTree, Fresh, IsWorld, Location, Make, Move, Outcome, Permit, Remove, SetAttr, SetBytes, SetMark, Task, ToChange, ToMake, ToOpen, ToOpenNew, ToWritePart, World, after, among-append_left, among_from_contains, any_from_among, apply, call_outcome, common_steps, directory_used, files_at, filesystem_at, filesystem_numbered, is_among, is_copied_up, is_overlay, judge_in, layers_of, lies_or_counts_under, live_layers, looks_of, mount_at, none_is_some, odds, or_from, upper_and_work, when, ⊤}
+use Rattle.std.proofs.Common.{arith, ◌≡◌, ◌≢◌, refl, ap, subst, ◌∙◌, true≢false, ne_eqb, ℕ, nat_eq, ◌*◌, ◌+◌, Bool, true, false, [], ◌∷◌, Option, Some, None, Ok, is_some}
+use Rattle.vt_spec.proofs.Common.{AddName, Among, Call, Change, CopyUp, FileTree, Fresh, IsWorld, Location, Make, Move, Permit, Remove, SetAttr, SetBytes, SetMark, Task, ToChange, ToMake, ToOpen, ToOpenNew, ToWritePart, World, among-append_left, among_from_contains, any_from_among, apply, call_outcome, common_steps, directory_used, files_at, filesystem_at, filesystem_numbered, is_among, is_copied_up, is_overlay, judge_in, layers_of, lies_or_counts_under, live_layers, looks_of, mount_at, none_is_some, odds, or_from, upper_and_work, when, ⊤}
 use Rattle.vt_laws_rules.specs.Given.{IsFor}
 use Rattle.vt_laws_rules.proofs.judged.CallsJudged.{call_is_judged_then_applied}
 use Rattle.vt_laws_rules.proofs.given.GivenPermits.{permits_are_for_their_calls}
@@ -79,7 +79,7 @@ module _ (world : World ℕ) (fresh : Fresh ℕ) (task : Task ℕ) (call : Call)
   changes location change for = grind (arith, common_steps)
 
   draws : (permit : Permit ℕ) → IsFor (looks_of nat_eq world) task call permit → Draws permit
-  draws (ToChange location change) for = (all, changes location change for)
+  draws (ToChange location change) for = (all, changes _ change for)
   draws (ToMake directory name node) for = (every_second, refl)
   draws (ToOpen file access) for = (all, opens (is_copied_up nat_eq world file access) file)
   draws (ToOpenNew directory name node access) for = (every_second, refl)
@@ -92,7 +92,7 @@ module _ (world : World ℕ) (fresh : Fresh ℕ) (task : Task ℕ) (call : Call)
   LeavesThem permit = (apply nat_eq fresh world task permit).world.filesystems ≡ world.filesystems
 
   on_mounts : (other : Call) → call ≡ other → changes_no_mount other ≡ false → changes_no_mount call ≡ true → ⊥
-  on_mounts other e f c = true≢false (sym c ∙ ap changes_no_mount e ∙ f)
+  on_mounts other e f c = true≢false (cc)
 
   leaves_them : (permit : Permit ℕ) → IsFor (looks_of nat_eq world) task call permit → changes_no_mount call ≡ true
       → change_asked fresh world permit ≡ None → LeavesThem permit
@@ -113,9 +113,7 @@ speaks world location change over asked = grind (arith, common_steps, asked, dir
 pub as_permitted : (world : World ℕ) (fresh : Fresh ℕ) (task : Task ℕ) (call : Call) (permit : Permit ℕ)
     → judge_in nat_eq fresh world task call ≡ Ok permit → (call_outcome nat_eq fresh world task call).world.filesystems
     ≡ (apply nat_eq fresh world task permit).world.filesystems
-as_permitted world fresh task call permit granted = ap (λ (o : Outcome ℕ). o.world.filesystems)
-    (call_is_judged_then_applied fresh world task call
-    ∙ ap (λ j. after world j (apply nat_eq fresh world task)) granted)
+as_permitted world fresh task call permit granted = cc (call_is_judged_then_applied fresh world task call)
 
 pub calls_go_through_their_location : CallsGoThroughTheirLocation
 calls_go_through_their_location world fresh task call permit location change is serves called granted asks =

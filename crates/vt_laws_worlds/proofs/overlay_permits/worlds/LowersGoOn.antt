@@ -1,6 +1,6 @@
 -- A live overlay goes on over the layers that it had, while filesystems change, come and go.
 use Rattle.std.proofs.Common.{arith, ◌≡◌, refl, sym, ap, subst, ◌∙◌, ⊎_elim, ℕ, nat_eq, Bool, true, false, cond, true≢false, not, List, [], ◌∷◌, find, map, Option, Some, None, option_map, unwrap_or}
-use Rattle.vt_spec.proofs.Common.{Among, Change, Filesystem, Fresh, Layer, Location, Merge, Overlay, OverlayInvariants, TaskName, World, changed, common_steps, eqb_tells, filesystem_at, filesystem_changed, filesystem_numbered, is_overlay, led, list_any, merge_changed, merge_of, mount_at, no_filesystem, numbers_raised, overlay_changed, raised, raised_if_changed, same_Some, settled, stack_of, then_some, with_change, with_files, with_filesystem, without_dead_filesystems, without_dead_in, without_dead_mounts}
+use Rattle.vt_spec.proofs.Common.{Among, Change, Filesystem, Fresh, Layer, Location, Merge, Overlay, OverlayInvariants, TaskName, World, changed, common_steps, eqb_tells, filesystem_at, filesystem_changed, filesystem_numbered, is_overlay, led, merge_changed, merge_of, mount_at, no_filesystem, numbers_raised, overlay_changed, raised, raised_if_changed, same_Some, settled, stack_of, then_some, with_change, with_files, with_filesystem, without_dead_filesystems, without_dead_in, without_dead_mounts}
 use Rattle.vt_laws_trees.specs.Layers.Layers.Locked.{LeadsAsBefore}
 use Rattle.vt_laws_trees.proofs.layers.layers.LowersKept.{kept_both, kept_same}
 use Rattle.vt_laws_trees.proofs.layers.layers.LowersWorld.{filesystem_elsewhere, filesystem_there, number_of_filesystem}
@@ -110,8 +110,7 @@ raised_layers : (changed : List ℕ) (number : ℕ) (list : List (Filesystem ℕ
     (no_filesystem number)).overlay
     ≡ (unwrap_or (find (λ (f : Filesystem ℕ). nat_eq number f.number) list) (no_filesystem number)).overlay
 raised_layers changed number [] = refl
-raised_layers changed number (first ∷ rest) = by (list_any (λ n. nat_eq n first.number) changed)
-    (raised_layers changed number rest)
+raised_layers changed number (first ∷ rest) = by _ (raised_layers changed number rest)
   where
     pick : (one : Filesystem ℕ) → one.overlay ≡ first.overlay → (b : Bool) (others were : Option (Filesystem ℕ))
         → (unwrap_or others (no_filesystem number)).overlay ≡ (unwrap_or were (no_filesystem number)).overlay

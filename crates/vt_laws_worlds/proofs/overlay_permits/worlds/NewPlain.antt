@@ -1,8 +1,7 @@
 -- A new plain filesystem beside those that are there keeps the invariants of trees and of overlays.
 use Rattle.std.proofs.Common.{◌≡◌, refl, sym, ap, subst, ◌∙◌, inl, true≢false, eq-eqb, ℕ, nat_eq, Bool, true, false, cond, List, [], ◌∷◌, ◌++◌, find, Option, Some, None, is_some, append-nil, flat_map, unwrap_or}
-use Rattle.vt_spec.proofs.Common.{All-push, Among, Filesystem, Fresh, HasOwnParents, IsMerged, IsReached, IsTree, IsWorld, Layer, ListsNumbers, Overlay, OverlayInvariants, Serves, TreeInvariants, World, and_true_right, any_pair, directory_used, evens, filesystem_numbered, filter-append, is_fit_filesystem, is_overlay, layers_of, nat_eq_false_turned, new_directory, new_plain, no_filesystem, none_is_some, of_overlay, overlays, plain_filesystem, root_attr, upper_and_work, with_new_filesystem}
+use Rattle.vt_spec.proofs.Common.{All-push, Among, Filesystem, Fresh, HasOwnParents, IsMerged, IsReached, IsTree, IsWorld, Layer, ListsNumbers, Overlay, OverlayInvariants, Serves, TreeInvariants, World, and_true_right, any_pair, directory_used, evens, filesystem_numbered, filter-append, is_fit_filesystem, is_overlay, layers_of, nat_eq_false_turned, no_filesystem, of_overlay, overlays, plain_filesystem, upper_and_work, with_new_filesystem}
 use Rattle.vt_laws_trees.proofs.trees.ChangesByCalls.{new_tree_is}
-use Rattle.vt_laws_trees.proofs.trees.ChangesOfSizes.{fits}
 use Rattle.vt_laws_trees.proofs.trees.TreesTasks.{all_appended, and_from}
 use Rattle.vt_laws_trees.proofs.layers.layers.LowersKept.{kept_same}
 use Rattle.vt_laws_trees.proofs.overlays.changes.WholeOthers.{stays_merged}
@@ -15,8 +14,8 @@ use Rattle.vt_laws_worlds.proofs.overlay_permits.worlds.SweptOverlays.{leads_sam
 pub found_first : (number : ℕ) (last : Filesystem ℕ) (list : List (Filesystem ℕ)) (f : Filesystem ℕ)
     → find (λ (f : Filesystem ℕ). nat_eq number f.number) list ≡ Some f
     → find (λ (f : Filesystem ℕ). nat_eq number f.number) (list ++ last ∷ []) ≡ Some f
-found_first number last [] f e = none_is_some f e
-found_first number last (first ∷ rest) f e = by (nat_eq number first.number) e (found_first number last rest f)
+found_first number last [] f e = cc
+found_first number last (first ∷ rest) f e = by _ e (found_first number last rest f)
   where
     by : (b : Bool) → cond b (Some first) (find (λ (f : Filesystem ℕ). nat_eq number f.number) rest) ≡ Some f
         → (find (λ (f : Filesystem ℕ). nat_eq number f.number) rest ≡ Some f
@@ -34,9 +33,7 @@ module _ (world : World ℕ) (fresh : Fresh ℕ) (conditions : IsWorld nat_eq wo
   later = with_new_filesystem world new
 
   new_fits : is_fit_filesystem new ≡ true
-  new_fits = and_from (fits ((new_plain nat_eq (evens fresh 0) (evens fresh 1)).files.tree.node (evens fresh 1))) true
-      (ap (λ b. fits (cond b (Some (record { attr = root_attr; content = new_directory (evens fresh 1) })) None))
-      (eq-eqb (evens fresh 1) (evens fresh 1) refl)) refl
+  new_fits = and_from _ true (cc (eq-eqb (evens fresh 1) (evens fresh 1) refl)) refl
 
   pub new_plain_trees : TreeInvariants nat_eq later
   new_plain_trees =
@@ -63,18 +60,17 @@ module _ (world : World ℕ) (fresh : Fresh ℕ) (conditions : IsWorld nat_eq wo
   not_first : (number : ℕ) (list : List (Filesystem ℕ)) → looked_up number list ≡ None
       → looked_up number (list ++ new ∷ []) ≡ looked_up number (new ∷ [])
   not_first number [] e = refl
-  not_first number (first ∷ rest) e = by (nat_eq number first.number) e (not_first number rest)
+  not_first number (first ∷ rest) e = by _ e (not_first number rest)
     where
       by : (b : Bool) → cond b (Some first) (looked_up number rest) ≡ None
           → (looked_up number rest ≡ None → looked_up number (rest ++ new ∷ []) ≡ looked_up number (new ∷ []))
           → cond b (Some first) (looked_up number (rest ++ new ∷ [])) ≡ looked_up number (new ∷ [])
-      by true e on = none_is_some first (sym e)
+      by true e on = cc
       by false e on = on e
 
   stays_found : (number : ℕ) (f : Filesystem ℕ) → looked_up number world.filesystems ≡ Some f
       → filesystem_numbered nat_eq later number ≡ filesystem_numbered nat_eq world number
-  stays_found number f e = ap (λ o. unwrap_or o (no_filesystem number)) (found_first number new world.filesystems f e)
-      ∙ ap (λ o. unwrap_or o (no_filesystem number)) (sym e)
+  stays_found number f e = cc (found_first number new world.filesystems f e)
 
   inode_stays : (number inode : ℕ) → is_some ((filesystem_numbered nat_eq world number).files.tree.node inode) ≡ true
       → filesystem_numbered nat_eq later number ≡ filesystem_numbered nat_eq world number
@@ -88,7 +84,7 @@ module _ (world : World ℕ) (fresh : Fresh ℕ) (conditions : IsWorld nat_eq wo
 
   overlay_stays : (number : ℕ) (after : Overlay ℕ) → (filesystem_numbered nat_eq later number).overlay ≡ Some after
       → filesystem_numbered nat_eq later number ≡ filesystem_numbered nat_eq world number
-  overlay_stays number after is = by (looked_up number world.filesystems) refl
+  overlay_stays number after is = by _ refl
     where
       plain_alone : (b : Bool) → (unwrap_or (cond b (Some new) None) (no_filesystem number)).overlay ≡ None
       plain_alone true = refl
@@ -96,13 +92,12 @@ module _ (world : World ℕ) (fresh : Fresh ℕ) (conditions : IsWorld nat_eq wo
 
       by : (o : Option (Filesystem ℕ)) → looked_up number world.filesystems ≡ o
           → filesystem_numbered nat_eq later number ≡ filesystem_numbered nat_eq world number
-      by None e = none_is_some after (sym (plain_alone (nat_eq number new.number))
-          ∙ sym (ap (λ o. (unwrap_or o (no_filesystem number)).overlay) (not_first number world.filesystems e)) ∙ is)
+      by None e = cc (plain_alone (nat_eq number new.number), not_first number world.filesystems e)
       by (Some f) e = stays_found number f e
 
   module _ (number : ℕ) (after : Overlay ℕ) (is : (filesystem_numbered nat_eq later number).overlay ≡ Some after) where
     was : (filesystem_numbered nat_eq world number).overlay ≡ Some after
-    was = sym (ap (λ (f : Filesystem ℕ). f.overlay) (overlay_stays number after is)) ∙ is
+    was = cc (overlay_stays number after is)
 
     layer_stays : (layer : Layer ℕ) → Among layer (layers_of after)
         → filesystem_numbered nat_eq later layer.filesystem ≡ filesystem_numbered nat_eq world layer.filesystem

@@ -37,8 +37,7 @@ module _ (world : World ℕ) (files : AreTrees world) where
 
   pub inode_listed : (number inode : ℕ) → is_some (inode_in world number inode) ≡ true
       → Among inode (filesystem_numbered nat_eq world number).files.numbers
-  inode_listed number inode there = among_numbers (filesystem_numbered nat_eq world number).files.numbers inode
-      (numbers_listed number inode ∙ there)
+  inode_listed number inode there = among_numbers _ inode (numbers_listed number inode ∙ there)
 
   -- each live layer is one of an overlay
   pub record IsLayerOf (layers : Overlay ℕ → List (Layer ℕ)) (layer : Layer ℕ) : Type 0 where
@@ -50,9 +49,9 @@ module _ (world : World ℕ) (files : AreTrees world) where
   pub layer_of : (layers : Overlay ℕ → List (Layer ℕ)) (layer : Layer ℕ)
       → Among layer (flat_map (of_overlay [] layers) (overlays world)) → IsLayerOf layers layer
   layer_of layers layer m =
-      let found = among-from_flat_map (of_overlay [] layers) (overlays world) layer m in
-      by found.0 (found_filesystem world.filesystems files.one_filesystem found.0
-      (among-from_filter is_overlay world.filesystems found.0 found.1).0) found.0.overlay refl found.2
+      let found = among-from_flat_map _ _ layer m in
+      by _ (found_filesystem _ files.one_filesystem _
+      (among-from_filter is_overlay world.filesystems found.0 found.1).0) _ refl found.2
     where
       by : (f : Filesystem ℕ) → filesystem_numbered nat_eq world f.number ≡ f → (o : Option (Overlay ℕ)) → f.overlay ≡ o
           → Among layer (overlay_or [] layers o) → IsLayerOf layers layer
@@ -72,11 +71,9 @@ module _ (world : World ℕ) (files : AreTrees world) where
 
     pub fit_overlay : (number : ℕ) (overlay : Overlay ℕ)
         → (filesystem_numbered nat_eq world number).overlay ≡ Some overlay → has_fit_layers overlay ≡ true
-    fit_overlay number overlay is = sym (ap (overlay_or true has_fit_layers) is)
-        ∙ among_from_list_all (of_overlay true has_fit_layers) world.filesystems are.fit_layers
-        (filesystem_numbered nat_eq world number)
-        (among-from_filter is_overlay world.filesystems (filesystem_numbered nat_eq world number)
-        (merged_among world number overlay is)).0
+    fit_overlay number overlay is = cc (among_from_list_all (of_overlay true has_fit_layers) world.filesystems
+        are.fit_layers (filesystem_numbered nat_eq world number) (among-from_filter is_overlay world.filesystems
+        (filesystem_numbered nat_eq world number) (merged_among world number overlay is)).0)
 
 -- an overlay of a later world is one that was there: its layers are the same, and so are paths in them
 pub record GoesOn (world later : World ℕ) (number : ℕ) (after : Overlay ℕ) : Type 0 where
@@ -115,27 +112,26 @@ module _ (world later : World ℕ) (files : AreTrees world) (are : OverlayInvari
   live_in number after e layer m =
       let on = goes number after e in
       let a = subst (Among layer) (same_layers number after on) m in
-      record { plain = plain_layer world files are number on.before on.is layer a; leads = on.leads layer a }
+      record { plain = plain_layer world files are number _ on.is layer a; leads = on.leads layer a }
 
   was_directory : (layer : Layer ℕ) → IsLive layer
       → is_directory_node (inode_in world layer.filesystem layer.directory) ≡ true
-  was_directory layer live = and_true_right
-      (not (is_overlay (filesystem_numbered nat_eq world layer.filesystem))) _ live.plain
+  was_directory layer live = and_true_right _ _ live.plain
 
   is_directory : (layer : Layer ℕ) → IsLive layer
       → is_directory_node (inode_in later layer.filesystem layer.directory) ≡ true
   is_directory layer live = directory_alike _ _ (alike_kept _ _ (live.leads []).1) ∙ was_directory layer live
 
   still_plain : (layer : Layer ℕ) → IsLive layer → is_plain_layer nat_eq later layer ≡ true
-  still_plain layer live = and_from _ _ (by (filesystem_numbered nat_eq later layer.filesystem).overlay refl)
-      (is_directory layer live)
+  still_plain layer live = and_from _ _ (by _ refl) (is_directory layer live)
     where
       by : (o : Option (Overlay ℕ)) → (filesystem_numbered nat_eq later layer.filesystem).overlay ≡ o
           → not (is_overlay (filesystem_numbered nat_eq later layer.filesystem)) ≡ true
-      by None e = ap (λ o. not (is_some o)) e
-      by (Some after) e = absurd (true≢false (sym (and_true_left
-          (not (is_overlay (filesystem_numbered nat_eq world layer.filesystem))) _ live.plain)
-          ∙ ap (λ o. not (is_some o)) (goes layer.filesystem after e).is))
+      by None e = cc
+      by (Some after) e = cc (
+        and_true_left (not (is_overlay (filesystem_numbered nat_eq world layer.filesystem))) _ live.plain,
+        (goes layer.filesystem after e).is,
+      )
 
   lay : (layer : Layer ℕ) → IsLive layer → (n object : ℕ) → lies_in_layer nat_eq later n object layer ≡ true
       → lies_in_layer nat_eq world n object layer ≡ true
@@ -197,26 +193,25 @@ module _ (world later : World ℕ) (files : AreTrees world) (are : OverlayInvari
 
   lay_or_counted : (layer : Layer ℕ) → IsLive layer → (n object : ℕ) → Lies later layer n object
       → Lies world layer n object
-  lay_or_counted layer live n object e = ⊎_elim (λ lies. or_left (lies_in_layer nat_eq world n object layer) _
+  lay_or_counted layer live n object e = ⊎_elim (λ lies. or_left _ _
       (lay layer live n object lies)) by_overlays (or_cases (lies_in_layer nat_eq later n object layer) _ e)
     where
       by_overlays : list_any (counts_in_layer nat_eq later n object layer) (overlays later) ≡ true
           → Lies world layer n object
       by_overlays h =
           let found = any_among (counts_in_layer nat_eq later n object layer) (overlays later) h in
-          by found.0 (found_filesystem later.filesystems files_later.one_filesystem found.0
-          (among-from_filter is_overlay later.filesystems found.0 found.1).0) found.0.overlay refl found.2
+          by _ (found_filesystem _ files_later.one_filesystem _
+          (among-from_filter is_overlay later.filesystems found.0 found.1).0) _ refl found.2
         where
           by : (f : Filesystem ℕ) → filesystem_numbered nat_eq later f.number ≡ f → (o : Option (Overlay ℕ))
               → f.overlay ≡ o
               → overlay_or false (λ v. holds_of (λ u. lies_in_layer nat_eq later u.filesystem u.directory layer) v.upper
               && is_object_of nat_eq n object f v) o ≡ true → Lies world layer n object
-          by f itself None g h = absurd (true≢false (sym h))
-          by f itself (Some after) g h = counted layer live n object f.number after
-              (ap (λ (x : Filesystem ℕ). x.overlay) itself ∙ g) after.upper refl (subst (λ (x : Filesystem ℕ). (holds_of
-              (λ u. lies_in_layer nat_eq later u.filesystem u.directory layer) after.upper
-              && (holds_of (λ u. nat_eq n u.filesystem) after.upper
-              && list_any (is_real_upper nat_eq after object) x.files.numbers)) ≡ true) (sym itself) h)
+          by f itself None g h = cc
+          by f itself (Some after) g h = counted layer live n object _ after (cc) _ refl
+              (subst (λ (x : Filesystem ℕ). (holds_of (λ u. lies_in_layer nat_eq later u.filesystem u.directory layer)
+              after.upper && (holds_of (λ u. nat_eq n u.filesystem) after.upper && list_any
+              (is_real_upper nat_eq after object) x.files.numbers)) ≡ true) (sym itself) h)
 
   -- and is there
   was_there : (layer : Layer ℕ) → IsLive layer → (n object : ℕ) → Lies world layer n object
@@ -274,16 +269,12 @@ module _ (world later : World ℕ) (files : AreTrees world) (are : OverlayInvari
       let found = any_among (λ (o : ℕ). lies_or_counts_under nat_eq later a.filesystem o a
       && list_any (lies_or_counts_under nat_eq later a.filesystem o) others)
       (filesystem_numbered nat_eq later a.filesystem).files.numbers e in
-      let in_a = lay_or_counted a live_a a.filesystem found.0
-      (and_true_left (lies_or_counts_under nat_eq later a.filesystem found.0 a) _ found.2) in
+      let in_a = lay_or_counted a live_a _ _ (and_true_left _ _ found.2) in
       let other = any_among (lies_or_counts_under nat_eq later a.filesystem found.0) others
-      (and_true_right (lies_or_counts_under nat_eq later a.filesystem found.0 a) _ found.2) in
-      any_from_among (λ (o : ℕ). lies_or_counts_under nat_eq world a.filesystem o a
-      && list_any (lies_or_counts_under nat_eq world a.filesystem o) others)
-      (filesystem_numbered nat_eq world a.filesystem).files.numbers found.0
-      (inode_listed world files a.filesystem found.0 (was_there a live_a a.filesystem found.0 in_a))
-      (and_from _ _ in_a (any_from_among (lies_or_counts_under nat_eq world a.filesystem found.0) others other.0 other.1
-      (lay_or_counted other.0 (live_others other.0 other.1) a.filesystem found.0 other.2)))
+      (and_true_right _ _ found.2) in
+      any_from_among _ _ found.0 (inode_listed world files _ _ (was_there a live_a _ _ in_a))
+      (and_from _ _ in_a (any_from_among _ others other.0 other.1 (lay_or_counted _ (live_others other.0 other.1) _ _
+      other.2)))
 
   live_changed : (layer : Layer ℕ) → Among layer (live_upper_and_work later) → IsLive layer
   live_changed layer m =
@@ -322,13 +313,9 @@ module _ (world later : World ℕ) (files : AreTrees world) (are : OverlayInvari
       && list_any (lies_or_counts_under nat_eq world a.filesystem o) some)
       (filesystem_numbered nat_eq world a.filesystem).files.numbers e in
       let other = any_among (lies_or_counts_under nat_eq world a.filesystem found.0) some
-      (and_true_right (lies_or_counts_under nat_eq world a.filesystem found.0 a) _ found.2) in
-      any_from_among (λ (o : ℕ). lies_or_counts_under nat_eq world a.filesystem o a
-      && list_any (lies_or_counts_under nat_eq world a.filesystem o) all)
-      (filesystem_numbered nat_eq world a.filesystem).files.numbers found.0 found.1
-      (and_from _ _ (and_true_left (lies_or_counts_under nat_eq world a.filesystem found.0 a) _ found.2)
-      (any_from_among (lies_or_counts_under nat_eq world a.filesystem found.0) all other.0
-      (more other.0 other.1) other.2))
+      (and_true_right _ _ found.2) in
+      any_from_among _ _ found.0 found.1 (and_from _ _ (and_true_left _ _ found.2)
+      (any_from_among _ all other.0 (more other.0 other.1) other.2))
 
   apart_changed : any_pair (overlap nat_eq later) (live_upper_and_work later) ≡ false
   apart_changed = no_pair_later (overlap nat_eq world) (overlap nat_eq later) (live_upper_and_work later)
@@ -337,28 +324,30 @@ module _ (world later : World ℕ) (files : AreTrees world) (are : OverlayInvari
 
   apart_lowers : list_any (overlaps_one_of nat_eq later (live_lowers nat_eq later)) (live_upper_and_work later) ≡ false
   apart_lowers = none_from_among (overlaps_one_of nat_eq later (live_lowers nat_eq later)) (live_upper_and_work later)
-      (λ a m. by a m (overlaps_one_of nat_eq later (live_lowers nat_eq later) a) refl)
+      (λ a m. by a m _ refl)
     where
       by : (a : Layer ℕ) → Among a (live_upper_and_work later) → (b : Bool)
           → overlaps_one_of nat_eq later (live_lowers nat_eq later) a ≡ b
           → overlaps_one_of nat_eq later (live_lowers nat_eq later) a ≡ false
       by a m false e = e
-      by a m true e = absurd (true≢false (sym (wider a (live_lowers nat_eq later) (live_lowers nat_eq world) lower_was
-          (overlapped a (live_lowers nat_eq later) (live_changed a m) live_lower e))
-          ∙ none_among (overlaps_one_of nat_eq world (live_lowers nat_eq world))
-          (live_upper_and_work world) are.lowers_apart a (changed_was a m)))
+      by a m true e = cc (
+        wider a (live_lowers nat_eq later) (live_lowers nat_eq world) lower_was
+            (overlapped a (live_lowers nat_eq later) (live_changed a m) live_lower e),
+        none_among (overlaps_one_of nat_eq world (live_lowers nat_eq world)) (live_upper_and_work world)
+            are.lowers_apart a (changed_was a m),
+      )
 
   -- Each overlay
   each : (test : Overlay ℕ → Bool)
       → ((number : ℕ) (after : Overlay ℕ) → (filesystem_numbered nat_eq later number).overlay ≡ Some after
       → test after ≡ true) → list_all (of_overlay true test) later.filesystems ≡ true
   each test holds = list_all_from_among (of_overlay true test) later.filesystems
-      (λ f m. by f (found_filesystem later.filesystems files_later.one_filesystem f m) f.overlay refl)
+      (λ f m. by f (found_filesystem _ files_later.one_filesystem f m) _ refl)
     where
       by : (f : Filesystem ℕ) → filesystem_numbered nat_eq later f.number ≡ f → (o : Option (Overlay ℕ)) → f.overlay ≡ o
           → overlay_or true test o ≡ true
       by f itself None e = refl
-      by f itself (Some after) e = holds f.number after (ap (λ (x : Filesystem ℕ). x.overlay) itself ∙ e)
+      by f itself (Some after) e = holds f.number after (cc)
 
   still_fit : (number : ℕ) (after : Overlay ℕ) → GoesOn world later number after → has_fit_layers after ≡ true
   still_fit number after on = grind (arith, common_steps, fit_overlay)

@@ -1,6 +1,6 @@
 -- A change of a plain tree that spares what is locked keeps the invariants of trees and of overlays.
-use Rattle.std.proofs.Common.{arith, ◌≡◌, ◌≢◌, refl, sym, ap, subst, ◌∙◌, true≢false, eqb-true, ne_eqb, ⊎_elim, inl, inr, ℕ, nat_eq, Bool, true, false, not, cond, ◌||◌, List, [], ◌∷◌, filter, map, Some, None, is_some, All, flat_map}
-use Rattle.vt_spec.proofs.Common.{AddName, All-weaker, Among, Change, CopyUp, FileTree, Filesystem, Fresh, HasOwnParents, IsReached, IsTree, IsWorld, Layer, ListsNumbers, Location, Make, Move, Overlay, OverlayInvariants, Remove, SetAttr, SetBytes, SetMark, TreeInvariants, World, all_from_among, among_from_all, among_from_list_all, and_true_right, any_from_among, any_pair, changed, common_steps, eqb_tells, files_at, filesystem_at, filesystem_changed, filesystem_numbered, holds_of, is_among, is_fit_filesystem, is_locked, is_overlay, is_plain_layer, is_there, layers_of, lies_or_counts_under, list_all_from_among, live_layers, mount_at, none_is_some, of_overlay, overlays, replaced_if_numbered, upper_and_work, with_change, with_files, with_filesystem}
+use Rattle.std.proofs.Common.{arith, ◌≡◌, ◌≢◌, refl, sym, ap, subst, ◌∙◌, true≢false, eqb-true, ne_eqb, ⊎_elim, inl, inr, ℕ, nat_eq, Bool, true, false, not, cond, List, [], ◌∷◌, filter, map, Some, None, is_some, All, flat_map}
+use Rattle.vt_spec.proofs.Common.{AddName, All-weaker, Among, Change, CopyUp, FileTree, Filesystem, Fresh, HasOwnParents, IsReached, IsTree, IsWorld, Layer, ListsNumbers, Location, Make, Move, Overlay, OverlayInvariants, Remove, SetAttr, SetBytes, SetMark, TreeInvariants, World, all_from_among, among_from_all, among_from_list_all, and_true_right, any_from_among, any_pair, changed, common_steps, eqb_tells, files_at, filesystem_at, filesystem_changed, filesystem_numbered, holds_of, is_among, is_fit_filesystem, is_locked, is_overlay, is_plain_layer, is_there, layers_of, lies_or_counts_under, list_all_from_among, mount_at, none_is_some, of_overlay, overlays, replaced_if_numbered, upper_and_work, with_change, with_files, with_filesystem}
 use Rattle.vt_laws_trees.specs.Trees.{IsFileTree, IsProper}
 use Rattle.vt_laws_trees.specs.Trees.Sizes.{IsFitChange}
 use Rattle.vt_laws_trees.proofs.trees.ChangesKeepTrees.{changes_keep_numbers, changes_keep_own_parents, changes_keep_trees}
@@ -26,21 +26,18 @@ use Rattle.vt_laws_worlds.proofs.overlay_permits.worlds.SweptOverlays.{shown_amo
 none_written : (files : FileTree ℕ) (change : Change ℕ) → IsProper files.tree change → (inode : ℕ)
     → is_some (files.tree.node inode) ≡ true
     → SparesInode files change inode → is_among nat_eq inode (inodes_changed change) ≡ false
-none_written files (Make directory name number node) may inode there spares =
-    ap (λ b. b || (nat_eq inode directory || false)) (ne_eqb inode number (λ same.
-    true≢false (sym there ∙ ap (λ n. is_some (files.tree.node n)) same ∙ ap is_some may.number_is_new)))
-    ∙ ap (λ b. b || false) (ne_eqb inode directory spares)
-none_written files (AddName directory name object) may inode there spares = ap (λ b. b || false)
-    (ne_eqb inode directory spares)
-none_written files (Remove directory name object) may inode there spares = ap (λ b. b || false)
-    (ne_eqb inode directory spares.0)
+none_written files (Make directory name number node) may inode there spares = cc (
+  ne_eqb inode number (λ same. true≢false (sym there ∙ ap (λ n. is_some (files.tree.node n)) same ∙ ap is_some
+      may.number_is_new)),
+  ne_eqb inode directory spares,
+)
+none_written files (AddName directory name object) may inode there spares = cc (ne_eqb inode directory spares)
+none_written files (Remove directory name object) may inode there spares = cc (ne_eqb inode directory spares.0)
 none_written files (Move from old to new object) may inode there spares =
-    ap (λ b. b || (nat_eq inode to || false)) (ne_eqb inode from spares.0)
-    ∙ ap (λ b. b || false) (ne_eqb inode to spares.1)
-none_written files (SetBytes file bytes) may inode there spares = ap (λ b. b || false) (ne_eqb inode file spares)
-none_written files (SetAttr object attr) may inode there spares = ap (λ b. b || false) (ne_eqb inode object spares)
-none_written files (SetMark directory opaque) may inode there spares = ap (λ b. b || false)
-    (ne_eqb inode directory spares)
+    cc (ne_eqb inode from spares.0, ne_eqb inode to spares.1)
+none_written files (SetBytes file bytes) may inode there spares = cc (ne_eqb inode file spares)
+none_written files (SetAttr object attr) may inode there spares = cc (ne_eqb inode object spares)
+none_written files (SetMark directory opaque) may inode there spares = cc (ne_eqb inode directory spares)
 none_written files (CopyUp object) may inode there spares = refl
 
 -- nor loses it a name
@@ -127,17 +124,14 @@ module _ (fresh : Fresh ℕ) {world : World ℕ} {location : Location ℕ} {chan
       by false e = (refl, λ over. refl)
 
   overlays_same : overlays later ≡ overlays world
-  overlays_same = by world.filesystems (λ f m. m)
+  overlays_same = by _ (λ f m. m)
     where
       by : (list : List (Filesystem ℕ)) → ((f : Filesystem ℕ) → Among f list → Among f world.filesystems)
           → filter is_overlay (map (replaced_if_numbered nat_eq new) list) ≡ filter is_overlay list
       by [] all = refl
       by (first ∷ rest) all =
           let same = kind_same first (all first (inl refl)) in
-          ap (λ b. cond b (replaced_if_numbered nat_eq new first
-          ∷ filter is_overlay (map (replaced_if_numbered nat_eq new) rest))
-          (filter is_overlay (map (replaced_if_numbered nat_eq new) rest))) same.0
-          ∙ one (is_overlay first) refl same.1 (by rest (λ f m. all f (inr m)))
+          cc (one (is_overlay first) refl same.1 (by rest (λ f m. all f (inr m))))
         where
           one : (b : Bool) → is_overlay first ≡ b
               → (is_overlay first ≡ true → replaced_if_numbered nat_eq new first ≡ first)
@@ -180,9 +174,7 @@ module _ (fresh : Fresh ℕ) {world : World ℕ} {location : Location ℕ} {chan
     locked_in : (layer : Layer ℕ) → Among layer (layers_of overlay) → (inode : ℕ)
         → lies_or_counts_under nat_eq world layer.filesystem inode layer ≡ true
         → is_locked nat_eq world layer.filesystem inode ≡ true
-    locked_in layer m inode lies =
-        any_from_among (lies_or_counts_under nat_eq world layer.filesystem inode) (live_layers world) layer
-        (layer_among world layers_of number overlay is layer m) lies
+    locked_in layer m inode lies = any_from_among _ _ layer (layer_among world _ number _ is layer m) lies
 
     leads : (layer : Layer ℕ) → Among layer (layers_of overlay) → LeadsAsBefore world later layer
     leads layer m =

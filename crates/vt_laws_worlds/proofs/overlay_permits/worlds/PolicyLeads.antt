@@ -23,12 +23,12 @@ module _ (Holds : World ℕ → Type 0) (world : World ℕ) (fresh : Fresh ℕ) 
 
   refused : (answer : Result Answer Deny) → (policy nat_eq fresh world name call).answer ≡ answer → is_ok answer ≡ false
       → Left
-  refused (Ok a) e denied = absurd (true≢false denied)
+  refused (Ok a) e denied = cc
   refused (Err deny) e denied = stays (denial_changes_nothing fresh world name call deny e)
 
   called_leaves : (task : Task ℕ) → task_called world name ≡ Some task
       → ((permit : Permit ℕ) → judge_in nat_eq fresh world task call ≡ Ok permit → Holds (left_by task permit)) → Left
-  called_leaves task found granted = by (only_looks call || not (is_ok outcome.answer)) refl
+  called_leaves task found granted = by _ refl
     where
       changed : List ℕ
       changed = filesystems_changed_by nat_eq world (judge_in nat_eq fresh world task call)
@@ -61,4 +61,4 @@ module _ (Holds : World ℕ → Type 0) (world : World ℕ) (fresh : Fresh ℕ) 
       → judge_in nat_eq fresh world task call ≡ Ok permit
       → Holds (finished_by nat_eq false world name changed (call_outcome nat_eq fresh world task call)).world) → Left
   policy_leads granted = named_leads (λ task found permit changed.
-      granted task permit changed (ap (task_called world) (sym (name_found world name task found)) ∙ found))
+      granted task permit changed (cc (name_found world name task found)))

@@ -1,6 +1,6 @@
 -- Where inodes go that nothing uses, overlays keep their invariants: first those of overlays go, then those of plain
 -- trees.
-use Rattle.std.proofs.Common.{arith, ◌≡◌, refl, sym, ap, subst, ◌∙◌, true≢false, eq-eqb, ⊎_elim, ℕ, nat_eq, Bool, true, false, not, cond, List, [], ◌∷◌, ◌++◌, find, map, Option, Some, None, is_some, All, filter, filter_map, flat_map, option_map, unwrap_or}
+use Rattle.std.proofs.Common.{arith, ◌≡◌, refl, sym, ap, subst, ◌∙◌, true≢false, eq-eqb, ⊎_elim, ℕ, nat_eq, Bool, true, false, not, cond, List, [], ◌∷◌, ◌++◌, find, map, Option, Some, None, is_some, All, filter_map, flat_map, option_map, unwrap_or}
 use Rattle.vt_spec.proofs.Common.{All-weaker, Among, Filesystem, IsMerged, IsReached, IsTree, Layer, ListsNumbers, Lower, Node, Overlay, OverlayInvariants, Real, SameObject, Upper, World, among-filter, among-filter_map, among-flat_map, among-from_filter, among-map, and_true_left, and_true_right, any_pair, common_steps, directory_used, filesystem_numbered, holds_of, is_among, is_among_left, is_among_right, is_kind_in, is_opaque_in, is_overlay, is_plain_layer, is_there, layers_in, layers_of, layers_of_all, led, list_all, live_upper_and_work, located_in, named_in, no_filesystem, none_is_some, not-true, number-only_used, number_at_path, objects_of_overlay, of_overlay, only_used, only_used_by, overlay_or, real_among, real_node, same_Some, then_some, upper_and_work, upper_object, used_in, without_dead_in}
 use Rattle.vt_spec.specs.declared.attributes.Kind.TheVariants.{White}
 use Rattle.vt_laws_trees.specs.Trees.{IsFileTree}
@@ -61,8 +61,7 @@ module _ (chosen : Filesystem ℕ → Bool) (world : World ℕ) (files : HasFile
       → looked_up number (map swept list) ≡ option_map swept (looked_up number list)
   found_swept number [] = refl
   found_swept number (first ∷ rest) =
-      ap (λ n. cond (nat_eq number n) (Some (swept first)) (looked_up number (map swept rest)))
-      (number-only_used world (chosen first) first) ∙ by (nat_eq number first.number) (found_swept number rest)
+      cc (number-only_used world (chosen first) first, by (nat_eq number first.number) (found_swept number rest))
     where
       by : (b : Bool) → looked_up number (map swept rest) ≡ option_map swept (looked_up number rest)
           → cond b (Some (swept first)) (looked_up number (map swept rest))
@@ -162,7 +161,7 @@ module _ {world : World ℕ} {f : Filesystem ℕ} {overlay : Overlay ℕ} {used 
 
   path_used : (path : List (List ℕ)) (number : ℕ) → number_at_path f.files path ≡ Some number
       → is_among nat_eq number used ≡ true
-  path_used path number e = led_used used f.files holds is path f.files.tree.root number holds.root e
+  path_used path number e = led_used used _ holds is path _ number holds.root e
 
   left_merged : IsMerged nat_eq world left_files Left
   left_merged = record {
@@ -202,13 +201,13 @@ module _ {world : World ℕ} {f : Filesystem ℕ} {overlay : Overlay ℕ} {used 
       there : (number object : ℕ) (u : Bool) → cond u (overlay.real number) None ≡ Some (Upper object)
           → holds_of (λ layer. is_there nat_eq world layer.filesystem object) overlay.upper ≡ true
       there number object true e = was.upper_there number object e
-      there number object false e = none_is_some (Upper object) e
+      there number object false e = cc
 
       apart : (a b : ℕ) (u v : Bool) → is_some (cond u (overlay.real a) None) ≡ true
           → cond u (overlay.real a) None ≡ cond v (overlay.real b) None → a ≡ b
       apart a b true true e g = was.one_to_one a b e g
-      apart a b true false e g = absurd (true≢false (sym e ∙ ap is_some g))
-      apart a b false v e g = absurd (true≢false (sym e))
+      apart a b true false e g = cc
+      apart a b false v e g = cc
 
   -- so in both cases
   abbrev left_by : Bool → Overlay ℕ
@@ -221,7 +220,7 @@ module _ {world : World ℕ} {f : Filesystem ℕ} {overlay : Overlay ℕ} {used 
 
   pub overlay_by : f.overlay ≡ Some overlay → (b : Bool) → (only_used_by nat_eq b used f).overlay ≡ Some (left_by b)
   overlay_by e true = e
-  overlay_by e false = ap (option_map (real_among nat_eq used)) e
+  overlay_by e false = cc
 
 -- First the inodes of overlays
 module _ (world : World ℕ) (files : HasFileTrees world)
@@ -236,11 +235,13 @@ module _ (world : World ℕ) (files : HasFileTrees world)
   plain_stays : (layer : Layer ℕ) → is_plain_layer nat_eq world layer ≡ true
       → filesystem_numbered nat_eq first_later layer.filesystem ≡ filesystem_numbered nat_eq world layer.filesystem
   plain_stays layer plain =
-      let directory = and_true_right (not (is_overlay (filesystem_numbered nat_eq world layer.filesystem))) _ plain in
+      let directory = and_true_right _ _ plain in
       let f = filesystem_numbered nat_eq world layer.filesystem in
-      (found_by_inode is_overlay world files one layer.filesystem layer.directory
-      (directory_used f.files.tree layer.directory directory)).is_swept
-      ∙ ap (λ b. only_used nat_eq world b f) (not-true (is_overlay f) (and_true_left (not (is_overlay f)) _ plain))
+      cc (
+        (found_by_inode is_overlay world files one layer.filesystem layer.directory
+            (directory_used f.files.tree layer.directory directory)).is_swept,
+        not-true (is_overlay f) (and_true_left (not (is_overlay f)) _ plain),
+      )
 
   module _ (number : ℕ) (before : Overlay ℕ)
       (was : (filesystem_numbered nat_eq world number).overlay ≡ Some before) where
@@ -320,7 +321,7 @@ module _ (world : World ℕ) (files : HasFileTrees world)
           (ap is_some was)) after e
 
   pub first_overlays : OverlayInvariants nat_eq first_later
-  first_overlays = after_round is_overlay world files one are first_goes
+  first_overlays = after_round _ world files one are first_goes
 
 -- Then those of plain trees
 module _ (world : World ℕ) (files : HasFileTrees world)
@@ -339,7 +340,7 @@ module _ (world : World ℕ) (files : HasFileTrees world)
       (is : (filesystem_numbered nat_eq world number).overlay ≡ Some overlay) where
     overlay_there : Among (filesystem_numbered nat_eq world number) world.filesystems
     overlay_there = (among-from_filter is_overlay world.filesystems (filesystem_numbered nat_eq world number)
-        (merged_among world number overlay is)).0
+        (merged_among world number _ is)).0
 
     -- What uses an inode of the filesystem of a layer
     module _ (layer : Layer ℕ) (m : Among layer (layers_of overlay)) where
@@ -356,7 +357,7 @@ module _ (world : World ℕ) (files : HasFileTrees world)
       there = directory_used g.files.tree layer.directory (and_true_right (not (is_overlay g)) _ layer_is_plain)
 
       found : IsFound is_plain world files one layer.filesystem
-      found = found_by_inode is_plain world files one layer.filesystem layer.directory there
+      found = found_by_inode _ world files one _ _ there
 
       holds : HoldsTree used g.files
       holds = named_is_used world g found.file_tree
@@ -367,20 +368,13 @@ module _ (world : World ℕ) (files : HasFileTrees world)
           found.is_swept ∙ ap (λ b. only_used nat_eq world b g) (and_true_left (not (is_overlay g)) _ layer_is_plain)
 
       directory_is_used : is_among nat_eq layer.directory used ≡ true
-      directory_is_used = or_right (nat_eq layer.directory g.files.tree.root) (is_among nat_eq layer.directory
-          (named_in g.files ++ located_in nat_eq world g.number ++ layers_in nat_eq world g.number
-          ++ flat_map (objects_of_overlay nat_eq g.number) world.filesystems))
-          (is_among_left layer.directory (named_in g.files ++ located_in nat_eq world g.number
-          ++ layers_in nat_eq world g.number) (flat_map (objects_of_overlay nat_eq g.number) world.filesystems)
-          (is_among_right layer.directory (named_in g.files ++ located_in nat_eq world g.number)
-          (layers_in nat_eq world g.number) (is_among_numbers layer.directory (layers_in nat_eq world g.number)
-          (among-map (λ (l : Layer ℕ). l.directory) (filter (λ (l : Layer ℕ). nat_eq g.number l.filesystem)
-          (flat_map (of_overlay [] layers_of) world.filesystems)) layer
-          (among-filter (λ (l : Layer ℕ). nat_eq g.number l.filesystem)
-          (flat_map (of_overlay [] layers_of) world.filesystems) layer
-          (among-flat_map (of_overlay [] layers_of) world.filesystems
-          (filesystem_numbered nat_eq world number) layer overlay_there
-          (subst (λ o. Among layer (overlay_or [] layers_of o)) (sym is) m))
+      directory_is_used = or_right (nat_eq layer.directory g.files.tree.root) _
+          (is_among_left _ (named_in g.files ++ located_in nat_eq world g.number ++ layers_in nat_eq world g.number)
+          (flat_map (objects_of_overlay nat_eq g.number) world.filesystems)
+          (is_among_right _ (named_in g.files ++ located_in nat_eq world g.number) (layers_in nat_eq world g.number)
+          (is_among_numbers layer.directory (layers_in nat_eq world g.number)
+          (among-map _ _ layer (among-filter _ _ layer (among-flat_map _ _ (filesystem_numbered nat_eq world number)
+          layer overlay_there (subst (λ o. Among layer (overlay_or [] layers_of o)) (sym is) m))
           (eq-eqb g.number layer.filesystem (number_of_filesystem world layer.filesystem)))))))
 
       object_is_used : overlay.upper ≡ Some layer → (object : ℕ) → IsUpperObject overlay object
@@ -494,4 +488,4 @@ module _ (world : World ℕ) (files : HasFileTrees world)
           (goes_as_it_was number before was same)
 
   pub second_overlays : OverlayInvariants nat_eq second_later
-  second_overlays = after_round is_plain world files one are second_goes
+  second_overlays = after_round _ world files one are second_goes

@@ -1,6 +1,6 @@
 -- Where what nothing uses goes, overlays keep their invariants: filesystems go, then inodes of overlays, and then those
 -- of plain trees.
-use Rattle.std.proofs.Common.{arith, ◌≡◌, refl, sym, ap, subst, ◌∙◌, true≢false, eqb-true, eq-eqb, ⊎_elim, inl, ℕ, nat_eq, Bool, true, false, not, cond, ◌&&◌, ◌||◌, List, [], ◌∷◌, ◌++◌, filter, Option, Some, None, is_some, flat_map, option_to_list}
+use Rattle.std.proofs.Common.{arith, ◌≡◌, refl, sym, ap, subst, ◌∙◌, true≢false, eqb-true, eq-eqb, ⊎_elim, inl, ℕ, nat_eq, Bool, true, false, not, cond, ◌&&◌, List, [], ◌∷◌, ◌++◌, filter, Option, Some, None, is_some, flat_map, option_to_list}
 use Rattle.vt_spec.proofs.Common.{All-filter, Among, Filesystem, IsMerged, IsReached, IsTree, Layer, ListsNumbers, Overlay, OverlayInvariants, World, among-append, among-append_left, among-append_right, among-filter, among-from_filter, and_from, and_true_left, and_true_right, any_among, any_from_among, any_pair, common_steps, filesystem_lives, filesystem_numbered, has_layer_on, is_mounted, is_overlay, layers_of, layers_of_all, list_any, of_overlay, overlay_or, pair-filter, shown_layers, upper_and_work, without_dead_filesystems}
 use Rattle.vt_laws_mounts.proofs.letting_go.Lists.{or_right}
 use Rattle.vt_laws_mounts.proofs.letting_go.sweeps.OfWorlds.{found_filesystem}
@@ -25,12 +25,12 @@ none_behind : {A : Type 0} (test : A → Bool) (front back fewer : List A)
 none_behind test [] back fewer h e = h e
 none_behind test (first ∷ front) back fewer h e =
     let parts = Rattle.std.proofs.lemmas.Bool.or_parts (test first) (list_any test (front ++ back)) e in
-    ap (λ b. b || list_any test (front ++ fewer)) parts.0 ∙ none_behind test front back fewer h parts.1
+    cc (none_behind test front back fewer h parts.1)
 
 none_fewer : {A B : Type 0} (test : B → Bool) (g : A → List B) (stays : A → Bool) (list : List A)
     → list_any test (flat_map g list) ≡ false → list_any test (flat_map g (filter stays list)) ≡ false
 none_fewer test g stays [] e = e
-none_fewer {B = B} test g stays (first ∷ rest) e = by (stays first) (none_fewer test g stays rest)
+none_fewer {B = B} test g stays (first ∷ rest) e = by _ (none_fewer test g stays rest)
   where
     behind : (front : List B) → list_any test (front ++ flat_map g rest) ≡ false
         → list_any test (flat_map g rest) ≡ false
@@ -40,13 +40,13 @@ none_fewer {B = B} test g stays (first ∷ rest) e = by (stays first) (none_fewe
 
     by : (b : Bool) → (list_any test (flat_map g rest) ≡ false → list_any test (flat_map g (filter stays rest)) ≡ false)
         → list_any test (flat_map g (cond b (first ∷ filter stays rest) (filter stays rest))) ≡ false
-    by true on = none_behind test (g first) (flat_map g rest) (flat_map g (filter stays rest)) on e
-    by false on = on (behind (g first) e)
+    by true on = none_behind test _ _ _ on e
+    by false on = on (behind _ e)
 
 pairs_fewer : {A B : Type 0} (test : B → B → Bool) (g : A → List B) (stays : A → Bool) (list : List A)
     → any_pair test (flat_map g list) ≡ false → any_pair test (flat_map g (filter stays list)) ≡ false
 pairs_fewer test g stays [] e = e
-pairs_fewer {B = B} test g stays (first ∷ rest) e = by (stays first) (pairs_fewer test g stays rest)
+pairs_fewer {B = B} test g stays (first ∷ rest) e = by _ (pairs_fewer test g stays rest)
   where
     with_front : (any_pair test (flat_map g rest) ≡ false → any_pair test (flat_map g (filter stays rest)) ≡ false)
         → (front : List B) → any_pair test (front ++ flat_map g rest) ≡ false
@@ -55,14 +55,16 @@ pairs_fewer {B = B} test g stays (first ∷ rest) e = by (stays first) (pairs_fe
     with_front on (x ∷ front) f =
         let parts = Rattle.std.proofs.lemmas.Bool.or_parts (list_any (test x) (front ++ flat_map g rest))
         (any_pair test (front ++ flat_map g rest)) f in
-        ap (λ b. b || any_pair test (front ++ flat_map g (filter stays rest)))
-        (none_behind (test x) front (flat_map g rest) (flat_map g (filter stays rest))
-        (none_fewer (test x) g stays rest) parts.0) ∙ with_front on front parts.1
+        cc (
+          none_behind (test x) front (flat_map g rest) (flat_map g (filter stays rest))
+              (none_fewer (test x) g stays rest) parts.0,
+          with_front on front parts.1,
+        )
 
     by : (b : Bool) → (any_pair test (flat_map g rest) ≡ false → any_pair test (flat_map g (filter stays rest)) ≡ false)
         → any_pair test (flat_map g (cond b (first ∷ filter stays rest) (filter stays rest))) ≡ false
-    by true on = with_front on (g first) e
-    by false on = on (pairs_behind test (g first) (flat_map g rest) e)
+    by true on = with_front on _ e
+    by false on = on (pairs_behind test _ _ e)
 
 -- A filesystem that is there, by an inode in it or by its overlay
 there_among : (world : World ℕ) (number inode : ℕ) → is_some (inode_in world number inode) ≡ true
@@ -76,8 +78,7 @@ leads_same world later layer same path = grind (arith, common_steps, kept_same)
 
 pub shown_among : (overlay : Overlay ℕ) (layer : Layer ℕ) → Among layer (shown_layers overlay)
     → Among layer (layers_of overlay)
-shown_among overlay layer m = ⊎_elim (λ up. among-append_left (upper_and_work overlay) overlay.lowers layer
-    (among-append_left (option_to_list overlay.upper) (option_to_list overlay.work) layer up))
+shown_among overlay layer m = ⊎_elim (λ up. among-append_left _ _ layer (among-append_left _ _ layer up))
     (λ low. among-append_right (upper_and_work overlay) overlay.lowers layer low)
     (among-append (option_to_list overlay.upper) overlay.lowers layer m)
 
@@ -103,8 +104,7 @@ module _ (world : World ℕ) (files : AreTrees world) (are : OverlayInvariants n
   -- one that lives is found as it was
   lives_still : (f : Filesystem ℕ) → Among f world.filesystems → filesystem_lives nat_eq world f ≡ true
       → filesystem_numbered nat_eq living f.number ≡ f
-  lives_still f m lives = found_filesystem living.filesystems living_files.one_filesystem f
-      (among-filter (filesystem_lives nat_eq world) world.filesystems f m lives)
+  lives_still f m lives = found_filesystem _ living_files.one_filesystem f (among-filter _ _ f m lives)
 
   module _ (number : ℕ) (overlay : Overlay ℕ)
       (is : (filesystem_numbered nat_eq living number).overlay ≡ Some overlay) where
@@ -113,10 +113,9 @@ module _ (world : World ℕ) (files : AreTrees world) (are : OverlayInvariants n
 
     merged_was : Among merged world.filesystems × (filesystem_lives nat_eq world merged ≡ true)
     unfolding merged
-    merged_was =
-        among-from_filter (filesystem_lives nat_eq world) world.filesystems (filesystem_numbered nat_eq living number)
-        (among-from_filter is_overlay living.filesystems (filesystem_numbered nat_eq living number)
-        (merged_among living number overlay is)).0
+    merged_was = among-from_filter (filesystem_lives nat_eq world) world.filesystems
+        (filesystem_numbered nat_eq living number) (among-from_filter is_overlay living.filesystems
+        (filesystem_numbered nat_eq living number) (merged_among living number _ is)).0
 
     same_one : filesystem_numbered nat_eq living number ≡ filesystem_numbered nat_eq world number
     unfolding merged
@@ -166,22 +165,25 @@ module _ (world : World ℕ) (files : AreTrees world) (are : OverlayInvariants n
     layer_same : (layer : Layer ℕ) → Among layer (layers_of overlay)
         → filesystem_numbered nat_eq living layer.filesystem ≡ filesystem_numbered nat_eq world layer.filesystem
     layer_same layer m =
-        let plain = plain_layer world files are number overlay was layer m in
-        let directory = and_true_right (not (is_overlay (filesystem_numbered nat_eq world layer.filesystem))) _ plain in
+        let plain = plain_layer world files are number _ was layer m in
+        let directory = and_true_right _ _ plain in
         let f = filesystem_numbered nat_eq world layer.filesystem in
-        ap (filesystem_numbered nat_eq living) (sym (number_of_filesystem world layer.filesystem)) ∙ lives_still f
-        (there_among world layer.filesystem layer.directory
-        (Rattle.vt_spec.proofs.Nodes.directory_used f.files.tree layer.directory directory))
-        (or_right (is_mounted nat_eq world f.number) _
-        (any_from_among (λ (g : Filesystem ℕ). has_layer_on nat_eq f.number g
-        && is_mounted nat_eq world g.number) world.filesystems (filesystem_numbered nat_eq world number)
-        (among-from_filter is_overlay world.filesystems (filesystem_numbered nat_eq world number)
-        (merged_among world number overlay was)).0
-        (and_from (has_layer_on nat_eq f.number (filesystem_numbered nat_eq world number)) _
-        (ap (overlay_or false (λ v. list_any (λ (l : Layer ℕ). nat_eq f.number l.filesystem) (layers_of v))) was
-        ∙ any_from_among (λ (l : Layer ℕ). nat_eq f.number l.filesystem) (layers_of overlay) layer m
-        (eq-eqb f.number layer.filesystem (number_of_filesystem world layer.filesystem)))
-        (ap (is_mounted nat_eq world) (number_of_filesystem world number) ∙ is_mounted_itself))))
+        cc (
+          number_of_filesystem world layer.filesystem,
+          lives_still f
+              (there_among world layer.filesystem layer.directory
+              (Rattle.vt_spec.proofs.Nodes.directory_used f.files.tree
+              layer.directory directory)) (or_right (is_mounted nat_eq world f.number) _
+              (any_from_among (λ (g : Filesystem ℕ). has_layer_on nat_eq f.number g && is_mounted nat_eq world g.number)
+              world.filesystems (filesystem_numbered nat_eq world number)
+              (among-from_filter is_overlay world.filesystems
+              (filesystem_numbered nat_eq world number) (merged_among world number overlay was)).0
+              (and_from (has_layer_on nat_eq f.number (filesystem_numbered nat_eq world number)) _
+              (ap (overlay_or false (λ v. list_any (λ (l : Layer ℕ). nat_eq f.number l.filesystem) (layers_of v))) was
+              ∙ any_from_among (λ (l : Layer ℕ). nat_eq f.number l.filesystem) (layers_of overlay) layer m
+              (eq-eqb f.number layer.filesystem (number_of_filesystem world layer.filesystem)))
+              (ap (is_mounted nat_eq world) (number_of_filesystem world number) ∙ is_mounted_itself)))),
+        )
 
     pub living_goes : GoesOn world living number overlay
     living_goes = record {

@@ -35,7 +35,7 @@ module _ (world : World ℕ) (under : IsUnderWay world) (are : OverlayInvariants
   one = under.files.one_filesystem
 
   pub mounted_overlays : OverlayInvariants nat_eq mounted
-  mounted_overlays = overlays_in mounted world refl are
+  mounted_overlays = overlays_in _ world refl are
 
   pub files_living : HasFileTrees living
   files_living = All-filter (filesystem_lives nat_eq mounted)
@@ -55,7 +55,7 @@ module _ (world : World ℕ) (under : IsUnderWay world) (are : OverlayInvariants
       (one_later is_overlay living files_living one_living) overlays_first
 
   pub overlays_settled : OverlayInvariants nat_eq (settled nat_eq world)
-  overlays_settled = overlays_in (settled nat_eq world) second refl overlays_second
+  overlays_settled = overlays_in _ second refl overlays_second
 
   -- no upper layer is in an overlay
   uppers_plain : UppersArePlain world

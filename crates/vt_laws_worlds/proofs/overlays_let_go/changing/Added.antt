@@ -42,8 +42,8 @@ module _ {files : FileTree ℕ} (tree : IsTree files.tree) {first : ℕ → Opti
       → upper_object (real directory) ≡ Some seen → (inode : ℕ)
       → Among inode (merge_without_name nat_eq fresh stack here directory name object).upper.numbers
       → WasOrIsNamed (merge_without_name nat_eq fresh stack here directory name object).upper inode
-  removed_named directory name object seen e has inode = by (shown_in_lowers_at nat_eq stack here directory name)
-      (removed_with tree fresh stack sound directory name object seen e has)
+  removed_named directory name object seen e has inode = by _
+      (removed_with tree fresh stack sound _ name object seen e has)
     where
       later : Option (Shown ℕ) → FileTree ℕ
       later o = without_contents nat_eq (name_left_by nat_eq (is_some o) fresh stack upper
@@ -52,7 +52,7 @@ module _ {files : FileTree ℕ} (tree : IsTree files.tree) {first : ℕ → Opti
       by : (o : Option (Shown ℕ)) → LeftWith (fresh 0) o stack (later o) (upper_of here directory) name
           → Among inode (later o).numbers → WasOrIsNamed (later o) inode
       by None left m = inl (subst (Among inode) (numbers_emptied _ (upper_directory_named here directory name)) m)
-      by (Some shown) left m = ⊎_elim (λ same. inr (upper_of here directory, name, left.0 ∙ ap Some (sym same))) inl
+      by (Some shown) left m = ⊎_elim (λ same. inr (upper_of here directory, name, cc)) inl
           (subst (Among inode) (numbers_emptied _ (upper_directory_named here directory name)) m)
 
   moved_named : (from : ℕ) (old : List ℕ) (to : ℕ) (name : List ℕ) (object seen_from seen : ℕ)

@@ -1,5 +1,5 @@
 -- What copies and changes of an overlay add to its upper layer.
-use Rattle.std.proofs.Common.{arith, ◌≡◌, refl, sym, ap, ◌∙◌, ◌⊎◌, inl, inr, ⊎_elim, true≢false, ℕ, ◌+◌, nat_eq, eq-eqb, Bool, true, false, cond, List, [], ◌∷◌, Option, Some, None, is_some}
+use Rattle.std.proofs.Common.{arith, ◌≡◌, refl, ◌∙◌, ◌⊎◌, inl, inr, ⊎_elim, true≢false, ℕ, ◌+◌, nat_eq, eq-eqb, Bool, true, false, List, [], ◌∷◌, Option, Some, None, is_some}
 use Rattle.vt_spec.proofs.Common.{Change, FileTree, Fresh, Merge, Node, Real, Upper, a_name, changed, common_steps, copied_content, copied_each, copied_up, copy_named, copy_of, copy_of_node, copy_parent, entries_in, entry_named, eqb_tells, is_in_upper, line_to, root-without_parent, upper_object, with_inode, with_mark, with_moved, with_real, without_contents}
 use Rattle.vt_laws_mounts.proofs.letting_go.Lists.{Among}
 use Rattle.vt_spec.proofs.Worlds.{numbers-without_parent}
@@ -31,7 +31,7 @@ grows_twice first second third one two = record {
 }
   where
     back : (number : ℕ) → is_some (second.files.tree.node number) ≡ true → is_some (first.files.tree.node number) ≡ true
-    back number is = ap (λ files. is_some (files.tree.node number)) (sym one.files) ∙ is
+    back number is = cc
 
 -- one copy
 module _ (merge : Merge ℕ) (object copy : ℕ) (node : Node ℕ) (is_node : merge.files.tree.node object ≡ Some node)
@@ -56,7 +56,7 @@ module _ (merge : Merge ℕ) (object copy : ℕ) (node : Node ℕ) (is_node : me
   numbers_named (Some name) = refl
 
   real_copy : upper_object (later_real object) ≡ Some copy
-  real_copy = ap (λ b. upper_object (cond b (Some (Upper copy)) (merge.real object))) (eq-eqb object object refl)
+  real_copy = cc (eq-eqb object object refl)
 
   pub grows_by_one : Grows merge (copy_of_node nat_eq merge object copy node)
   grows_by_one = grind (arith, common_steps, root_named, true≢false, eqb_tells, real_copy, numbers_named)
@@ -66,16 +66,14 @@ grows_each : (fresh : Fresh ℕ) (k : ℕ) (merge : Merge ℕ) (objects : List �
     → Grows merge (copied_each nat_eq fresh k merge objects)
 grows_each fresh k merge [] = grows_not merge
 grows_each fresh k merge (object ∷ rest) =
-    grows_twice merge (copy_of nat_eq merge object (fresh k) (merge.files.tree.node object)
-    (is_in_upper merge object)) _ (by (merge.files.tree.node object) refl (is_in_upper merge object) refl)
-    (grows_each fresh (k + 1) (copy_of nat_eq merge object (fresh k) (merge.files.tree.node object)
-    (is_in_upper merge object)) rest)
+    grows_twice merge _ _ (by _ refl _ refl) (grows_each fresh (k + 1) (copy_of nat_eq merge object (fresh k)
+    (merge.files.tree.node object) (is_in_upper merge object)) rest)
   where
     by : (o : Option (Node ℕ)) → merge.files.tree.node object ≡ o → (b : Bool) → is_in_upper merge object ≡ b
         → Grows merge (copy_of nat_eq merge object (fresh k) o b)
     by None e b f = grows_not merge
     by (Some node) e true f = grows_not merge
-    by (Some node) e false f = grows_by_one merge object (fresh k) node e f
+    by (Some node) e false f = grows_by_one merge object _ node e f
 
 pub grows_up : (fresh : Fresh ℕ) (merge : Merge ℕ) (object : ℕ) → Grows merge (copied_up nat_eq fresh merge object)
 grows_up fresh merge object = grows_each fresh 0 merge (line_to nat_eq merge.files object)
@@ -94,8 +92,7 @@ numbers_marked false upper object = refl
 
 pub numbers_moved : (files : FileTree ℕ) (from : ℕ) (old : List ℕ) (to : ℕ) (new : List ℕ) (object : ℕ)
     → (with_moved nat_eq files from old to new object).numbers ≡ files.numbers
-numbers_moved files from old to new object =
-    numbers-without_parent files (entry_named new (entries_in (files.tree.node to)))
+numbers_moved files from old to new object = numbers-without_parent files _
 
 pub root_moved : (files : FileTree ℕ) (from : ℕ) (old : List ℕ) (to : ℕ) (new : List ℕ) (object : ℕ)
     → (with_moved nat_eq files from old to new object).tree.root ≡ files.tree.root

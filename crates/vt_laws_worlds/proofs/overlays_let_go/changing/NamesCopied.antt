@@ -1,5 +1,5 @@
 -- Copies take no name of the upper layer away: each stands under a name that is free.
-use Rattle.std.proofs.Common.{◌≡◌, ◌≢◌, ◌≤◌, refl, sym, ap, subst, ◌∙◌, ◌⊎◌, inl, inr, ⊎_elim, append_assoc, true≢false, arith, ℕ, zero, suc, ◌+◌, nat_eq, eq-eqb, ne_eqb, true, cond, List, [], ◌∷◌, ◌++◌, length, reverse, Option, Some, None, is_some, unwrap_or, bytes_eq}
+use Rattle.std.proofs.Common.{◌≡◌, ◌≢◌, ◌≤◌, refl, sym, ap, subst, ◌∙◌, ◌⊎◌, inl, inr, ⊎_elim, append_assoc, true≢false, arith, ℕ, zero, suc, ◌+◌, nat_eq, eq-eqb, ne_eqb, true, cond, List, [], ◌∷◌, ◌++◌, reverse, Option, Some, None, is_some, unwrap_or}
 use Rattle.vt_spec.proofs.Common.{FileTree, Fresh, IsTree, ListsNumbers, Merge, Node, Real, Upper, a_name, bytes_decides, cases_Bool, chain, common_steps, copied_content, copied_each, copied_up, copy_named, copy_of, copy_parent, directory_used, entries_in, entries_of, entries_of-copied_content, entry_at, entry_named, eqb_tells, line_by, line_to, named_parent, node_other, node_set, node_with_entry, none_is_some, same_Some, upper_object, with_inode, with_name, with_real, without_name, ⊤}
 use mathlib.Core.List.{reverse-cons}
 use Rattle.vt_laws_trees.proofs.layers.layers.CopyingNames.{name_stays_put, name_stays_without}
@@ -11,8 +11,8 @@ use Rattle.vt_laws_trees.proofs.layers.layers.UpperLine.{ReachedIn, is_reached_i
 pub one_place : (d directory : ℕ) (n name : List ℕ)
     → ((d ≡ directory) × (n ≡ name)) ⊎ ((d ≡ directory) → (n ≡ name) → ⊥)
 one_place d directory n name = ⊎_elim (λ same. ⊎_elim (λ e. inl (same.1, (bytes_decides n name).0 e))
-    (λ f. inr (λ a b. true≢false (sym ((bytes_decides n name).1 b) ∙ f))) (cases_Bool (bytes_eq n name)))
-    (λ other. inr (λ a b. other.1 a)) (eqb_tells d directory)
+    (λ f. inr (λ a b. true≢false (sym ((bytes_decides n name).1 b) ∙ f))) (cases_Bool _))
+    (λ other. inr (λ a b. other.1 a)) (eqb_tells d _)
 
 -- an entry at another place stays
 pub put_same : (files : FileTree ℕ) (directory : ℕ) (name : List ℕ) (number d : ℕ) (n : List ℕ)
@@ -86,7 +86,7 @@ module _ (files : FileTree ℕ) (tree : IsTree files.tree) (numbers : ListsNumbe
     told number seen e = grind (arith, common_steps, same_Some, eqb_tells)
 
     not_copy : (inode : ℕ) → IsLeft (k + 1) inode → inode ≢ copy
-    not_copy inode (inl j) same = let e = distinct j.0 k (sym j.2 ∙ same) in let h = j.1 in let no : ⊥ = omega arith in
+    not_copy inode (inl j) same = let e = distinct j.0 k (cc) in let h = j.1 in let no : ⊥ = omega arith in
         no
     not_copy inode (inr s) same = apart k (subst spare same s)
 
@@ -209,19 +209,18 @@ module _ (files : FileTree ℕ) (tree : IsTree files.tree) (numbers : ListsNumbe
       )))
 
   line_stands : (real : ℕ → Option (Real ℕ)) (object : ℕ) → ParentsStand real (line_to nat_eq files object)
-  line_stands real object = by (a_name nat_eq files object) refl
+  line_stands real object = by _ refl
     where
       by : (named : Option (ℕ × List ℕ)) → a_name nat_eq files object ≡ named
           → ParentsStand real (line_by nat_eq files object named)
-      by None e = (λ name is. absurd (true≢false (sym (ap is_some (sym e ∙ is)))), λ later has. tt)
+      by None e = (λ name is. cc, λ later has. tt)
       by (Some name) e =
           let reached = is_reached_in files tree name.0 name.1 object (named_so files tree object name e) in
-          up_stands reached.0 (length files.numbers) name.0 reached.1
-          (depth_bound files tree numbers reached.0 name.0 reached.1) real (object ∷ []) (λ later has. (
-            λ other is. subst (HasUpper later) (ap (λ n. n.0) (same_Some name other (sym e ∙ is))) has,
+          up_stands _ _ name.0 reached.1 (depth_bound files tree numbers _ name.0 reached.1) real _ (λ later has. (
+            λ other is. subst (HasUpper later) (cc) has,
             λ last there. tt,
           ))
 
   pub line_fine : (object : ℕ) (real : ℕ → Option (Real ℕ)) (upper : FileTree ℕ) → IsFine 0 real upper
       → Fine (copied_up nat_eq fresh (MergeOf real upper) object)
-  line_fine object real upper fine = each_fine (line_to nat_eq files object) 0 real upper fine (line_stands real object)
+  line_fine object real upper fine = each_fine _ 0 real upper fine (line_stands real object)

@@ -1,8 +1,7 @@
 -- A name of what lies only below leads nowhere in the upper layer.
-use Rattle.std.proofs.Common.{◌≡◌, refl, sym, ap, ◌∙◌, true≢false, ℕ, zero, suc, nat_eq, Bool, true, false, not, List, [], ◌∷◌, ◌++◌, map, Option, Some, None, is_some, option_and_then, option_map}
-use Rattle.vt_spec.proofs.Common.{FileTree, IsTree, IsWorld, Layer, OpenLayer, Overlay, Shown, World, at_path, entry_at, filesystem_numbered, is_kind_in, led-append, none_is_some, open_layer, real_object, same_Some, shown, upper_object, when}
+use Rattle.std.proofs.Common.{◌≡◌, refl, sym, ap, ◌∙◌, ℕ, zero, suc, nat_eq, Bool, true, false, not, List, [], ◌∷◌, ◌++◌, map, Option, Some, None, is_some, option_and_then, option_map}
+use Rattle.vt_spec.proofs.Common.{FileTree, IsTree, IsWorld, Layer, OpenLayer, Overlay, Shown, World, at_path, entry_at, filesystem_numbered, is_kind_in, led-append, open_layer, real_object, shown, upper_object, when}
 use Rattle.vt_spec.specs.declared.attributes.Kind.TheVariants.{White}
-use Rattle.vt_spec.proofs.Layers.{cuts, shown_from, shown_over}
 use Rattle.vt_laws_trees.specs.Layers.Layers.Shown.{IsShown}
 use Rattle.vt_laws_trees.proofs.layers.layers.ShownAtPath.{computed}
 use Rattle.vt_laws_trees.proofs.layers.layers.ShownNames.{last_name}
@@ -17,40 +16,37 @@ module _ (top : OpenLayer ℕ) (lower : List (OpenLayer ℕ)) (path : List (List
 
   -- an upper object that is shown is the one that the path leads to
   upper_at : (object : ℕ) → upper_object (real_at top lower path) ≡ Some object → at_path top path ≡ Some object
-  upper_at object e = by (shown (top ∷ lower) path) refl e
+  upper_at object e = by _ refl e
     where
       seen_so : (layer found : ℕ) → IsShown (top ∷ lower) path (record { layer = layer; object = found })
           → real_of_shown (Some (record { layer = layer; object = found })) ≡ Some object
           → at_path top path ≡ Some object
-      seen_so zero found shows u =
-          ap (λ l. at_path l path) (same_Some top shows.has_uncut.0.0 shows.has_uncut.0.1) ∙ shows.has_uncut.0.2 ∙ u
-      seen_so (suc layer) found shows u = none_is_some object u
+      seen_so zero found shows u = cc
+      seen_so (suc layer) found shows u = cc
 
       by : (o : Option (Shown ℕ)) → shown (top ∷ lower) path ≡ o → real_of_shown o ≡ Some object
           → at_path top path ≡ Some object
-      by None s u = none_is_some object u
-      by (Some seen) s u = seen_so seen.layer seen.object ((computed (top ∷ lower) path seen).0 s) u
+      by None s u = cc
+      by (Some seen) s u = seen_so _ _ ((computed (top ∷ lower) path seen).0 s) u
 
   -- where something else is shown, it leads nowhere
   nothing_at : is_some (shown (top ∷ lower) path) ≡ true → upper_object (real_at top lower path) ≡ None
       → at_path top path ≡ None
-  nothing_at there e = by (at_path top path) refl
+  nothing_at there e = by _ refl
     where
       seen_by : (object : ℕ) → at_path top path ≡ Some object
           → shown (top ∷ lower) path ≡ when (not (is_kind_in White (top.tree.node object)))
           (record { layer = 0; object = object })
-      seen_by object f = ap (λ o. shown_over top 0 o (cuts top path) (shown_from 1 lower path)) f
+      seen_by object f = cc
 
       white : (object : ℕ) → at_path top path ≡ Some object → (b : Bool) → is_kind_in White (top.tree.node object) ≡ b
           → at_path top path ≡ None
-      white object f true w = absurd (true≢false (sym there ∙ ap is_some
-          (seen_by object f ∙ ap (λ b. when (not b) (record { layer = 0; object = object })) w)))
-      white object f false w = none_is_some object (sym e ∙ ap real_of_shown (seen_by object f
-          ∙ ap (λ b. when (not b) (record { layer = 0; object = object })) w))
+      white object f true w = cc (seen_by object f)
+      white object f false w = cc (seen_by object f)
 
       by : (o : Option ℕ) → at_path top path ≡ o → at_path top path ≡ None
       by None f = f
-      by (Some object) f = white object f (is_kind_in White (top.tree.node object)) refl
+      by (Some object) f = white object f _ refl
 
 module _ {world : World ℕ} (conditions : IsWorld nat_eq world) (number : ℕ) {overlay : Overlay ℕ}
     (is : (filesystem_numbered nat_eq world number).overlay ≡ Some overlay) {upper : Layer ℕ}

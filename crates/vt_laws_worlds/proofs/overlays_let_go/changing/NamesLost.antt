@@ -1,6 +1,6 @@
 -- What loses a name in the upper layer when an overlay changes.
 use Rattle.std.proofs.Common.{◌≡◌, ◌≢◌, refl, sym, ap, subst, ◌∙◌, ◌⊎◌, inl, inr, ⊎_elim, true≢false, arith, ℕ, ◌+◌, ◌*◌, nat_eq, Bool, true, false, not, List, [], ◌∷◌, ◌++◌, map, Option, Some, None, is_some, option_to_list}
-use Rattle.vt_spec.proofs.Common.{AddName, Change, CopyUp, FileTree, Filesystem, Fresh, HasName, IsWorld, Layer, Location, Make, Merge, Move, Node, Overlay, Remove, SetAttr, SetBytes, SetMark, Stack, World, among_from_contains, among_targets, bytes_in, content_with_parent, copied_up, entries-node_with_attr, entries-node_with_bytes, entries-node_with_mark, entries-node_with_parent, entries-without_parent, entries_in, entry_at, entry_named, eqb_tells, evens, evens-distinct, files_at, filesystem_numbered, hides_directory, is_among, list_all, merge_changed, merge_with_link, merge_with_moved, merge_with_new, merge_without_name, mount_at, name_left_by, named_in, node_at, node_other, node_with_attr, node_with_bytes, node_with_mark, node_with_parent, none_is_some, not-true, odds, odds-distinct, opened, overwritten, part-changed_node, same_Some, settled, shown_in_lowers_at, stack_of, targets_in, upper_directory_named, upper_object, upper_of, whiteout_of, with_change, with_copy, with_descriptor, with_inode, with_moved, with_name, without_contents, without_name, without_parent}
+use Rattle.vt_spec.proofs.Common.{AddName, Change, CopyUp, FileTree, Filesystem, Fresh, HasName, IsWorld, Layer, Location, Make, Merge, Move, Node, Overlay, Remove, SetAttr, SetBytes, SetMark, Stack, World, among_from_contains, among_targets, bytes_in, content_with_parent, copied_up, entries-node_with_attr, entries-node_with_bytes, entries-node_with_mark, entries-node_with_parent, entries-without_parent, entries_in, entry_at, entry_named, eqb_tells, evens, evens-distinct, files_at, filesystem_numbered, hides_directory, is_among, list_all, merge_changed, merge_with_link, merge_with_moved, merge_with_new, merge_without_name, mount_at, name_left_by, named_in, node_at, node_other, node_with_attr, node_with_bytes, node_with_mark, node_with_parent, not-true, odds, odds-distinct, opened, overwritten, part-changed_node, same_Some, settled, shown_in_lowers_at, stack_of, targets_in, upper_directory_named, upper_object, upper_of, whiteout_of, with_copy, with_descriptor, with_inode, with_moved, with_name, without_contents, without_name, without_parent}
 use Rattle.vt_laws_trees.specs.Layers.Layers.ChangesUpper.{IsFitToChange, copied_for, IsNewBy}
 use Rattle.vt_laws_trees.proofs.layers.layers.CopyingNames.{emptied_other, marked_entries}
 use Rattle.vt_laws_mounts.specs.LettingGo.FileChanges.{names_lost}
@@ -27,9 +27,9 @@ at_place files d directory n name k e same = subst (λ o. Among k (option_to_lis
 emptied_out : (files : FileTree ℕ) (replaced : Option ℕ) (d : ℕ) (n : List ℕ) (k : ℕ) → entry_at files.tree d n ≡ Some k
     → (entry_at (without_contents nat_eq files replaced).tree d n ≡ Some k) ⊎ (replaced ≡ Some d)
 emptied_out files None d n k e = inl e
-emptied_out files (Some object) d n k e = ⊎_elim (λ same. inr (ap Some (sym same.1)))
-    (λ other. inl (ap (λ o. entry_named n (entries_in o))
-    (emptied_other files (Some object) d (λ s. other.1 (sym (same_Some object d s)))) ∙ e)) (eqb_tells d object)
+emptied_out files (Some object) d n k e = ⊎_elim (λ same. inr (cc))
+    (λ other. inl (cc (emptied_other files (Some object) d (λ s. other.1 (sym (same_Some object d s))))))
+    (eqb_tells d object)
 
 -- an entry of the upper layer is at a name of a directory of the overlay
 abbrev pub IsAt : Merge ℕ → ℕ → List ℕ → ℕ → List ℕ → Type 0
@@ -53,27 +53,23 @@ module _ (fresh : Fresh ℕ) (stack : Stack ℕ) (merge : Merge ℕ)
       → HasName later.tree k ⊎ Among k lost
 
   not_new : (d : ℕ) (n : List ℕ) (k : ℕ) → entry_at merge.upper.tree d n ≡ Some k → d ≢ fresh 0
-  not_new d n k e same =
-      none_is_some k (sym (ap (entry_named n) (ap (λ m. entries_in (merge.upper.tree.node m)) same ∙ vacant)) ∙ e)
+  not_new d n k e same = cc
 
   with_new : (files : FileTree ℕ) (node : Node ℕ) (d : ℕ) (n : List ℕ) → d ≢ fresh 0
       → entry_at (with_inode nat_eq files (fresh 0) node).tree d n ≡ entry_at files.tree d n
-  with_new files node d n differ =
-      ap (λ o. entry_named n (entries_in o)) (node_other files.tree (fresh 0) (Some node) d differ)
+  with_new files node d n differ = cc (node_other files.tree (fresh 0) (Some node) d differ)
 
   left_same : (hidden : Bool) (files : FileTree ℕ) (directory : ℕ) (name : List ℕ) (d : ℕ) (n : List ℕ) → d ≢ fresh 0
       → ((d ≡ directory) → (n ≡ name) → ⊥)
       → entry_at (name_left_by nat_eq hidden fresh stack files directory name).tree d n ≡ entry_at files.tree d n
-  left_same true files directory name d n new differ =
-      put_same (with_inode nat_eq files (fresh 0) (whiteout_of stack.mounter)) directory name (fresh 0) d n differ
-      ∙ with_new files (whiteout_of stack.mounter) d n new
-  left_same false files directory name d n new differ = take_same files directory name d n differ
+  left_same true files directory name d n new differ = put_same (with_inode nat_eq files (fresh 0)
+      (whiteout_of stack.mounter)) _ name (fresh 0) d n differ ∙ with_new files (whiteout_of stack.mounter) d n new
+  left_same false files directory name d n new differ = take_same files _ name d n differ
 
   in_emptied : (replaced : Option ℕ) (d : ℕ) (n : List ℕ) (k : ℕ) → entry_at merge.upper.tree d n ≡ Some k
       → replaced ≡ Some d → Among k (names_under merge replaced)
   in_emptied replaced d n k e is = subst (λ o. Among k (names_under merge o)) (sym is)
-      (among_numbers k (targets_in (merge.upper.tree.node d))
-      (among_targets n (entries_in (merge.upper.tree.node d)) k e))
+      (among_numbers k (targets_in (merge.upper.tree.node d)) (among_targets n _ k e))
 
   made_loses : (directory : ℕ) (name : List ℕ) (number : ℕ) (node : Node ℕ) (d : ℕ) (n : List ℕ) (k : ℕ)
       → entry_at merge.upper.tree d n ≡ Some k
@@ -194,10 +190,8 @@ module _ (fresh : Fresh ℕ) (stack : Stack ℕ) (before : Merge ℕ) (fit : IsF
   by_evens : (object : ℕ)
       → Fine files fit.tree fit.numbers before.upper (evens fresh) (evens-distinct fresh fit.distinct)
       (IsNewBy (odds fresh)) (not_odd fresh fit.distinct) (copied_up nat_eq (evens fresh) before object)
-  by_evens object = line_fine files fit.tree fit.numbers before.upper (evens fresh) (evens-distinct fresh fit.distinct)
-      (IsNewBy (odds fresh)) (not_odd fresh fit.distinct) object before.real before.upper
-      (begin (evens fresh) (evens-distinct fresh fit.distinct) (IsNewBy (odds fresh)) (not_odd fresh fit.distinct)
-      (λ k. (2 * k, refl)) (λ number s. (2 * s.0 + 1, s.1)))
+  by_evens object = line_fine files _ _ _ _ _ _ _ object _ _ (begin _ (evens-distinct fresh _) _
+      (not_odd fresh fit.distinct) (λ k. (2 * k, refl)) (λ number s. (2 * s.0 + 1, s.1)))
 
   evens_copied : (object : ℕ) → IsCopied (odds fresh 0) (copied_up nat_eq (evens fresh) before object)
   evens_copied object =
@@ -216,22 +210,19 @@ module _ (fresh : Fresh ℕ) (stack : Stack ℕ) (before : Merge ℕ) (fit : IsF
   then_by object other supply distinct spare apart own new =
       let done = by_evens object in
       subst (λ m. Fine files fit.tree fit.numbers before.upper supply distinct spare apart
-      (copied_up nat_eq supply m other)) (sym done.is)
-      (line_fine files fit.tree fit.numbers before.upper supply distinct spare apart other done.real done.upper
-      (record {
+      (copied_up nat_eq supply m other)) (sym done.is) (line_fine files _ _ _ supply _ spare apart other _ _ (record {
         stays = done.fine.stays;
         free = done.fine.free;
         one = done.fine.one;
         clear = λ inode left. done.fine.clear inode
-            (inr (⊎_elim (λ j. let o = own j.0 in (o.0, j.2 ∙ o.1)) (λ s. new inode s) left));
+            (inr (⊎_elim (λ j. let o = own j.0 in (o.0, cc)) (λ s. new inode s) left));
       }))
 
   all_copied : (object : ℕ) → (d : ℕ) (n : List ℕ) (k : ℕ) → entry_at before.upper.tree d n ≡ Some k
       → entry_at (copied_up nat_eq fresh before object).upper.tree d n ≡ Some k
   all_copied object =
-      let done = line_fine files fit.tree fit.numbers before.upper fresh fit.distinct no_spare
-      (λ k s. s) object before.real before.upper
-      (begin fresh fit.distinct no_spare (λ k s. s) (λ k. (k, refl)) (λ number s. absurd s)) in
+      let done = line_fine files _ _ _ fresh _ _ _ object _ _ (begin fresh fit.distinct _ (λ k s. s) (λ k. (k, refl))
+      (λ number s. absurd s)) in
       subst (λ m. (d : ℕ) (n : List ℕ) (k : ℕ) → entry_at before.upper.tree d n ≡ Some k
       → entry_at m.upper.tree d n ≡ Some k) (sym done.is) done.fine.stays
 
@@ -355,7 +346,7 @@ only_these_lose_names fresh world location change overlay upper conditions can =
 
 none_of : (list : List ℕ) → list_all (λ inode. is_among nat_eq inode []) list ≡ true → list ≡ []
 none_of [] e = refl
-none_of (first ∷ rest) e = absurd (true≢false (sym e))
+none_of (first ∷ rest) e = cc
 
 nothing_lost : (fresh : Fresh ℕ) (world : World ℕ) (location : Location ℕ) (change : Change ℕ) (overlay : Overlay ℕ)
     (upper : Layer ℕ) → IsWorld nat_eq world → CanChange fresh world location change overlay upper
@@ -374,10 +365,10 @@ nothing_lost fresh world location change overlay upper conditions can none none_
         (only_these_lose_names fresh world location change overlay upper conditions can))
 
 pub overlay_changes_keep_all : OverlayChangesKeepAll
-overlay_changes_keep_all fresh world location change overlay upper conditions can none none_above =
-    overlay_changes_let_go fresh world location change overlay upper conditions can
-    ∙ ap (let_go_all_inodes (with_change nat_eq fresh world location change))
-    (nothing_lost fresh world location change overlay upper conditions can none none_above)
+overlay_changes_keep_all fresh world location change overlay upper conditions can none none_above = cc (
+  overlay_changes_let_go fresh world location change overlay upper conditions can,
+  nothing_lost fresh world location change overlay upper conditions can none none_above,
+)
 
 pub written_parts_in_overlays_keep_all : WrittenPartsInOverlaysKeepAll
 written_parts_in_overlays_keep_all fresh world task file offset [] overlay upper conditions can =

@@ -1,6 +1,6 @@
 -- What calls that change overlays let go of.
 use Rattle.std.proofs.Common.{arith, ◌≡◌, refl, sym, ap, subst, ◌∙◌, ℕ, nat_eq, eq-eqb, Bool, true, false, not, ◌||◌, ◌&&◌, List, [], map, ⊎_elim, is_some, Some}
-use Rattle.vt_spec.proofs.Common.{Change, Filesystem, Fresh, IsWorld, Layer, Location, Make, Mount, Move, Overlay, Remove, Task, ToRemoveDirectory, ToRename, World, among_from_contains, and_parts, common_steps, evens, filesystem_lives, is_among, is_located, is_mounted, is_there, mount_at, mount_in, mount_lives, mounts_on, not-true, number-mount_in, odds, or_cases, settled, taken_away, with_change, with_descriptor, with_task, without_dead_mounts}
+use Rattle.vt_spec.proofs.Common.{Change, Filesystem, Fresh, IsWorld, Layer, Location, Make, Mount, Overlay, Task, ToRemoveDirectory, ToRename, World, among_from_contains, and_parts, common_steps, evens, filesystem_lives, is_among, is_located, is_mounted, is_there, mount_at, mount_lives, mounts_on, not-true, number-mount_in, odds, or_cases, settled, taken_away, with_change, with_descriptor, with_task, without_dead_mounts}
 use Rattle.vt_laws_trees.proofs.layers.layers.LowersWorld.{number_of_filesystem}
 use Rattle.vt_laws_mounts.specs.LettingGo.InUse.{HasTrees, UppersArePlain}
 use Rattle.vt_laws_mounts.specs.LettingGo.Leaving.{only_these_are_left, with_tasks}
@@ -26,10 +26,9 @@ use Rattle.vt_laws_worlds.proofs.overlays_let_go.changing.OverlaysChanged.{HasTh
 mount_there : (world : World ℕ) → IsWorld nat_eq world → (location : Location ℕ) → is_on_mount world location ≡ true
     → Among (mount_at nat_eq world location) world.mounts
 mount_there world conditions location on =
-    let found = among-from_map (λ (m : Mount ℕ). m.number) world.mounts location.mount
-    (among_numbers location.mount (map (λ (m : Mount ℕ). m.number) world.mounts) on) in
-    subst (λ m. Among m world.mounts) (sym (found_itself world.mounts conditions.mounts.one_number found.0 found.1)
-    ∙ ap (mount_in nat_eq world.mounts) (sym found.2)) found.1
+    let found = among-from_map _ _ _ (among_numbers _ (map (λ (m : Mount ℕ). m.number) world.mounts) on) in
+    subst (λ m. Among m world.mounts) (cc (found_itself world.mounts conditions.mounts.one_number found.0 found.1))
+    found.1
 
 -- if it is none of these, its filesystem keeps it
 keeps_its_mount : (world : World ℕ) → IsWorld nat_eq world → (gone : List ℕ) (location : Location ℕ)
@@ -174,9 +173,7 @@ module _ {fresh : Fresh ℕ} {world : World ℕ} {location : Location ℕ} {chan
       → settled nat_eq (with_task (with_change nat_eq fresh world location change) new)
       ≡ let_go_all_inodes (with_task (with_change nat_eq fresh world location change) new)
       (inodes_lost_with_upper fresh world location overlay upper change)
-  goes_with_task new only on =
-      goes_with_task_within new only on (inodes_lost_with_upper fresh world location overlay upper change)
-      (λ filesystem inode e. e)
+  goes_with_task new only on = goes_with_task_within new only on _ (λ filesystem inode e. e)
 
 pub made_in_overlays_lets_go : MadeInOverlaysLetsGo
 made_in_overlays_lets_go fresh world task directory name node overlay upper conditions can =

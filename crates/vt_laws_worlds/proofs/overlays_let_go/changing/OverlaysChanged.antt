@@ -1,5 +1,5 @@
 -- What goes when an overlay changes.
-use Rattle.std.proofs.Common.{arith, ◌≡◌, refl, sym, ap, subst, ◌∙◌, ◌⊎◌, inl, inr, ⊎_elim, true≢false, ne_eqb, ℕ, nat_eq, eqb-true, eq-eqb, Bool, true, false, cond, not, ◌||◌, ◌&&◌, List, [], find, map, Option, Some, None, is_some, option_to_list, unwrap_or, filter_map, All}
+use Rattle.std.proofs.Common.{arith, ◌≡◌, refl, sym, ap, subst, ◌∙◌, ◌⊎◌, inl, inr, ⊎_elim, true≢false, ne_eqb, ℕ, nat_eq, eqb-true, eq-eqb, Bool, true, false, cond, not, ◌||◌, ◌&&◌, List, [], map, Option, Some, None, is_some, option_to_list, unwrap_or, filter_map, All}
 use Rattle.vt_spec.proofs.Common.{All-weaker, Change, FileTree, Filesystem, Fresh, HasName, IsWorld, Layer, Location, Merge, Node, Overlay, Real, World, and_parts, cases_Bool, common_steps, filesystem_at, filesystem_changed, filesystem_numbered, holds_of, is_among, is_directory_node, is_overlay, is_plain_layer, layers_of, list_all, list_any-append, map_twice, merge_changed, merge_of, mount_at, named_in, no_filesystem, not-true, objects_of_overlay, or_cases, overlay_changed, overlay_or, replaced_if_numbered, settled, shown_layers, stack_of, upper_object, with_change, with_files, with_merge}
 use Rattle.vt_laws_trees.specs.Layers.Layers.ChangesUpper.{IsFitToChange}
 use Rattle.vt_laws_trees.proofs.layers.layers.LowersWorld.{number_of_filesystem}
@@ -25,10 +25,8 @@ use Rattle.vt_laws_worlds.proofs.overlays_let_go.changing.Copied.{numbers_stay}
 -- an inode of a filesystem among those of one number
 of_number : (number : ℕ) (list : List ℕ) (filesystem inode : ℕ) → filesystem ≡ number → Among inode list
     → is_inode_among filesystem inode (map (λ i. (number, i)) list) ≡ true
-of_number number list filesystem inode same m =
-    any_from_among (λ (loser : Inode). nat_eq filesystem loser.0 && nat_eq inode loser.1) (map (λ i. (number, i)) list)
-    (number, inode) (among-map (λ i. (number, i)) list inode m)
-    (ap (λ b. b && nat_eq inode inode) (eq-eqb filesystem number same) ∙ eq-eqb inode inode refl)
+of_number number list filesystem inode same m = any_from_among _ _ (number, inode) (among-map _ list inode m)
+    (cc (eq-eqb filesystem number same, eq-eqb inode inode refl))
 
 -- inodes of a list are in another one
 abbrev pub HasThese : List Inode → List Inode → Type 0
@@ -77,11 +75,10 @@ module _ {fresh : Fresh ℕ} {world : World ℕ} {location : Location ℕ} {chan
   settles = worlds_are_settled world conditions
 
   pub fit : IsFitToChange fresh before
-  fit = overlays_are_fit fresh world number overlay upper conditions can.overlay_there can.upper_there can.distinct
-      can.unused
+  fit = overlays_are_fit fresh world number _ upper conditions can.overlay_there can.upper_there can.distinct can.unused
 
   reals_there : (inode : ℕ) → is_some (overlay.real inode) ≡ true → is_some (merged.files.tree.node inode) ≡ true
-  reals_there inode h = by (merged.files.tree.node inode) refl
+  reals_there inode h = by _ refl
     where
       by : (o : Option (Node ℕ)) → merged.files.tree.node inode ≡ o → is_some o ≡ true
       by None e = sym (ap is_some
@@ -93,8 +90,7 @@ module _ {fresh : Fresh ℕ} {world : World ℕ} {location : Location ℕ} {chan
 
   -- both filesystems are there
   pub merged_there : Among merged world.filesystems
-  merged_there = (found_in (λ f. nat_eq number f.number) world.filesystems merged
-      (overlay_found world number overlay can.overlay_there)).0
+  merged_there = (found_in _ _ merged (overlay_found world number _ can.overlay_there)).0
 
   plain_parts : (not (is_overlay layer) ≡ true) × (is_directory_node (layer.files.tree.node upper.directory) ≡ true)
   plain_parts = and_parts (not (is_overlay layer)) (is_directory_node (layer.files.tree.node upper.directory))
@@ -107,13 +103,12 @@ module _ {fresh : Fresh ℕ} {world : World ℕ} {location : Location ℕ} {chan
   layer_plain = not-true (is_overlay layer) plain_parts.0
 
   pub layer_there : Among layer world.filesystems
-  layer_there = (found_in (λ f. nat_eq upper.filesystem f.number) world.filesystems layer
-      (by (find (λ f. nat_eq upper.filesystem f.number) world.filesystems) plain_parts.1)).0
+  layer_there = (found_in _ _ layer (by _ plain_parts.1)).0
     where
       by : (o : Option (Filesystem ℕ)) → is_directory_node
           ((unwrap_or o (no_filesystem upper.filesystem)).files.tree.node upper.directory) ≡ true
           → o ≡ Some (unwrap_or o (no_filesystem upper.filesystem))
-      by None h = absurd (true≢false (sym h))
+      by None h = cc
       by (Some f) h = refl
 
   abbrev pub new_merged : Filesystem ℕ
@@ -159,8 +154,7 @@ module _ {fresh : Fresh ℕ} {world : World ℕ} {location : Location ℕ} {chan
 
   for_all : (P : Filesystem ℕ → Type 0) → P new_merged → P new_layer
       → ((f : Filesystem ℕ) → Among f world.filesystems → P f) → All P then_.filesystems
-  for_all P here there others =
-      all_from_among P then_.filesystems (λ x m. let from = among-from_map swap_both world.filesystems x m in
+  for_all P here there others = all_from_among P then_.filesystems (λ x m. let from = among-from_map _ _ x m in
       subst P (sym from.2) (by from.0 from.1 (which from.0 from.1)))
     where
       by : (f : Filesystem ℕ) → Among f world.filesystems → Is f → P (swap_both f)
@@ -222,15 +216,14 @@ module _ {fresh : Fresh ℕ} {world : World ℕ} {location : Location ℕ} {chan
 
   lost_here : (inode : ℕ) → Among inode lost_names → is_inode_among merged.number inode lost ≡ true
   lost_here inode m = list_any-append (λ (loser : Inode). nat_eq merged.number loser.0 && nat_eq inode loser.1)
-      (map (λ i. (number, i)) lost_names) (map (λ i. (upper.filesystem, i)) lost_above)
-      ∙ or_left (is_inode_among merged.number inode (map (λ i. (number, i)) lost_names)) _
-      (of_number number lost_names merged.number inode (number_of_filesystem world number) m)
+      (map (λ i. (number, i)) lost_names) (map (λ i. (upper.filesystem, i)) lost_above) ∙ or_left _ _
+      (of_number number _ _ inode (number_of_filesystem world number) m)
 
   lost_there : (inode : ℕ) → Among inode lost_above → is_inode_among layer.number inode lost ≡ true
   lost_there inode m = list_any-append (λ (loser : Inode). nat_eq layer.number loser.0 && nat_eq inode loser.1)
       (map (λ i. (number, i)) lost_names) (map (λ i. (upper.filesystem, i)) lost_above)
       ∙ or_right (is_inode_among layer.number inode (map (λ i. (number, i)) lost_names)) _
-      (of_number upper.filesystem lost_above layer.number inode (number_of_filesystem world upper.filesystem) m)
+      (of_number _ _ _ inode (number_of_filesystem world upper.filesystem) m)
 
   -- a world in which the overlay is
   module _ (last : World ℕ) (in_last : Among new_merged last.filesystems) where
@@ -266,20 +259,17 @@ module _ {fresh : Fresh ℕ} {world : World ℕ} {location : Location ℕ} {chan
 
     is_object : (inode object : ℕ) → Among inode later.files.numbers → upper_object (later.real inode) ≡ Some object
         → Among object (upper_objects last layer.number)
-    is_object inode object m e =
-        among-flat_map (objects_of_overlay nat_eq layer.number) last.filesystems new_merged object in_last
+    is_object inode object m e = among-flat_map _ _ new_merged object in_last
         (subst (λ b. Among object (cond b (filter_map (λ n. upper_object (later.real n)) later.files.numbers) []))
-        (sym above) (among-filter_map (λ n. upper_object (later.real n)) later.files.numbers inode object m e))
+        (sym above) (among-filter_map _ _ inode object m e))
       where
         above : holds_of (λ (l : Layer ℕ). nat_eq layer.number l.filesystem) overlay.upper ≡ true
-        above = ap (holds_of (λ (l : Layer ℕ). nat_eq layer.number l.filesystem)) can.upper_there
-            ∙ eq-eqb layer.number upper.filesystem (number_of_filesystem world upper.filesystem)
+        above = cc (eq-eqb layer.number upper.filesystem (number_of_filesystem world upper.filesystem))
 
     is_used : (k : ℕ) → Among k later.upper.numbers
         → (is_among nat_eq k layer.files.numbers || is_among nat_eq k (named_in later.upper)
         || is_among nat_eq k (upper_objects last layer.number)) ≡ true
-    is_used k m = by (is_among nat_eq k layer.files.numbers) refl (is_among nat_eq k (named_in later.upper)) refl
-        (added.numbers k m)
+    is_used k m = by _ refl _ refl (added.numbers k m)
       where
         by : (a : Bool) → is_among nat_eq k layer.files.numbers ≡ a → (b : Bool)
             → is_among nat_eq k (named_in later.upper) ≡ b → Among k layer.files.numbers
@@ -287,11 +277,10 @@ module _ {fresh : Fresh ℕ} {world : World ℕ} {location : Location ℕ} {chan
             ⊎ HasName later.upper.tree k) → (a || b || is_among nat_eq k (upper_objects last layer.number)) ≡ true
         by true e b f added_so = refl
         by false e true f added_so = refl
-        by false e false f (inl was) = absurd (true≢false (sym (is_among_numbers k layer.files.numbers was) ∙ e))
+        by false e false f (inl was) = cc (is_among_numbers k layer.files.numbers was)
         by false e false f (inr (inl object)) =
-            is_among_numbers k (upper_objects last layer.number) (is_object object.0 k object.1 object.2)
-        by false e false f (inr (inr named)) =
-            absurd (true≢false (sym (named_among later.upper can.upper_tree k named) ∙ f))
+            is_among_numbers k (upper_objects last layer.number) (is_object _ k object.1 object.2)
+        by false e false f (inr (inr named)) = cc (named_among later.upper can.upper_tree k named)
 
     of_layer : ChangesFilesystem last lost layer new_layer
     of_layer = record {
@@ -335,8 +324,7 @@ module _ {fresh : Fresh ℕ} {world : World ℕ} {location : Location ℕ} {chan
       (eq-eqb merged.number merged.number refl) ∙ ap (λ c. cond c new_layer new_merged) apart
 
   merged_then : Among new_merged then_.filesystems
-  merged_then = subst (λ f. Among f then_.filesystems) becomes
-      (among-map swap_both world.filesystems merged merged_there)
+  merged_then = subst (λ f. Among f then_.filesystems) becomes (among-map _ _ merged merged_there)
 
   -- so it is in every world that has these filesystems, and shows this one at the location
   pub is_swap : (other : World ℕ) → other.filesystems ≡ world.filesystems

@@ -1,6 +1,6 @@
 -- The numbers of filesystems rise after a permit.
-use Rattle.std.proofs.Common.{◌≡◌, refl, sym, ap, ◌∙◌, ℕ, nat_eq, nat_lt, Bool, true, false, ◌&&◌, List, [], ◌∷◌, ◌++◌, map, Option, Some, None}
-use Rattle.vt_spec.proofs.Common.{Change, CopyUp, Filesystem, Fresh, Layer, Location, Make, Move, Overlay, Permit, Remove, Task, ToChange, ToEnterNamespace, ToExit, ToMake, ToMountOverlay, ToMountPlain, ToOpen, ToOpenNew, ToRemoveDirectory, ToRename, ToSetType, ToUnmount, ToUnmountLazily, ToUnshare, ToWritePart, World, and_parts, apply, changed, evens, filesystem_at, filesystem_changed, filesystem_lives, filesystems-taken_away, filesystems-without_replaced, going, is_copied_up, list_all, mount_numbered, namespace_entered, odds, overlay_changed, plain_filesystem, pwritten, settled, unshared, with_change, with_copy, with_files, without_dead_mounts, without_mounts_on, without_replaced, without_task}
+use Rattle.std.proofs.Common.{◌≡◌, refl, ap, ◌∙◌, ℕ, nat_eq, nat_lt, Bool, true, false, ◌&&◌, List, [], ◌∷◌, ◌++◌, map, Option, Some, None}
+use Rattle.vt_spec.proofs.Common.{Change, CopyUp, Filesystem, Fresh, Layer, Location, Make, Move, Overlay, Permit, Remove, Task, ToChange, ToEnterNamespace, ToExit, ToMake, ToMountOverlay, ToMountPlain, ToOpen, ToOpenNew, ToRemoveDirectory, ToRename, ToSetType, ToUnmount, ToUnmountLazily, ToUnshare, ToWritePart, World, and_parts, apply, evens, filesystem_at, filesystem_changed, filesystem_lives, filesystems-taken_away, filesystems-without_replaced, going, is_copied_up, list_all, mount_numbered, namespace_entered, odds, overlay_changed, plain_filesystem, pwritten, settled, unshared, with_change, with_copy, without_dead_mounts, without_mounts_on, without_replaced, without_task}
 use Rattle.vt_laws_mounts.specs.LettingGo.TreesOverlays.{in_use_of}
 use Rattle.vt_laws_mounts.proofs.letting_go.sweeps.InUse.{after_first, after_second, number-first, number-second}
 use Rattle.vt_laws_mounts.proofs.ends.UnmountingEnds.{lazy_is_of_mounts}
@@ -26,7 +26,7 @@ rise (first ∷ rest) = list_all (nat_lt first) rest && rise rest
 all_by_numbers : (test : ℕ → Bool) (list : List (Filesystem ℕ))
     → list_all (λ f. test f.number) list ≡ list_all test (numbers list)
 all_by_numbers test [] = refl
-all_by_numbers test (first ∷ rest) = ap (λ b. test first.number && b) (all_by_numbers test rest)
+all_by_numbers test (first ∷ rest) = cc (all_by_numbers test rest)
 
 by_numbers : (list : List (Filesystem ℕ)) → are_rising list ≡ rise (numbers list)
 by_numbers [] = refl
@@ -34,7 +34,7 @@ by_numbers (first ∷ rest) = λ i. all_by_numbers (nat_lt first.number) rest i 
 
 same_numbers : (before after : List (Filesystem ℕ)) → numbers after ≡ numbers before → are_rising before ≡ true
     → are_rising after ≡ true
-same_numbers before after same rising = by_numbers after ∙ ap rise same ∙ sym (by_numbers before) ∙ rising
+same_numbers before after same rising = cc (by_numbers after, by_numbers before)
 
 -- one more with a greater number
 one_more : (list : List (Filesystem ℕ)) (new : Filesystem ℕ) → are_rising list ≡ true
@@ -48,7 +48,7 @@ one_more (first ∷ rest) new rising greater =
     appended : (some : List (Filesystem ℕ)) → list_all (λ f. nat_lt first.number f.number) some ≡ true
         → nat_lt first.number new.number ≡ true
         → list_all (λ f. nat_lt first.number f.number) (some ++ (new ∷ [])) ≡ true
-    appended [] all less = ap (λ b. b && true) less
+    appended [] all less = cc
     appended (one ∷ others) all less =
         let parts = and_parts (nat_lt first.number one.number)
         (list_all (λ f. nat_lt first.number f.number) others) all in
@@ -59,12 +59,12 @@ module _ (world : World ℕ) (fresh : Fresh ℕ) (task : Task ℕ) (rising : are
   after permit = (apply nat_eq fresh world task permit).world
 
   same_list : (list : List (Filesystem ℕ)) → list ≡ world.filesystems → are_rising list ≡ true
-  same_list list same = ap are_rising same ∙ rising
+  same_list list same = cc
 
   -- a change keeps all numbers
   change_numbers : (supply : Fresh ℕ) (middle : World ℕ) (location : Location ℕ) (change : Change ℕ)
       → numbers (with_change nat_eq supply middle location change).filesystems ≡ numbers middle.filesystems
-  change_numbers supply middle location change = by (filesystem_at nat_eq middle location).overlay
+  change_numbers supply middle location change = by _
     where
       old : Filesystem ℕ
       old = filesystem_at nat_eq middle location
@@ -76,8 +76,8 @@ module _ (world : World ℕ) (fresh : Fresh ℕ) (task : Task ℕ) (rising : are
 
       by : (o : Option (Overlay ℕ))
           → numbers (filesystem_changed nat_eq supply middle old o change).filesystems ≡ numbers middle.filesystems
-      by None = numbers-replaced (with_files old (changed nat_eq old.files change)) middle.filesystems
-      by (Some overlay) = upper overlay overlay.upper
+      by None = numbers-replaced _ middle.filesystems
+      by (Some overlay) = upper _ _
 
   changing : (supply : Fresh ℕ) (middle : World ℕ) → middle.filesystems ≡ world.filesystems
       → (location : Location ℕ) (change : Change ℕ)

@@ -16,12 +16,12 @@ overlays_in list = filter is_overlay list
 -- What holds of all plain filesystems, and of all overlays before, holds after a change that leaves overlays.
 pub by_overlays : (P : Filesystem ℕ → Type 0) → ((f : Filesystem ℕ) → is_overlay f ≡ false → P f)
     → (before after : List (Filesystem ℕ)) → overlays_in after ≡ overlays_in before → All P before → All P after
-by_overlays P plain before after same all = all_from_among P after (λ f m. by f m (is_overlay f) refl)
+by_overlays P plain before after same all = all_from_among P after (λ f m. by f m _ refl)
   where
     by : (f : Filesystem ℕ) → Among f after → (b : Bool) → is_overlay f ≡ b → P f
     by f m false e = plain f e
     by f m true e = among_from_all P before all f
-        (among-from_filter is_overlay before f (subst (Among f) same (among-filter is_overlay after f m e))).0
+        (among-from_filter is_overlay before f (subst (Among f) same (among-filter _ after f m e))).0
 
 pub no_upper_of_plain : (f : Filesystem ℕ) → is_overlay f ≡ false
     → of_overlay false (λ overlay. is_some overlay.upper) f ≡ false
@@ -30,13 +30,13 @@ no_upper_of_plain f e = grind (arith, common_steps, true≢false)
 -- a plain filesystem more
 one_more : (list : List (Filesystem ℕ)) (new : Filesystem ℕ) → is_overlay new ≡ false
     → overlays_in (list ++ (new ∷ [])) ≡ overlays_in list
-one_more [] new e = ap (λ b. cond b (new ∷ []) []) e
-one_more (first ∷ rest) new e = by (is_overlay first) (one_more rest new e)
+one_more [] new e = cc
+one_more (first ∷ rest) new e = by _ (one_more rest new e)
   where
     by : (b : Bool) → overlays_in (rest ++ (new ∷ [])) ≡ overlays_in rest
         → cond b (first ∷ overlays_in (rest ++ (new ∷ []))) (overlays_in (rest ++ (new ∷ [])))
         ≡ cond b (first ∷ overlays_in rest) (overlays_in rest)
-    by true later = ap (λ l. first ∷ l) later
+    by true later = cc
     by false later = later
 
 module _ (world : World ℕ) (fresh : Fresh ℕ) (task : Task ℕ) (none : OverlaysHaveNoUpper world)

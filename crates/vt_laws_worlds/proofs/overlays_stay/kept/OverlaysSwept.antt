@@ -1,6 +1,6 @@
 -- Overlays without an upper layer, after a permit and after the sweep.
 use Rattle.std.proofs.Common.{arith, ◌≡◌, refl, sym, ap, subst, ◌∙◌, inr, ℕ, nat_eq, Bool, true, false, true≢false, cond, not, ◌||◌, List, [], ◌∷◌, filter, is_some}
-use Rattle.vt_spec.proofs.Common.{Among, Filesystem, Fresh, IsWorld, Permit, SameFilesystems, Task, World, all_from_among, among-filter, among-from_filter, among-from_map, among_from_all, apply, common_steps, filesystem_lives, has_layer_on, is_among, is_mounted, is_overlay, list_all, list_any, none_among, none_from_among, of_overlay, only_used, only_used_by, overlay_or, settled, used_in, without_dead_in, without_dead_mounts}
+use Rattle.vt_spec.proofs.Common.{Among, Filesystem, Fresh, IsWorld, Permit, SameFilesystems, Task, World, all_from_among, among-filter, among-from_filter, among-from_map, among_from_all, apply, common_steps, filesystem_lives, has_layer_on, is_among, is_mounted, is_overlay, list_all, list_any, none_among, none_from_among, of_overlay, only_used, only_used_by, overlay_or, used_in, without_dead_in, without_dead_mounts}
 use Rattle.vt_laws_mounts.specs.LettingGo.Keeping.{has_only_named}
 use Rattle.vt_laws_mounts.specs.LettingGo.TreesOverlays.{in_use_of}
 use Rattle.vt_laws_mounts.proofs.letting_go.sweeps.UsesCounted.{mounted_while_counted}
@@ -31,9 +31,8 @@ no_upper_in : (chosen : Filesystem ℕ → Bool) (world : World ℕ) → Overlay
     → OverlaysHaveNoUpper (without_dead_in nat_eq chosen world)
 no_upper_in chosen world none =
     all_from_among (λ f. has_upper f ≡ false) (without_dead_in nat_eq chosen world).filesystems (λ g m.
-    let from = among-from_map (λ f. only_used nat_eq world (chosen f) f) world.filesystems g m in
-    ap has_upper from.2 ∙ by (chosen from.0) from.0
-    ∙ among_from_all (λ f. has_upper f ≡ false) world.filesystems none from.0 from.1)
+    let from = among-from_map _ _ g m in
+    cc (by (chosen from.0) from.0, among_from_all (λ f. has_upper f ≡ false) world.filesystems none from.0 from.1))
   where
     by : (b : Bool) (f : Filesystem ℕ) → has_upper (only_used nat_eq world b f) ≡ has_upper f
     by true f = upper_by (used_in nat_eq world f)
@@ -52,13 +51,11 @@ abbrev IsNamed : Filesystem ℕ → Type 0
 IsNamed f = is_overlay f ≡ true → has_only_named f ≡ true
 
 named_of_plain : (f : Filesystem ℕ) → is_overlay f ≡ false → IsNamed f
-named_of_plain f e is = absurd (true≢false (sym is ∙ e))
+named_of_plain f e is = cc
 
 pub sweeps_keep_names : SweepsKeepNames
-sweeps_keep_names world named =
-    by_overlays IsNamed named_of_plain (in_use_of world).filesystems (settled nat_eq world).filesystems
-    (named_overlays_stay world named) (all_from_among IsNamed (in_use_of world).filesystems (λ f m.
-    among_from_all IsNamed world.filesystems named f
+sweeps_keep_names world named = by_overlays _ named_of_plain _ _ (named_overlays_stay world named)
+    (all_from_among IsNamed (in_use_of world).filesystems (λ f m. among_from_all IsNamed world.filesystems named f
     (among-from_filter (filesystem_lives nat_eq (without_dead_mounts nat_eq world)) world.filesystems f m).0))
 
 -- A permit, and the sweep after it
@@ -66,8 +63,7 @@ sweeps_keep_names world named =
 filters_turned : (p q r : Filesystem ℕ → Bool) (list : List (Filesystem ℕ))
     → ((f : Filesystem ℕ) → Among f list → p f ≡ true → q f ≡ r f) → filter p (filter q list) ≡ filter r (filter p list)
 filters_turned p q r [] same = refl
-filters_turned p q r (first ∷ rest) same =
-    by (p first) (q first) (r first) refl refl refl (filters_turned p q r rest (λ f m. same f (inr m)))
+filters_turned p q r (first ∷ rest) same = by _ _ _ refl refl refl (filters_turned p q r rest (λ f m. same f (inr m)))
   where
     by : (a b c : Bool) → p first ≡ a → q first ≡ b → r first ≡ c → filter p (filter q rest) ≡ filter r (filter p rest)
         → filter p (cond b (first ∷ filter q rest) (filter q rest))
@@ -86,19 +82,16 @@ module _ (world : World ℕ) (fresh : Fresh ℕ) (task : Task ℕ) (permit : Per
   left_same = permits_leave_overlays world fresh task permit is none given
 
   pub no_upper_applied : OverlaysHaveNoUpper applied
-  no_upper_applied =
-      by_overlays (λ f. has_upper f ≡ false) no_upper_of_plain world.filesystems applied.filesystems left_same none
+  no_upper_applied = by_overlays _ no_upper_of_plain _ _ left_same none
 
   pub named_applied : OverlaysAreNamed world → OverlaysAreNamed applied
-  named_applied named = by_overlays IsNamed named_of_plain world.filesystems applied.filesystems left_same named
+  named_applied named = by_overlays _ named_of_plain _ _ left_same named
 
   -- no overlay is a layer of another
   apart : (f : Filesystem ℕ) → Among f applied.filesystems → is_overlay f ≡ true → HasNoLayerIn f.number mounted
-  apart f m e = by_overlays (λ merged. has_layer_on nat_eq f.number merged ≡ false) no_layer world.filesystems
-      applied.filesystems left_same
-      (among_from_all (λ g. is_overlay g ≡ true → HasNoLayerIn g.number world) world.filesystems
-      (overlays_are_no_layers world is) f (among-from_filter is_overlay world.filesystems f
-      (subst (Among f) left_same (among-filter is_overlay applied.filesystems f m e))).0 e)
+  apart f m e = by_overlays _ no_layer _ _ left_same (among_from_all (λ g. is_overlay g ≡ true → HasNoLayerIn g.number
+      world) world.filesystems (overlays_are_no_layers world is) f (among-from_filter is_overlay world.filesystems f
+      (subst (Among f) left_same (among-filter _ _ f m e))).0 e)
     where
       no_layer : (merged : Filesystem ℕ) → is_overlay merged ≡ false → has_layer_on nat_eq f.number merged ≡ false
       no_layer merged h = grind (arith, common_steps, true≢false)
@@ -132,5 +125,5 @@ uppers_alike (one ∷ ones) (other ∷ others) same =
 
 pub same_worlds_have_no_upper_alike : SameWorldsHaveNoUpperAlike
 same_worlds_have_no_upper_alike one other same none = all_from_among (λ f. has_upper f ≡ false) other.filesystems
-    (none_among has_upper other.filesystems (sym (uppers_alike one.filesystems other.filesystems same.filesystems)
+    (none_among _ _ (sym (uppers_alike _ _ same.filesystems)
     ∙ none_from_among has_upper one.filesystems (among_from_all (λ f. has_upper f ≡ false) one.filesystems none)))

@@ -1,5 +1,5 @@
 -- What is seen along the paths of layers has a name.
-use Rattle.std.proofs.Common.{◌≡◌, ◌≢◌, refl, sym, ap, subst, ◌∙◌, ℕ, nat_eq, eq-eqb, Bool, true, false, true≢false, ◌||◌, Option, Some, None, is_some}
+use Rattle.std.proofs.Common.{◌≡◌, ◌≢◌, refl, sym, subst, ◌∙◌, ℕ, nat_eq, eq-eqb, Bool, true, false, true≢false, ◌||◌, Option, Some, None, is_some}
 use Rattle.vt_spec.proofs.Common.{Filesystem, HasName, Node, Overlay, Real, SameObject, World, filesystem_numbered, is_among, is_overlay, named_in, or_parts, real_node, then_some}
 use Rattle.vt_laws_mounts.specs.LettingGo.InUse.{IsListedTree}
 use Rattle.vt_laws_mounts.specs.LettingGo.Keeping.{has_only_named}
@@ -18,29 +18,24 @@ module _ {number_of : Real ℕ → ℕ} {world : World ℕ} {f : Filesystem ℕ}
 
   -- an inode without a name has no real object, so it is not there
   not_there : (n : ℕ) → ¬ (HasName f.files.tree n) → n ≢ f.files.tree.root → is_some (f.files.tree.node n) ≡ false
-  not_there n unnamed other = none (f.files.tree.node n)
-      (subst (λ o. SameObject (f.files.tree.node n) (then_some o (real_node nat_eq world overlay)))
-      (named.unnamed n unnamed other) (merged.merged.real_objects n))
+  not_there n unnamed other = none _ (subst (λ o. SameObject (f.files.tree.node n)
+      (then_some o (real_node nat_eq world overlay))) (named.unnamed n unnamed other) (merged.merged.real_objects n))
     where
       none : (o : Option (Node ℕ)) → SameObject o None → is_some o ≡ false
       none None same = refl
       none (Some node) same = absurd same
 
   only_named : has_only_named f ≡ true
-  only_named =
-      list_all_from_among (λ n. nat_eq n f.files.tree.root || is_among nat_eq n (named_in f.files)) f.files.numbers
-      (λ n m.
-      by n (sym (merged.numbers n) ∙ is_among_numbers n f.files.numbers m)
-      (nat_eq n f.files.tree.root || is_among nat_eq n (named_in f.files)) refl)
+  only_named = list_all_from_among (λ n. nat_eq n f.files.tree.root || is_among nat_eq n (named_in f.files))
+      f.files.numbers (λ n m. by n (sym (merged.numbers n) ∙ is_among_numbers n f.files.numbers m) _ refl)
     where
       by : (n : ℕ) → is_some (f.files.tree.node n) ≡ true → (b : Bool)
           → (nat_eq n f.files.tree.root || is_among nat_eq n (named_in f.files)) ≡ b → b ≡ true
       by n there true e = refl
       by n there false e =
-          let parts = or_parts (nat_eq n f.files.tree.root) (is_among nat_eq n (named_in f.files)) e in
-          absurd (true≢false (sym there ∙ not_there n
-          (λ name. true≢false (sym (named_among f.files tree n name) ∙ parts.1))
-          (λ root. true≢false (sym (eq-eqb n f.files.tree.root root) ∙ parts.0))))
+          let parts = or_parts _ _ e in
+          cc (not_there n (λ name. true≢false (sym (named_among f.files tree n name) ∙ parts.1))
+          (λ root. true≢false (sym (eq-eqb n f.files.tree.root root) ∙ parts.0)))
 
 pub seen_overlays_have_names : SeenOverlaysHaveNames
 seen_overlays_have_names number_of longest world number overlay is was seen =
@@ -50,16 +45,13 @@ seen_overlays_have_names number_of longest world number overlay is was seen =
     (named, only_named merged named)
 
 pub seen_worlds_have_names : SeenWorldsHaveNames
-seen_worlds_have_names number_of longest world is seen =
-    all_from_among (λ f. is_overlay f ≡ true → has_only_named f ≡ true) world.filesystems (λ f m e.
-    by f (found_filesystem world.filesystems is.files.one_filesystem f m)
-    (filesystem_numbered nat_eq world f.number).overlay refl
-    (ap is_overlay (found_filesystem world.filesystems is.files.one_filesystem f m) ∙ e))
+seen_worlds_have_names number_of longest world is seen = all_from_among (λ f. is_overlay f ≡ true → has_only_named f
+    ≡ true) world.filesystems (λ f m e. by f (found_filesystem _ is.files.one_filesystem f m) _ refl
+    (cc (found_filesystem world.filesystems is.files.one_filesystem f m)))
   where
     by : (f : Filesystem ℕ) → filesystem_numbered nat_eq world f.number ≡ f → (o : Option (Overlay ℕ))
         → (filesystem_numbered nat_eq world f.number).overlay ≡ o
         → is_overlay (filesystem_numbered nat_eq world f.number) ≡ true → has_only_named f ≡ true
-    by f found None e is_one = absurd (true≢false (sym is_one ∙ ap is_some e))
-    by f found (Some overlay) e is_one = ap has_only_named (sym found)
-        ∙ (seen_overlays_have_names (number_of f.number) (longest f.number) world f.number overlay is e
-        (seen f.number overlay e)).1
+    by f found None e is_one = cc
+    by f found (Some overlay) e is_one = cc ((seen_overlays_have_names (number_of f.number) (longest f.number) world
+        f.number overlay is e (seen f.number overlay e)).1)

@@ -1,5 +1,5 @@
 -- Lists of filesystems, woven by their numbers.
-use Rattle.std.proofs.Common.{◌≡◌, refl, sym, ap, subst, ◌∙◌, ℕ, nat_eq, nat_lt, Bool, true, false, true≢false, cond, not, ◌&&◌, List, [], ◌∷◌, filter, find, Some, arith, All, ltb-true}
+use Rattle.std.proofs.Common.{◌≡◌, refl, sym, ap, subst, ◌∙◌, ℕ, nat_eq, nat_lt, Bool, true, false, true≢false, cond, not, ◌&&◌, List, [], ◌∷◌, filter, find, arith, All, ltb-true}
 use Rattle.vt_spec.proofs.Common.{All-head, All-tail, Filesystem, SameFilesystem, SameFilesystems, all-filter, and_parts, common_steps, list_all}
 use Rattle.vt_laws_trees.proofs.runs.Permuted.{and_swapped}
 use Rattle.vt_laws_worlds.specs.OverlaysStay.Woven.{PlainOnesAreFound, RisingListsAreWoven, WovenListsAreAlike, WovenListsAreFailing, WovenListsAreFiltered, WovenListsArePassing, WovenListsPassAll, are_rising, put_in, woven}
@@ -21,8 +21,8 @@ not_both a b less = grind (arith, common_steps, ltb-true)
 put_first : (f : Filesystem ℕ) (list : List (Filesystem ℕ)) → list_all (is_before f) list ≡ true
     → put_in f list ≡ f ∷ list
 put_first f [] before = refl
-put_first f (first ∷ rest) before = ap (λ b. cond b (first ∷ put_in f rest) (f ∷ first ∷ rest))
-    (not_both f.number first.number (and_parts (is_before f first) (list_all (is_before f) rest) before).0)
+put_first f (first ∷ rest) before = cc (not_both f.number first.number
+    (and_parts (is_before f first) (list_all (is_before f) rest) before).0)
 
 -- what is before all that are put in stands first
 woven_first : (first : Filesystem ℕ) (plain overlays : List (Filesystem ℕ)) → list_all (is_before first) overlays ≡ true
@@ -30,49 +30,48 @@ woven_first : (first : Filesystem ℕ) (plain overlays : List (Filesystem ℕ)) 
 woven_first first plain [] before = refl
 woven_first first plain (overlay ∷ rest) before =
     let parts = and_parts (is_before first overlay) (list_all (is_before first) rest) before in
-    ap (put_in overlay) (woven_first first plain rest parts.1)
-    ∙ ap (λ b. cond b (first ∷ put_in overlay (woven plain rest)) (overlay ∷ first ∷ woven plain rest)) parts.0
+    cc (woven_first first plain rest parts.1)
 
 pub rising_lists_are_woven : RisingListsAreWoven
 rising_lists_are_woven test [] rising = refl
 rising_lists_are_woven test (first ∷ rest) rising =
     let parts = and_parts (list_all (is_before first) rest) (are_rising rest) rising in
-    by (test first) parts.0 (rising_lists_are_woven test rest parts.1)
+    by _ parts.0 (rising_lists_are_woven test rest parts.1)
   where
     by : (b : Bool) → list_all (is_before first) rest ≡ true
         → woven (filter (fails test) rest) (filter test rest) ≡ rest
         → woven (cond (not b) (first ∷ filter (fails test) rest) (filter (fails test) rest))
         (cond b (first ∷ filter test rest) (filter test rest)) ≡ first ∷ rest
-    by true before later = ap (put_in first) later ∙ put_first first rest before
-    by false before later = woven_first first (filter (fails test) rest) (filter test rest)
-        (all-filter (is_before first) test rest before) ∙ ap (λ list. first ∷ list) later
+    by true before later = cc (put_first first rest before)
+    by false before later = cc (woven_first first (filter (fails test) rest) (filter test rest)
+        (all-filter (is_before first) test rest before))
 
 -- Taking apart
 
 none_pass : {A : Type 0} (test : A → Bool) (list : List A) → All (λ a. test a ≡ false) list → filter test list ≡ []
 none_pass test [] none = refl
-none_pass test (first ∷ rest) none = ap (λ b. cond b (first ∷ filter test rest) (filter test rest))
-    (All-head (λ a. test a ≡ false) first rest none)
-    ∙ none_pass test rest (All-tail (λ a. test a ≡ false) first rest none)
+none_pass test (first ∷ rest) none = cc (
+  All-head (λ a. test a ≡ false) first rest none,
+  none_pass test rest (All-tail (λ a. test a ≡ false) first rest none),
+)
 
 all_fail : {A : Type 0} (test : A → Bool) (list : List A) → All (λ a. test a ≡ false) list
     → filter (λ a. not (test a)) list ≡ list
 all_fail test [] none = refl
-all_fail test (first ∷ rest) none =
-    ap (λ b. cond (not b) (first ∷ filter (λ a. not (test a)) rest) (filter (λ a. not (test a)) rest))
-    (All-head (λ a. test a ≡ false) first rest none)
-    ∙ ap (λ list. first ∷ list) (all_fail test rest (All-tail (λ a. test a ≡ false) first rest none))
+all_fail test (first ∷ rest) none = cc (
+  All-head (λ a. test a ≡ false) first rest none,
+  all_fail test rest (All-tail (λ a. test a ≡ false) first rest none),
+)
 
 put_failing : (test : Filesystem ℕ → Bool) (f : Filesystem ℕ) → test f ≡ true → (list : List (Filesystem ℕ))
     → filter (fails test) (put_in f list) ≡ filter (fails test) list
-put_failing test f passes [] = ap (λ b. cond (not b) (f ∷ []) []) passes
-put_failing test f passes (first ∷ rest) = by (is_before first f) (put_failing test f passes rest)
+put_failing test f passes [] = cc
+put_failing test f passes (first ∷ rest) = by _ (put_failing test f passes rest)
   where
     by : (b : Bool) → filter (fails test) (put_in f rest) ≡ filter (fails test) rest
         → filter (fails test) (cond b (first ∷ put_in f rest) (f ∷ first ∷ rest)) ≡ filter (fails test) (first ∷ rest)
-    by true later = ap (λ list. cond (not (test first)) (first ∷ list) list) later
-    by false later =
-        ap (λ b. cond (not b) (f ∷ filter (fails test) (first ∷ rest)) (filter (fails test) (first ∷ rest))) passes
+    by true later = cc
+    by false later = cc
 
 pub woven_lists_are_failing : WovenListsAreFailing
 woven_lists_are_failing test plain [] parted = all_fail test plain parted.fail
@@ -83,9 +82,8 @@ woven_lists_are_failing test plain (overlay ∷ rest) parted =
 
 put_passing : (test : Filesystem ℕ → Bool) (f : Filesystem ℕ) → test f ≡ true → (list : List (Filesystem ℕ))
     → list_all (is_before f) (filter test list) ≡ true → filter test (put_in f list) ≡ f ∷ filter test list
-put_passing test f passes [] before = ap (λ b. cond b (f ∷ []) []) passes
-put_passing test f passes (first ∷ rest) before =
-    by (is_before first f) refl (test first) refl before (put_passing test f passes rest)
+put_passing test f passes [] before = cc
+put_passing test f passes (first ∷ rest) before = by _ refl _ refl before (put_passing test f passes rest)
   where
     by : (b : Bool) → is_before first f ≡ b → (c : Bool) → test first ≡ c
         → list_all (is_before f) (cond c (first ∷ filter test rest) (filter test rest)) ≡ true
@@ -110,11 +108,11 @@ pub rising_filtered : (stays : Filesystem ℕ → Bool) (list : List (Filesystem
 rising_filtered stays [] rising = refl
 rising_filtered stays (first ∷ rest) rising =
     let parts = and_parts (list_all (is_before first) rest) (are_rising rest) rising in
-    by (stays first) parts.0 (rising_filtered stays rest parts.1)
+    by _ parts.0 (rising_filtered stays rest parts.1)
   where
     by : (b : Bool) → list_all (is_before first) rest ≡ true → are_rising (filter stays rest) ≡ true
         → are_rising (cond b (first ∷ filter stays rest) (filter stays rest)) ≡ true
-    by true before later = λ i. all-filter (is_before first) stays rest before i && later i
+    by true before later = λ i. all-filter _ stays rest before i && later i
     by false before later = later
 
 -- filters by two tests, in whatever order
@@ -137,23 +135,25 @@ woven_lists_are_filtered test stays plain overlays parted overlays_rise rising =
 put_tested : (test : Filesystem ℕ → Bool) (f : Filesystem ℕ) (list : List (Filesystem ℕ))
     → list_all test (put_in f list) ≡ (test f && list_all test list)
 put_tested test f [] = refl
-put_tested test f (first ∷ rest) = by (is_before first f) (put_tested test f rest)
+put_tested test f (first ∷ rest) = by _ (put_tested test f rest)
   where
     by : (b : Bool) → list_all test (put_in f rest) ≡ (test f && list_all test rest)
         → list_all test (cond b (first ∷ put_in f rest) (f ∷ first ∷ rest))
         ≡ (test f && (test first && list_all test rest))
-    by true later = ap (λ b. test first && b) later ∙ and_swapped (test first) (test f) (list_all test rest)
+    by true later = cc (and_swapped (test first) (test f) (list_all test rest))
     by false later = refl
 
 pub woven_lists_pass_all : WovenListsPassAll
-woven_lists_pass_all test plain [] = by (list_all test plain)
+woven_lists_pass_all test plain [] = by _
   where
     by : (b : Bool) → b ≡ (b && true)
     by true = refl
     by false = refl
-woven_lists_pass_all test plain (overlay ∷ rest) = put_tested test overlay (woven plain rest)
-    ∙ ap (λ b. test overlay && b) (woven_lists_pass_all test plain rest)
-    ∙ and_swapped (test overlay) (list_all test plain) (list_all test rest)
+woven_lists_pass_all test plain (overlay ∷ rest) = cc (
+  put_tested test overlay (woven plain rest),
+  woven_lists_pass_all test plain rest,
+  and_swapped (test overlay) (list_all test plain) (list_all test rest),
+)
 
 -- Sameness
 
@@ -165,7 +165,7 @@ put_alike f g here (one ∷ ones) [] same = absurd same
 put_alike f g here (one ∷ ones) (other ∷ others) same =
     subst (λ b. SameFilesystems (cond (is_before one f) (one ∷ put_in f ones) (f ∷ one ∷ ones))
     (cond b (other ∷ put_in g others) (g ∷ other ∷ others))) (λ i. nat_lt (same.0.number i) (here.number i))
-    (by (is_before one f) (put_alike f g here ones others same.1))
+    (by _ (put_alike f g here ones others same.1))
   where
     by : (b : Bool) → SameFilesystems (put_in f ones) (put_in g others)
         → SameFilesystems (cond b (one ∷ put_in f ones) (f ∷ one ∷ ones))
@@ -178,21 +178,20 @@ woven_lists_are_alike plain [] others [] same same_overlays = same
 woven_lists_are_alike plain [] others (another ∷ rest) same same_overlays = absurd same_overlays
 woven_lists_are_alike plain (overlay ∷ rest) others [] same same_overlays = absurd same_overlays
 woven_lists_are_alike plain (overlay ∷ rest) others (another ∷ more) same same_overlays =
-    put_alike overlay another same_overlays.0 (woven plain rest) (woven others more)
-    (woven_lists_are_alike plain rest others more same same_overlays.1)
+    put_alike _ _ same_overlays.0 _ _ (woven_lists_are_alike plain rest others more same same_overlays.1)
 
 -- Numbers
 
 put_passed : (number : ℕ) (f : Filesystem ℕ) → nat_eq number f.number ≡ false → (list : List (Filesystem ℕ))
     → find (λ g. nat_eq number g.number) (put_in f list) ≡ find (λ g. nat_eq number g.number) list
-put_passed number f other [] = ap (λ b. cond b (Some f) (find (λ g. nat_eq number g.number) [])) other
-put_passed number f other (first ∷ rest) = by (is_before first f) (put_passed number f other rest)
+put_passed number f other [] = cc
+put_passed number f other (first ∷ rest) = by _ (put_passed number f other rest)
   where
     by : (b : Bool) → find (λ g. nat_eq number g.number) (put_in f rest) ≡ find (λ g. nat_eq number g.number) rest
         → find (λ g. nat_eq number g.number) (cond b (first ∷ put_in f rest) (f ∷ first ∷ rest))
         ≡ find (λ g. nat_eq number g.number) (first ∷ rest)
-    by true later = ap (cond (nat_eq number first.number) (Some first)) later
-    by false later = ap (λ b. cond b (Some f) (find (λ g. nat_eq number g.number) (first ∷ rest))) other
+    by true later = cc
+    by false later = cc
 
 pub plain_ones_are_found : PlainOnesAreFound
 plain_ones_are_found plain [] number others = refl

@@ -1,5 +1,5 @@
 -- Which numbers a world keeps to, and which supplies serve it.
-use Rattle.std.proofs.Common.{eq-eqb, eqb-true, ne_eqb, ◌≡◌, ◌≢◌, refl, sym, ◌∙◌, true≢false, ℕ, Bool, true, false, arith, le-ltb}
+use Rattle.std.proofs.Common.{eq-eqb, eqb-true, ne_eqb, ◌≡◌, ◌≢◌, refl, ℕ, Bool, true, false, arith, le-ltb}
 use Rattle.vt_spec.proofs.Common.{World, common_steps}
 use Rattle.vt_laws_rules.proofs.numbers.NamedWorlds.{named_is_kept}
 use Rattle.vt_laws_rules.proofs.numbers.Supports.{used_numbers_are_named}
@@ -35,10 +35,10 @@ not_before next k = grind (arith, common_steps, ne_eqb, eq-eqb, le-ltb)
 
 unused_count : (next : ℕ) (world : World ℕ) → KeepsTo (is_counted_before next) world → (k : ℕ)
     → is_in_use world (counts_from next k) ≡ false
-unused_count next world keeps k = by (is_in_use world (counts_from next k)) refl
+unused_count next world keeps k = by _ refl
   where
     by : (used : Bool) → is_in_use world (counts_from next k) ≡ used → used ≡ false
-    by true e = absurd (true≢false (sym (used_before next world keeps (counts_from next k) e) ∙ not_before next k))
+    by true e = cc (used_before next world keeps (counts_from next k) e, not_before next k)
     by false e = refl
 
 counts_apart : (next j k : ℕ) → counts_from next j ≡ counts_from next k → j ≡ k

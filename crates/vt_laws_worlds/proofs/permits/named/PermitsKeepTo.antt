@@ -34,15 +34,14 @@ pub left_renamed : (renaming : Renaming ℕ ℕ) (fresh : Fresh ℕ) (world : Wo
     → renamed_permit renaming.there renaming.back permit ≡ permit
     → renamed renaming.there renaming.back (left_by fresh world task permit)
     ≡ left_by (λ k. renaming.there (fresh k)) world task permit
-left_renamed renaming fresh world task permit called same alike =
-    ap (renamed renaming.there renaming.back) (sym (left_is fresh))
-    ∙ sym (commutes_nat Handed World named_handed named_world (λ A eq handed. left_called task.name eq handed) renaming
+left_renamed renaming fresh world task permit called same alike = ap (renamed _ _) (sym (left_is fresh)) ∙ sym
+    (commutes_nat Handed World named_handed named_world (λ A eq handed. left_called task.name eq handed) renaming
     (fresh, world, permit)) ∙ (λ i. left_called task.name nat_eq ((λ k. renaming.there (fresh k)), same i, alike i))
     ∙ left_is (λ k. renaming.there (fresh k))
   where
     left_is : (supply : Fresh ℕ)
         → left_called task.name nat_eq (supply, world, permit) ≡ left_by supply world task permit
-    left_is supply = ap (left_if nat_eq (supply, world, permit)) called
+    left_is supply = cc
 
 pub permits_keep_to_numbers : PermitsKeepToNumbers
 permits_keep_to_numbers named fresh world task permit called keeps supplied is renaming leaves =

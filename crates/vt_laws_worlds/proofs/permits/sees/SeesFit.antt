@@ -1,6 +1,6 @@
 -- Each change of a tree that a permit asks for is proper, and fits whoever keeps that tree alone.
-use Rattle.std.proofs.Common.{arith, eq-eqb, le-leb, leb-true, ltb-false, ne_eqb, ◌≡◌, ◌≢◌, refl, sym, ap, subst, ◌∙◌, ⊎_elim, true≢false, ℕ, zero, suc, ◌+◌, ◌*◌, nat_eq, nat_le, nat_lt, Bool, true, false, not, cond, List, [], ◌∷◌, ◌&&◌, ◌||◌, length, Option, Some, None, option_map, option_and_then}
-use Rattle.vt_spec.proofs.Common.{AddName, Allowed, Change, CopyUp, FileTree, Filesystem, Fits, Fresh, HasName, Inode, Inodes, IsDirectory, IsReached, IsTree, IsWorld, ListsNumbers, Location, Make, MayReplace, Move, Node, Permit, Remove, SetAttr, SetBytes, SetMark, Task, ToChange, ToList, ToMake, ToOpen, ToOpenNew, ToRead, ToReadPart, ToRemoveDirectory, ToRename, ToStat, ToWritePart, Tree, World, and_true_first, bytes_in, chain, chain_ends, chain_goes_on, common_steps, entry_at, evens, file_is_there, files_at, filesystem_at, has_fit_names, has_fit_text, is_among, is_directory_node, is_empty, is_fit_filesystem, is_kind_in, is_no_larger, largest_file, led, mount_at, node_at, overwritten, parent_above, parent_in, reached_named, tree_of, ⊤}
+use Rattle.std.proofs.Common.{arith, eq-eqb, le-leb, leb-true, ltb-false, ne_eqb, ◌≡◌, ◌≢◌, refl, sym, ap, subst, ◌∙◌, ⊎_elim, true≢false, ℕ, zero, suc, ◌+◌, ◌*◌, nat_eq, nat_le, nat_lt, Bool, true, false, not, List, [], ◌∷◌, ◌&&◌, length, Option, Some, None, option_map, option_and_then}
+use Rattle.vt_spec.proofs.Common.{AddName, Allowed, Change, CopyUp, FileTree, Filesystem, Fits, Fresh, Inode, Inodes, IsDirectory, IsReached, IsTree, IsWorld, ListsNumbers, Location, Make, MayReplace, Move, Node, Permit, Remove, SetAttr, SetBytes, SetMark, Task, ToChange, ToList, ToMake, ToOpen, ToOpenNew, ToRead, ToReadPart, ToRemoveDirectory, ToRename, ToStat, ToWritePart, Tree, World, and_true_first, bytes_in, chain, chain_ends, chain_goes_on, common_steps, entry_at, evens, file_is_there, files_at, filesystem_at, has_fit_names, has_fit_text, is_among, is_directory_node, is_empty, is_fit_filesystem, is_kind_in, is_no_larger, largest_file, led, mount_at, node_at, overwritten, parent_above, parent_in, reached_named, tree_of, ⊤}
 use Rattle.vt_laws_trees.specs.Calls.Inodes.{change_of, written_if_some}
 use Rattle.vt_laws_mounts.proofs.letting_go.Lists.{all_from_among, among_from_all, among_from_list_all, among_numbers}
 use Rattle.vt_laws_worlds.proofs.permits.sees.SeesNames.{tree_here}
@@ -44,8 +44,7 @@ module _ (inodes : Inodes ℕ) where
       (not_under : (names : List (List ℕ)) → led tree object names ≢ Some to) where
     apart : (directory : ℕ) (names : List (List ℕ)) → led tree directory names ≡ Some to
         → nat_eq object directory ≡ false
-    apart directory names leads =
-        ne_eqb object directory (λ same. not_under names (ap (λ d. led tree d names) same ∙ leads))
+    apart directory names leads = ne_eqb object directory (λ same. not_under names (cc))
 
     abbrev parent : ℕ → ℕ
     parent directory = parent_in directory (tree.node directory)
@@ -156,12 +155,10 @@ module _ (world : World ℕ) (fresh : Fresh ℕ) (task : Task ℕ) (permit : Per
       → FactsOf (written_if_some world file offset bytes)
   written_facts file offset [] kind short = tt
   written_facts file offset (byte ∷ bytes) kind short =
-      let small =
-      le-leb (length (overwritten offset (byte ∷ bytes) (bytes_in (node_at nat_eq world file)))) largest_file
-      (overwritten_length offset (byte ∷ bytes) (bytes_in (node_at nat_eq world file)) largest_file
-      (ltb-false largest_file (offset + length (byte ∷ bytes)) short)
+      let small = le-leb (length (overwritten offset (byte ∷ bytes) (bytes_in (node_at nat_eq world file))))
+      largest_file (overwritten_length offset _ _ _ (ltb-false largest_file (offset + length (byte ∷ bytes)) short)
       (leb-true (length (bytes_in (node_at nat_eq world file))) largest_file (bytes_small file kind))) in
-      ((tt, (file_is_no_directory (node_at nat_eq world file) kind, small)), small)
+      ((tt, (file_is_no_directory _ kind, small)), small)
 
   facts_of : (permit : Permit ℕ) → NamesWhatIsThere world task permit → SeesTo world task permit
       → FactsOf (change_of fresh world permit)
@@ -202,10 +199,9 @@ module _ (world : World ℕ) (fresh : Fresh ℕ) (task : Task ℕ) (permit : Per
 
 pub given_changes_are_proper : GivenChangesAreProper
 given_changes_are_proper world fresh task permit location change whole given asks =
-    let facts = given_facts world fresh task permit whole given location change asks in
+    let facts = given_facts world fresh task permit whole given _ change asks in
     (facts.0.0, facts.1)
 
 pub given_changes_fit : GivenChangesFit
 given_changes_fit world fresh task permit location change inodes whole given asks same = fits inodes change
-    (subst (λ tree. Facts tree change) (sym same)
-    (given_facts world fresh task permit whole given location change asks).0)
+    (subst (λ tree. Facts tree change) (sym same) (given_facts world fresh task permit whole given _ change asks).0)

@@ -32,8 +32,8 @@ tree_here world whole location is = ⊎_elim (λ tree. ⊎_elim
 -- what is replaced is of the kind of what replaces it
 pub same_kind : (old new : Bool) → (not old && new) ≡ false → (old && not new) ≡ false → new ≡ old
 same_kind true true first next = refl
-same_kind true false first next = absurd (true≢false next)
-same_kind false true first next = absurd (true≢false first)
+same_kind true false first next = cc
+same_kind false true first next = cc
 same_kind false false first next = refl
 
 module _ (world : World ℕ) (task : Task ℕ) where
@@ -63,14 +63,11 @@ module _ (world : World ℕ) (whole : IsWorld nat_eq world) (task : Task ℕ) wh
   pub made_at_new : (place : Place ℕ) (node : Node ℕ) → NewPlace world task place → is_special place.last ≡ false
       → is_some place.object ≡ false → IsNewIn place.parent.node node → is_fit_node node ≡ true
       → MayBeMade world place.parent (name_of place.last) node
-  made_at_new place node is =
-      may_be_made place node (place_is_file world place.parent place.last place.object is.0.0) is.0.1 is.1
+  made_at_new place node is = may_be_made place node (place_is_file world _ _ _ is.0.0) is.0.1 is.1
 
   -- and where the name of a file is missing
   pub made_as_file : (place : Place ℕ) (node : Node ℕ) → NewFilePlace world task place
       → (is_special place.last || place.slash) ≡ false → place.object ≡ None
       → IsNewIn place.parent.node node → is_fit_node node ≡ true
       → MayBeMade world place.parent (name_of place.last) node
-  made_as_file place node is named missing =
-      may_be_made place node is.0.0 is.0.1 is.1 (or_false_left (is_special place.last) place.slash named)
-      (ap is_some missing)
+  made_as_file place node is named missing = may_be_made place node is.0.0 is.0.1 is.1 (or_false_left _ _ named) (cc)

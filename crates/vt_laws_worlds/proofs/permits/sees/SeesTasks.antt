@@ -31,8 +31,7 @@ module _ (fresh : Fresh ℕ) (world : World ℕ) (whole : IsWorld nat_eq world) 
 
   directory_is : (path : List ℕ) (here : Here ℕ) → directory_walk nat_eq looks task path ≡ Ok here
       → is_directory_at nat_eq world here.location ≡ true
-  directory_is path here e =
-      (at_end _ (directory_walk nat_eq looks task path) here (directory_walk_end world whole task called path) e).1
+  directory_is path here e = (at_end _ _ here (directory_walk_end world whole task called path) e).1
 
   -- each way in which a call is granted
   granted_seen : (call : Call) (permit : Permit ℕ) → mounts_overlay call ≡ false

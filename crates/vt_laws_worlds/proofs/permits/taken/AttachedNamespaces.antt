@@ -28,11 +28,10 @@ put_key (mount ∷ rest) new = λ i. by (nat_eq new.number mount.number) i ∷ p
 put_keys : (mounts copies : List (Mount ℕ))
     → keys_of (folded (with_mount nat_eq) mounts copies) ≡ folded with_key (keys_of mounts) (keys_of copies)
 put_keys mounts [] = refl
-put_keys mounts (copy ∷ copies) = put_keys (with_mount nat_eq mounts copy) copies
-    ∙ ap (λ keys. folded with_key keys (keys_of copies)) (put_key mounts copy)
+put_keys mounts (copy ∷ copies) = cc (put_keys (with_mount nat_eq mounts copy) copies, put_key mounts copy)
 
 namespaces_of_keys : (mounts : List (Mount ℕ)) → namespaces_in mounts ≡ map (λ key. key.1) (keys_of mounts)
-namespaces_of_keys mounts = sym (map_twice (λ (key : ℕ × Option ℕ). key.1) key_of mounts)
+namespaces_of_keys mounts = sym (map_twice _ key_of mounts)
 
 -- The world after an attachment
 
@@ -60,9 +59,7 @@ module _ (world : World ℕ) (place : Location ℕ) (moves : Bool) (tree : List 
 
     copied : (part : Mount ℕ) → namespaces_in (copies_at nat_eq world new graft parts part)
         ≡ map (λ (mount : Mount ℕ). part.namespace) tree
-    copied part =
-        map_twice (λ (mount : Mount ℕ). mount.namespace) (copy_at nat_eq world new graft parts part) graft.twigs
-        ∙ map_twice (λ twig. part.namespace) (twig_of new (group_of destination.propagation)) tree
+    copied part = map_twice _ _ _ ∙ map_twice _ _ tree
 
     all_copied : (rest : List (Mount ℕ))
         → namespaces_in (flat_map (copies_at nat_eq world new graft parts) rest) ≡ others rest

@@ -1,5 +1,5 @@
 -- A filesystem that is added to a world changes no parts of an attachment.
-use Rattle.std.proofs.Common.{arith, ◌≡◌, ap, true≢false, ℕ, nat_eq, not, ◌&&◌, ◌∷◌, is_some}
+use Rattle.std.proofs.Common.{arith, ◌≡◌, ap, true≢false, ℕ, nat_eq, not, ◌&&◌, is_some}
 use Rattle.vt_spec.proofs.Common.{Filesystem, IsWorld, Location, Mount, World, and_parts, common_steps, filesystem_numbered, filter_alike, find-append, is_directory_under, mount_at, parts_of, receivers_of, takes_part, with_new_filesystem}
 use Rattle.vt_laws_mounts.proofs.letting_go.Lists.{Among, among_from_list_all}
 pub use Rattle.vt_laws_mounts.proofs.mounts.Receivers.{receivers_there}
@@ -15,10 +15,8 @@ module _ (world : World ℕ) (whole : IsWorld nat_eq world) (added : Filesystem 
 
   pub same_parts : (place : Location ℕ)
       → parts_of nat_eq (with_new_filesystem world added) place ≡ parts_of nat_eq world place
-  same_parts place = ap (λ rest. mount_at nat_eq world place ∷ rest)
-      (filter_alike (takes_part nat_eq larger place) (takes_part nat_eq world place)
-      (receivers_of nat_eq world (mount_at nat_eq world place)) (λ mount m.
-      ap (λ (filesystem : Filesystem ℕ). not (nat_eq place.mount mount.number) && is_some mount.namespace
-      && nat_eq (mount_at nat_eq world place).filesystem mount.filesystem
-      && is_directory_under nat_eq filesystem.files mount.root place.node)
-      (same_filesystem mount (receivers_there world (mount_at nat_eq world place) mount m))))
+  same_parts place = cc (filter_alike (takes_part nat_eq larger place) (takes_part nat_eq world place)
+      (receivers_of nat_eq world (mount_at nat_eq world place)) (λ mount m. ap
+      (λ (filesystem : Filesystem ℕ). not (nat_eq place.mount mount.number) && is_some mount.namespace && nat_eq
+      (mount_at nat_eq world place).filesystem mount.filesystem && is_directory_under nat_eq filesystem.files mount.root
+      place.node) (same_filesystem mount (receivers_there world (mount_at nat_eq world place) mount m))))

@@ -1,5 +1,5 @@
 -- What is attached at a mount that is in no peer group: only the numbers of copies are taken.
-use Rattle.std.proofs.Common.{eq-eqb, ◌≡◌, sym, ap, subst, ◌∙◌, ℕ, suc, ◌+◌, ◌*◌, ◌<◌, nat_eq, Bool, true, false, cond, not, ◌&&◌, List, [], ◌∷◌, ◌++◌, length, map, filter, filter_map, Option, Some, None, option_map, if◌then◌else◌, arith, unwrap_or}
+use Rattle.std.proofs.Common.{eq-eqb, ◌≡◌, sym, subst, ◌∙◌, ℕ, suc, ◌+◌, ◌*◌, ◌<◌, nat_eq, Bool, true, false, cond, not, ◌&&◌, List, [], ◌∷◌, ◌++◌, length, map, filter, filter_map, Option, Some, None, option_map, if◌then◌else◌, arith, unwrap_or}
 use Rattle.vt_spec.proofs.Common.{Copies, Fresh, Graft, Location, Mount, Propagation, Twig, World, added_mounts, attach, attached_at, common_steps, copies_from, copy_type, folded, group_of, image, index_from, index_in_rows, index_of, is_member_of, is_top, masters_with, mount_at, nearest_image, number-mount_in, receivers, takes_part, then_some, twig_master, twig_of, when, with_moved_mounts}
 
 -- an index in a list is less than its length
@@ -84,9 +84,10 @@ module _ (world : World ℕ) (place : Location ℕ) (mounts : List (Mount ℕ)) 
 
     pub at_destination : (fresh : Fresh ℕ) → attach nat_eq world fresh place moves mounts
         ≡ attached_alone true moves (copies_from nat_eq fresh (destination ∷ []) mounts)
-    at_destination fresh = at_one_part fresh
-        ∙ ap (λ b. attached_alone b moves (copies_from nat_eq fresh (destination ∷ []) mounts))
-        (eq-eqb destination.number place.mount (number-mount_in world.mounts place.mount))
+    at_destination fresh = cc (
+      at_one_part fresh,
+      eq-eqb destination.number place.mount (number-mount_in world.mounts place.mount),
+    )
 
   module _ (alone : group_of destination.propagation ≡ None) (fresh again : Fresh ℕ) where
     -- what moves takes no number

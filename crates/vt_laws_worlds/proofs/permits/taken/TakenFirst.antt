@@ -1,6 +1,6 @@
 -- Only the first numbers of a supply are taken.
 use Rattle.std.proofs.Common.{◌≡◌, refl, sym, ap, subst, ◌∙◌, true≢false, ℕ, zero, suc, ◌+◌, ◌*◌, ◌<◌, nat_eq, Bool, true, false, cond, List, [], ◌∷◌, length, map, filter, Option, Some, None, find, arith, unwrap_or, ◌==◌}
-use Rattle.vt_spec.proofs.Common.{Change, CopyUp, Fresh, IsWorld, Location, Make, Mount, MountFlags, Move, Namespace, Node, Overlay, Permit, Private, Propagation, Remove, SetBytes, Shared, Slave, Task, ToBind, ToChange, ToMake, ToMountOverlay, ToMountPlain, ToMove, ToOpen, ToOpenNew, ToPrivate, ToRemoveDirectory, ToRename, ToSetType, ToShared, ToSlave, ToUnbindable, ToUnshare, ToWritePart, Unbindable, World, among-from_map, among_from_list_all, among_numbers, and_parts, apply, attach, bind_tree, bytes_in, common_steps, filesystems-taken_away, group_of, has_one_root, index_of, is_copied_up, is_listed, is_root_mount, list_all, mount_in, mount_numbered, mount_tree, mounts_of, named_mounts, namespaces_ended, new_mount, new_plain, no_mount, node_at, numbers_by, odds, opened, overwritten, plain_filesystem, pwritten, retyped, settled, task_called, tree_from, with_change, with_copy, with_new_filesystem, with_new_inode, without_mounts_on, without_replaced}
+use Rattle.vt_spec.proofs.Common.{Change, CopyUp, Fresh, IsWorld, Location, Make, Mount, MountFlags, Move, Namespace, Node, Overlay, Permit, Private, Propagation, Remove, SetBytes, Shared, Slave, Task, ToBind, ToChange, ToMake, ToMountOverlay, ToMountPlain, ToMove, ToOpen, ToOpenNew, ToPrivate, ToRemoveDirectory, ToRename, ToSetType, ToShared, ToSlave, ToUnbindable, ToUnshare, ToWritePart, Unbindable, World, among-from_map, among_from_list_all, among_numbers, and_parts, apply, attach, bind_tree, bytes_in, common_steps, filesystems-taken_away, group_of, has_one_root, index_of, is_copied_up, is_listed, is_root_mount, list_all, mount_in, mount_numbered, mount_tree, mounts_of, named_mounts, namespaces_ended, new_mount, new_plain, no_mount, node_at, numbers_by, odds, opened, overwritten, plain_filesystem, pwritten, retyped, task_called, tree_from, with_change, with_copy, with_new_filesystem, with_new_inode, without_mounts_on, without_replaced}
 use Rattle.vt_laws_trees.proofs.runs.answered.PlainStays.{plain_numbered, same_plain}
 use Rattle.vt_laws_worlds.proofs.permits.taken.TakenAttached.{copied_same, index_bound, moved_same}
 use Rattle.vt_laws_worlds.specs.Permits.Named.{permit_named}
@@ -17,8 +17,8 @@ IsNoOverlay permit =
 
 -- a mount that is in no group
 no_group : (kind : Propagation ℕ) → is_ungrouped kind ≡ true → group_of kind ≡ None
-no_group (Shared group) e = absurd (true≢false (sym e))
-no_group (Slave master) e = absurd (true≢false (sym e))
+no_group (Shared group) e = cc
+no_group (Slave master) e = cc
 no_group Private e = refl
 no_group Unbindable e = refl
 
@@ -26,13 +26,13 @@ pub found_ungrouped : (mounts : List (Mount ℕ))
     → list_all (λ (mount : Mount ℕ). is_ungrouped mount.propagation) mounts ≡ true
     → (number : ℕ) → group_of (mount_in nat_eq mounts number).propagation ≡ None
 found_ungrouped [] all number = refl
-found_ungrouped (mount ∷ rest) all number = by (nat_eq number mount.number)
+found_ungrouped (mount ∷ rest) all number = by _
     (found_ungrouped rest (and_parts (is_ungrouped mount.propagation) _ all).1 number)
   where
     by : (b : Bool) → group_of (mount_in nat_eq rest number).propagation ≡ None
         → group_of (unwrap_or (cond b (Some mount) (find (λ (m : Mount ℕ). nat_eq number m.number) rest))
         (no_mount number)).propagation ≡ None
-    by true later = no_group mount.propagation (and_parts (is_ungrouped mount.propagation) _ all).0
+    by true later = no_group _ (and_parts (is_ungrouped mount.propagation) _ all).0
     by false later = later
 
 -- in a plain world a change takes no number
@@ -41,7 +41,7 @@ change_same : (world : World ℕ) → IsPlain world → (fresh again : Fresh ℕ
 change_same world plain fresh again location change = grind (arith, common_steps, plain_numbered)
 
 pub nonempty : (list : List (Mount ℕ)) → (length (filter (is_root_mount nat_eq) list) == 1) ≡ true → 0 < length list
-nonempty [] e = absurd (true≢false (sym e))
+nonempty [] e = cc
 nonempty (mount ∷ rest) e = omega arith
 
 pub tree_some : (depth : ℕ) (mounts : List (Mount ℕ)) (mount : Mount ℕ)
@@ -63,7 +63,7 @@ bind_some world source true = omega arith
 module _ (world : World ℕ) (whole : IsWorld nat_eq world) (plain : IsPlain world) (ungrouped : IsUngrouped world)
     (task : Task ℕ) (called : task_called world task.name ≡ Some task) where
   alone : (number : ℕ) → group_of (mount_numbered nat_eq world number).propagation ≡ None
-  alone = found_ungrouped world.mounts ungrouped
+  alone = found_ungrouped _ ungrouped
 
   named_some : (mount : ℕ) (recursive : Bool) → 0 < length (named_mounts nat_eq world mount recursive)
   named_some mount false = omega arith
@@ -163,6 +163,6 @@ module _ (world : World ℕ) (whole : IsWorld nat_eq world) (plain : IsPlain wor
     applied_same permit is same = refl
 
 pub only_the_first_are_taken : OnlyTheFirstAreTaken
-only_the_first_are_taken named world task permit fresh again whole plain ungrouped called is same = ap (settled nat_eq)
+only_the_first_are_taken named world task permit fresh again whole plain ungrouped called is same = cc
     (applied_same world whole plain ungrouped task called fresh again permit
     (λ place overlay flags e. true≢false (sym is ∙ ap (permit_named named) e)) same)

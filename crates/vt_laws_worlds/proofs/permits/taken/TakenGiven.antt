@@ -1,6 +1,6 @@
 -- A permit that a call is given names only numbers to which the world keeps.
 use Rattle.std.proofs.Common.{◌≡◌, refl, sym, ap, subst, ◌∙◌, ℕ, nat_eq, Bool, Option, Some, None, Ok, Err, ◌+◌, arith}
-use Rattle.vt_spec.proofs.Common.{Call, Fresh, IsWorld, Judgement, Permit, Task, TaskName, World, denial, judge_in, settled, task_called}
+use Rattle.vt_spec.proofs.Common.{Call, Fresh, IsWorld, Judgement, Permit, Task, TaskName, World, denial, judge_in, task_called}
 use Rattle.vt_laws_rules.proofs.numbers.Renamings.{Handed, named_handed}
 use Rattle.vt_laws_rules.proofs.numbers.Commuting.{Named, commutes_nat}
 use Rattle.vt_laws_worlds.proofs.permits.named.NamedPermits.{permit_itself}
@@ -47,19 +47,18 @@ same_permit one other first next e f g = cc
 pub given_permits_are_left : GivenPermitsAreLeft
 unfolding named_judgement
 given_permits_are_left named world task permit fresh whole given keeps renaming leaves =
-    same_permit (renamed_permit renaming.there renaming.back permit) permit
-    (renamed_judgement renaming.there renaming.back (judged_called task.name given.call nat_eq (fresh, world)))
-    (judge_in nat_eq (λ k. renaming.there (fresh k)) world task given.call)
-    (ap (renamed_judgement renaming.there renaming.back) (judged_is fresh ∙ given.judged))
-    (judgements_do_not_see_supplies world task given.call (λ k. renaming.there (fresh k)) fresh whole
-    given.no_overlay ∙ given.judged) (sym (commutes_nat Handed Judgement named_handed named_judgement
-    (λ A eq handed. judged_called task.name given.call eq handed) renaming (fresh, world))
-    ∙ (λ i. judged_called task.name given.call nat_eq ((λ k. renaming.there (fresh k)), keeps renaming leaves i))
-    ∙ judged_is (λ k. renaming.there (fresh k)))
+    same_permit _ permit _ _ (cc (judged_is fresh)) (cc (judgements_do_not_see_supplies world task given.call
+    (λ k. renaming.there (fresh k)) fresh whole given.no_overlay)) (sym
+    (commutes_nat Handed _ named_handed named_judgement (λ A eq handed. judged_called task.name given.call eq handed)
+    renaming (fresh, world)) ∙ (λ i. judged_called task.name given.call nat_eq (
+      (λ k. renaming.there (fresh k)),
+      keeps
+          renaming leaves i,
+    )) ∙ judged_is (λ k. renaming.there (fresh k)))
   where
     judged_is : (supply : Fresh ℕ)
         → judged_called task.name given.call nat_eq (supply, world) ≡ judge_in nat_eq supply world task given.call
-    judged_is supply = ap (judged_if nat_eq given.call (supply, world)) given.called
+    judged_is supply = cc
 
 pub no_overlay_given : (world : World ℕ) (task : Task ℕ) (permit : Permit ℕ) (fresh : Fresh ℕ) → IsWorld nat_eq world
     → IsPlain world → IsGiven fresh world task permit → IsNoOverlay permit
@@ -69,16 +68,16 @@ no_overlay_given world task permit fresh whole plain given place overlay flags e
 
 pub given_permits_keep_to_taken : GivenPermitsKeepToTaken
 given_permits_keep_to_taken before later world task permit fresh more whole plain ungrouped keeps given takes renaming
-    leaves = left_renamed renaming fresh world task permit given.called
-    (keeps renaming (λ number named. leaves number (more number named)))
-    (given_permits_are_left before world task permit fresh whole given keeps renaming
-    (λ number named. leaves number (more number named))) ∙ ap (settled nat_eq)
-    (applied_same world whole plain ungrouped task given.called (λ k. renaming.there (fresh k)) fresh permit
-    (no_overlay_given world task permit fresh whole plain given) (λ k low. leaves (fresh k) (takes k low)))
+    leaves = cc (
+      left_renamed renaming fresh world task permit given.called
+          (keeps renaming (λ number named. leaves number (more number named))) (given_permits_are_left before world task
+          permit fresh whole given keeps renaming (λ number named. leaves number (more number named))),
+      applied_same world whole plain ungrouped task given.called (λ k. renaming.there (fresh k)) fresh permit
+          (no_overlay_given world task permit fresh whole plain given) (λ k low. leaves (fresh k) (takes k low)),
+    )
 
 pub given_counts_go_on : GivenCountsGoOn
 given_counts_go_on next inode world task permit even whole plain ungrouped keeps given =
-    given_permits_keep_to_taken (is_counted_before next)
-    (is_counted_before (next + counts_taken world task permit)) world task permit (handed_to next inode permit)
-    (λ number named. counted_later next (next + counts_taken world task permit) number (omega arith) named) whole plain
-    ungrouped keeps given (taken next inode even world task permit)
+    given_permits_keep_to_taken (is_counted_before next) (is_counted_before (next + counts_taken world task permit))
+    world task permit (handed_to next inode permit) (λ number named. counted_later next _ number (omega arith) named)
+    whole plain ungrouped keeps given (taken next inode even world task permit)

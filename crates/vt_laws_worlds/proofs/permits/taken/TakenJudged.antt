@@ -1,5 +1,5 @@
 -- A judgement does not go by the numbers handed in.
-use Rattle.std.proofs.Common.{arith, ◌≡◌, refl, sym, ap, ◌∙◌, true≢false, ℕ, nat_eq, nat_lt, Bool, true, false, List, [], ◌∷◌, length, map, filter, Ok}
+use Rattle.std.proofs.Common.{arith, ◌≡◌, refl, sym, ◌∙◌, true≢false, ℕ, nat_eq, nat_lt, Bool, true, false, List, [], ◌∷◌, length, map, filter, Ok}
 use Rattle.vt_spec.proofs.Common.{Call, Copies, Fresh, IsWorld, Location, Looks, Mount, MountFlags, Namespace, Task, ToBind, ToMountPlain, ToMove, World, admin_rules, and_then, apply, bind_permit, bind_rules, bind_tree, common_steps, copies_from, destination_walk, has_too_many, holds_of, judge_in, length-map, list_any, looks_of, most_mounts, mount_at, mount_numbered, mount_plain_permit, mount_tree, move_permit, move_rules, new_mount, new_mount_rules, odds, overfills, parts_of, plain_filesystem, rest_of, source_walk, unless, walk_end, with_new_filesystem}
 use Rattle.vt_laws_mounts.proofs.letting_go.Lists.{filter-map}
 use Rattle.vt_laws_worlds.proofs.permits.taken.AttachedNamespaces.{attached_namespaces, namespaces_after, namespaces_in}
@@ -11,10 +11,11 @@ use Rattle.vt_laws_trees.specs.Trees.Calls.{mounts_overlay}
 count_by : (mounts : List (Mount ℕ)) (number : ℕ)
     → length (filter (λ (mount : Mount ℕ). holds_of (nat_eq number) mount.namespace) mounts)
     ≡ length (filter (holds_of (nat_eq number)) (map (λ (mount : Mount ℕ). mount.namespace) mounts))
-count_by mounts number = sym (length-map (filter (λ (mount : Mount ℕ). holds_of (nat_eq number) mount.namespace) mounts)
-    (λ (mount : Mount ℕ). mount.namespace))
-    ∙ ap length (sym (filter-map (holds_of (nat_eq number)) (λ (mount : Mount ℕ). mount.namespace) mounts
-    (λ mount. refl)))
+count_by mounts number = cc (
+  length-map (filter (λ (mount : Mount ℕ). holds_of (nat_eq number) mount.namespace) mounts)
+      (λ (mount : Mount ℕ). mount.namespace),
+  filter-map (holds_of (nat_eq number)) (λ (mount : Mount ℕ). mount.namespace) mounts (λ mount. refl),
+)
 
 many_alike : (one other : World ℕ) → one.namespaces ≡ other.namespaces
     → map (λ (mount : Mount ℕ). mount.namespace) one.mounts ≡ map (λ (mount : Mount ℕ). mount.namespace) other.mounts
@@ -42,9 +43,11 @@ module _ (world : World ℕ) (whole : IsWorld nat_eq world) (task : Task ℕ) (f
       let added = plain_filesystem nat_eq supply in
       let larger = with_new_filesystem world added in
       let tree = new_mount (supply 0) (supply 2) flags ∷ [] in
-      attached_namespaces larger place false tree (copies_from nat_eq (odds supply) (parts_of nat_eq larger place) tree)
-      ∙ ap (λ parts. namespaces_after false world.mounts (mount_at nat_eq world place) (rest_of parts) tree)
-      (same_parts world whole added place)
+      cc (
+        attached_namespaces larger place false tree (copies_from nat_eq (odds supply) (parts_of nat_eq larger place)
+            tree),
+        same_parts world whole added place,
+      )
 
   mount_many : (place : Location ℕ) (flags : MountFlags) → overfills nat_eq fresh world task (ToMountPlain place flags)
       ≡ overfills nat_eq again world task (ToMountPlain place flags)

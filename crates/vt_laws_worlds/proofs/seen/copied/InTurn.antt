@@ -1,11 +1,11 @@
 -- Copies that are planned, and made one in the other.
-use Rattle.std.proofs.Common.{◌≡◌, refl, sym, ap, subst, ◌∙◌, true≢false, arith, ℕ, zero, suc, nat_eq, true, List, [], ◌∷◌, ◌++◌, map, length, append_assoc, Option, Some, None, is_some, unwrap_or, append-nil}
-use Rattle.vt_spec.proofs.Common.{Fresh, Make, Merge, Node, SameObject, Stack, changed, entry_at, found, map-append, none_is_some, number_at_path, then_some}
+use Rattle.std.proofs.Common.{◌≡◌, refl, sym, ap, subst, ◌∙◌, arith, ℕ, zero, suc, true, List, [], ◌∷◌, ◌++◌, map, length, append_assoc, Option, Some, None, is_some, unwrap_or, append-nil}
+use Rattle.vt_spec.proofs.Common.{Fresh, Merge, Node, SameObject, Stack, entry_at, found, map-append, number_at_path, then_some}
 use Rattle.vt_laws_trees.proofs.layers.layers.ShownDirectories.{last_of}
 use Rattle.vt_laws_trees.proofs.layers.layers.ShownNames.{last_name}
 use Rattle.vt_laws_trees.proofs.layers.layers.ShownPaths.{length_longer, not_empty}
 use Rattle.vt_laws_trees.specs.Overlays.WhatIsShown.{IsWhole}
-use Rattle.vt_laws_worlds.specs.Merging.UpperChanges.{AreNew, copied_to, copy_node, led_above, node_seen}
+use Rattle.vt_laws_worlds.specs.Merging.UpperChanges.{AreNew, copied_to, led_above, node_seen}
 use Rattle.vt_laws_worlds.proofs.merging.upper.Copying.{none_copied}
 use Rattle.vt_laws_worlds.proofs.merging.upper.Places.{path_there}
 use Rattle.vt_laws_worlds.specs.Seen.CopySteps.{ArePlanned, CopiesAreMadeInTurn, Copy, PathsHaveTheirCopies, made_in_turn}
@@ -18,9 +18,8 @@ names_of copies = map (λ (copy : Copy). copy.name) copies
 module _ (stack : Stack ℕ) (merge : Merge ℕ) (whole : IsWhole stack merge) where
   seen_leads : (path : List (List ℕ)) (node : Node ℕ) → node_seen stack merge.upper path ≡ Some node
       → (object : ℕ) × (number_at_path merge.files path ≡ Some object)
-  seen_leads path node e = by (number_at_path merge.files path) refl
-      (subst (SameObject (then_some (number_at_path merge.files path) merge.files.tree.node)) e
-      (whole.shown.shows path))
+  seen_leads path node e = by _ refl (subst (SameObject (then_some (number_at_path merge.files path)
+      merge.files.tree.node)) e (whole.shown.shows path))
     where
       by : (o : Option ℕ) → number_at_path merge.files path ≡ o
           → SameObject (then_some o merge.files.tree.node) (Some node)
@@ -39,8 +38,7 @@ module _ (stack : Stack ℕ) (merge : Merge ℕ) (whole : IsWhole stack merge) w
   -- and what is there is shown
   leads_seen : (path : List (List ℕ)) (object : ℕ) → number_at_path merge.files path ≡ Some object
       → (node : Node ℕ) × (node_seen stack merge.upper path ≡ Some node)
-  leads_seen path object e = by (merge.files.tree.node object) (path_there stack merge whole path object e)
-      (node_seen stack merge.upper path) refl
+  leads_seen path object e = by _ (path_there stack merge whole path object e) _ refl
       (subst (λ o. SameObject (then_some o merge.files.tree.node) (node_seen stack merge.upper path)) e
       (whole.shown.shows path))
     where
@@ -48,7 +46,7 @@ module _ (stack : Stack ℕ) (merge : Merge ℕ) (whole : IsWhole stack merge) w
           → node_seen stack merge.upper path ≡ there → SameObject here (node_seen stack merge.upper path)
           → (node : Node ℕ) × (node_seen stack merge.upper path ≡ Some node)
       by here some (Some node) s same = (node, s)
-      by None some None s same = absurd (true≢false (sym some))
+      by None some None s same = cc
       by (Some node) some None s same = absurd (subst (SameObject (Some node)) s same)
 
 module _ (fresh : Fresh ℕ) (stack : Stack ℕ) (merge : Merge ℕ) (whole : IsWhole stack merge)
@@ -57,17 +55,17 @@ module _ (fresh : Fresh ℕ) (stack : Stack ℕ) (merge : Merge ℕ) (whole : Is
       → above ≡ unwrap_or (led_above stack merge.upper path) (fresh (length path))
       → ArePlanned fresh stack merge.upper path copies → copied_to fresh stack merge.upper (path ++ names_of copies)
       ≡ made_in_turn (copied_to fresh stack merge.upper path) above copies
-  in_turn path above [] is planned = ap (copied_to fresh stack merge.upper) (append-nil path)
+  in_turn path above [] is planned = cc (append-nil path)
   in_turn path above (copy ∷ rest) is planned =
-      let leads = seen_leads stack merge whole (path ++ copy.name ∷ []) copy.node planned.1 in
-      let parent = before_leads stack merge whole path copy.name leads.0 leads.1 in
-      ap (copied_to fresh stack merge.upper) (sym (append_assoc path (copy.name ∷ []) (names_of rest)))
-      ∙ in_turn (path ++ copy.name ∷ []) copy.number rest
-      (planned.2 ∙ sym (ap (λ o. unwrap_or o (fresh (length (path ++ copy.name ∷ [])))) planned.0)) planned.3
-      ∙ ap (λ files. made_in_turn files copy.number rest)
-      (step_by_step fresh stack merge whole new path copy.name parent.0 above copy.node parent.1 planned.0 planned.1 is
-      ∙ ap (λ n. changed nat_eq (copied_to fresh stack merge.upper path)
-      (Make above copy.name n (copy_node above copy.node))) (sym planned.2))
+      let leads = seen_leads stack merge whole _ _ planned.1 in
+      let parent = before_leads stack merge whole path _ _ leads.1 in
+      cc (
+        append_assoc path (copy.name ∷ []) (names_of rest),
+        in_turn (path ++ copy.name ∷ []) copy.number rest
+            (planned.2 ∙ sym (ap (λ o. unwrap_or o (fresh (length (path ++ copy.name ∷ [])))) planned.0)) planned.3,
+        step_by_step fresh stack merge whole new path copy.name parent.0 above copy.node parent.1 planned.0
+            planned.1 is,
+      )
 
   -- a plan may go on by one name
   one_more : (path : List (List ℕ)) (copies : List Copy) (copy : Copy) (to : List (List ℕ))
@@ -100,22 +98,23 @@ module _ (fresh : Fresh ℕ) (stack : Stack ℕ) (merge : Merge ℕ) (whole : Is
     missing : (above : List (List ℕ)) (name : List ℕ) → above ++ name ∷ [] ≡ path
         → led_above stack merge.upper path ≡ None → Plan path
     missing above name same none =
-        let leads = before_leads stack merge whole above name object (ap (number_at_path merge.files) same ∙ e) in
-        let plan = before above leads.0 (sym (length_longer above name) ∙ ap length same) leads.1 in
+        let leads = before_leads stack merge whole above name object (cc) in
+        let plan = before above leads.0 (cc (length_longer above name)) leads.1 in
         let node = leads_seen stack merge whole path object e in
         let copy : Copy = record { name = name; node = node.0; number = fresh (length path) } in
         record {
           prefix = plan.prefix;
           above = plan.above;
           copies = plan.copies ++ copy ∷ [];
-          whole_path = ap (λ l. plan.prefix ++ l) (map-append (λ (c : Copy). c.name) plan.copies (copy ∷ []))
-              ∙ sym (append_assoc plan.prefix (names_of plan.copies) (name ∷ []))
-              ∙ ap (λ l. l ++ name ∷ []) plan.whole_path ∙ same;
+          whole_path = cc (
+            map-append (λ (c : Copy). c.name) plan.copies (copy ∷ []),
+            append_assoc plan.prefix (names_of plan.copies) (name ∷ []),
+          );
           has = plan.has;
-          planned = one_more plan.prefix plan.copies copy above plan.whole_path plan.planned (
-            ap (led_above stack merge.upper) same ∙ none,
-            ap (node_seen stack merge.upper) same ∙ node.1,
-            ap (λ p. fresh (length p)) (sym same),
+          planned = one_more _ _ copy above plan.whole_path plan.planned (
+            cc,
+            cc,
+            cc,
             tt,
           );
         }
@@ -129,10 +128,10 @@ module _ (fresh : Fresh ℕ) (stack : Stack ℕ) (merge : Merge ℕ) (whole : Is
       has = l;
       planned = tt;
     }
-    built None l [] w = none_is_some stack.directory (sym l ∙ ap (led_above stack merge.upper) w)
+    built None l [] w = cc
     built None l (word ∷ way) w =
-        let last = last_of (word ∷ way) (not_empty word way) in
-        missing last.0 last.1 (last.2 ∙ sym w) l
+        let last = last_of _ (not_empty word way) in
+        missing last.0 last.1 (cc) l
 
   plan : (steps : ℕ) (path : List (List ℕ)) (object : ℕ) → length path ≡ steps
       → number_at_path merge.files path ≡ Some object → Plan path
@@ -144,12 +143,13 @@ module _ (fresh : Fresh ℕ) (stack : Stack ℕ) (merge : Merge ℕ) (whole : Is
       (led_above stack merge.upper path) refl path refl
 
 pub copies_in_turn : CopiesAreMadeInTurn
-copies_in_turn fresh stack merge whole new path above copies led planned =
-    in_turn fresh stack merge whole new path above copies
-    (sym (ap (λ o. unwrap_or o (fresh (length path))) led)) planned ∙ ap (λ files. made_in_turn files above copies)
-    (none_copied fresh stack merge.upper (length path) path refl (ap is_some led))
+copies_in_turn fresh stack merge whole new path above copies led planned = cc (
+  in_turn fresh stack merge whole new path above copies (sym (ap (λ o. unwrap_or o (fresh (length path))) led))
+      planned,
+  none_copied fresh stack merge.upper (length path) path refl (ap is_some led),
+)
 
 pub paths_have_their_copies : PathsHaveTheirCopies
 paths_have_their_copies fresh stack merge whole new path object e =
-    let is = plan fresh stack merge whole new (length path) path object refl e in
+    let is = plan fresh stack merge whole new _ path object refl e in
     (is.prefix, is.above, is.copies, is.whole_path, is.has, is.planned)

@@ -1,7 +1,7 @@
 -- Copies one prefix at a time.
-use Rattle.std.proofs.Common.{arith, ◌≡◌, ◌≢◌, refl, sym, ap, subst, ◌∙◌, ℕ, nat_eq, List, [], ◌∷◌, ◌++◌, length, Option, Some, None, is_some, unwrap_or, option_map, append-nil}
+use Rattle.std.proofs.Common.{arith, ◌≡◌, ◌≢◌, refl, sym, ap, subst, ◌∙◌, ℕ, nat_eq, List, [], ◌∷◌, ◌++◌, length, Option, Some, None, unwrap_or, option_map, append-nil}
 use Rattle.vt_laws_trees.proofs.layers.layers.ShownPaths.{last_of_longer}
-use Rattle.vt_spec.proofs.Common.{FileTree, Fresh, Make, Merge, Node, SameObject, Stack, changed, common_steps, copied_up, none_is_some, number_at_path, rest_of, same_Some, then_some}
+use Rattle.vt_spec.proofs.Common.{FileTree, Fresh, Make, Merge, Node, SameObject, Stack, changed, common_steps, copied_up, none_is_some, number_at_path, same_Some, then_some}
 use Rattle.vt_laws_trees.proofs.layers.layers.UpperShown.{without_last_of_longer}
 use Rattle.vt_laws_trees.proofs.overlays.steps.WholeLines.{object_copied}
 use Rattle.vt_laws_worlds.specs.Merging.UpperChanges.{copied_to, copy_node, copy_over, node_seen, object_above}
@@ -20,7 +20,7 @@ copied_alike parent (Some node) None b s t = absurd s
 copied_alike parent (Some node) (Some a) None s t = absurd t
 copied_alike parent (Some node) (Some a) (Some b) s t =
     let attr = sym s.0 ∙ t.0 in
-    let content = sym (same_copied parent node.content a.content s.1) ∙ same_copied parent node.content b.content t.1 in
+    let content = sym (same_copied parent _ _ s.1) ∙ same_copied parent _ _ t.1 in
     (λ i. Some (record { attr = attr i; content = content i }))
 
 pub shows_the_same : CopiesShowTheSame
@@ -39,7 +39,7 @@ shows_the_same fresh stack merge whole new path other object parent leads =
 -- a path does not lead on to one before it
 longer : (front rest : List (List ℕ)) (name : List ℕ) → (front ++ name ∷ []) ++ rest ≢ front
 longer [] rest name e = absurd cc
-longer (word ∷ front) rest name e = longer front rest name (ap rest_of e)
+longer (word ∷ front) rest name e = longer front rest name (cc)
 
 module _ (fresh : Fresh ℕ) (stack : Stack ℕ) (merge : Merge ℕ) (front : List (List ℕ)) (name : List ℕ)
     (above : ℕ) (node : Node ℕ) where
@@ -56,12 +56,12 @@ module _ (fresh : Fresh ℕ) (stack : Stack ℕ) (merge : Merge ℕ) (front : Li
 
 pub step_by_step : CopiesGoStepByStep
 step_by_step fresh stack merge whole new front name parent above node leads none seen is =
-    let lead = prefixes_lead_to_copies fresh stack merge whole new front (ap is_some leads) in
-    copied_longer fresh stack merge.upper front name
-    ∙ ap (λ led. copy_over fresh stack (copied_to fresh stack merge.upper front) (front ++ name ∷ []) led
-    (node_seen stack (copied_to fresh stack merge.upper front) (front ++ name ∷ [])))
-    (lead.1 (front ++ name ∷ []) (λ rest. longer front rest name) ∙ none) ∙ over fresh stack merge front name above node
-    (node_seen stack (copied_to fresh stack merge.upper front) (front ++ name ∷ []))
-    (ap (λ led. unwrap_or led 0) (lead.0 front [] (append-nil front)) ∙ sym is)
-    (shows_the_same fresh stack merge whole new front (front ++ name ∷ []) parent above leads
-    ∙ ap (option_map (copy_node above)) seen)
+    let lead = prefixes_lead_to_copies fresh stack merge whole new front (cc) in
+    cc (
+      copied_longer fresh stack merge.upper front name,
+      lead.1 (front ++ name ∷ []) (λ rest. longer front rest name),
+      over fresh stack merge front name above node (node_seen stack (copied_to fresh stack merge.upper front)
+          (front ++ name ∷ [])) (ap (λ led. unwrap_or led 0) (lead.0 front [] (append-nil front)) ∙ sym is)
+          (shows_the_same fresh stack merge whole new front (front ++ name ∷ []) parent above leads ∙ ap
+          (option_map (copy_node above)) seen),
+    )

@@ -24,9 +24,11 @@ module _ (gone : ℕ → Bool) (f : Filesystem ℕ) (tree : IsFileTree f.files) 
   stays = filter (λ k. not (gone k)) f.files.numbers
 
   among_stays : (k : ℕ) → is_among nat_eq k stays ≡ (not (gone k) && is_some (f.files.tree.node k))
-  among_stays k = any-filter_same (nat_eq k) (λ m. not (gone m)) (not (gone k))
-      (λ m same. ap (λ n. not (gone n)) (sym (eqb-true k m same))) f.files.numbers
-      ∙ ap (λ b. not (gone k) && b) (tree.numbers k)
+  among_stays k = cc (
+    any-filter_same (nat_eq k) (λ m. not (gone m)) (not (gone k))
+        (λ m same. ap (λ n. not (gone n)) (sym (eqb-true k m same))) f.files.numbers,
+    tree.numbers k,
+  )
 
   holds : HoldsTree stays f.files
   holds = record {

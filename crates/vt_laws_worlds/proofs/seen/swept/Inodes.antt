@@ -1,6 +1,6 @@
 -- An inode that nothing uses may go before the sweep.
-use Rattle.std.proofs.Common.{◌≡◌, refl, sym, ap, ◌∙◌, true≢false, ℕ, nat_eq, eqb-true, Bool, true, false, cond, not, ◌||◌, ◌&&◌, All}
-use Rattle.vt_spec.proofs.Common.{All-filter, Filesystem, World, and_parts, filesystem_lives, has_layer_on, is_mounted, is_overlay, list_any, map_alike, not-true, objects_of_overlay, settled, without_dead_filesystems, without_dead_groups, without_dead_inodes, without_dead_mounts}
+use Rattle.std.proofs.Common.{◌≡◌, refl, sym, ap, ◌∙◌, ℕ, nat_eq, eqb-true, Bool, true, false, cond, not, ◌&&◌, All}
+use Rattle.vt_spec.proofs.Common.{All-filter, Filesystem, World, and_parts, filesystem_lives, has_layer_on, is_mounted, is_overlay, map_alike, not-true, objects_of_overlay, settled, without_dead_filesystems, without_dead_groups, without_dead_inodes, without_dead_mounts}
 use Rattle.vt_laws_mounts.specs.LettingGo.InUse.{HasTrees, IsListedTree, UppersArePlain, has_upper_in, is_inode_used}
 use Rattle.vt_laws_mounts.specs.LettingGo.OneByOne.{Inode}
 use Rattle.vt_laws_mounts.specs.LettingGo.Overlays.{RealsAreThere, let_go_in, without_inode_of}
@@ -19,8 +19,7 @@ module _ (chosen : Filesystem ℕ → Bool) (world : World ℕ) (inode : Inode) 
   went f k = goes f && nat_eq k inode.1
 
   pub let_go_is_less : let_go_in chosen world inode ≡ with_less went world
-  let_go_is_less = ap (λ filesystems. record world { filesystems = filesystems })
-      (map_alike _ (less went) world.filesystems (λ f m. by f (goes f)))
+  let_go_is_less = cc (map_alike _ (less went) world.filesystems (λ f m. by f (goes f)))
     where
       by : (f : Filesystem ℕ) (b : Bool)
           → cond b (without_inode_of inode.1 f) f ≡ without_all (λ k. b && nat_eq k inode.1) f
@@ -33,7 +32,7 @@ module _ (chosen : Filesystem ℕ → Bool) (world : World ℕ) (inode : Inode) 
       let parts = and_parts (goes f) (nat_eq k inode.1) e in
       let unused = not-true (is_inode_used world f inode.1)
       (and_parts (chosen f && nat_eq f.number inode.0) (not (is_inode_used world f inode.1)) parts.0).1 in
-      ap (is_inode_used world f) (eqb-true k inode.1 parts.1) ∙ unused
+      cc (eqb-true k inode.1 parts.1)
 
   abbrev living : World ℕ → World ℕ
   living w = without_dead_filesystems nat_eq (without_dead_mounts nat_eq w)
@@ -45,20 +44,17 @@ module _ (chosen : Filesystem ℕ → Bool) (world : World ℕ) (inode : Inode) 
   layered on merged = has_layer_on nat_eq on merged && is_mounted nat_eq mounted merged.number
 
   has_layer_less : (on : ℕ) (g : Filesystem ℕ) → has_layer_on nat_eq on (less went g) ≡ has_layer_on nat_eq on g
-  has_layer_less on g = layers_on world on (less went g)
-      ∙ ap (list_any (λ layer. nat_eq on layer.filesystem)) (layers_without (went g) g) ∙ sym (layers_on world on g)
+  has_layer_less on g = cc (layers_on world on (less went g), layers_without (went g) g, layers_on world on g)
 
   -- the same filesystems live
   same_lives : (f : Filesystem ℕ) → filesystem_lives nat_eq (with_less went mounted) (less went f)
       ≡ filesystem_lives nat_eq mounted f
-  same_lives f = ap (λ b. is_mounted nat_eq mounted f.number || b)
-      (any-map (layered f.number) {q = layered f.number} (less went) world.filesystems
+  same_lives f = cc (any-map (layered f.number) {q = layered f.number} (less went) world.filesystems
       (λ g. ap (λ b. b && is_mounted nat_eq mounted g.number) (has_layer_less f.number g)))
 
   living_less : living (with_less went world) ≡ with_less went (living world)
-  living_less = ap (λ filesystems. record mounted { filesystems = filesystems })
-      (filter-map (filesystem_lives nat_eq (with_less went mounted)) {q = filesystem_lives nat_eq mounted} (less went)
-      world.filesystems same_lives)
+  living_less = cc (filter-map (filesystem_lives nat_eq (with_less went mounted)) {q = filesystem_lives nat_eq mounted}
+      (less went) world.filesystems same_lives)
 
   module _ (trees : HasTrees world) (uppers : UppersArePlain world) (reals : RealsAreThere world)
       (stay : LocationsStay world) where
@@ -75,11 +71,11 @@ module _ (chosen : Filesystem ℕ → Bool) (world : World ℕ) (inode : Inode) 
 
     unused : (f : Filesystem ℕ) → Among f (living world).filesystems → (k : ℕ) → went f k ≡ true
         → is_inode_used (living world) f k ≡ false
-    unused f m k e = by (is_inode_used (living world) f k) refl
+    unused f m k e = by _ refl
       where
         by : (b : Bool) → is_inode_used (living world) f k ≡ b → is_inode_used (living world) f k ≡ false
         by false h = h
-        by true h = absurd (true≢false (sym (used_before f k h) ∙ went_unused f k e))
+        by true h = cc (used_before f k h, went_unused f k e)
 
     pub swept_before : settled nat_eq (let_go_in chosen world inode) ≡ settled nat_eq world
     swept_before = ap (settled nat_eq) let_go_is_less

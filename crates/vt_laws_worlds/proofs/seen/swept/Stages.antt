@@ -1,5 +1,5 @@
 -- Inodes that nothing uses may go before the sweep of inodes.
-use Rattle.std.proofs.Common.{arith, ◌≡◌, refl, sym, ap, subst, ◌∙◌, ⊎_elim, true≢false, ℕ, nat_eq, Bool, true, false, not, ◌||◌, ◌&&◌, List, [], map, filter, flat_map, ◌++◌, ◌∷◌, All}
+use Rattle.std.proofs.Common.{arith, ◌≡◌, refl, sym, ap, subst, ◌∙◌, ⊎_elim, ℕ, nat_eq, Bool, true, false, not, ◌||◌, ◌&&◌, List, [], map, flat_map, ◌++◌, ◌∷◌, All}
 use Rattle.vt_spec.proofs.Common.{Filesystem, World, cases_Bool, common_steps, is_among, is_overlay, layers_in, layers_of, located_in, map_alike, map_twice, named_in, not-true, objects_of_overlay, of_overlay, only_used, only_used_of, used_in, without_dead_in, without_dead_inodes}
 use Rattle.vt_laws_mounts.proofs.letting_go.sweeps.WithOverlays.{upper_without, overlay_without}
 use Rattle.vt_laws_mounts.specs.LettingGo.InUse.{HasTrees, IsListedTree, UppersArePlain, has_upper_in, is_inode_used}
@@ -65,9 +65,8 @@ module _ (went : Filesystem ℕ → ℕ → Bool) (world : World ℕ) (f : Files
   used_alike : used_in nat_eq (with_less went world) (less went f) ≡ used
   used_alike =
       let layers : layers_in nat_eq (with_less went world) f.number ≡ layers_in nat_eq world f.number =
-      ap (λ layers. map (λ layer. layer.directory) (filter (λ layer. nat_eq f.number layer.filesystem) layers))
-      (flat_map-map (less went) (of_overlay [] layers_of) world.filesystems (λ g. layers_without (went g) g)) in
-      let named = named_without (went f) f (λ k e. unused_are_empty world f tree k (unused k e)) in
+      cc (flat_map-map (less went) (of_overlay [] layers_of) world.filesystems (λ g. layers_without (went g) g)) in
+      let named = named_without _ f (λ k e. unused_are_empty world f tree k (unused k e)) in
       λ i. f.files.tree.root ∷ (named i ++ located_in nat_eq world f.number ++ layers i ++ objects i)
 
   pub swept_alike : only_used_of nat_eq (used_in nat_eq (with_less went world) (less went f)) (less went f)
@@ -109,9 +108,11 @@ module _ (went : Filesystem ℕ → ℕ → Bool) (world : World ℕ) (trees : H
   no_objects_left : (f : Filesystem ℕ) → Among f world.filesystems → is_overlay f ≡ true
       → flat_map (objects_of_overlay nat_eq f.number) left.filesystems ≡ []
   no_objects_left f m is = flat_map_none (objects_of_overlay nat_eq f.number) (map (less went) world.filesystems)
-      (λ x n. let from = among-from_map (less went) world.filesystems x n in
-      no_upper_objects world f.number x (ap (has_upper_in f.number) from.2
-      ∙ upper_without f.number (went from.0) from.0 ∙ no_upper_in f m is from.0 from.1))
+      (λ x n. let from = among-from_map _ _ x n in
+      no_upper_objects world f.number x (cc (
+        upper_without f.number (went from.0) from.0,
+        no_upper_in f m is from.0 from.1,
+      )))
 
   -- then inodes of plain trees are still to go
   abbrev plain_went : Filesystem ℕ → ℕ → Bool
@@ -127,33 +128,36 @@ module _ (went : Filesystem ℕ → ℕ → Bool) (world : World ℕ) (trees : H
   overlay_first f = grind (arith, common_steps, overlay-left)
 
   plain_first : (f : Filesystem ℕ) → is_overlay f ≡ false → first f ≡ f
-  plain_first f isnt = ap (λ b. only_used nat_eq world b f) isnt
+  plain_first f isnt = cc
 
   first_alike : (f : Filesystem ℕ) → Among f world.filesystems
       → only_used nat_eq left (is_overlay (less went f)) (less went f) ≡ less plain_went (first f)
-  first_alike f m = ap (λ b. only_used nat_eq left b (less went f)) (overlay_without (went f) f) ∙ ⊎_elim
-      (λ is. ap (λ b. only_used nat_eq left b (less went f)) is
-      ∙ swept_alike went world f (tree_of f m) (reals_of f m) (unused f m)
-      (no_objects_left f m is ∙ sym (no_objects_in f m is)) ∙ sym (ap (λ b. only_used nat_eq world b f) is)
-      ∙ sym (stays_whole (first f) (overlay_first f ∙ is)))
-      (λ isnt. ap (λ b. only_used nat_eq left b (less went f)) isnt
-      ∙ sym (ap (λ b. without_all (λ k. not b && went f k) f) isnt) ∙ sym (ap (less plain_went) (plain_first f isnt)))
-      (cases_Bool (is_overlay f))
+  first_alike f m = cc (
+    overlay_without (went f) f,
+    ⊎_elim (λ is. ap (λ b. only_used nat_eq left b (less went f)) is
+        ∙ swept_alike went world f (tree_of f m) (reals_of f m) (unused f m)
+        (no_objects_left f m is ∙ sym (no_objects_in f m is)) ∙ sym (ap (λ b. only_used nat_eq world b f) is) ∙ sym
+        (stays_whole (first f) (overlay_first f ∙ is))) (λ isnt. ap (λ b. only_used nat_eq left b (less went f)) isnt
+        ∙ sym (ap (λ b. without_all (λ k. not b && went f k) f) isnt) ∙ sym (ap (less plain_went) (plain_first f isnt)))
+        (cases_Bool (is_overlay f)),
+  )
 
   abbrev second_world : World ℕ
   second_world = without_dead_in nat_eq is_overlay world
 
   stage_one : without_dead_in nat_eq is_overlay left ≡ with_less plain_went second_world
-  stage_one = ap (λ filesystems. record world { filesystems = filesystems })
-      (map_twice (λ f. only_used nat_eq left (is_overlay f) f) (less went) world.filesystems
-      ∙ map_alike (λ f. only_used nat_eq left (is_overlay (less went f)) (less went f)) (λ f. less plain_went (first f))
-      world.filesystems first_alike ∙ sym (map_twice (less plain_went) first world.filesystems))
+  stage_one = cc (
+    map_twice (λ f. only_used nat_eq left (is_overlay f) f) (less went) world.filesystems,
+    map_alike (λ f. only_used nat_eq left (is_overlay (less went f)) (less went f)) (λ f. less plain_went (first f))
+        world.filesystems first_alike,
+    map_twice (less plain_went) first world.filesystems,
+  )
 
   -- a plain tree that is there then was there before
   was_there : (g : Filesystem ℕ) → Among g second_world.filesystems → is_overlay g ≡ false → Among g world.filesystems
   was_there g m isnt =
-      let from = among-from_map first world.filesystems g m in
-      let same = from.2 ∙ plain_first from.0 (sym (overlay_first from.0) ∙ sym (ap is_overlay from.2) ∙ isnt) in
+      let from = among-from_map first _ g m in
+      let same = from.2 ∙ plain_first from.0 (cc (overlay_first from.0)) in
       subst (λ f. Among f world.filesystems) (sym same) from.1
 
   object_before : (number object : ℕ) (f : Filesystem ℕ) → Among f world.filesystems
@@ -178,12 +182,11 @@ module _ (went : Filesystem ℕ → ℕ → Bool) (world : World ℕ) (trees : H
 
   plain_unused : (g : Filesystem ℕ) → Among g second_world.filesystems → is_overlay g ≡ false → (k : ℕ)
       → plain_went g k ≡ true → is_inode_used second_world g k ≡ false
-  plain_unused g m isnt k e = by (is_inode_used second_world g k) refl
+  plain_unused g m isnt k e = by _ refl
     where
       by : (b : Bool) → is_inode_used second_world g k ≡ b → is_inode_used second_world g k ≡ false
       by false f = f
-      by true f = absurd (true≢false (sym (used_before g k f)
-          ∙ unused g (was_there g m isnt) k (sym (ap (λ b. not b && went g k) isnt) ∙ e)))
+      by true f = cc (used_before g k f, unused g (was_there g m isnt) k (sym (ap (λ b. not b && went g k) isnt) ∙ e))
 
   objects_second : (number : ℕ)
       → flat_map (objects_of_overlay nat_eq number) (with_less plain_went second_world).filesystems
@@ -196,14 +199,15 @@ module _ (went : Filesystem ℕ → ℕ → Bool) (world : World ℕ) (trees : H
   second_alike : (g : Filesystem ℕ) → Among g second_world.filesystems
       → only_used nat_eq (with_less plain_went second_world) (not (is_overlay (less plain_went g))) (less plain_went g)
       ≡ only_used nat_eq second_world (not (is_overlay g)) g
-  second_alike g m = ap (λ b. only_used nat_eq (with_less plain_went second_world) (not b) (less plain_went g))
-      (overlay_without (plain_went g) g) ∙ ⊎_elim
-      (λ is. ap (λ b. only_used nat_eq (with_less plain_went second_world) (not b) (less plain_went g)) is
-      ∙ stays_whole g is ∙ sym (ap (λ b. only_used nat_eq second_world (not b) g) is))
-      (λ isnt. ap (λ b. only_used nat_eq (with_less plain_went second_world) (not b) (less plain_went g)) isnt
-      ∙ swept_alike plain_went second_world g (tree_of g (was_there g m isnt)) (reals_of g (was_there g m isnt))
-      (plain_unused g m isnt) (objects_second g.number) ∙ sym (ap (λ b. only_used nat_eq second_world (not b) g) isnt))
-      (cases_Bool (is_overlay g))
+  second_alike g m = cc (
+    overlay_without (plain_went g) g,
+    ⊎_elim (λ is. ap (λ b. only_used nat_eq (with_less plain_went second_world) (not b) (less plain_went g)) is
+        ∙ stays_whole g is ∙ sym (ap (λ b. only_used nat_eq second_world (not b) g) is))
+        (λ isnt. ap (λ b. only_used nat_eq (with_less plain_went second_world) (not b) (less plain_went g)) isnt
+        ∙ swept_alike plain_went second_world g (tree_of g (was_there g m isnt)) (reals_of g (was_there g m isnt))
+        (plain_unused g m isnt) (objects_second g.number) ∙ sym (ap (λ b. only_used nat_eq second_world (not b) g)
+        isnt)) (cases_Bool (is_overlay g)),
+  )
 
   pub inodes_before : without_dead_inodes nat_eq left ≡ without_dead_inodes nat_eq world
   inodes_before = ap (without_dead_in nat_eq (λ f. not (is_overlay f))) stage_one

@@ -1,15 +1,13 @@
 -- Mounts, filesystems and groups may go before the sweep.
 use Rattle.std.proofs.Common.{arith, ◌≡◌, ap, ◌∙◌, ℕ, nat_eq, Bool, false, not, ◌||◌, ◌&&◌, filter}
-use Rattle.vt_spec.proofs.Common.{Filesystem, World, common_steps, filesystem_lives, has_layer_on, is_mounted, mount_lives, or_false_right, or_parts, with_mounts, without_dead_filesystems, without_dead_groups, without_dead_inodes, without_dead_mounts}
+use Rattle.vt_spec.proofs.Common.{Filesystem, World, common_steps, filesystem_lives, has_layer_on, is_mounted, mount_lives, or_false_right, or_parts, without_dead_groups, without_dead_inodes, without_dead_mounts}
 use Rattle.vt_spec.proofs.Lists.{none-filter}
 use Rattle.vt_laws_mounts.specs.LettingGo.OneByOne.{let_go_filesystem}
 use Rattle.vt_laws_mounts.proofs.letting_go.Lists.{any-filter, filter_less, none_among, none_from_among}
 use Rattle.vt_laws_worlds.specs.Seen.SweptBefore.{FilesystemsMayGoBefore, GroupsMayGoBefore, MountsMayGoBefore}
 
 pub mounts_may_go_before : MountsMayGoBefore
-mounts_may_go_before world number =
-    ap (λ mounts. without_dead_groups nat_eq (without_dead_inodes nat_eq (without_dead_filesystems nat_eq
-    (with_mounts world mounts)))) (filter_less (mount_lives nat_eq world)
+mounts_may_go_before world number = cc (filter_less (mount_lives nat_eq world)
     (λ mount. not (nat_eq mount.number number) || mount_lives nat_eq world mount) world.mounts
     (λ mount m e. or_false_right (not (nat_eq mount.number number)) (mount_lives nat_eq world mount) e))
 
@@ -34,8 +32,7 @@ module _ (world : World ℕ) (number : ℕ) where
 
   not_mounted : (filesystem : Filesystem ℕ) → stays filesystem ≡ false
       → is_mounted nat_eq mounted filesystem.number ≡ false
-  not_mounted filesystem e = mounted_before filesystem.number (or_parts (is_mounted nat_eq world filesystem.number) _
-      (or_false_right (not (nat_eq filesystem.number number)) (filesystem_lives nat_eq world filesystem) e)).0
+  not_mounted filesystem e = mounted_before _ (or_parts _ _ (or_false_right _ _ e)).0
 
   not_layering : (on : ℕ) (filesystem : Filesystem ℕ) → stays filesystem ≡ false → layered mounted on filesystem ≡ false
   not_layering on filesystem e = grind (arith, common_steps, not_mounted)
@@ -45,8 +42,7 @@ module _ (world : World ℕ) (number : ℕ) where
 
   same_lives : (filesystem : Filesystem ℕ) → filesystem_lives nat_eq left filesystem
       ≡ filesystem_lives nat_eq mounted filesystem
-  same_lives filesystem = ap (λ b. is_mounted nat_eq mounted filesystem.number || b)
-      (any-filter (layered mounted filesystem.number) stays world.filesystems
+  same_lives filesystem = cc (any-filter (layered mounted filesystem.number) stays world.filesystems
       (λ g m e. not_layering filesystem.number g e))
 
   -- what is let go is not in use then

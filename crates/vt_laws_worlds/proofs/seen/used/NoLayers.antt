@@ -16,24 +16,22 @@ module _ (world : World ℕ) (number : ℕ) (overlay : Overlay ℕ)
   none : (layers : List (Layer ℕ)) → list_all (is_plain_layer nat_eq world) layers ≡ true → filter here layers ≡ []
   none [] plain = refl
   none (layer ∷ layers) plain = ap (λ b. if b then layer ∷ filter here layers else filter here layers)
-      (elsewhere layer (and_true_left _ _ plain))
-      ∙ none layers (and_true_right (is_plain_layer nat_eq world layer) _ plain)
+      (elsewhere layer (and_true_left _ _ plain)) ∙ none layers (and_true_right _ _ plain)
 
   abbrev plain_overlay : Filesystem ℕ → Bool
   plain_overlay = of_overlay true (λ o. list_all (is_plain_layer nat_eq world) (layers_of o))
 
   none_of : (o : Option (Overlay ℕ)) (f : Filesystem ℕ) → f.overlay ≡ o → plain_overlay f ≡ true
       → filter here (of_overlay [] layers_of f) ≡ []
-  none_of None f e plain = ap (λ o. filter here (overlay_or [] layers_of o)) e
-  none_of (Some o) f e plain = ap (λ o. filter here (overlay_or [] layers_of o)) e ∙ none (layers_of o)
-      (sym (ap (overlay_or true (λ o. list_all (is_plain_layer nat_eq world) (layers_of o))) e) ∙ plain)
+  none_of None f e plain = cc
+  none_of (Some o) f e plain = cc (none (layers_of o) (sym (ap (overlay_or true
+      (λ o. list_all (is_plain_layer nat_eq world) (layers_of o))) e) ∙ plain))
 
   none_in : (all : List (Filesystem ℕ)) → list_all plain_overlay all ≡ true
       → filter here (flat_map (of_overlay [] layers_of) all) ≡ []
   none_in [] plain = refl
   none_in (f ∷ all) plain = filter-append here (of_overlay [] layers_of f) (flat_map (of_overlay [] layers_of) all)
-      ∙ (λ i. none_of f.overlay f refl (and_true_left _ _ plain) i
-      ++ none_in all (and_true_right (plain_overlay f) _ plain) i)
+      ∙ (λ i. none_of _ f refl (and_true_left _ _ plain) i ++ none_in all (and_true_right _ _ plain) i)
 
   abbrev objects_by : Filesystem ℕ → Overlay ℕ → List ℕ
   objects_by f o = if holds_of here o.upper then filter_map (λ n. upper_object (o.real n)) f.files.numbers else []
@@ -47,24 +45,22 @@ module _ (world : World ℕ) (number : ℕ) (overlay : Overlay ℕ)
 
   no_objects_of : (o : Option (Overlay ℕ)) (f : Filesystem ℕ) → f.overlay ≡ o → plain_overlay f ≡ true
       → objects_of_overlay nat_eq number f ≡ []
-  no_objects_of None f e plain = ap (overlay_or [] (objects_by f)) e
-  no_objects_of (Some o) f e plain = ap (overlay_or [] (objects_by f)) e
-      ∙ ap (λ b. if b then filter_map (λ n. upper_object (o.real n)) f.files.numbers else []) (no_upper o o.upper refl
-      (sym (ap (overlay_or true (λ o. list_all (is_plain_layer nat_eq world) (layers_of o))) e) ∙ plain))
+  no_objects_of None f e plain = cc
+  no_objects_of (Some o) f e plain = cc (no_upper o o.upper refl (sym
+      (ap (overlay_or true (λ o. list_all (is_plain_layer nat_eq world) (layers_of o))) e) ∙ plain))
 
   no_objects : (all : List (Filesystem ℕ)) → list_all plain_overlay all ≡ true
       → flat_map (objects_of_overlay nat_eq number) all ≡ []
   no_objects [] plain = refl
-  no_objects (f ∷ all) plain = (λ i. no_objects_of f.overlay f refl (and_true_left _ _ plain) i
-      ++ no_objects all (and_true_right (plain_overlay f) _ plain) i)
+  no_objects (f ∷ all) plain = (λ i. no_objects_of _ f refl (and_true_left _ _ plain) i
+      ++ no_objects all (and_true_right _ _ plain) i)
 
 -- the filesystem that is found has the number
 number_is : (world : World ℕ) (number : ℕ) (overlay : Overlay ℕ)
     → (filesystem_numbered nat_eq world number).overlay ≡ Some overlay
     → (filesystem_numbered nat_eq world number).number ≡ number
 number_is world number overlay is = sym (eqb-true number (filesystem_numbered nat_eq world number).number
-    (found_passes (λ (f : Filesystem ℕ). nat_eq number f.number) world.filesystems
-    (filesystem_numbered nat_eq world number) (overlay_found world number overlay is)))
+    (found_passes (λ (f : Filesystem ℕ). nat_eq number f.number) world.filesystems _ (overlay_found world number _ is)))
 
 pub used_by_locations : OverlaysAreUsedByLocations
 used_by_locations world number overlay is_world is =

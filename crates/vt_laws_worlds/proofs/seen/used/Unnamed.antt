@@ -1,6 +1,6 @@
 -- What uses an inode of an overlay without a name.
-use Rattle.std.proofs.Common.{◌≡◌, ◌≢◌, refl, sym, ap, ◌∙◌, ⊎_elim, true≢false, ℕ, nat_eq, ne_eqb, eq-eqb, Bool, true, false, cond, ◌||◌, ◌++◌, List, [], ◌∷◌, Option, Some, None, find}
-use Rattle.vt_spec.proofs.Common.{FileTree, HasName, IsTree, entries_in, filesystem_numbered, found_is_named, is_among, list_any-append, located_in, named_in, none_is_some, targets_in}
+use Rattle.std.proofs.Common.{◌≡◌, ◌≢◌, refl, ap, ◌∙◌, ⊎_elim, ℕ, nat_eq, ne_eqb, eq-eqb, Bool, true, false, ◌||◌, ◌++◌, List, [], ◌∷◌, Option, Some, None, find}
+use Rattle.vt_spec.proofs.Common.{FileTree, HasName, IsTree, entries_in, filesystem_numbered, found_is_named, is_among, list_any-append, located_in, named_in, targets_in}
 use Rattle.vt_laws_trees.proofs.layers.layers.UpperWorld.{overlay_tree}
 use Rattle.vt_laws_mounts.proofs.letting_go.Lists.{Among, among-from_flat_map, among-from_map, among_numbers}
 use Rattle.vt_laws_worlds.specs.Seen.InodeUses.{UnnamedAreUsedWhereLocated}
@@ -9,12 +9,11 @@ use Rattle.vt_laws_worlds.proofs.seen.used.NoLayers.{used_by_locations}
 -- where something passes something is found
 found_there : {A : Type 0} (test : A → Bool) (xs : List A) (x : A) → Among x xs → test x ≡ true → find test xs ≢ None
 found_there test [] x m e n = absurd m
-found_there test (y ∷ ys) x m e n = by (test y) refl (λ later. found_there test ys x later e)
+found_there test (y ∷ ys) x m e n = by _ refl (λ later. found_there test ys x later e)
   where
     by : (b : Bool) → test y ≡ b → (Among x ys → find test ys ≢ None) → ⊥
-    by true t rest = none_is_some y (sym n ∙ ap (λ b. cond b (Some y) (find test ys)) t)
-    by false t rest = ⊎_elim (λ same. absurd (true≢false (sym e ∙ ap test same ∙ t)))
-        (λ later. rest later (sym (ap (λ b. cond b (Some y) (find test ys)) t) ∙ n)) m
+    by true t rest = cc
+    by false t rest = ⊎_elim (λ same. cc) (λ later. rest later (cc)) m
 
 -- what entries lead to has a name
 has_name : (files : FileTree ℕ) → IsTree files.tree → (inode : ℕ) → is_among nat_eq inode (named_in files) ≡ true

@@ -1,5 +1,5 @@
 -- Where no mount is in a group none is afterwards, if none is made shared.
-use Rattle.std.proofs.Common.{arith, ◌≡◌, refl, sym, ap, subst, ◌∙◌, ⊎_elim, true≢false, ℕ, zero, suc, nat_eq, Bool, true, false, cond, ◌&&◌, List, [], ◌∷◌, ◌++◌, map, filter, flat_map, length, Option, Some, None, All, option_map}
+use Rattle.std.proofs.Common.{arith, ◌≡◌, refl, sym, ap, subst, ⊎_elim, true≢false, ℕ, zero, suc, nat_eq, Bool, true, false, cond, List, [], ◌∷◌, ◌++◌, map, filter, flat_map, length, Option, Some, None, All, option_map}
 use Rattle.vt_spec.proofs.Common.{Change, Copies, CopyUp, Filesystem, Fresh, Location, Make, Mount, Move, Permit, Private, Propagation, Remove, SetBytes, Shared, Slave, Task, ToBind, ToChange, ToEnterNamespace, ToExit, ToMake, ToMountOverlay, ToMountPlain, ToMove, ToOpen, ToOpenNew, ToPivot, ToPrivate, ToRemoveDirectory, ToRename, ToSetFlags, ToSetType, ToShared, ToSlave, ToUnbindable, ToUnmount, ToUnmountLazily, ToUnshare, ToWritePart, Twig, TypeWord, Unbindable, World, added_mounts, after_going, all-filter, all-map, and_parts, apply, attach, bind_tree, bindable_children, bindable_tree, bytes_in, children, common_steps, copied_mount, copies_from, deepest_first, detached, evens, filesystem_at, filesystem_changed, filesystems-taken_away, folded, holds_of, inherited, is_copied_up, is_in_ended, is_overlay, list_all, mount_at, mount_lives, mount_numbered, mount_point_left, mount_tree, mounts_of, named_mounts, namespace_entered, namespaces_ended, new_mount, node_at, numbers_by, odds, overwritten, pivoted_mount, plain_filesystem, pwritten, regrouped, retyped_mount, settled, stands_on, stands_under, taken_away, type_after, unmounted_if_there, unshared, with_change, with_copy, with_mount, with_mounts, with_moved_mounts, with_new_filesystem, with_new_groups, with_type, without_mounts_on, without_replaced, without_task}
 use Rattle.vt_laws_mounts.proofs.letting_go.Lists.{Among, among-from_filter, among-from_flat_map, among_from_list_all, list_all_from_among}
 use Rattle.vt_laws_trees.proofs.runs.answered.PlainStays.{plain_numbered}
@@ -20,13 +20,13 @@ all_append : (xs ys : List (Mount ℕ)) → AllFree xs → AllFree ys → AllFre
 all_append [] ys first next = next
 all_append (mount ∷ xs) ys first next =
     let parts = and_parts (free mount) (list_all free xs) first in
-    ap (λ b. b && list_all free (xs ++ ys)) parts.0 ∙ all_append xs ys parts.1 next
+    cc (all_append xs ys parts.1 next)
 
 -- What a group leaves behind
 inherited_free : (world : World ℕ) (kind : Propagation ℕ) → is_ungrouped kind ≡ true
     → is_ungrouped (inherited nat_eq world kind) ≡ true
 inherited_free world (Shared group) e = e
-inherited_free world (Slave master) e = absurd (true≢false (sym e))
+inherited_free world (Slave master) e = cc
 inherited_free world Private e = refl
 inherited_free world Unbindable e = refl
 
@@ -53,8 +53,7 @@ there_free world mount is = grind (arith, common_steps, taken_free)
 folded_free : (list : List (Mount ℕ)) (world : World ℕ) → IsUngrouped world
     → IsUngrouped (folded (unmounted_if_there nat_eq) world list)
 folded_free [] world is = is
-folded_free (mount ∷ list) world is =
-    folded_free list (unmounted_if_there nat_eq world mount) (there_free world mount is)
+folded_free (mount ∷ list) world is = folded_free list _ (there_free world mount is)
 
 replaced_free : (new : Mount ℕ) → free new ≡ true → (mounts : List (Mount ℕ)) → AllFree mounts
     → AllFree (with_mount nat_eq mounts new)
@@ -65,7 +64,7 @@ each_replaced : (list mounts : List (Mount ℕ)) → AllFree list → AllFree mo
 each_replaced [] mounts first next = next
 each_replaced (new ∷ list) mounts first next =
     let parts = and_parts (free new) (list_all free list) first in
-    each_replaced list (with_mount nat_eq mounts new) parts.1 (replaced_free new parts.0 mounts next)
+    each_replaced list _ parts.1 (replaced_free new parts.0 mounts next)
 
 -- A change of a plain filesystem leaves the mounts.
 change_free : (world : World ℕ) → IsPlain world → (fresh : Fresh ℕ) (location : Location ℕ) (change : Change ℕ)
@@ -112,18 +111,17 @@ type_free new word makes kind e = grind (arith, common_steps, true≢false)
 
 module _ (world : World ℕ) (plain : IsPlain world) (is : IsUngrouped world) (task : Task ℕ) (fresh : Fresh ℕ) where
   each_free : (mount : Mount ℕ) → Among mount world.mounts → free mount ≡ true
-  each_free = among_from_list_all free world.mounts is
+  each_free = among_from_list_all free _ is
 
   found_free : (number : ℕ) → free (mount_numbered nat_eq world number) ≡ true
-  found_free = found_is world.mounts each_free
+  found_free = found_is _ each_free
 
   bindable_free : (depth : ℕ) (top : Mount ℕ) → free top ≡ true → (mount : Mount ℕ)
       → Among mount (bindable_tree nat_eq depth world.mounts top) → free mount ≡ true
-  bindable_free zero top e mount among = ⊎_elim (λ same. ap free same ∙ e) (λ none. absurd none) among
-  bindable_free (suc depth) top e mount among = ⊎_elim (λ same. ap free same ∙ e) (λ below.
-      let found = among-from_flat_map (bindable_tree nat_eq depth world.mounts)
-      (bindable_children nat_eq world.mounts top.number) mount below in
-      bindable_free depth found.0 (child_free top.number found.0 found.1) mount found.2) among
+  bindable_free zero top e mount among = ⊎_elim (λ same. cc) (λ none. absurd none) among
+  bindable_free (suc depth) top e mount among = ⊎_elim (λ same. cc) (λ below.
+      let found = among-from_flat_map _ _ mount below in
+      bindable_free depth _ (child_free _ _ found.1) mount found.2) among
     where
       child_free : (number : ℕ) (child : Mount ℕ) → Among child (bindable_children nat_eq world.mounts number)
           → free child ≡ true
@@ -138,23 +136,21 @@ module _ (world : World ℕ) (plain : IsPlain world) (is : IsUngrouped world) (t
   copied_below source = flat_map (bindable_tree nat_eq (length world.mounts) world.mounts) (below source)
 
   bind_free : (source : Location ℕ) (recursive : Bool) → AllFree (bind_tree nat_eq world source recursive)
-  bind_free source false = ap (λ b. b && true) (found_free source.mount)
-  bind_free source true = ap (λ b. b && list_all free (copied_below source)) (found_free source.mount)
-      ∙ list_all_from_among free (copied_below source) (λ mount among.
-      let found =
-      among-from_flat_map (bindable_tree nat_eq (length world.mounts) world.mounts) (below source) mount among in
-      let child =
-      among-from_filter (stands_under nat_eq world source) (bindable_children nat_eq world.mounts source.mount) found.0
-      found.1 in
-      bindable_free (length world.mounts) found.0 (each_free found.0
-      (among-from_filter (stands_on nat_eq source.mount) world.mounts found.0
-      (among-from_filter _ (children nat_eq world.mounts source.mount) found.0 child.0).0).0) mount found.2)
+  bind_free source false = cc (found_free source.mount)
+  bind_free source true = cc (
+    found_free source.mount,
+    list_all_from_among free (copied_below source)
+        (λ mount among. let found = among-from_flat_map (bindable_tree nat_eq (length world.mounts) world.mounts)
+        (below source) mount among in let child = among-from_filter (stands_under nat_eq world source)
+        (bindable_children nat_eq world.mounts source.mount) found.0 found.1 in bindable_free (length world.mounts)
+        found.0 (each_free found.0 (among-from_filter (stands_on nat_eq source.mount) world.mounts found.0
+        (among-from_filter _ (children nat_eq world.mounts source.mount) found.0 child.0).0).0) mount found.2),
+  )
 
   without_free : (gone : Location ℕ) (location : Location ℕ) (change : Change ℕ)
       → IsUngrouped (with_change nat_eq fresh (without_mounts_on nat_eq world gone) location change)
-  without_free gone location change = change_free (without_mounts_on nat_eq world gone)
-      (subst (All (λ (f : Filesystem ℕ). is_overlay f ≡ false)) (sym (filesystems-taken_away world _)) plain)
-      fresh location change (taken_free world _ is)
+  without_free gone location change = change_free _ (subst (All (λ (f : Filesystem ℕ). is_overlay f ≡ false))
+      (sym (filesystems-taken_away world _)) plain) fresh location change (taken_free world _ is)
 
   renamed_free : (replaced : Option (Location ℕ)) (location : Location ℕ) (change : Change ℕ)
       → IsUngrouped (with_change nat_eq fresh (without_replaced nat_eq world replaced) location change)
@@ -187,7 +183,7 @@ module _ (world : World ℕ) (plain : IsPlain world) (is : IsUngrouped world) (t
       by : (mount : Mount ℕ) → free mount ≡ true → (b : Bool)
           → free (cond b (record mount { propagation = type_after (group mount.number) word mount.propagation }) mount)
           ≡ true
-      by mount e true = type_free (group mount.number) word makes mount.propagation e
+      by mount e true = type_free (group mount.number) word makes _ e
       by mount e false = e
 
   pivoted_free : (root new : Mount ℕ) (put : Location ℕ)
