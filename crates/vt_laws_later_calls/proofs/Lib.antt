@@ -1,3 +1,4 @@
+pub mod Common
 pub mod Changed
 pub mod Granted
 pub mod Stays

@@ -2,14 +2,8 @@
 -- that stands where he does and may search everything.
 use Rattle.std.proofs.Common.{arith, ◌≡◌, refl, ap, ◌∙◌, inl, inr, ◌⊎◌, ℕ, nat_eq, Bool, true, false, ◌∷◌, length, Option, Some, None, is_some, option_map, ok_or, zero, suc, []}
 use Rattle.vt_spec.proofs.Common.{Answer, Call, Change, Dot, DotDot, Fresh, IsWorld, LastWord, Location, Mount, Named, NoWord, Task, TaskName, World, among_from_all, chain, changed, child_at, common_steps, denial, entries_in, entry_named, execute_right, files_at, is_directory_at, is_special, last_or, looks_of, may, mount_at, name_of, node_at, policy, raised_task, root_of, stands_at, task_called, tasks-with_change, topmost}
-use Rattle.vt_spec.specs.declared.errors.Deny.{Deny}
-use Rattle.vt_spec.specs.declared.errors.Rule.TheVariants.{W4, W6}
-use Rattle.vt_spec.proofs.Walk.{stepped}
-use Rattle.vt_laws_mounts.proofs.mounts.MountsFound.{found_in}
-use Rattle.vt_laws_mounts.proofs.mounts.MountsPlaces.{stands_there}
+use Rattle.vt_laws_later_calls.proofs.Common.{Deny, IsPlain, W4, W6, found_in, name_found, stands_there, stepped}
 use Rattle.vt_laws_trees.proofs.trees.TreesOfMounts.{worlds_are_standing}
-use Rattle.vt_laws_worlds.specs.Worlds.Kept.{IsPlain}
-use Rattle.vt_laws_worlds.proofs.worlds.CallsKept.{name_found}
 use Rattle.vt_laws_later_calls.specs.LaterPaths.{LooksFrom, reads_all}
 use Rattle.vt_laws_later_calls.proofs.AfterChange.{ChangesTree, later_is, node_changed, world_rights, world_stays}
 use Rattle.vt_laws_later_calls.proofs.Granted.{HasSucceeded}

@@ -1,13 +1,7 @@
 -- A filesystem goes with its last mount, in a world with overlays.
 use Rattle.std.proofs.Common.{arith, ◌≡◌, refl, sym, ap, ◌∙◌, ◌⊎◌, inl, inr, ⊎_elim, ℕ, nat_eq, eqb-true, Bool, true, false, true≢false, cond, ◌||◌, ◌&&◌, List, [], ◌∷◌, ◌++◌, map, Some, nat_lt}
 use Rattle.vt_spec.proofs.Common.{Filesystem, Mount, Overlay, World, and_parts, any_pair, common_steps, filesystem_lives, filesystem_numbered, has_layer_on, is_among, is_mounted, is_overlay, layers_of, list_any, no_filesystem, or_cases, without_dead_filesystems}
-use Rattle.vt_laws_mounts.specs.LettingGo.Counts.{mounts_showing}
-use Rattle.vt_laws_mounts.specs.LettingGo.InUse.{FilesystemsInUse}
-use Rattle.vt_laws_mounts.specs.LettingGo.OneByOne.{FilesystemsInUseBut, let_go_filesystems, without_filesystem}
-use Rattle.vt_laws_mounts.proofs.letting_go.Lists.{Among, among_from_list_all, any-map, any_among, any_from_among, found_by, list_all_from_among, none_among, none_from_among, or_left, or_right}
-use Rattle.vt_laws_mounts.proofs.letting_go.sweeps.InUse.{filesystems_stay}
-use Rattle.vt_laws_mounts.proofs.letting_go.sweeps.LookedUp.{filesystem_is_looked_up}
-use Rattle.vt_laws_mounts.proofs.letting_go.sweeps.OneByOne.{filesystems_go_one_by_one}
+use Rattle.vt_laws_later_calls.proofs.Common.{Among, FilesystemsInUse, FilesystemsInUseBut, among_from_list_all, any-map, any_among, any_from_among, filesystem_is_looked_up, filesystems_go_one_by_one, filesystems_stay, found_by, let_go_filesystems, list_all_from_among, mounts_showing, none_among, none_from_among, or_left, or_right, without_filesystem}
 use Rattle.vt_laws_later_calls.specs.LastUse.{FilesystemBesideOverlaysGoesWithItsLastUse, OverlayGoesWithItsLastUse, is_layered}
 use Rattle.vt_laws_later_calls.proofs.last_use.MountsAndFilesystems.{mounted_as_before, mounted_still}
 

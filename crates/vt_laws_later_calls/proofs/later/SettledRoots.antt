@@ -1,7 +1,7 @@
 -- A filesystem that something is in when what nothing uses is gone has the root that it had.
 use Rattle.std.proofs.Common.{arith, ◌≡◌, refl, sym, ap, ◌∙◌, inl, inr, true≢false, ℕ, nat_eq, eqb-true, Bool, true, false, cond, not, List, [], ◌∷◌, find, map, Option, Some, None, is_some, option_map, unwrap_or}
 use Rattle.vt_spec.proofs.Common.{Among, Filesystem, World, among-from_filter, any_pair, common_steps, filesystem_lives, filesystem_numbered, is_overlay, no_filesystem, only_used, same_Some, settled, without_dead_filesystems, without_dead_in, without_dead_mounts}
-use Rattle.vt_laws_mounts.proofs.letting_go.sweeps.OfWorlds.{found_filesystem}
+use Rattle.vt_laws_later_calls.proofs.Common.{found_filesystem}
 
 abbrev looked_up : ℕ → List (Filesystem ℕ) → Option (Filesystem ℕ)
 looked_up number list = find (λ (f : Filesystem ℕ). nat_eq number f.number) list

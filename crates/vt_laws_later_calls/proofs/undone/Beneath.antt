@@ -1,32 +1,19 @@
 -- An unmount of a mount that was attached, where mounts stood at receivers: the others are as they were before.
 use Rattle.std.proofs.Common.{cond, eq-eqb, zero, ◌&&◌, ◌≡◌, refl, sym, ap, subst, ◌∙◌, true, false, nat_eq, ℕ, List, None, Option, Some, [], filter, flat_map, inl, inr, is_some, map, option_map, true≢false, unwrap_or, ⊎_elim, ◌++◌, ◌∷◌, ◌⊎◌, eqb-true, Contains}
 use Rattle.vt_spec.proofs.Common.{Among, Fresh, Location, Mount, Private, Propagation, Shared, Slave, Unbindable, World, among-append, among-filter, among-from_filter, among-from_flat_map, among-from_map, among_from_contains, any_among, any_from_among, any_pair, chain_ends, child_at, contains_from_among, copies_from, detached, false_from_ne_true, going, graft_of, group_of, groups_up, has_members, holds_of, is_among, is_member_of, is_shared, list_any, lost_a_group, may_go, mount_at, mount_numbered, none_among, number-mount_in, only_cover, or_parts, pair-filter, parts_of, pushed_onto, receiver_stood_on, receivers, receivers_of, receives, rest_of, root_of, same_Some, same_location, share_a_mount_point, source_of, stands_at, stands_on, takes_part, topmost, unmounted}
-use Rattle.vt_laws_mounts.specs.Mounts.Attaching.{KeepsAllButMountPoint, OneNumberAMount, is_mount}
+use Rattle.vt_laws_later_calls.proofs.Common.{Attachment, CanAttach, ChainsEnd, Goes, IsPart, KeepsAllButMountPoint, OneNumberAMount, above, attach_keeps_numbers, copy_of, found_at_its_place, found_in, found_itself, found_there, goes_with, groups_keep_their_masters, has_its_master, heard, hears, hears_group, here, is_mount, is_one_of, later_number, live_members, lives_in, lives_up, member_shared, middle, mount_left, number_at, one_of, one_place_of_two, part_old, receives_completely, receives_soundly, root_mounts_stay, shared_member, stands_at_its_place, stands_there, unfound, unmount_keeps_the_order, what_covered_falls, what_goes_is_detached, what_stays_keeps, what_stays_keeps_its_place, what_stays_keeps_its_type, world_after}
 use Rattle.vt_laws_mounts.specs.Mounts.MountPoints.{OneMountAMountPoint}
-use Rattle.vt_laws_mounts.specs.Mounts.Propagation.{Attachment, CanAttach, IsPart, copy_of, number_at, world_after}
 use Rattle.vt_laws_mounts.specs.Mounts.Receivers.{GroupsLive}
-use Rattle.vt_laws_mounts.specs.Mounts.Unmounting.{Goes, ChainsEnd, goes_with, has_its_master, mount_left}
 use Rattle.vt_laws_mounts.specs.Mounts.Unmounting.FallsTo.{falls, rests}
 use Rattle.vt_laws_mounts.specs.Mounts.Unmounting.Goes.{alone, at_receiver, from_nowhere}
 use Rattle.vt_laws_mounts.proofs.attached.AttachedMasters.{old_master}
-use Rattle.vt_laws_mounts.proofs.GroupsKept.{member_shared, shared_member}
-use Rattle.vt_laws_mounts.proofs.GroupsUp.{live_members, lives_in}
-use Rattle.vt_laws_mounts.proofs.GroupsUp.Up.{above, here}
 use Rattle.vt_laws_mounts.proofs.mounts.MountsAttached.{found_attached, push_keeps}
-use Rattle.vt_laws_mounts.proofs.mounts.MountsFound.{found_in, found_there, unfound}
-use Rattle.vt_laws_mounts.proofs.mounts.MountsNumbered.{attach_keeps_numbers, is_one_of}
-use Rattle.vt_laws_mounts.proofs.mounts.MountsPlaces.{found_at_its_place, one_place_of_two, stands_at_its_place, stands_there}
-use Rattle.vt_laws_mounts.proofs.mounts.MountsReplaced.{found_itself}
 use Rattle.vt_laws_mounts.proofs.propagation.PropagationAttaching.{copies_are_new, each_is_copied, first_stands_on_its_part, is_copy, serve_images}
 use Rattle.vt_laws_mounts.proofs.propagation.PropagationCopies.{copies, push}
 use Rattle.vt_laws_mounts.proofs.propagation.PropagationHeard.{copies_hear_as_their_origins, groups_after, only_part}
 use Rattle.vt_laws_mounts.proofs.propagation.PropagationHearing.{old_up, old_up_after}
-use Rattle.vt_laws_mounts.proofs.propagation.PropagationUp.{heard, hears, lives_up}
-use Rattle.vt_laws_mounts.proofs.mounts.Receivers.{receives_completely, receives_soundly}
-use Rattle.vt_laws_mounts.proofs.ends.Unmounting.{root_mounts_stay, unmount_keeps_the_order, what_covered_falls, what_goes_is_detached, what_stays_keeps, what_stays_keeps_its_place, what_stays_keeps_its_type, groups_keep_their_masters, middle}
 use Rattle.vt_laws_mounts.proofs.ends.UnmountingGoes.{what_goes_is_named}
 use Rattle.vt_spec.proofs.Worlds.{master-regrouped_by}
-use Rattle.vt_laws_mounts.proofs.propagation.OneAttached.{one_of, later_number, part_old, hears_group}
 
 -- a mount that does not stand on itself is the topmost one over its root, where it is alone
 top_alone : (mount : Mount ℕ) → stands_at nat_eq (root_of mount) mount ≡ false

@@ -2,18 +2,12 @@
 -- namespace.
 use Rattle.std.proofs.Common.{arith, ◌≡◌, refl, sym, ap, subst, ◌∙◌, true≢false, ℕ, suc, nat_eq, nat_lt, eqb-true, Bool, true, false, cond, not, ◌&&◌, ◌||◌, ◌+◌, ◌*◌, List, [], ◌∷◌, ◌++◌, Option, None, Some, Ok, filter, is_some, length, map, codes, option_to_list}
 use Rattle.vt_spec.proofs.Common.{Among, Directory, Filesystem, IsWorld, Location, Mount, Namespace, Task, World, among-append_right, and_parts, chain_ends, chain_goes_on, child_at, common_steps, filesystem_numbered, groups_up, holds_of, is_among, is_directory_node, is_directory_under, is_removed, is_removed_at, list_all, list_any, looks_of, most_mounts, most_symlinks, mount_numbered, new_mount_rules, node_at, or-false, parts_of, receivers_of, receives, root_attr, root_of, source_of, stands_at, takes_part, task_called, topmost}
-use Rattle.vt_laws_mounts.specs.LettingGo.Ends.{is_in, mount_count}
-use Rattle.vt_laws_mounts.proofs.letting_go.Lists.{any-map, nothing_passes, among_from_list_all, find_none}
-use Rattle.vt_laws_mounts.proofs.mounts.MountsPlaces.{stands_there}
-use Rattle.vt_laws_mounts.proofs.mounts.Receivers.{start_among}
-use Rattle.vt_spec.proofs.Tables.{destination_walk}
-use Rattle.vt_laws_worlds.specs.Worlds.Kept.{IsPlain}
+use Rattle.vt_laws_later_calls.proofs.Common.{IsPlain, among_from_list_all, any-map, destination_walk, find_none, is_in, mount_count, nothing_passes, plain_numbered, stands_there, start_among}
 use Rattle.vt_laws_worlds.proofs.worlds.Roots.{child_in}
 use Rattle.vt_laws_later_calls.specs.Limits.Room.{how_many_in, lacks_room, none_fails}
 use Rattle.vt_laws_later_calls.proofs.limits.TopmostGrows.{topmost_of_free}
 use Rattle.vt_laws_later_calls.proofs.limits.PathWalks.{HasTwoWords, WordLeads, destination_is_walked, end_of_two, two_words_lead}
 use Rattle.vt_laws_later_calls.proofs.limits.full_namespace.ReceiverWorld.{first_of_two, four_mounts, root_mount, shared_mount}
-use Rattle.vt_laws_trees.proofs.runs.answered.PlainStays.{plain_numbered}
 
 -- the two trees of the world: `/` with `q` and `s`, and that on `/s` with `d`
 pub record TwoTrees (first second : Filesystem ℕ) : Type 0 where
