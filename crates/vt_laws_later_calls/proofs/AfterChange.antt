@@ -1,7 +1,7 @@
 -- The world that a granted call leaves which changed a tree: mounts are as they were, and each inode is as the change
 -- left it, or is gone.
 use Rattle.std.proofs.Common.{arith, ◌≡◌, refl, sym, ap, subst, ◌∙◌, inl, inr, ◌⊎◌, ⊎_elim, true≢false, ℕ, nat_eq, eqb-true, Bool, true, false, cond, ◌||◌, ◌++◌, List, [], ◌∷◌, map, find, Some, None, is_some, unwrap_or}
-use Rattle.vt_spec.proofs.Common.{Answer, Call, Change, Credentials, FileTree, Filesystem, Fresh, IsWorld, Location, TaskName, World, apply, changed, common_steps, denial, entries_in, entry_named, files_at, filesystem_numbered, filesystems_changed, folded, is_among, is_directory_node, is_overlay, mount_at, no_filesystem, node_allows, node_at, numbers_raised, parent_in, policy, raised, settled, symlink_text, with_change}
+use Rattle.vt_spec.proofs.Common.{cases_Bool, Answer, Call, Change, Credentials, FileTree, Filesystem, Fresh, IsWorld, Location, TaskName, World, apply, changed, common_steps, denial, entries_in, entry_named, files_at, filesystem_numbered, filesystems_changed, folded, is_among, is_directory_node, is_overlay, mount_at, no_filesystem, node_allows, node_at, numbers_raised, parent_in, policy, raised, settled, symlink_text, with_change}
 use Rattle.vt_laws_later_calls.proofs.Common.{Deny, FilesBy, Inode, IsFileTree, IsListedTree, IsPlain, MayChange, W6, change_of, changes_keep_numbers, changes_keep_trees, file_changes_let_go, given_changes_are_proper, inodes_lost, is_plain, let_go_all_inodes, let_go_in, let_go_in_of, mounts-with_change, names_lost, namespace_if, number_if, numbered, numbers_raised_are, plain_numbered, raising_numbers_keeps_world, same_files, settling_leaves_a_world, task_if, uppers_of, without_inode_of, worlds_are_settled}
 use Rattle.vt_laws_trees.proofs.calls.inodes.InodesSettled.{settled_holds}
 use Rattle.vt_laws_later_calls.proofs.Changed.{files_changed, files_other}
@@ -188,13 +188,12 @@ module _ {world : World ℕ} {fresh : Fresh ℕ} {name : TaskName} {call : Call}
     pub in_each : (P : ℕ → FileTree ℕ → Type 0) → P shown (changed nat_eq files change)
         → ((number : ℕ) → P number (filesystem_numbered nat_eq world number).files)
         → (number : ℕ) → P number (filesystem_numbered nat_eq spent number).files
-    in_each P here elsewhere number = by (nat_eq shown number) refl
-      where
-        by : (b : Bool) → nat_eq shown number ≡ b → P number (filesystem_numbered nat_eq spent number).files
-        by true e = rw (← eqb-true shown number e) (subst (P shown) (sym spent_shown) here)
-        by false e = subst (P number)
-            (sym (spent_files number ∙ files_other from world it.plain location change number e))
-            (elsewhere number)
+    in_each P here elsewhere number = elim (cases_Bool (nat_eq shown number)) [
+      | inl e ↦ rw (← eqb-true shown number e) (subst (P shown) (sym spent_shown) here)
+      | inr e ↦ subst (P number)
+          (sym (spent_files number ∙ files_other from world it.plain location change number e))
+          (elsewhere number)
+    ]
 
     -- So ways that stay in the changed tree stay in the world.
     pub world_stays : (Refused : Deny → Type 0) → TreeStays files.tree (changed nat_eq files change).tree Refused

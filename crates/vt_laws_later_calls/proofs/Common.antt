@@ -1,4 +1,5 @@
 -- The definitions and lemmas of the crates below that most proofs cite, passed on from one place. Declares nothing.
+pub use Rattle.vt_laws_later_calls.proofs.Options.{cases_Option}
 unfoldable pub use Rattle.std.specs.Fmt.{digits}
 pub use Rattle.vt_laws_mounts.proofs.GroupsKept.{member_shared, shared_member}
 pub use Rattle.vt_laws_mounts.proofs.GroupsUp.{live_members, lives_in}

@@ -1,7 +1,7 @@
 -- After a call that takes no use away the sweep is to look at what a new name replaced; after one that sets types it
 -- takes at the most masters of groups.
 use Rattle.std.proofs.Common.{arith, ◌≡◌, refl, sym, ap, subst, ◌∙◌, inl, inr, ◌⊎◌, ⊎_elim, true≢false, ℕ, nat_eq, Bool, true, false, not, ◌&&◌, List, [], ◌∷◌, Option, Some, None, is_some, map, Ok, Err, Contains}
-use Rattle.vt_spec.proofs.Common.{Access, AddName, Call, Change, Chdir, Chroot, Close, CopyUp, Exit, FileTree, Filesystem, Fresh, IsWorld, Judgement, Layer, Lazy, Location, Make, MountFlags, MountOverlay, Move, MoveMount, Node, Outcome, Overlay, OverlayWords, Permit, PivotRoot, Remove, Rename, Rmdir, Serves, SetAttr, SetBytes, SetMark, SetType, Setns, Task, ToBind, ToChange, ToClose, ToEnterNamespace, ToExit, ToFork, ToMake, ToMountOverlay, ToMountPlain, ToMove, ToOpen, ToOpenNew, ToPivot, ToRemoveDirectory, ToRename, ToSetCredentials, ToSetDirectory, ToSetFlags, ToSetRoot, ToSetType, ToSetUmask, ToUnmount, ToUnmountLazily, ToUnshare, ToWritePart, Umount, Unlink, Unshare, World, after, among_from_contains, and-false, and_parts, apply, call_outcome, changed, common_steps, contains_from_among, evens, file_is_there, files_at, filesystem_at, filesystem_changed, is_among, is_copied_up, is_overlay, is_there, judge_in, lies_only_in_lowers, looks_of, mount_at, node_at, opened, opens_for_writing, overlay_changed, overlay_or, settled, task_called, when, with_change, with_copy, with_descriptor, with_task}
+use Rattle.vt_spec.proofs.Common.{cases_Bool, Access, AddName, Call, Change, Chdir, Chroot, Close, CopyUp, Exit, FileTree, Filesystem, Fresh, IsWorld, Judgement, Layer, Lazy, Location, Make, MountFlags, MountOverlay, Move, MoveMount, Node, Outcome, Overlay, OverlayWords, Permit, PivotRoot, Remove, Rename, Rmdir, Serves, SetAttr, SetBytes, SetMark, SetType, Setns, Task, ToBind, ToChange, ToClose, ToEnterNamespace, ToExit, ToFork, ToMake, ToMountOverlay, ToMountPlain, ToMove, ToOpen, ToOpenNew, ToPivot, ToRemoveDirectory, ToRename, ToSetCredentials, ToSetDirectory, ToSetFlags, ToSetRoot, ToSetType, ToSetUmask, ToUnmount, ToUnmountLazily, ToUnshare, ToWritePart, Umount, Unlink, Unshare, World, after, among_from_contains, and-false, and_parts, apply, call_outcome, changed, common_steps, contains_from_among, evens, file_is_there, files_at, filesystem_at, filesystem_changed, is_among, is_copied_up, is_overlay, is_there, judge_in, lies_only_in_lowers, looks_of, mount_at, node_at, opened, opens_for_writing, overlay_changed, overlay_or, settled, task_called, when, with_change, with_copy, with_descriptor, with_task}
 use Rattle.vt_laws_later_calls.proofs.Common.{AllInUse, Inode, IsDestination, IsFor, IsListedTree, IsProper, IsReached, IsSettled, MayChange, NamesWhatIsThere, binds_keep_all, call_is_judged_then_applied, called_there, change_asked, changes_keep_numbers, changes_keep_trees, changes_no_mount, file_changes_let_go, let_go_all_inodes, let_go_group, let_go_groups, let_go_plain, locations_of_worlds_stand, mounts_of_worlds_stand, mounts_overlay, new_mounts_of_trees_keep_all, none_left, numbered_all, numbers_left, opened_new_keeps_all, permits_are_for_their_calls, permits_ask_properly, takes_a_name, worlds_are_settled}
 use Rattle.vt_laws_mounts.proofs.letting_go.leaving.LeftWithOverlays.{staying_keeps_overlays}
 use Rattle.vt_laws_mounts.proofs.letting_go.leaving.Retyped.{set_types_let_go}
@@ -183,7 +183,10 @@ module _ {world : World ℕ} {fresh : Fresh ℕ} {task : Task ℕ} (is : IsWorld
   opened_keeps : (call : Call) (file : Location ℕ) (access : Access)
       → judge_in nat_eq fresh world task call ≡ Ok (ToOpen file access) → is_on_mount world file ≡ true
       → KeepsAll (apply nat_eq fresh world task (ToOpen file access)).world
-  opened_keeps call file access judged on = by (is_copied_up nat_eq world file access) refl
+  opened_keeps call file access judged on = elim (cases_Bool (is_copied_up nat_eq world file access)) [
+    | inl copied ↦ in_overlay (filesystem_at nat_eq world file).overlay refl copied
+    | inr copied ↦ opened_files_keep_all fresh world task file access settles is.tasks.one_task among_tasks copied
+  ]
     where
       opens : World ℕ
       opens = (apply nat_eq fresh world task (ToOpen file access)).world
@@ -211,10 +214,6 @@ module _ {world : World ℕ} {fresh : Fresh ℕ} {task : Task ℕ} (is : IsWorld
           && overlay_or false (λ overlay. lies_only_in_lowers overlay file.node) o) e
           ∙ and-false (opens_for_writing access)))
       in_overlay (Some overlay) e copied = over overlay e overlay.upper refl copied
-
-      by : (b : Bool) → is_copied_up nat_eq world file access ≡ b → KeepsAll opens
-      by true copied = in_overlay (filesystem_at nat_eq world file).overlay refl copied
-      by false copied = opened_files_keep_all fresh world task file access settles is.tasks.one_task among_tasks copied
 
   -- and replaces nothing
   nothing_replaced : (file : Location ℕ) (b : Bool) → replaced_if world (when b (file, CopyUp file.node)) ≡ []

@@ -1,7 +1,7 @@
 -- The world that a granted rename leaves: the object has its new name and what it had, and no mount stands on it.
-use Rattle.std.proofs.Common.{arith, ◌≡◌, ◌≢◌, refl, sym, ap, subst, ◌∙◌, true≢false, ℕ, nat_eq, eq-eqb, ne_eqb, Bool, true, false, cond, List, [], length, filter, find, Option, Some, None, is_some, option_map, unwrap_or}
-use Rattle.vt_spec.proofs.Common.{Among, Answer, Call, Change, FileTree, Filesystem, Fresh, IsWorld, Location, Mount, Move, TaskName, ToRename, World, among-filter, among-from_filter, among_from_list_all, and_from, any_from_among, apply, bytes_decides, changed, child_at, common_steps, directory_from_entry, directory_used, entries_in, entry_at, entry_named, files_at, filesystem_at, filesystem_numbered, filesystems-without_replaced, is_among, is_directory_node, is_mount_point_anywhere, is_nowhere_or_attached, is_point, list_any, looks_of, mount_at, mount_lives, mount_numbered, mounts_on, no_filesystem, number-mount_in, points_of, policy, root_of, shown-without_replaced, stands_at, topmost, with_change, without_replaced}
-use Rattle.vt_laws_later_calls.proofs.Common.{IsFileTree, IsKept, IsPlain, MayBeRenamed, SeesTo, found_in, found_itself, found_there, given_permits_are_seen_to, is_entry, is_that_entry, mounts-with_change, move_told, no_way_up, nowhere_parts, number_numbered, numbers_of, numbers_of_trees, replaced_plain, standing_is_computed, stands_there, tree_here, trees_closed}
+use Rattle.std.proofs.Common.{inl, inr, arith, ◌≡◌, ◌≢◌, refl, sym, ap, subst, ◌∙◌, true≢false, ℕ, nat_eq, eq-eqb, ne_eqb, Bool, true, false, cond, List, [], length, filter, find, Option, Some, None, is_some, option_map, unwrap_or}
+use Rattle.vt_spec.proofs.Common.{cases_Bool, Among, Answer, Call, Change, FileTree, Filesystem, Fresh, IsWorld, Location, Mount, Move, TaskName, ToRename, World, among-filter, among-from_filter, among_from_list_all, and_from, any_from_among, apply, bytes_decides, changed, child_at, common_steps, directory_from_entry, directory_used, entries_in, entry_at, entry_named, files_at, filesystem_at, filesystem_numbered, filesystems-without_replaced, is_among, is_directory_node, is_mount_point_anywhere, is_nowhere_or_attached, is_point, list_any, looks_of, mount_at, mount_lives, mount_numbered, mounts_on, no_filesystem, number-mount_in, points_of, policy, root_of, shown-without_replaced, stands_at, topmost, with_change, without_replaced}
+use Rattle.vt_laws_later_calls.proofs.Common.{cases_Option, IsFileTree, IsKept, IsPlain, MayBeRenamed, SeesTo, found_in, found_itself, found_there, given_permits_are_seen_to, is_entry, is_that_entry, mounts-with_change, move_told, no_way_up, nowhere_parts, number_numbered, numbers_of, numbers_of_trees, replaced_plain, standing_is_computed, stands_there, tree_here, trees_closed}
 use Rattle.vt_laws_trees.proofs.layers.layers.LowersKept.{kept_both, kept_same, others_stay}
 use Rattle.vt_laws_mounts.proofs.ends.Ending.{replaced_keeps_mounts}
 use Rattle.vt_laws_later_calls.proofs.AfterChange.{as_spent, later_is}
@@ -21,7 +21,11 @@ module _ (world : World ℕ) (is : IsWorld nat_eq world) (object : Location ℕ)
   none_on_it mount place m at same node =
       true≢false (cc (any_from_among (λ (m : Mount ℕ). is_some m.namespace) (mounts_on nat_eq world object) mount
       (among-filter (λ (m : Mount ℕ). list_any (λ point. is_point nat_eq world point.0 point.1 m)
-      (points_of nat_eq world object)) world.mounts mount m on_it) (attached (is_some mount.namespace) refl)))
+      (points_of nat_eq world object)) world.mounts mount m on_it) ((elim (cases_Bool (is_some mount.namespace)) [
+        | inl e ↦ e
+        | inr e ↦ cc ((nowhere_parts mount (among_from_list_all is_nowhere_or_attached world.mounts
+            is.mounts.nowhere mount m) e).0)
+      ]))))
     where
       number_is : (mount_at nat_eq world place).filesystem ≡ (filesystem_at nat_eq world object).number
       number_is = cc (number_numbered (mount_at nat_eq world object).filesystem world.filesystems)
@@ -29,24 +33,16 @@ module _ (world : World ℕ) (is : IsWorld nat_eq world) (object : Location ℕ)
       on_it : list_any (λ point. is_point nat_eq world point.0 point.1 mount) (points_of nat_eq world object) ≡ true
       on_it = grind (arith, common_steps, and_from, eq-eqb, number_is)
 
-      attached : (b : Bool) → is_some mount.namespace ≡ b → is_some mount.namespace ≡ true
-      attached true e = e
-      attached false e = cc ((nowhere_parts mount (among_from_list_all is_nowhere_or_attached world.mounts
-          is.mounts.nowhere mount m) e).0)
-
   pub free_over : (place : Location ℕ)
       → (mount_at nat_eq world place).filesystem ≡ (mount_at nat_eq world object).filesystem
       → place.node ≡ object.node → topmost nat_eq world.mounts place ≡ place
   free_over place same node =
       stops (length world.mounts) (λ here. option_map root_of (child_at nat_eq world.mounts here)) place
-      (by (child_at nat_eq world.mounts place) refl)
-    where
-      by : (o : Option (Mount ℕ)) → child_at nat_eq world.mounts place ≡ o
-          → option_map root_of (child_at nat_eq world.mounts place) ≡ None
-      by None e = cc
-      by (Some mount) e =
-          let found = found_in (stands_at nat_eq place) world.mounts mount e in
-          absurd (none_on_it mount place found.0 (stands_there place mount found.1) same node)
+      ((elim (cases_Option (child_at nat_eq world.mounts place)) [
+        | inl e ↦ cc
+        | inr its ↦ let found = found_in (stands_at nat_eq place) world.mounts its.0 its.1 in
+            absurd (none_on_it its.0 place found.0 (stands_there place its.0 found.1) same node)
+      ]))
 
 module _ {world : World ℕ} {fresh : Fresh ℕ} {name : TaskName} {call : Call} {answer : Answer}
     (it : HasSucceeded world fresh name call answer) {from : Location ℕ} {old : List ℕ}
@@ -190,13 +186,10 @@ module _ {world : World ℕ} {fresh : Fresh ℕ} {name : TaskName} {call : Call}
       → topmost nat_eq left.mounts place ≡ place
   free_left place listed same node =
       stops (length left.mounts) (λ here. option_map root_of (child_at nat_eq left.mounts here)) place
-      (by (child_at nat_eq left.mounts place) refl)
-    where
-      by : (o : Option (Mount ℕ)) → child_at nat_eq left.mounts place ≡ o
-          → option_map root_of (child_at nat_eq left.mounts place) ≡ None
-      by None e = cc
-      by (Some mount) e =
-          let found = found_in (stands_at nat_eq place) left.mounts mount e in
-          let was = placed_in_world mount place found.0 (stands_there place mount found.1) in
-          absurd (none_on_it world it.is object uncovered was.0 place was.1 was.2
-          (cc (left_mount place.mount listed, object_shown)) node)
+      ((elim (cases_Option (child_at nat_eq left.mounts place)) [
+        | inl e ↦ cc
+        | inr its ↦ let found = found_in (stands_at nat_eq place) left.mounts its.0 its.1 in
+            let was = placed_in_world its.0 place found.0 (stands_there place its.0 found.1) in
+            absurd (none_on_it world it.is object uncovered was.0 place was.1 was.2
+            (cc (left_mount place.mount listed, object_shown)) node)
+      ]))

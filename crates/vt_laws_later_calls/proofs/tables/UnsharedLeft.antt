@@ -204,7 +204,10 @@ module _ {world : World ℕ} {fresh : Fresh ℕ} {task : Task ℕ} (is : IsWorld
   master_kept group (has_master it above has e later) = cc (group_kept above later)
 
   not_lost : (mount : Mount ℕ) → Among mount base.mounts → lost_a_group nat_eq without (change mount) ≡ false
-  not_lost mount m = by (is_going nat_eq ended mount.number) refl
+  not_lost mount m = elim (cases_Bool (is_going nat_eq ended mount.number)) [
+    | inl e ↦ cc (goes mount e)
+    | inr e ↦ cc (MountingTaken.stays_there base ended lasting mount e, of_source (source_of mount.propagation) refl)
+  ]
     where
       living : HasLivingGroups nat_eq base mount
       living = among_from_all (HasLivingGroups nat_eq base) base.mounts base_mounts.groups mount m
@@ -212,11 +215,6 @@ module _ {world : World ℕ} {fresh : Fresh ℕ} {task : Task ℕ} (is : IsWorld
       of_source : (o : Option ℕ) → source_of mount.propagation ≡ o
           → (is_lost_group nat_eq without o || is_lost_group nat_eq without (then_some o base.master)) ≡ false
       of_source o e = grind (arith, common_steps, living, group_kept, master_kept)
-
-      by : (b : Bool) → is_going nat_eq ended mount.number ≡ b → lost_a_group nat_eq without (change mount) ≡ false
-      by true e = cc (goes mount e)
-      by false e =
-          cc (MountingTaken.stays_there base ended lasting mount e, of_source (source_of mount.propagation) refl)
 
   abbrev pub ended_world : World ℕ
   ended_world = record without { namespaces = lasting }
@@ -451,7 +449,32 @@ module _ {world : World ℕ} {fresh : Fresh ℕ} {task : Task ℕ} (is : IsWorld
 
   of_point : (mount : Mount ℕ) → Among mount world.mounts → (place : Location ℕ) → mount.mount_point ≡ Some place
       → SamePlace place
-  of_point mount m place e = by (is_going nat_eq ended mount.number) refl
+  of_point mount m place e = elim (cases_Bool (is_going nat_eq ended mount.number)) [
+    | inl going ↦ let c = going_is_copied mount (old_there mount m) going in
+        let below_copied : Among below.parent copied = among-filter (is_in task.namespace) world.mounts below.parent
+        below.there (cc (below.namespace, (among-from_filter (is_in task.namespace) world.mounts mount c).1)) in
+        let on : is_going nat_eq ended (new_number place.mount) ≡ false =
+        cc (below.number, copy_stays below.parent below_copied) in (
+          location_on_copy new_number place,
+          point_place (copy mount) (copy_there mount c) (copy_lives mount c) (location_on_copy new_number place)
+              (MountingTaken.same_place base ended lasting false (copy mount) (location_on_copy new_number place)
+              (cc) (copy_stays mount c) on),
+          refl,
+          of_copy below.parent below_copied place below.number,
+        )
+    | inr isnt ↦ let below_stays : is_going nat_eq ended below.parent.number ≡ false =
+        stays_if below.parent (old_there below.parent below.there)
+        (cc (below.namespace, outside isnt)) in
+        let in_one = inside mount.namespace refl in (
+          place,
+          point_place mount (old_there mount m) (lives_in mount isnt in_one) place
+              (MountingTaken.same_place base ended lasting false mount place e isnt
+              (cc below.number)),
+          refl,
+          of_itself below.parent below.there
+              (lives_in below.parent below_stays (cc below.namespace)) place below.number,
+        )
+  ]
     where
       below : Parent world mount place
       below = parent_of world is.mounts mount m place e
@@ -463,34 +486,6 @@ module _ {world : World ℕ} {fresh : Fresh ℕ} {task : Task ℕ} (is : IsWorld
       outside : is_going nat_eq ended mount.number ≡ false → is_in_ended nat_eq base mount ≡ false
       outside isnt = false_from_ne_true (is_in_ended nat_eq base mount) (λ it. true≢false
           (cc (goes_if mount (old_there mount m) it)))
-
-      by : (b : Bool) → is_going nat_eq ended mount.number ≡ b → SamePlace place
-      by true going =
-          let c = going_is_copied mount (old_there mount m) going in
-          let below_copied : Among below.parent copied = among-filter (is_in task.namespace) world.mounts below.parent
-          below.there (cc (below.namespace, (among-from_filter (is_in task.namespace) world.mounts mount c).1)) in
-          let on : is_going nat_eq ended (new_number place.mount) ≡ false =
-          cc (below.number, copy_stays below.parent below_copied) in (
-            location_on_copy new_number place,
-            point_place (copy mount) (copy_there mount c) (copy_lives mount c) (location_on_copy new_number place)
-                (MountingTaken.same_place base ended lasting false (copy mount) (location_on_copy new_number place)
-                (cc) (copy_stays mount c) on),
-            refl,
-            of_copy below.parent below_copied place below.number,
-          )
-      by false isnt =
-          let below_stays : is_going nat_eq ended below.parent.number ≡ false =
-          stays_if below.parent (old_there below.parent below.there)
-          (cc (below.namespace, outside isnt)) in
-          let in_one = inside mount.namespace refl in (
-            place,
-            point_place mount (old_there mount m) (lives_in mount isnt in_one) place
-                (MountingTaken.same_place base ended lasting false mount place e isnt
-                (cc below.number)),
-            refl,
-            of_itself below.parent below.there
-                (lives_in below.parent below_stays (cc below.namespace)) place below.number,
-          )
 
   same_place : (location : Location ℕ) → Among location (places_of world) → SamePlace location
   same_place location m =
