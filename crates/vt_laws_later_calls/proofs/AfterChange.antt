@@ -1,33 +1,15 @@
 -- The world that a granted call leaves which changed a tree: mounts are as they were, and each inode is as the change
 -- left it, or is gone.
 use Rattle.std.proofs.Common.{arith, ◌≡◌, refl, sym, ap, subst, ◌∙◌, inl, inr, ◌⊎◌, ⊎_elim, true≢false, ℕ, nat_eq, eqb-true, Bool, true, false, cond, ◌||◌, ◌++◌, List, [], ◌∷◌, map, find, Some, None, is_some, unwrap_or}
-use Rattle.vt_spec.proofs.Common.{Answer, Call, Change, Credentials, FileTree, Filesystem, Fresh, IsWorld, Location, TaskName, World, apply, changed, common_steps, denial, entries_in, entry_named, files_at, filesystem_numbered, filesystems_changed, folded, is_among, is_directory_node, is_overlay, mount_at, no_filesystem, node_allows, node_at, numbers_raised, parent_in, policy, raised, settled, symlink_text, with_change}
-use Rattle.vt_spec.specs.declared.errors.Deny.{Deny}
-use Rattle.vt_spec.specs.declared.errors.Rule.TheVariants.{W6}
+use Rattle.vt_spec.proofs.Common.{cases_Bool, Answer, Call, Change, Credentials, FileTree, Filesystem, Fresh, IsWorld, Location, TaskName, World, apply, changed, common_steps, denial, entries_in, entry_named, files_at, filesystem_numbered, filesystems_changed, folded, is_among, is_directory_node, is_overlay, mount_at, no_filesystem, node_allows, node_at, numbers_raised, parent_in, policy, raised, settled, symlink_text, with_change}
+use Rattle.vt_laws_later_calls.proofs.Common.{Deny, FilesBy, Inode, IsFileTree, IsListedTree, IsPlain, MayChange, W6, change_of, changes_keep_numbers, changes_keep_trees, file_changes_let_go, given_changes_are_proper, inodes_lost, is_plain, let_go_all_inodes, let_go_in, let_go_in_of, mounts-with_change, names_lost, namespace_if, number_if, numbered, numbers_raised_are, plain_numbered, raising_numbers_keeps_world, same_files, settling_leaves_a_world, task_if, uppers_of, without_inode_of, worlds_are_settled}
 use Rattle.vt_laws_trees.proofs.calls.inodes.InodesSettled.{settled_holds}
-use Rattle.vt_laws_trees.specs.Calls.Inodes.{change_of}
-use Rattle.vt_laws_mounts.specs.LettingGo.FileChanges.{MayChange, inodes_lost, names_lost}
-use Rattle.vt_laws_mounts.specs.LettingGo.InUse.{IsListedTree}
-use Rattle.vt_laws_mounts.specs.LettingGo.OneByOne.{Inode}
-use Rattle.vt_laws_mounts.specs.LettingGo.Overlays.{is_plain, let_go_all_inodes, let_go_in, let_go_in_of, uppers_of, without_inode_of}
-use Rattle.vt_laws_mounts.proofs.letting_go.leaving.FilesChanged.{file_changes_let_go}
-use Rattle.vt_laws_mounts.proofs.letting_go.sweeps.OfWorlds.{worlds_are_settled}
-use Rattle.vt_laws_worlds.proofs.permits.sees.SeesFit.{given_changes_are_proper}
-use Rattle.vt_laws_trees.specs.Trees.{IsFileTree}
-use Rattle.vt_laws_trees.proofs.trees.ChangesKeepTrees.{changes_keep_numbers, changes_keep_trees}
-use Rattle.vt_laws_trees.proofs.trees.TreesOfWorlds.{numbered}
-use Rattle.vt_laws_worlds.specs.Worlds.Kept.{IsPlain}
-use Rattle.vt_laws_worlds.proofs.Raised.{FilesBy, same_files}
-use Rattle.vt_laws_worlds.proofs.RaisedInUse.{namespace_if, number_if, numbers_raised_are, raising_numbers_keeps_world, task_if}
-use Rattle.vt_laws_worlds.proofs.settling.SettledTasks.{settling_leaves_a_world}
 use Rattle.vt_laws_later_calls.proofs.Changed.{files_changed, files_other}
 use Rattle.vt_laws_later_calls.proofs.Granted.{HasSucceeded}
 use Rattle.vt_laws_later_calls.proofs.OpenedNew.{given_of}
 use Rattle.vt_laws_later_calls.proofs.Stays.{spent_unsettled}
 use Rattle.vt_laws_later_calls.proofs.WaysChanges.{RightsStay, TreeStays}
 use Rattle.vt_laws_later_calls.proofs.WaysStay.{WorldStays, node_in, tree_in}
-use Rattle.vt_laws_mounts.proofs.mounts.MountsLeft.{mounts-with_change}
-use Rattle.vt_laws_trees.proofs.runs.answered.PlainStays.{plain_numbered}
 
 -- Filesystems of which each was changed, but not its number or root
 mapped_root : (change : Filesystem ℕ → Filesystem ℕ) → ((f : Filesystem ℕ) → (change f).number ≡ f.number)
@@ -206,13 +188,12 @@ module _ {world : World ℕ} {fresh : Fresh ℕ} {name : TaskName} {call : Call}
     pub in_each : (P : ℕ → FileTree ℕ → Type 0) → P shown (changed nat_eq files change)
         → ((number : ℕ) → P number (filesystem_numbered nat_eq world number).files)
         → (number : ℕ) → P number (filesystem_numbered nat_eq spent number).files
-    in_each P here elsewhere number = by (nat_eq shown number) refl
-      where
-        by : (b : Bool) → nat_eq shown number ≡ b → P number (filesystem_numbered nat_eq spent number).files
-        by true e = rw (← eqb-true shown number e) (subst (P shown) (sym spent_shown) here)
-        by false e = subst (P number)
-            (sym (spent_files number ∙ files_other from world it.plain location change number e))
-            (elsewhere number)
+    in_each P here elsewhere number = elim (cases_Bool (nat_eq shown number)) [
+      | inl e ↦ rw (← eqb-true shown number e) (subst (P shown) (sym spent_shown) here)
+      | inr e ↦ subst (P number)
+          (sym (spent_files number ∙ files_other from world it.plain location change number e))
+          (elsewhere number)
+    ]
 
     -- So ways that stay in the changed tree stay in the world.
     pub world_stays : (Refused : Deny → Type 0) → TreeStays files.tree (changed nat_eq files change).tree Refused

@@ -1,18 +1,7 @@
 -- Attributes that were set are told.
 use Rattle.std.proofs.Common.{◌≡◌, refl, sym, ap, subst, ◌∙◌, inl, inr, ◌⊎◌, ⊎_elim, true≢false, ℕ, nat_eq, true, List, Option, Some, None, is_some, Ok, Err, Bool}
 use Rattle.vt_spec.proofs.Common.{Call, Change, Chmod, Chown, Done, Filesystem, Fresh, Here, IsWorld, Location, Looks, Node, Permit, SetAttr, Stat, StatLine, Task, TaskName, ToChange, Told, World, attr_in, attr_with_mode, attr_with_owner, changed, denial, files_at, looks_of, mount_at, node_at, node_with_attr, object_walk, policy, raised_task, same_Some, stat_line, task_called, with_change}
-use Rattle.vt_spec.specs.declared.attributes.Attr.{Attr}
-use Rattle.vt_spec.specs.declared.errors.Deny.{Deny}
-use Rattle.vt_spec.specs.declared.errors.Rule.TheVariants.{W4}
-use Rattle.vt_laws_trees.specs.Calls.Inodes.{change_of}
-use Rattle.vt_laws_trees.specs.Trees.{IsFileTree}
-use Rattle.vt_laws_trees.proofs.trees.ChangesNodes.{changed_node_there}
-use Rattle.vt_laws_trees.proofs.trees.TreesOfWorlds.{numbered_all}
-use Rattle.vt_laws_trees.proofs.trees.TreesWalked.{Ends}
-use Rattle.vt_laws_worlds.specs.Worlds.Kept.{IsPlain}
-use Rattle.vt_laws_worlds.proofs.RaisedInUse.{unsettled_of}
-use Rattle.vt_laws_worlds.proofs.worlds.ReachedWalks.{End, object_end}
-use Rattle.vt_laws_worlds.proofs.settling.SettledTasks.{file_trees}
+use Rattle.vt_laws_later_calls.proofs.Common.{Attr, Deny, End, Ends, IsFileTree, IsGranted, IsPlain, W4, change_of, changed_node_there, changes_mode, changes_owner, file_trees, numbered_all, object_end, unsettled_of}
 use Rattle.vt_laws_later_calls.specs.LaterPaths.{ChmodThenStat, ChownThenStat, IsAnsweredUnless, IsSeenByAll, reads_all}
 use Rattle.vt_laws_later_calls.specs.Later.{IsAnswered}
 use Rattle.vt_laws_later_calls.proofs.AfterChange.{ChangesTree, spent}
@@ -25,8 +14,6 @@ use Rattle.vt_laws_later_calls.proofs.Ways.{Ends as EndsToo, LeadsToo}
 use Rattle.vt_laws_later_calls.proofs.WaysChanges.{TreeStays, ways_with_attr}
 use Rattle.vt_laws_later_calls.proofs.WaysPlaces.{object_too}
 use Rattle.vt_laws_later_calls.proofs.WaysStay.{StandsAs}
-use Rattle.vt_laws_rules.specs.Granted.{IsGranted}
-use Rattle.vt_laws_rules.specs.Granted.IsGranted.{changes_mode, changes_owner}
 
 -- where something is, there is a tree
 pub tree_there : (world : World ℕ) → IsWorld nat_eq world → IsPlain world → (location : Location ℕ)

@@ -1,9 +1,7 @@
 -- What a change of a plain filesystem leaves of it, and of the others.
 use Rattle.std.proofs.Common.{arith, ◌≡◌, refl, sym, ap, ◌∙◌, true≢false, ⊎_elim, ℕ, nat_eq, eqb-true, Bool, true, false, cond, List, [], ◌∷◌, Some, find, map, is_some, unwrap_or}
 use Rattle.vt_spec.proofs.Common.{Change, Filesystem, Fresh, Location, World, changed, common_steps, files_at, filesystem_numbered, mount_at, nat_eq_false_turned, no_filesystem, node_at, replaced_if_numbered, with_change, with_filesystem}
-use Rattle.vt_laws_trees.proofs.trees.TreesOfWorlds.{numbered}
-use Rattle.vt_laws_worlds.specs.Worlds.Kept.{IsPlain}
-use Rattle.vt_laws_worlds.proofs.worlds.SeenTrees.{change_of_plain, changed_one, found_new, old_number}
+use Rattle.vt_laws_later_calls.proofs.Common.{IsPlain, change_of_plain, changed_one, found_new, numbered, old_number}
 
 -- a filesystem of another number than the one that is replaced
 abbrev found_among : ℕ → Bool → Filesystem ℕ → List (Filesystem ℕ) → Filesystem ℕ

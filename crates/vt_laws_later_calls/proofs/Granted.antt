@@ -1,14 +1,8 @@
 -- What a granted call of the machine leaves.
 use Rattle.std.proofs.Common.{arith, ◌≡◌, refl, sym, ap, ◌∙◌, ℕ, nat_eq, Bool, true, false, cond, not, List, [], ◌∷◌, ◌||◌, Option, Some, None, Result, Ok, Err, find, is_ok, map, ok_or, option_map}
 use Rattle.vt_spec.proofs.Common.{Answer, Call, Fresh, IsWorld, Judgement, Outcome, Permit, Serves, Task, TaskName, World, after, answer-finished_by, apply, common_steps, denial, filesystems_changed, filesystems_changed_by, finished, judge_in, looks_of, numbers_raised, only_looks, overfills, policy, raised_task, same_name, settled, task_called}
-use Rattle.vt_spec.specs.declared.errors.Deny.{Deny}
-use Rattle.vt_spec.specs.declared.errors.Rule.TheVariants.{S2}
-use Rattle.vt_laws_rules.proofs.judged.CallsJudged.{policy_judges_then_applies}
+use Rattle.vt_laws_later_calls.proofs.Common.{Deny, IsGranted, IsPlain, S2, mounts_overlay, names_few_groups, policy_judges_then_applies}
 use Rattle.vt_laws_rules.proofs.given.Inversion.{calls_are_granted}
-use Rattle.vt_laws_rules.specs.Granted.{IsGranted}
-use Rattle.vt_laws_trees.specs.Trees.Calls.{mounts_overlay}
-use Rattle.vt_laws_trees.specs.Trees.Limits.{names_few_groups}
-use Rattle.vt_laws_worlds.specs.Worlds.Kept.{IsPlain}
 
 -- what a call that was granted, and does not only look, was permitted, and what it left
 pub record IsPermitted (world : World ℕ) (fresh : Fresh ℕ) (name : TaskName) (call : Call)

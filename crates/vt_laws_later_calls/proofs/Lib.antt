@@ -1,3 +1,5 @@
+pub mod Common
+pub mod Options
 pub mod Changed
 pub mod Granted
 pub mod Stays

@@ -1,17 +1,7 @@
 -- A new object is found at its path.
 use Rattle.std.proofs.Common.{◌≡◌, refl, sym, ap, subst, ◌∙◌, inl, inr, ◌⊎◌, true≢false, ℕ, nat_eq, Bool, true, false, cond, not, ◌&&◌, List, [], ◌∷◌, Option, Some, None, is_some, Ok, Err, Result, unwrap_or}
 use Rattle.vt_spec.proofs.Common.{Answer, Bytes, Call, Change, Done, Fresh, Here, LastWord, Location, Looks, Ls, Make, Mkdir, Names, Node, Permit, Place, Readlink, Stop, SymlinkAt, Task, TaskName, ToMake, World, apply, bytes_in, changed, denial, directory_mode, directory_used, entries_in, entry_named, files_at, is_directory_node, is_kind_in, is_special, looks_of, make_permit, mount_at, name_of, names_in, new_attr, new_directory, new_leaf_walk, new_walk, node_allows, node_at, odds, place_walk, policy, raised_task, read_right, same_Some, stepped, symlink_text, task_called, topmost, with_change}
-use Rattle.vt_spec.specs.declared.attributes.Kind.TheVariants.{Symlink}
-use Rattle.vt_spec.specs.declared.errors.Deny.{Deny}
-use Rattle.vt_spec.specs.declared.errors.Rule.TheVariants.{C1, W6}
-use Rattle.vt_spec.specs.Machine.Walking.{new_name_rules}
-use Rattle.vt_laws_trees.specs.Calls.Inodes.{change_of}
-use Rattle.vt_laws_mounts.specs.LettingGo.FileChanges.{IsMade}
-use Rattle.vt_laws_worlds.specs.Permits.Sees.{MayBeMade, SeesTo}
-use Rattle.vt_laws_worlds.proofs.permits.sees.SeesNames.{tree_here}
-use Rattle.vt_laws_worlds.proofs.permits.sees.SeesTasks.{given_permits_are_seen_to}
-use Rattle.vt_laws_trees.specs.Trees.{IsFileTree}
-use Rattle.vt_laws_worlds.proofs.worlds.SeenTrees.{unused_inode}
+use Rattle.vt_laws_later_calls.proofs.Common.{C1, Deny, IsFileTree, IsGranted, IsMade, MayBeMade, SeesTo, Symlink, W6, change_of, directory_made, given_permits_are_seen_to, makes_directory, makes_symlink, new_name_rules, symlink_made, tree_here, unused_inode}
 use Rattle.vt_laws_later_calls.specs.LaterPaths.{MkdirThenList, SymlinkThenReadlink}
 use Rattle.vt_laws_later_calls.specs.Later.{IsAnswered}
 use Rattle.vt_laws_later_calls.proofs.AfterChange.{ChangesTree, all_stays, later_is, later_mounts, spent}
@@ -23,8 +13,6 @@ use Rattle.vt_laws_later_calls.proofs.Ways.{EndsAt, LeadsToo, both_walked, walk_
 use Rattle.vt_laws_later_calls.proofs.WaysChanges.{RightsStay, TreeStays, made_entry, rights_made, ways_made}
 use Rattle.vt_laws_later_calls.proofs.WaysPlaces.{EndsThere, directory_named_too, named_place, symlink_named_too}
 use Rattle.vt_laws_later_calls.proofs.WaysStay.{StandsAs}
-use Rattle.vt_laws_rules.specs.Granted.{IsGranted, directory_made, symlink_made}
-use Rattle.vt_laws_rules.specs.Granted.IsGranted.{makes_directory, makes_symlink}
 
 -- no refusal
 abbrev pub Never : Deny → Type 0

@@ -1,11 +1,7 @@
 -- What a granted open was permitted, and the descriptor that a task then has.
 use Rattle.std.proofs.Common.{◌≡◌, ◌<◌, refl, sym, ap, ℕ, ◌+◌, nat_eq, eqb-true, eq-eqb, Bool, true, false, cond, List, [], ◌∷◌, Some, Ok, Err, Result, find, map, arith, nat_lt, le-ltb, lt-ltb, nat_le}
 use Rattle.vt_spec.proofs.Common.{Access, Answer, Descriptor, Fresh, Here, Location, Looks, NoCreation, OpenFile, Opened, Permit, Stop, Task, TaskName, ToOpen, World, and-false, and_parts, apply, are_ascending_from, bytes_eq-Decides, common_steps, free_above, free_from, inserted, is_within_limits, mount_at, object_walk, opened, opens_for_writing, replaced_if_called, same_name, same_ok, task_called, walk_end, with_task}
-use Rattle.vt_spec.specs.declared.errors.Deny.{Deny}
-use Rattle.vt_laws_worlds.specs.Worlds.Kept.{IsPlain}
-use Rattle.vt_laws_rules.specs.Granted.{IsGranted}
-use Rattle.vt_laws_rules.specs.Granted.IsGranted.{opens}
-use Rattle.vt_laws_trees.proofs.runs.answered.PlainStays.{plain_numbered}
+use Rattle.vt_laws_later_calls.proofs.Common.{Deny, IsGranted, IsPlain, opens, plain_numbered}
 
 pub inserted_found : (number : ℕ) (descriptors : List (Descriptor ℕ)) (new : Descriptor ℕ)
     → are_ascending_from number descriptors ≡ true → new.number ≡ free_from number descriptors

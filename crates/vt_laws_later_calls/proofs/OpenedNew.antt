@@ -1,27 +1,15 @@
 -- The descriptor of an open is on the file that is there, or with creat on a new one, which is empty.
 use Rattle.std.proofs.Common.{arith, ◌≡◌, refl, sym, ap, subst, ◌∙◌, true≢false, ℕ, nat_eq, eq-eqb, true, false, cond, List, [], take, drop, Some, None, Ok, find, Bool}
 use Rattle.vt_spec.proofs.Common.{Access, Answer, Bytes, Call, Creation, Descriptor, Exclusive, FileTree, Fresh, Here, IsWorld, Location, Looks, Make, NoCreation, Node, OpenFile, Opened, OrCreate, Permit, Place, Serves, Task, TaskName, ToOpen, World, apply, bytes_in, changed, common_steps, descriptor_numbered, directory_used, evens, file_walk, files_at, filesystem_numbered, free_number, is_directory_node, is_special, is_within_limits, looks_of, mount_at, mount_in, name_of, new_file, new_walk, node_at, node_with_entry, none_is_not, object_walk, odds, open_new_permit, opened, opens_for_reading, opens_for_writing, policy, raised_task, same_Some, same_name, task_called, tasks-with_change, with_descriptor, with_inode, with_new_inode, with_task}
-use Rattle.vt_laws_mounts.proofs.letting_go.Lists.{among_from_list_all}
-use Rattle.vt_laws_trees.specs.Trees.Calls.{mounts_overlay}
-use Rattle.vt_laws_trees.specs.Trees.Limits.{names_few_groups}
-use Rattle.vt_laws_trees.proofs.trees.ChangesNodes.{elsewhere}
-use Rattle.vt_laws_worlds.specs.Worlds.Kept.{IsPlain}
-use Rattle.vt_laws_worlds.proofs.worlds.CallsKept.{name_found}
-use Rattle.vt_laws_worlds.proofs.worlds.SeenTrees.{unused_inode}
+use Rattle.vt_laws_later_calls.proofs.Common.{IsGranted, IsPlain, MayBeMade, SeesTo, among_from_list_all, called_there, creates, creates_exclusively, elsewhere, given_permits_are_seen_to, mounts-with_change, mounts_overlay, name_found, names_few_groups, opens_existing, unused_inode}
 use Rattle.vt_laws_worlds.specs.Permits.Left.{IsGiven}
-use Rattle.vt_laws_worlds.specs.Permits.Sees.{MayBeMade, SeesTo}
-use Rattle.vt_laws_worlds.proofs.permits.sees.SeesTasks.{given_permits_are_seen_to}
 use Rattle.vt_laws_later_calls.specs.Later.{CreateThenPread, ExclusiveThenPread, OpenOrCreateThenPread, OpenThenPread, OpensFile, OpensNewFile, ReadsBy}
 use Rattle.vt_laws_later_calls.proofs.Changed.{files_changed}
 use Rattle.vt_laws_later_calls.proofs.Granted.{HasSucceeded, IsPermitted, has_succeeded}
 use Rattle.vt_laws_later_calls.proofs.Opened.{called_replaced, descriptors_in_order, inserted_found, open_parts, open_spent, opened_number}
 use Rattle.vt_laws_later_calls.proofs.Stays.{still_called, still_seen}
 use Rattle.vt_laws_later_calls.proofs.Through.{descriptor_located, pread_of, raised_descriptors}
-use Rattle.vt_laws_trees.proofs.trees.TreesTasks.{called_there}
 use Rattle.vt_laws_later_calls.proofs.Ways.{same_end}
-use Rattle.vt_laws_mounts.proofs.mounts.MountsLeft.{mounts-with_change}
-use Rattle.vt_laws_rules.specs.Granted.{IsGranted}
-use Rattle.vt_laws_rules.specs.Granted.IsGranted.{creates, creates_exclusively, opens_existing}
 
 -- A call that leaves a descriptor on a file, in a world that has the tasks of the one before
 module _ {world : World ℕ} {fresh : Fresh ℕ} {name : TaskName} {path : List ℕ} {access : Access} {creation : Creation}

@@ -2,14 +2,8 @@
 -- that stands where he does and may search everything.
 use Rattle.std.proofs.Common.{arith, ◌≡◌, refl, ap, ◌∙◌, inl, inr, ◌⊎◌, ℕ, nat_eq, Bool, true, false, ◌∷◌, length, Option, Some, None, is_some, option_map, ok_or, zero, suc, []}
 use Rattle.vt_spec.proofs.Common.{Answer, Call, Change, Dot, DotDot, Fresh, IsWorld, LastWord, Location, Mount, Named, NoWord, Task, TaskName, World, among_from_all, chain, changed, child_at, common_steps, denial, entries_in, entry_named, execute_right, files_at, is_directory_at, is_special, last_or, looks_of, may, mount_at, name_of, node_at, policy, raised_task, root_of, stands_at, task_called, tasks-with_change, topmost}
-use Rattle.vt_spec.specs.declared.errors.Deny.{Deny}
-use Rattle.vt_spec.specs.declared.errors.Rule.TheVariants.{W4, W6}
-use Rattle.vt_spec.proofs.Walk.{stepped}
-use Rattle.vt_laws_mounts.proofs.mounts.MountsFound.{found_in}
-use Rattle.vt_laws_mounts.proofs.mounts.MountsPlaces.{stands_there}
+use Rattle.vt_laws_later_calls.proofs.Common.{cases_Option, Deny, IsPlain, W4, W6, found_in, name_found, stands_there, stepped}
 use Rattle.vt_laws_trees.proofs.trees.TreesOfMounts.{worlds_are_standing}
-use Rattle.vt_laws_worlds.specs.Worlds.Kept.{IsPlain}
-use Rattle.vt_laws_worlds.proofs.worlds.CallsKept.{name_found}
 use Rattle.vt_laws_later_calls.specs.LaterPaths.{LooksFrom, reads_all}
 use Rattle.vt_laws_later_calls.proofs.AfterChange.{ChangesTree, later_is, node_changed, world_rights, world_stays}
 use Rattle.vt_laws_later_calls.proofs.Granted.{HasSucceeded}
@@ -55,7 +49,13 @@ stepped_by world reader here last special o e = cc (named_last last special)
 -- over what is no directory no mount stands
 pub uncovered : (world : World ℕ) → IsWorld nat_eq world → (location : Location ℕ)
     → is_directory_at nat_eq world location ≡ false → topmost nat_eq world.mounts location ≡ location
-uncovered world is location no_directory = by (child_at nat_eq world.mounts location) refl
+uncovered world is location no_directory = elim (cases_Option (child_at nat_eq world.mounts location)) [
+  | inl e ↦ over (length world.mounts) e
+  | inr its ↦ let found = found_in (stands_at nat_eq location) world.mounts its.0 its.1 in
+      cc (among_from_all (λ (m : Mount ℕ). (place : Location ℕ) → m.mount_point ≡ Some place → is_directory_at nat_eq
+      world place ≡ true) world.mounts (worlds_are_standing world is).places its.0 found.0 location
+      (stands_there location its.0 found.1))
+]
   where
     over : (most : ℕ) → child_at nat_eq world.mounts location ≡ None
         → last_or location (chain most (λ here. option_map root_of (child_at nat_eq world.mounts here)) location)
@@ -65,15 +65,6 @@ uncovered world is location no_directory = by (child_at nat_eq world.mounts loca
       | None ↦ location ∷ []
       | Some b ↦ location ∷ chain most (λ here. option_map root_of (child_at nat_eq world.mounts here)) b
     ])) none
-
-    by : (o : Option (Mount ℕ)) → child_at nat_eq world.mounts location ≡ o
-        → topmost nat_eq world.mounts location ≡ location
-    by None e = over (length world.mounts) e
-    by (Some mount) e =
-        let found = found_in (stands_at nat_eq location) world.mounts mount e in
-        cc (among_from_all (λ (m : Mount ℕ). (place : Location ℕ) → m.mount_point ≡ Some place → is_directory_at nat_eq
-        world place ≡ true) world.mounts (worlds_are_standing world is).places mount found.0 location
-        (stands_there location mount found.1))
 
 module _ {world : World ℕ} {fresh : Fresh ℕ} {name : TaskName} {call : Call} {answer : Answer}
     {it : HasSucceeded world fresh name call answer} {location : Location ℕ} {change : Change ℕ} {from : Fresh ℕ}

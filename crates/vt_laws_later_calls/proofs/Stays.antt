@@ -1,14 +1,8 @@
 -- What tasks are on stays where what nothing uses goes.
 use Rattle.std.proofs.Common.{◌≡◌, ap, subst, ◌∙◌, ℕ, nat_eq, List, Some}
 use Rattle.vt_spec.proofs.Common.{Answer, Call, Fresh, Location, Outcome, Task, TaskName, World, apply, filesystems_changed, locations_of, mount_at, node_at, numbers_raised, policy, raised, raised_task, settled, task_called}
-use Rattle.vt_laws_mounts.proofs.letting_go.Lists.{Among}
-use Rattle.vt_laws_worlds.specs.Worlds.Kept.{IsWorldButForUse}
-use Rattle.vt_laws_worlds.proofs.worlds.CallsKept.{applied, name_found, unsettled}
-use Rattle.vt_laws_worlds.proofs.Raised.{FilesBy, same_files}
-use Rattle.vt_laws_worlds.proofs.RaisedInUse.{namespace_if, number_if, numbers_raised_are, task_if}
-use Rattle.vt_laws_worlds.proofs.settling.SettledTasks.{of_task, same_node}
+use Rattle.vt_laws_later_calls.proofs.Common.{Among, FilesBy, IsWorldButForUse, applied, called_there, name_found, namespace_if, number_if, numbers_raised_are, of_task, same_files, same_node, task_if, unsettled}
 use Rattle.vt_laws_later_calls.proofs.Granted.{HasSucceeded, called_raised}
-use Rattle.vt_laws_trees.proofs.trees.TreesTasks.{called_there}
 
 -- raised numbers hide no inode
 pub node_raised : (before : World ℕ) (name : TaskName) (changed : List ℕ) (world : World ℕ) (location : Location ℕ)

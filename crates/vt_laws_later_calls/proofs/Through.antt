@@ -2,18 +2,10 @@
 use Rattle.std.proofs.Common.{◌≡◌, refl, sym, ap, ◌∙◌, ⊎_elim, ℕ, nat_eq, eq-eqb, Bool, true, cond, List, [], ◌∷◌, length, take, drop, Option, Some, Ok, ok_or, option_to_list, find, true≢false, inr, ◌+◌, ◌-◌, ◌++◌, arith, replicate, append_assoc, length-append, length-take-le}
 use Rattle.vt_spec.proofs.Common.{Bytes, Call, Descriptor, Done, Filesystem, Fresh, IsWorld, Location, Looks, Node, Permit, Pread, Pwrite, SetBytes, Task, TaskName, ToWritePart, World, apply, bytes_in, common_steps, denial, descriptor_numbered, drop-append_seam, found_among, granted, has_regular_files_open, is_kind_in, locations_of, looks_of, mount_at, node_at, node_with_bytes, overwritten, padded, policy, pread_permit, pwritten, raised_task, same_Some, take-append_seam, task_called, with_change, with_filesystem}
 use Rattle.std.proofs.lemmas.List.{length-replicate}
-use Rattle.vt_spec.specs.declared.attributes.Kind.TheVariants.{File}
-use Rattle.vt_spec.specs.declared.errors.Rule.TheVariants.{S4}
-use Rattle.vt_laws_mounts.proofs.letting_go.Lists.{Among, among-map, among_from_list_all}
-use Rattle.vt_laws_worlds.specs.Worlds.Kept.{IsPlain}
-use Rattle.vt_laws_worlds.proofs.worlds.SeenTrees.{change_of_plain, changed_one, found_new, old_number}
-use Rattle.vt_laws_trees.proofs.trees.TreesOfWorlds.{numbered}
+use Rattle.vt_laws_later_calls.proofs.Common.{Among, File, IsGranted, IsPlain, S4, among-map, among_from_list_all, called_there, change_of_plain, changed_one, found_new, numbered, old_number, tasks-pwritten, writes_part}
 use Rattle.vt_laws_later_calls.specs.Later.{IsOneInode, PwriteThenPread}
 use Rattle.vt_laws_later_calls.proofs.Granted.{HasSucceeded, has_succeeded}
 use Rattle.vt_laws_later_calls.proofs.Stays.{still_called, still_seen}
-use Rattle.vt_laws_trees.proofs.trees.TreesTasks.{called_there, tasks-pwritten}
-use Rattle.vt_laws_rules.specs.Granted.{IsGranted}
-use Rattle.vt_laws_rules.specs.Granted.IsGranted.{writes_part}
 
 -- bytes with zeros after them, as long as they must be
 padded_long : (offset : ℕ) (old : List ℕ) → length (padded offset old) ≡ length old + (offset - length old)

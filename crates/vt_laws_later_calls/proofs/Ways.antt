@@ -1,9 +1,7 @@
 -- Walks in what a call left: they lead where they led, or stop where what it left stops them.
 use Rattle.std.proofs.Common.{◌≡◌, refl, sym, ap, subst, ◌∙◌, inl, inr, ◌⊎◌, ℕ, zero, suc, ◌-◌, ◌==◌, ◌≤◌, nat_eq, Bool, true, false, cond, not, List, [], ◌∷◌, reverse, Option, Some, None, Result, Ok, Err, arith}
 use Rattle.vt_spec.proofs.Common.{Follow, Here, LastWord, Location, Looks, NoneFails, Rules, Stop, Task, and_then, and_then-Ok, common_steps, denial, ends_in_slash, execute_right, follow_rules, if_symlink, last_word, may, not-false, passed, passing, same_ok, search_rules, slash_rules, start_of, stepped, steps_with, stopped_by, symlink_start, symlink_text, symlink_walked, then_walk, unless, walk_unless, word_walked, words, words_walked}
-use Rattle.vt_spec.specs.declared.errors.Deny.{Deny}
-use Rattle.vt_spec.specs.declared.errors.Rule.TheVariants.{W4}
-use Rattle.vt_spec.specs.Machine.Looks.{is_directory_at, mount_at, mounter_may}
+use Rattle.vt_laws_later_calls.proofs.Common.{Deny, W4, is_directory_at, mount_at, mounter_may}
 
 -- Walks that may be refused
 

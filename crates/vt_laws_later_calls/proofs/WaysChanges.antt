@@ -1,11 +1,8 @@
 -- What changes of a tree leave of the ways through it.
 use Rattle.std.proofs.Common.{arith, ◌≡◌, ◌≢◌, refl, sym, ap, ◌∙◌, inl, inr, ◌⊎◌, ⊎_elim, true≢false, ℕ, nat_eq, eqb-true, ne_eqb, Bool, true, false, cond, not, List, Option, Some, None, is_some, bytes_eq}
 use Rattle.vt_spec.proofs.Common.{Content, Credentials, Directory, FileTree, IsDirectory, Make, Move, Node, Regular, Remove, Symlink, Tree, Whiteout, allows, bytes_decides, changed, changed_node, common_steps, denial, directory_from_entry, entries-node_with_bytes, entries-node_with_entry, entries-node_without_entry, entries_in, entries_of, entry_at, entry_named, entry_named-with_entry, entry_named-without_entry, eq_by_cmp, eqb_tells, is_directory-node_with_entry, is_directory-node_without_entry, is_directory_node, kind_of, name_cmp, nat_list_cmp_total, node_allows, node_with_attr, node_with_bytes, node_with_entry, node_without_entry, none_is_not, parent-node_with_entry, parent-node_without_entry, parent_in, same_Some, symlink_text, tied_itself, with_bytes, with_entries, with_entry, with_name, without_entry, without_name}
-use Rattle.vt_spec.specs.declared.attributes.Attr.{Attr}
-use Rattle.vt_spec.specs.declared.errors.Deny.{Deny}
-use Rattle.vt_spec.specs.declared.errors.Rule.TheVariants.{W6}
+use Rattle.vt_laws_later_calls.proofs.Common.{Attr, Deny, W6, attr_keeps_place, changed_node_there, elsewhere, part_stays}
 use Rattle.vt_spec.proofs.Nodes.{is_directory-node_with_bytes, parent-node_with_bytes, same_name}
-use Rattle.vt_laws_trees.proofs.trees.ChangesNodes.{attr_keeps_place, changed_node_there, elsewhere, part_stays}
 use Rattle.vt_spec.proofs.NodeChanges.{node_with_parent-no_directory}
 
 -- What was there is of its kind, and a directory has its parent, a symlink its text. A name leads where it led, or is

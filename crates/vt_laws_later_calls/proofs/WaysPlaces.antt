@@ -1,10 +1,7 @@
 -- Where the walks of paths end in what a call left: at the object where they ended, at what a name has now, or nowhere.
 use Rattle.std.proofs.Common.{◌≡◌, refl, sym, ap, subst, ◌∙◌, inl, inr, ◌⊎◌, true≢false, ℕ, nat_eq, Bool, true, false, cond, not, List, [], ◌∷◌, reverse, None, Result, Ok, Err, arith}
 use Rattle.vt_spec.proofs.Common.{Dot, DotDot, Here, LastWord, Location, Looks, Named, NoWord, NoneFails, Place, Rules, Stop, Task, and_then, and_then-Ok, common_steps, denial, directory_walk, ends_in_slash, final_word, if_symlink, is_special, last_word, object_named, object_walk, parsed_path, passed, passing, path_rules, path_text, place_walk, placed, same_ok, search_rules, slash_rules, stepped, steps_at, steps_with, stopped_by, symlink_text, symlink_walk, symlink_walk_by, then_walk, unless, walk_start, walk_unless, word_walked, words, words_walked}
-use Rattle.vt_spec.specs.declared.errors.Deny.{Deny}
-use Rattle.vt_spec.specs.declared.errors.Rule.TheVariants.{W3, W4}
-use Rattle.vt_spec.specs.Machine.Looks.{is_directory_at}
-use Rattle.vt_spec.specs.Machine.Walking.{followed, prefix_walked, last_walked, path_walked}
+use Rattle.vt_laws_later_calls.proofs.Common.{Deny, W3, W4, followed, is_directory_at, last_walked, path_walked, prefix_walked}
 use Rattle.vt_laws_later_calls.proofs.Ways.{EndsAt, Ends, LeadsToo, Stops, at, both_walked, not_stopped, same_end, search_too, slash_too, start_known, start_same, then_too, walk_passed, walk_passing, word_gave, word_too, words_lead}
 
 -- a text that may be walked is the path

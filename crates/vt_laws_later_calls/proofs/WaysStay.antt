@@ -1,20 +1,9 @@
 -- In a world that a call left, in which mounts stay and names stay or are missing, walks lead where they led.
 use Rattle.std.proofs.Common.{arith, ◌≡◌, refl, ap, subst, ◌∙◌, inl, inr, ◌⊎◌, true≢false, ℕ, nat_eq, Bool, true, false, cond, not, ◌||◌, List, [], ◌∷◌, length, Option, Some, None, is_some, option_map, ok_or, Result, Ok, Err}
 use Rattle.vt_spec.proofs.Common.{Dot, DotDot, FileTree, IsWorld, LastWord, Location, Mount, Named, NoWord, Node, Task, Tree, World, among_from_list_all, and_parts, chain, common_steps, denial, directory_used, entries_in, entry_at, entry_named, execute_right, filesystem_numbered, has_its_root, hop, is_among, is_directory_at, is_directory_node, is_directory_under, is_lost, is_removed, last_or, looks_of, may, mount_at, mount_in, mount_numbered, mounter_allows, node_at, none_is_not, not-false, or_parts, parent_in, same_location, symlink_text, task_called, topmost, unless, ⊤}
-use Rattle.vt_spec.specs.declared.errors.Deny.{Deny}
-use Rattle.vt_spec.specs.declared.errors.Rule.TheVariants.{W4, W6, W8}
-use Rattle.vt_spec.proofs.Walk.{stepped}
-use Rattle.vt_laws_mounts.specs.Mounts.Attaching.{numbers_of}
-use Rattle.vt_laws_mounts.proofs.mounts.MountsFound.{found_there}
-use Rattle.vt_laws_trees.specs.Trees.{IsFileTree}
-use Rattle.vt_laws_trees.proofs.trees.TreesEntered.{chain_ends_at}
-use Rattle.vt_laws_worlds.proofs.permits.sees.SeesNames.{tree_here}
-use Rattle.vt_laws_worlds.specs.Worlds.Kept.{IsPlain}
-use Rattle.vt_laws_worlds.proofs.worlds.Reached.{IsFound, IsFoundDirectory, directory_found, place_found, step_found}
-use Rattle.vt_laws_worlds.proofs.worlds.ReachedWalks.{own_directory_found, root_found}
+use Rattle.vt_laws_later_calls.proofs.Common.{Deny, IsFileTree, IsFound, IsFoundDirectory, IsPlain, W4, W6, W8, chain_ends_at, directory_found, found_there, numbers_of, own_directory_found, place_found, plain_numbered, root_found, step_found, stepped, tree_here}
 use Rattle.vt_laws_later_calls.proofs.Ways.{LeadsToo}
 use Rattle.vt_laws_later_calls.proofs.WaysTrees.{DirectoryNamesStay, KeepsNames, present_later, under_later}
-use Rattle.vt_laws_trees.proofs.runs.answered.PlainStays.{plain_numbered}
 
 -- the root of a mount is a directory
 pub mount_root : (world : World ℕ) → IsWorld nat_eq world → (number : ℕ)

@@ -1,10 +1,7 @@
 -- Directories of a tree that are not lost are not lost where the names that lead to them stay.
 use Rattle.std.proofs.Common.{◌≡◌, refl, sym, ap, subst, ◌∙◌, ⊎_elim, ℕ, zero, suc, nat_eq, eqb-true, eq-eqb, Bool, true, false, not, ◌||◌, List, [], ◌∷◌, ◌++◌, length, Option, Some, None, is_some}
 use Rattle.vt_spec.proofs.Common.{FileTree, IsDirectory, IsReached, IsTree, Tree, chain, directory_from_entry, directory_used, entry_at, found, is_among, is_directory_under, is_removed, led, led-append, named_parent, none_is_not, reached_named, same_Some}
-use Rattle.vt_spec.proofs.Trees.{parent_reached}
-use Rattle.vt_laws_trees.specs.Trees.{IsFileTree}
-use Rattle.vt_laws_trees.proofs.trees.TreesAbove.{parent_named, under_seen, led_directory}
-use Rattle.vt_laws_trees.proofs.trees.TreesReached.{not_removed_reached}
+use Rattle.vt_laws_later_calls.proofs.Common.{IsFileTree, led_directory, not_removed_reached, parent_named, parent_reached, under_seen}
 
 -- The names that lead to a directory from what lies above it
 module _ (tree : Tree ℕ) (conditions : IsTree tree) where

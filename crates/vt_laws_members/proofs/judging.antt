@@ -1,4 +1,5 @@
 -- What the proofs of src/judging.rt use.
+pub mod Common
 pub mod AllJudged
 pub mod Anywhere
 pub mod Busy

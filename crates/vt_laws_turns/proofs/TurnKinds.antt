@@ -1,8 +1,7 @@
 -- The kinds of a call's turn.
 use Rattle.std.proofs.Common.{◌≡◌, refl, sym, ap, subst, ◌⊎◌, inl, inr, ℕ, nat_eq, Bool, true, false, List, [], ◌∷◌, Option, Some, None, Ok, Err, Result, ◌+◌, nat_le, slice_get, unwrap_or}
 use Rattle.vt_spec.proofs.Common.{Call, Calls, Fresh, Progress, Queued, Route, Sched, Someone, Task, Turned, call_turn_of, entry_rules, first_of_list, first_progress, first_turn, first_turn_by, found_passes, further, is_failing, is_overtaken, later_turn, looks_of, most_restarts, next_word, none_is_some, one_further, queue_of, queue_turn, restarted, routes, same_name, same_task_name, task_called, turn, turn_under_way, unless, word_walked_by, words_of}
-use Rattle.vt_spec.specs.declared.errors.Deny.{Deny}
-use Rattle.vt_spec.specs.Machine.Turns.{run_whole, went_on}
+use Rattle.vt_laws_turns.proofs.Common.{Deny, run_whole, went_on}
 use Rattle.vt_laws_turns.specs.Restarts.{IsNextOf, under_way_of}
 
 module _ (sched : Sched ℕ) (task : Task ℕ) (line : ℕ) (call : Call) (fresh : Fresh ℕ) where

@@ -1,8 +1,7 @@
 -- What a turn leaves, by what stands first in its queue.
 use Rattle.std.proofs.Common.{◌≡◌, refl, sym, ap, subst, inl, inr, ℕ, nat_eq, Bool, true, false, List, [], ◌∷◌, Option, Some, None, ◌+◌, nat_le}
 use Rattle.vt_spec.proofs.Common.{Asks, Call, Calls, Fresh, Item, Nobody, Outcome, Progress, Queued, Refused, Sched, Someone, Task, TaskName, Turned, Who, call_turn_of, denial, denied, directed, first_of_list, first_progress, found_passes, is_overtaken, most_restarts, policy, queue_of, queue_turn, same_name, same_task_name, task_called, turn}
-use Rattle.vt_spec.specs.declared.errors.Rule.TheVariants.{S2, S5}
-use Rattle.vt_spec.specs.Machine.Turns.{call_replied, replied}
+use Rattle.vt_laws_turns.proofs.Common.{S2, S5, call_replied, replied}
 use Rattle.vt_laws_turns.specs.Restarts.{IsNextOf, is_call, under_way_of}
 use Rattle.vt_laws_turns.proofs.TurnKinds.{GoesFurther, IsWalked, TurnKind, turn_of_call}
 use Rattle.vt_laws_turns.proofs.TurnKinds.TurnKind.{Begins, GoesOn, Restarts, Whole}

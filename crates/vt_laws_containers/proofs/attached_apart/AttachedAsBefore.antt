@@ -1,10 +1,7 @@
 -- Where copies come at a mount of a sealed set and at its receivers, others are as they were.
 use Rattle.std.proofs.Common.{arith, ◌≡◌, refl, sym, ap, subst, ◌∙◌, inr, ⊎_elim, ℕ, nat_eq, true, false, List, ◌++◌, append_assoc, Option, Some, map}
 use Rattle.vt_spec.proofs.Common.{Among, Copies, Fresh, Mount, Serves, TaskName, World, among-filter, attached_by, common_steps, folded, is_own_mount, masters_with, source_of}
-use Rattle.vt_laws_trees.specs.Layers.Layers.ChangesUpper.{IsNewBy}
-use Rattle.vt_laws_members.proofs.attached.CopiesAlike.{AttachesTheirs, base, copies, made, parts, push}
-use Rattle.vt_laws_members.proofs.attached.GrownPart.{Grows, grown_world, own_how}
-use Rattle.vt_laws_members.proofs.attached.PushedUp.{ShowTheirs, all_copies, copies_grow, of_copies, push_keeps}
+use Rattle.vt_laws_containers.proofs.Common.{AttachesTheirs, Grows, IsNewBy, ShowTheirs, all_copies, base, copies, copies_grow, grown_world, made, of_copies, own_how, parts, push, push_keeps}
 use Rattle.vt_laws_containers.proofs.footholds.AsBefore.{OthersAsBefore}
 use Rattle.vt_laws_containers.proofs.attached_apart.CopiesHear.{copy_ours, made_ours}
 use Rattle.vt_laws_containers.proofs.attached_apart.GroupsApart.{Ours, groups_apart, source_ours}

@@ -1,19 +1,9 @@
 -- No mount(2) with MS_BIND by a task of a sealed set gives others a foothold.
-use Rattle.std.proofs.Common.{arith, ◌≡◌, refl, sym, ap, subst, ◌∙◌, inl, ℕ, nat_eq, Bool, true, false, List, [], Option, Some, None, Ok, Err, IfOk, is_ok}
+use Rattle.std.proofs.Common.{inr, arith, ◌≡◌, refl, sym, ap, subst, ◌∙◌, inl, ℕ, nat_eq, Bool, true, false, List, [], Some, Ok, Err, IfOk, is_ok}
 use Rattle.vt_spec.proofs.Common.{Among, Bind, Copies, Fresh, Judgement, Location, Mount, Serves, Task, TaskName, ToBind, World, among-filter, attach, bind_tree, bound_at, common_steps, copies_from, judge_in, members, mount_at, source_of, task_called, used_directly}
-use Rattle.vt_laws_members.proofs.judging.TheirCalls.{IsMember, caller_in, sealing_of}
+use Rattle.vt_laws_containers.proofs.Common.{cases_Option, AttachesTheirs, IsMember, IsSealed, ShowTheirs, caller_in, is_own, is_theirs, no_new_ones, none_new, own_theirs, parts, ran, sealing_of, theirs_directly, theirs_from, there}
 use Rattle.vt_laws_sealed.proofs.part.part.MountsOver.{numbered}
-use Rattle.vt_laws_sealed.proofs.part.part.PartOfPart.{is_own}
-use Rattle.vt_laws_members.specs.Judging.{is_theirs}
-use Rattle.vt_laws_members.proofs.judging.Grounds.{theirs_from}
-use Rattle.vt_laws_members.proofs.judging.MountTrees.{own_theirs}
-use Rattle.vt_laws_members.proofs.judging.SeenInPart.{theirs_directly}
-use Rattle.vt_laws_members.proofs.changes.looks.Told.{ran}
 use Rattle.vt_laws_members.proofs.attached.Binding.{Binds, all_copied, binds_there}
-use Rattle.vt_laws_members.proofs.attached.CopiesAlike.{AttachesTheirs, no_new_ones, parts}
-use Rattle.vt_laws_members.proofs.attached.Destination.{there}
-use Rattle.vt_laws_members.proofs.attached.MovedGrows.{none_new}
-use Rattle.vt_laws_members.proofs.attached.PushedUp.{ShowTheirs}
 use Rattle.vt_laws_containers.specs.Footholds.{GivesNoFoothold}
 use Rattle.vt_laws_containers.proofs.footholds.AsBefore.{OthersAsBefore}
 use Rattle.vt_laws_containers.proofs.footholds.Granting.{refused_out}
@@ -21,7 +11,6 @@ use Rattle.vt_laws_containers.proofs.footholds.TasksPermits.{permit_out}
 use Rattle.vt_laws_containers.specs.AttachedApart.AttachFootholds.{BindsGiveNoFoothold}
 use Rattle.vt_laws_containers.proofs.attached_apart.AttachedAsBefore.{copies_as_before}
 use Rattle.vt_laws_containers.proofs.attached_apart.GroupsApart.{Ours, source_ours}
-use Rattle.vt_laws_sealed.proofs.part.seals.ByPart.{IsSealed}
 
 module _ {world : World ℕ} {names : List TaskName} (sealing : IsSealed world names) {fresh : Fresh ℕ}
     (serves : Serves nat_eq world fresh) (from here : Location ℕ) (recursive : Bool)
@@ -79,7 +68,13 @@ module _ {world : World ℕ} {names : List TaskName} (sealing : IsSealed world n
       (copies_as_before serves (λ a b. (_, refl)) sources shows)
 
 pub binds_give_no_foothold : BindsGiveNoFoothold
-binds_give_no_foothold world names name source path recursive it fresh serves = by (task_called world name) refl
+binds_give_no_foothold world names name source path recursive it fresh serves = elim (cases_Option
+    (task_called world name)) [
+      | inl e ↦ refused_out it fresh (ap (λ o. is_ok (ran name (Bind source path recursive) world fresh o).answer) e)
+      | inr its ↦ let member = caller_in it its.1 in
+          judged_by its.0 member its.1 (judge_in nat_eq fresh world its.0 (Bind source path recursive)) refl
+          (binds_there member recursive fresh source path)
+    ]
   where
     judged_by : (task : Task ℕ) (member : IsMember world names task) → task_called world name ≡ Some task
         → (j : Judgement ℕ) → judge_in nat_eq fresh world task (Bind source path recursive) ≡ j
@@ -91,11 +86,3 @@ binds_give_no_foothold world names name source path recursive it fresh serves = 
         its.5 its.6)
     judged_by task member e (Err deny) judged its = refused_out it fresh
         (cc)
-
-    by : (o : Option (Task ℕ)) → task_called world name ≡ o
-        → GivesNoFoothold world names name (Bind source path recursive) fresh
-    by None e = refused_out it fresh (ap (λ o. is_ok (ran name (Bind source path recursive) world fresh o).answer) e)
-    by (Some task) e =
-        let member = caller_in it e in
-        judged_by task member e (judge_in nat_eq fresh world task (Bind source path recursive)) refl
-        (binds_there member recursive fresh source path)

@@ -2,13 +2,7 @@
 use Rattle.std.proofs.Common.{arith, ◌≡◌, refl, sym, ap, ◌∙◌, ◌⊎◌, inl, inr, ⊎_elim, ℕ, nat_eq, true, List, [], ◌∷◌, ◌++◌, Option, Some, map, not, eqb-true}
 use Rattle.vt_spec.proofs.Common.{Among, Filesystem, Fresh, HasLivingGroups, Mount, Private, Propagation, Serves, Shared, Slave, TaskName, Unbindable, World, among-from_filter, among_from_all, any_among, common_steps, false_from_ne_true, folded, group_of, holds_of, is_member_of, is_own_mount, is_own_namespace, list_all, list_all_from_among, master_of, masters_with, none_is_some, or_cases, other_mounts, own_mounts, receives_events_of, share_events, shares_no_events, source_of}
 use Rattle.vt_laws_containers.proofs.types_apart.GroupsApart.{in_group, master_in}
-use Rattle.vt_laws_trees.specs.Layers.Layers.ChangesUpper.{IsNewBy}
-use Rattle.vt_laws_sealed.proofs.part.groups.EventsApart.{above_lives, member_group, members_of}
-use Rattle.vt_laws_sealed.proofs.part.groups.ReceiversAlike.{Living}
-use Rattle.vt_laws_sealed.proofs.part.seals.ByPart.{IsSealed, apart_if_sealed}
-use Rattle.vt_laws_sealed.proofs.outsiders.OtherMounts.{member_of_heard, not_heard, other_hears_foreign, standing_apart_with}
-use Rattle.vt_laws_sealed.proofs.outsiders.StandingApart.{StandsApart}
-use Rattle.vt_laws_members.proofs.attached.GrownPart.{Grows, grown_world}
+use Rattle.vt_laws_containers.proofs.Common.{Grows, IsNewBy, IsSealed, Living, StandsApart, above_lives, apart_if_sealed, grown_world, member_group, member_of_heard, members_of, not_heard, other_hears_foreign, standing_apart_with}
 use Rattle.vt_laws_containers.proofs.attached_apart.CopiesHear.{AreOf}
 use Rattle.vt_laws_containers.proofs.attached_apart.GrownAsBefore.{others_stay}
 

@@ -1,14 +1,9 @@
 -- Where mounts of a sealed set change, and others come that are theirs, others are as they were.
 use Rattle.std.proofs.Common.{arith, ◌≡◌, refl, sym, ap, subst, ◌∙◌, ◌⊎◌, inl, inr, ⊎_elim, ℕ, nat_eq, Bool, true, false, cond, List, [], ◌∷◌, ◌++◌, Option, Some, None, filter, find, map, not, ◌||◌, eq-eqb, unwrap_or}
 use Rattle.vt_spec.proofs.Common.{Among, Filesystem, Layer, Location, Mount, Task, TaskName, World, all_locations, among-append, among-append_left, among-append_right, among-filter, among-from_filter, among-from_map, among-map, among_from_list_all, any_from_among, change_layers, common_steps, holds_of, is_among, is_member_task, is_own_mount, is_own_namespace, layers_of, list_all_from_among, locations, locations_of, members, mount_at, mount_in, no_mount, of_overlay, other_mounts, outsiders, own_mounts, shares_no_events, used_directly}
-use Rattle.vt_laws_sealed.specs.Part.Seals.{IsApart}
-use Rattle.vt_laws_sealed.proofs.part.part.PartOfPart.{used_directly_used}
-use Rattle.vt_laws_sealed.proofs.part.seals.ByPart.{IsSealed, apart_if_sealed}
-use Rattle.vt_laws_sealed.proofs.outsiders.OtherMounts.{located_there}
-use Rattle.vt_laws_members.proofs.attached.GrownPart.{Grows, as_before, grown_world, is_new, own_how, shows_still}
+use Rattle.vt_laws_containers.proofs.Common.{Grows, IsApart, IsSealed, among-flat_map_filter, apart_if_sealed, as_before, grown_world, is_new, located_there, own_how, shows_still, used_directly_used}
 use Rattle.vt_laws_containers.proofs.footholds.AsBefore.{GoesOn, OthersAsBefore}
 use Rattle.vt_laws_containers.proofs.scripts.UsedThere.{IsThere}
-use Rattle.vt_laws_trees.proofs.trees.Lists.{among-flat_map_filter}
 
 -- an upper or work layer is a layer
 written_layer : (filesystem : Filesystem ℕ) (number : ℕ) → Among number (change_layers filesystem)

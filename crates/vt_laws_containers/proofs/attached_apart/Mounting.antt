@@ -1,11 +1,8 @@
 -- No mount(2) of a new plain filesystem by a task of a sealed set gives others a foothold.
-use Rattle.std.proofs.Common.{◌≡◌, refl, ap, ⊎_elim, ℕ, nat_eq, true, List, [], Option, Some, None, Ok, Err, ◌&&◌, eq-eqb, IfOk, is_ok}
+use Rattle.std.proofs.Common.{inl, inr, ◌≡◌, refl, ap, ⊎_elim, ℕ, nat_eq, true, List, [], Some, Ok, Err, ◌&&◌, eq-eqb, IfOk, is_ok}
 use Rattle.vt_spec.proofs.Common.{Among, Filesystem, Fresh, Judgement, Layer, Location, Mount, MountFlags, MountPlain, Serves, Task, TaskName, ToMountPlain, World, evens, is_among, judge_in, layers_of, members, mount_at, mounted, named_in, none_is_some, odds, of_overlay, or_left, plain_filesystem, source_of, task_called, used_directly}
-use Rattle.vt_laws_members.proofs.judging.TheirCalls.{IsMember, caller_in, sealing_of}
+use Rattle.vt_laws_containers.proofs.Common.{cases_Option, IsMember, IsSealed, caller_in, is_own, is_theirs, ran, sealing_of}
 use Rattle.vt_laws_mounts.specs.LettingGo.Keeping.{has_only_named}
-use Rattle.vt_laws_sealed.proofs.part.part.PartOfPart.{is_own}
-use Rattle.vt_laws_members.specs.Judging.{is_theirs}
-use Rattle.vt_laws_members.proofs.changes.looks.Told.{ran}
 use Rattle.vt_laws_members.proofs.attached.PlainMounting.{Mounts, mounts_there}
 use Rattle.vt_laws_members.proofs.new_overlays.NewFilesystem.{origins, shows}
 use Rattle.vt_laws_containers.specs.Footholds.{GivesNoFoothold}
@@ -15,7 +12,6 @@ use Rattle.vt_laws_containers.proofs.footholds.TasksPermits.{permit_out}
 use Rattle.vt_laws_containers.specs.AttachedApart.AttachFootholds.{PlainMountsGiveNoFoothold}
 use Rattle.vt_laws_containers.proofs.attached_apart.AttachedAsBefore.{copies_as_before}
 use Rattle.vt_laws_containers.proofs.attached_apart.GroupsApart.{Ours}
-use Rattle.vt_laws_sealed.proofs.part.seals.ByPart.{IsSealed}
 
 -- A new filesystem, mounted at a mount of theirs
 module _ {world : World ℕ} {names : List TaskName} (sealing : IsSealed world names) {fresh : Fresh ℕ}
@@ -39,7 +35,13 @@ module _ {world : World ℕ} {names : List TaskName} (sealing : IsSealed world n
 
 -- A plain one
 pub plain_mounts_give_no_foothold : PlainMountsGiveNoFoothold
-plain_mounts_give_no_foothold world names name path flags it fresh serves = by (task_called world name) refl
+plain_mounts_give_no_foothold world names name path flags it fresh serves = elim (cases_Option
+    (task_called world name)) [
+      | inl e ↦ refused_out it fresh (ap (λ o. is_ok (ran name (MountPlain path flags) world fresh o).answer) e)
+      | inr its ↦ let member = caller_in it its.1 in
+          judged_by its.0 member its.1 (judge_in nat_eq fresh world its.0 (MountPlain path flags)) refl
+          (mounts_there member flags fresh path)
+    ]
   where
     judged_by : (task : Task ℕ) (member : IsMember world names task) → task_called world name ≡ Some task
         → (j : Judgement ℕ) → judge_in nat_eq fresh world task (MountPlain path flags) ≡ j
@@ -53,11 +55,3 @@ plain_mounts_give_no_foothold world names name path flags it fresh serves = by (
         (named_in (plain_filesystem nat_eq fresh).files)) (eq-eqb (evens fresh 1) (evens fresh 1) refl))) flags)
     judged_by task member e (Err deny) judged its = refused_out it fresh
         (cc)
-
-    by : (o : Option (Task ℕ)) → task_called world name ≡ o
-        → GivesNoFoothold world names name (MountPlain path flags) fresh
-    by None e = refused_out it fresh (ap (λ o. is_ok (ran name (MountPlain path flags) world fresh o).answer) e)
-    by (Some task) e =
-        let member = caller_in it e in
-        judged_by task member e (judge_in nat_eq fresh world task (MountPlain path flags)) refl
-        (mounts_there member flags fresh path)

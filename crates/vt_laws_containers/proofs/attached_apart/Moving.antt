@@ -1,15 +1,8 @@
 -- No mount(2) with MS_MOVE by a task of a sealed set gives others a foothold.
-use Rattle.std.proofs.Common.{◌≡◌, refl, sym, ap, subst, ◌∙◌, inr, ⊎_elim, ℕ, nat_eq, true, List, [], ◌++◌, Option, Some, None, Ok, Err, map, IfOk, is_ok}
+use Rattle.std.proofs.Common.{inl, ◌≡◌, refl, sym, ap, subst, ◌∙◌, inr, ⊎_elim, ℕ, nat_eq, true, List, [], ◌++◌, Option, Some, Ok, Err, map, IfOk, is_ok}
 use Rattle.vt_spec.proofs.Common.{Among, Copies, Fresh, Judgement, Location, Mount, MoveMount, Serves, Task, TaskName, ToMove, World, among-filter, attach, copies_from, folded, is_own_mount, judge_in, masters_with, mount_at, moved_to, moved_tree, source_of, task_called}
-use Rattle.vt_laws_members.proofs.judging.Grounds.{theirs_from}
-use Rattle.vt_laws_members.proofs.changes.looks.Told.{ran}
-use Rattle.vt_laws_members.proofs.changes.tasks.Denied.{run_by}
-use Rattle.vt_laws_members.proofs.attached.CopiesAlike.{AttachesTheirs, base, made, no_new_ones, parts}
-use Rattle.vt_laws_members.proofs.attached.Destination.{there}
-use Rattle.vt_laws_members.proofs.attached.GrownPart.{Grows, grown_world, own_how}
-use Rattle.vt_laws_members.proofs.attached.MovedGrows.{MovesTheirs, at_receiver, at_receivers, moved, moved_as, moved_grows, none_new, origin_mine, went, went_how}
+use Rattle.vt_laws_containers.proofs.Common.{cases_Option, AttachesTheirs, Grows, IsMember, IsSealed, MovesTheirs, at_receiver, at_receivers, base, caller_in, grown_world, made, moved, moved_as, moved_grows, no_new_ones, none_new, origin_mine, own_how, parts, push_keeps, ran, run_by, sealing_of, theirs_from, there, went, went_how}
 use Rattle.vt_laws_members.proofs.attached.Moving.{Moves, MovesTo, moves_there}
-use Rattle.vt_laws_members.proofs.attached.PushedUp.{push_keeps}
 use Rattle.vt_laws_containers.specs.Footholds.{GivesNoFoothold}
 use Rattle.vt_laws_containers.proofs.footholds.AsBefore.{OthersAsBefore}
 use Rattle.vt_laws_containers.proofs.footholds.Granting.{refused_out}
@@ -18,8 +11,6 @@ use Rattle.vt_laws_containers.specs.AttachedApart.AttachFootholds.{MovesGiveNoFo
 use Rattle.vt_laws_containers.proofs.attached_apart.CopiesHear.{copy_ours, made_ours}
 use Rattle.vt_laws_containers.proofs.attached_apart.GroupsApart.{Ours, groups_apart, source_ours}
 use Rattle.vt_laws_containers.proofs.attached_apart.GrownAsBefore.{grown_as_before}
-use Rattle.vt_laws_members.proofs.judging.TheirCalls.{IsMember, caller_in, sealing_of}
-use Rattle.vt_laws_sealed.proofs.part.seals.ByPart.{IsSealed}
 
 module _ {world : World ℕ} {names : List TaskName} (sealing : IsSealed world names) {fresh : Fresh ℕ}
     (serves : Serves nat_eq world fresh) {from here : Location ℕ} (to : MovesTo world names from here) where
@@ -128,7 +119,12 @@ module _ {world : World ℕ} {names : List TaskName} (sealing : IsSealed world n
       grows sourced (made_ours base_here new here true origins IsOurs new_groups sources)))
 
 pub moves_give_no_foothold : MovesGiveNoFoothold
-moves_give_no_foothold world names name source path it fresh serves = by (task_called world name) refl
+moves_give_no_foothold world names name source path it fresh serves = elim (cases_Option (task_called world name)) [
+  | inl e ↦ refused_out it fresh (ap (λ o. is_ok (ran name (MoveMount source path) world fresh o).answer) e)
+  | inr its ↦ let member = caller_in it its.1 in
+      judged_by its.0 member its.1 (judge_in nat_eq fresh world its.0 (MoveMount source path)) refl
+      (moves_there member fresh source path)
+]
   where
     judged_by : (task : Task ℕ) (member : IsMember world names task) → task_called world name ≡ Some task
         → (j : Judgement ℕ) → judge_in nat_eq fresh world task (MoveMount source path) ≡ j
@@ -140,11 +136,3 @@ moves_give_no_foothold world names name source path it fresh serves = by (task_c
     judged_by task member e (Err deny) judged its = refused_out it fresh
         (ap (λ o. is_ok (ran name (MoveMount source path) world fresh o).answer) e
         ∙ ap (λ j. is_ok (run_by it world fresh task j).answer) judged)
-
-    by : (o : Option (Task ℕ)) → task_called world name ≡ o
-        → GivesNoFoothold world names name (MoveMount source path) fresh
-    by None e = refused_out it fresh (ap (λ o. is_ok (ran name (MoveMount source path) world fresh o).answer) e)
-    by (Some task) e =
-        let member = caller_in it e in
-        judged_by task member e (judge_in nat_eq fresh world task (MoveMount source path)) refl
-        (moves_there member fresh source path)

@@ -2,10 +2,7 @@
 use Rattle.std.proofs.Common.{arith, ◌≡◌, refl, sym, ap, subst, ◌∙◌, ◌⊎◌, inl, inr, ⊎_elim, ℕ, nat_eq, Bool, true, false, true≢false, List, [], ◌++◌, Option, Some, None, find, flat_map, not, ◌&&◌, ◌||◌, eqb-true, option_map, unwrap_or}
 use Rattle.vt_spec.proofs.Common.{Among, Filesystem, IsWorld, Layer, Location, Mount, Overlay, Task, TaskName, World, among-append, among-append_right, among-filter, among-flat_map, among-from_filter, among-from_flat_map, among_from_contains, among_from_list_all, and_from, and_parts, any_among, change_layers, common_steps, directory_is_there, false_from_ne_true, filesystem_numbered, found_among, found_passes, has_layer_on, holds_all_tasks, holds_of, is_among, is_among_numbers, is_member_task, is_overlay, is_own_namespace, layers_of, list_all, list_all_from_among, list_any, locations, locations_of, mount_at, no_filesystem, no_outsider_on, no_outsider_on_mounts, or_left, or_right, other_mounts, outsiders, overlay_or, overlays, same_truth, shares_no_events, used_alone, used_directly, used_filesystems}
 use Rattle.vt_laws_later_calls.proofs.last_use.OverlaysUnmounted.{any_alike}
-use Rattle.vt_laws_mounts.proofs.letting_go.sweeps.OfWorlds.{found_filesystem}
-use Rattle.vt_laws_sealed.proofs.part.Kept.{among-each_once, among-from_each_once}
-use Rattle.vt_laws_sealed.proofs.part.part.PartOfPart.{used_directly_used}
-use Rattle.vt_laws_sealed.proofs.part.seals.ByPart.{layer_directory}
+use Rattle.vt_laws_containers.proofs.Common.{among-each_once, among-from_each_once, found_filesystem, layer_directory, used_directly_used}
 use Rattle.vt_laws_containers.specs.Footholds.{LeavesOthersOut}
 use Rattle.vt_laws_containers.proofs.scripts.UsedThere.{IsThere, located_is_there, mounted_is_there, there_with_inode}
 use Rattle.vt_laws_members.proofs.changes.letting_go.Ready.{layered_overlay}

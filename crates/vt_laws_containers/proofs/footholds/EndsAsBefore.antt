@@ -1,13 +1,10 @@
 -- After the sweep, and with change numbers raised, others are as they were before these.
 use Rattle.std.proofs.Common.{◌≡◌, refl, sym, ap, subst, ◌∙◌, inl, inr, ⊎_elim, ℕ, nat_eq, Bool, true, false, cond, true≢false, List, [], ◌∷◌, ◌++◌, filter, find, flat_map, map, not, arith, unwrap_or}
 use Rattle.vt_spec.proofs.Common.{Among, Filesystem, Location, Mount, Task, TaskName, World, all_locations, among-append, among-append_left, among-append_right, among-from_filter, among-from_map, among-map, any_from_among, common_steps, holds_of, is_among, is_member_task, is_own_namespace, list_all, list_any, locations, locations_of, members, mount_at, mount_lives, no_mount, not-true, number-only_used, numbers_raised, only_used, or_right, other_mounts, outsiders, own_mounts, raised, raised_if_changed, raised_task, same_name, same_task_name, settled, share_events, used_directly}
-use Rattle.vt_laws_mounts.proofs.letting_go.Lists.{filter-map, filter_less}
+use Rattle.vt_laws_containers.proofs.Common.{OthersStayOut, among-flat_map_filter, any_mapped, filter-map, filter_less, raised_is}
 use Rattle.vt_laws_sealed.proofs.outsiders.OthersSwept.{others_swept}
-use Rattle.vt_laws_sealed.proofs.outsiders.Staying.{OthersStayOut}
 use Rattle.vt_laws_members.proofs.changes.letting_go.Ends.{raised_members}
-use Rattle.vt_laws_members.proofs.changes.tasks.Rights.{any_mapped, raised_is}
 use Rattle.vt_laws_containers.proofs.footholds.AsBefore.{GoesOn, OthersAsBefore, changes_alike, layered_as, without_real}
-use Rattle.vt_laws_trees.proofs.trees.Lists.{among-flat_map_filter}
 
 -- what is in the place of one that goes on goes on
 pub going_on : (world : World ℕ) (names : List TaskName) (one other : Filesystem ℕ) → other.number ≡ one.number

@@ -2,7 +2,7 @@
 use Rattle.std.proofs.Common.{◌≡◌, refl, sym, ap, subst, ◌∙◌, ℕ, nat_eq, Bool, true, false, cond, List, [], ◌∷◌, Option, Some, None, map, eqb-true, option_map}
 use Rattle.vt_spec.proofs.Common.{Among, Change, CopyUp, Filesystem, Fresh, Layer, Location, Overlay, World, among-from_map, any_pair, changed, filesystem_at, filesystem_changed, filesystem_numbered, merge_changed, merge_of, mount_at, overlay_changed, pwritten, replaced_if_numbered, stack_of, with_change, with_copy, with_files}
 use Rattle.vt_laws_trees.proofs.layers.layers.LowersWorld.{number_of_filesystem}
-use Rattle.vt_laws_mounts.proofs.letting_go.sweeps.OfWorlds.{found_filesystem}
+use Rattle.vt_laws_containers.proofs.Common.{found_filesystem}
 use Rattle.vt_laws_containers.proofs.footholds.AsBefore.{layered_as, without_real}
 
 -- It is in the place of one of the world, with its layers.

@@ -2,7 +2,7 @@
 use Rattle.std.proofs.Common.{◌≡◌, refl, sym, subst, ℕ, nat_eq, Bool, true, false, cond, true≢false, List, [], ◌∷◌, Some, None, filter, find, length, eq-eqb, eqb-true, arith, option_map}
 use Rattle.vt_spec.proofs.Common.{Among, Call, Fresh, Location, Mount, Task, TaskName, World, after_going, among-from_filter, among_numbers, any_among, any_from_among, chain, common_steps, detached, false_from_ne_true, holds_of, is_among, is_among_numbers, is_going, is_own_namespace, last_or, list_any, map_alike, mount_numbered, mount_point_of_parent, taken_away}
 use Rattle.vt_laws_containers.proofs.footholds.ServedCalls.{IsServedCall}
-use Rattle.vt_laws_mounts.proofs.mounts.MountsReplaced.{found_itself}
+use Rattle.vt_laws_containers.proofs.Common.{found_itself}
 use Rattle.vt_laws_containers.proofs.footholds.AsBefore.{OthersAsBefore}
 use Rattle.vt_laws_containers.proofs.footholds.EndsAsBefore.{going_on}
 use Rattle.vt_laws_containers.proofs.footholds.FilesGoOn.{ChangesFiles}

@@ -1,18 +1,11 @@
 -- A call of theirs gives others no foothold, if what it is permitted leaves others as they were.
 use Rattle.std.proofs.Common.{arith, ◌≡◌, refl, sym, ap, subst, ◌∙◌, inl, ℕ, nat_eq, true, false, true≢false, List, Option, Some, None, Result, Ok, Err, is_ok, not, ◌||◌, IfOk}
 use Rattle.vt_spec.proofs.Common.{Answer, Call, Fresh, IsWorld, Judgement, Outcome, Permit, Serves, Task, TaskName, World, after, answer-finished_by, apply, common_steps, filesystems_changed, filesystems_changed_by, judge_in, locations, members, numbers_raised, only_looks, overfills, policy, same_Some, settled, task_called}
-use Rattle.vt_spec.specs.declared.errors.Deny.{Deny}
-use Rattle.vt_laws_members.proofs.judging.TheirCalls.{caller_in, sealing_of}
+use Rattle.vt_laws_containers.proofs.Common.{Deny, IsCallOfTheirs, IsSealed, caller_in, every_call_keeps_worlds, grown, is_theirs, left, names_few_groups, ran, sealing_of}
 use Rattle.vt_laws_rules.proofs.denials.Unchanged.{look_changes_nothing}
 use Rattle.vt_laws_rules.proofs.rules.OwnRules.{denial_changes_nothing}
-use Rattle.vt_laws_sealed.proofs.part.seals.ByPart.{IsSealed}
-use Rattle.vt_laws_trees.specs.Trees.Limits.{names_few_groups}
-use Rattle.vt_laws_worlds.proofs.overlay_permits.worlds.EveryCall.{every_call_keeps_worlds}
 use Rattle.vt_laws_later_calls.proofs.Granted.{permitted}
-use Rattle.vt_laws_members.specs.Judging.{is_theirs}
-use Rattle.vt_laws_members.specs.Changes.Changes.{IsCallOfTheirs, grown, left}
 use Rattle.vt_laws_members.proofs.changes.looks.Granted.{IsLook, looked}
-use Rattle.vt_laws_members.proofs.changes.looks.Told.{ran}
 use Rattle.vt_laws_containers.specs.Footholds.{GivesNoFoothold, LeavesOthersOut}
 use Rattle.vt_laws_containers.proofs.footholds.AsBefore.{OthersAsBefore, leaves_others_out}
 use Rattle.vt_laws_containers.proofs.footholds.EndsAsBefore.{raised_as_before}

@@ -2,11 +2,7 @@
 -- mounts for themselves, too.
 use Rattle.std.proofs.Common.{◌≡◌, refl, sym, ap, subst, ◌∙◌, ◌⊎◌, inl, inr, ⊎_elim, ℕ, nat_eq, Bool, true, false, true≢false, List, [], ◌∷◌, Option, Some, None, filter, map, not, ◌||◌, eq-eqb, eqb-true, arith}
 use Rattle.vt_spec.proofs.Common.{Among, Location, Mount, MountInvariants, Namespace, Stands, Task, TaskName, World, all_from_among, among-filter, among-flat_map, among-from_filter, among-from_flat_map, among-from_map, among-map, among_from_all, among_from_list_all, any_among, any_from_among, at_root, common_steps, false_from_ne_true, filter_alike, filter_all, group_of, has_tasks, holds_of, is_at, is_listed, is_member_task, is_own_mount, is_own_namespace, list_all, list_all_from_among, list_any, locations, locations_of, members, mount_at, not-true, on_parent, other_mounts, outsiders, own_mounts, roots_and_directories, same_name, same_name_itself, share_events}
-use Rattle.vt_laws_mounts.proofs.letting_go.Lists.{nothing_passes}
-use Rattle.vt_laws_mounts.proofs.mounts.MountsReplaced.{found_itself}
-use Rattle.vt_laws_sealed.specs.Part.Seals.{IsApart}
-use Rattle.vt_laws_sealed.proofs.outsiders.OtherMounts.{namespace_outside, standing_apart_of}
-use Rattle.vt_laws_sealed.proofs.outsiders.StandingApart.{StandsApart}
+use Rattle.vt_laws_containers.proofs.Common.{IsApart, StandsApart, found_itself, namespace_outside, nothing_passes, standing_apart_of}
 
 -- Two mounts share events, whichever is first.
 or_turned : (a b : Bool) → (a || b) ≡ (b || a)

@@ -1,25 +1,15 @@
 -- Removals, renames and lazy unmounts of theirs give others no foothold: all mounts that go are theirs.
-use Rattle.std.proofs.Common.{◌≡◌, refl, sym, ap, subst, ◌∙◌, ⊎_elim, ℕ, nat_eq, eq-eqb, true, false, true≢false, List, [], Option, Some, None, Ok}
-use Rattle.vt_spec.proofs.Common.{Among, Call, Change, Filesystem, Fresh, IsWorld, Location, Mount, MountInvariants, Move, Overlay, Permit, Task, TaskName, ToRemoveDirectory, ToRename, ToUnmountLazily, World, any_pair, apply, filesystem_at, filesystem_numbered, filesystems-taken_away, folded, found_or_none, holds_of, is_own_namespace, judge_in, lazily_unmounted, looks_of, members, mount_at, mount_numbered, mounts_on, none_is_some, numbers_raised, overfills, part_of, points_of, settled, taken_away, task_called, unmounted_if_there, used_alone, with_change, without_mounts_on}
+use Rattle.std.proofs.Common.{inl, inr, ◌≡◌, refl, sym, ap, subst, ◌∙◌, ⊎_elim, ℕ, nat_eq, eq-eqb, true, false, true≢false, List, [], Option, Some, None, Ok}
+use Rattle.vt_spec.proofs.Common.{Among, Call, Change, Filesystem, Fresh, IsWorld, Location, Mount, MountInvariants, Move, Permit, Task, TaskName, ToRemoveDirectory, ToRename, ToUnmountLazily, World, any_pair, apply, filesystem_at, filesystem_numbered, filesystems-taken_away, folded, found_or_none, holds_of, is_own_namespace, judge_in, lazily_unmounted, looks_of, members, mount_at, mount_numbered, mounts_on, none_is_some, numbers_raised, overfills, part_of, points_of, settled, taken_away, task_called, unmounted_if_there, used_alone, with_change, without_mounts_on}
 use Rattle.vt_laws_containers.proofs.footholds.ServedCalls.{IsServedCall}
-use Rattle.vt_laws_members.proofs.judging.TheirCalls.{IsMember, caller_in, sealing_of}
-use Rattle.vt_laws_rules.proofs.given.GivenPermits.{permits_are_for_their_calls}
-use Rattle.vt_laws_rules.proofs.given.Inversion.{calls_are_granted}
-use Rattle.vt_laws_trees.specs.Trees.Calls.{mounts_overlay}
+use Rattle.vt_laws_containers.proofs.Common.{cases_Option, IsMember, Names, OnTheirs, all_permits_fit, caller_in, calls_are_granted, in_own, is_own, mounts_overlay, name_found, naming_of, permits_are_for_their_calls, sealing_of, theirs_directly, theirs_from}
 use Rattle.vt_laws_mounts.proofs.letting_go.SweptBetween.{settled_without_groups}
 use Rattle.vt_laws_mounts.proofs.ends.EndingLazy.{IsUnderWay, begun}
 use Rattle.vt_laws_mounts.proofs.ends.EndingOrder.{taken_in_turn}
-use Rattle.vt_laws_worlds.proofs.worlds.CallsKept.{name_found}
-use Rattle.vt_laws_worlds.proofs.worlds.FitPermitsNamed.{all_permits_fit}
 use Rattle.vt_laws_worlds.specs.OverlayPermits.Asked.{change_asked}
-use Rattle.vt_laws_sealed.proofs.part.part.PartOfPart.{is_own}
-use Rattle.vt_laws_members.proofs.judging.Grounds.{theirs_from}
-use Rattle.vt_laws_members.proofs.judging.MountPoints.{in_own}
-use Rattle.vt_laws_members.proofs.judging.SeenInPart.{OnTheirs, theirs_directly}
 use Rattle.vt_laws_members.proofs.changes.files.OneFilesystem.{found_numbered}
 use Rattle.vt_laws_members.proofs.changes.letting_go.PartMounts.{part_mounts}
 use Rattle.vt_laws_members.proofs.changes.names.Elsewhere.{own_here, plain_points}
-use Rattle.vt_laws_members.proofs.changes.names.GrantedNames.{Names, naming_of}
 use Rattle.vt_laws_members.proofs.changes.names.NamesEnding.{naming_alone}
 use Rattle.vt_laws_members.proofs.changes.names.RemovalsEnding.{IsFree, removed_free, replaced_free}
 use Rattle.vt_laws_members.proofs.overlay_names.names.OverlayRemovals.{points_alone}
@@ -62,12 +52,10 @@ module _ {world : World ℕ} {names : List TaskName} {name : TaskName} {call : C
 
     points_own : (point : ℕ × ℕ) → Among point (points_of nat_eq world gone)
         → used_alone nat_eq world names point.0 ≡ true
-    points_own = by (filesystem_at nat_eq world gone).overlay refl
-      where
-        by : (o : Option (Overlay ℕ)) → (filesystem_at nat_eq world gone).overlay ≡ o → (point : ℕ × ℕ)
-            → Among point (points_of nat_eq world gone) → used_alone nat_eq world names point.0 ≡ true
-        by None e = plain_points world names it.is gone e gone_alone
-        by (Some overlay) e = points_alone (sealing_of it.it) gone overlay e (theirs_directly world names it.is gone on)
+    points_own = elim (cases_Option (filesystem_at nat_eq world gone).overlay) [
+      | inl e ↦ plain_points world names it.is gone e gone_alone
+      | inr its ↦ points_alone (sealing_of it.it) gone its.0 its.1 (theirs_directly world names it.is gone on)
+    ]
 
     only_own : (mount : Mount ℕ) → Among mount (mounts_on nat_eq world gone) → (n : ℕ) → mount.namespace ≡ Some n
         → is_own_namespace nat_eq world names n ≡ true

@@ -1,8 +1,7 @@
 -- A call of theirs by a task that is there, with numbers that serve.
 use Rattle.std.proofs.Common.{◌≡◌, ℕ, nat_eq, true, List, Some}
 use Rattle.vt_spec.proofs.Common.{Call, Fresh, Serves, Task, TaskName, World, task_called}
-use Rattle.vt_laws_trees.specs.Trees.Limits.{names_few_groups}
-use Rattle.vt_laws_members.specs.Changes.Changes.{IsCallOfTheirs}
+use Rattle.vt_laws_containers.proofs.Common.{IsCallOfTheirs, names_few_groups}
 
 pub record IsServedCall (world : World ℕ) (names : List TaskName) (name : TaskName) (call : Call) (fresh : Fresh ℕ)
     (task : Task ℕ) : Type 0 where

@@ -3,19 +3,11 @@ use Rattle.std.proofs.Common.{◌≡◌, refl, sym, ap, subst, ◌∙◌, ◌⊎
 use Rattle.vt_spec.proofs.Common.{Among, IsWorld, Location, Mount, Namespace, Task, TaskName, World, all_locations, among-append, among-append_left, among-append_right, among-filter, among-flat_map, among-from_filter, among-from_flat_map, among-from_map, among-map, among_from_list_all, and_parts, any_from_among, common_steps, false_from_ne_true, filesystems-taken_away, filter_alike, holds_of, is_among_numbers, is_going, is_listed, is_member_task, is_own_mount, is_own_namespace, list_all, list_all_from_among, list_any, locations, locations_of, members, mount_at, mount_numbered, not-true, other_mounts, outsiders, own_mounts, share_events, taken_away, used_directly}
 use Rattle.vt_laws_mounts.specs.Mounts.Attaching.{OneNumberAMount, is_mount}
 use Rattle.vt_laws_mounts.specs.Mounts.Invariants.{OneNumberEach}
-use Rattle.vt_laws_mounts.proofs.mounts.MountsReplaced.{found_itself}
+use Rattle.vt_laws_containers.proofs.Common.{IsApart, IsSealed, IsTheirs, LeavesApart, NothingNew, StandsApart, apart_if_sealed, found_itself, located_there, namespace_outside, one_taken, taken_from, taken_leaves_apart, theirs_directly}
 use Rattle.vt_laws_worlds.proofs.worlds.Seen.{KeepsWhatIsSeen, is_in}
 use Rattle.vt_laws_worlds.proofs.worlds.SeenMounts.{ended_seen}
-use Rattle.vt_laws_sealed.specs.Part.Seals.{IsApart}
 use Rattle.vt_laws_sealed.proofs.part.part.Observed.{own_mounts_same}
-use Rattle.vt_laws_sealed.proofs.part.seals.ByPart.{IsSealed, apart_if_sealed}
-use Rattle.vt_laws_members.proofs.judging.Grounds.{IsTheirs}
-use Rattle.vt_laws_members.proofs.judging.SeenInPart.{theirs_directly}
 use Rattle.vt_laws_sealed.proofs.outsiders.ChangedWorlds.{OthersMove}
-use Rattle.vt_laws_sealed.proofs.outsiders.OtherMounts.{located_there, namespace_outside}
-use Rattle.vt_laws_sealed.proofs.outsiders.StandingApart.{NothingNew, StandsApart}
-use Rattle.vt_laws_sealed.proofs.outsiders.Staying.{LeavesApart}
-use Rattle.vt_laws_sealed.proofs.outsiders.TakingAway.{one_taken, taken_from, taken_leaves_apart}
 use Rattle.vt_laws_containers.proofs.footholds.AsBefore.{OthersAsBefore}
 use Rattle.vt_laws_containers.proofs.footholds.Mirror.{ShareNone, mirror, mirror_owns, mirror_stands, none_there, none_turned, ours_if_not_out, ours_is_not_out, out, out_if_not_ours, own_out, placed_listed, their_names}
 

@@ -2,21 +2,8 @@
 use Rattle.std.proofs.Common.{◌≡◌, refl, sym, ap, subst, ◌∙◌, ◌⊎◌, inl, inr, ⊎_elim, ℕ, nat_eq, Bool, true, false, true≢false, List, [], ◌∷◌, Option, Some, None, Ok, filter, map, not, is_some, ◌&&◌, ◌||◌, eq-eqb, eqb-true, arith, IfOk, option_to_list}
 use Rattle.vt_spec.proofs.Common.{Among, Call, Exit, Fresh, IsWorld, Location, Mount, Namespace, Permit, Setns, Task, TaskName, ToEnterNamespace, ToExit, ToUnmount, World, among-filter, among-flat_map, among-from_filter, among-from_flat_map, among-from_map, among_from_list_all, among_numbers, and_from, and_parts, any_among, any_from_among, apply, common_steps, false_from_ne_true, found_or_none, going, has_tasks, holds_of, is_going, is_in_ended, is_listed, is_located, is_member_task, is_own_namespace, judge_in, list_all, list_any, locations, locations_of, members, mount_lives, mount_numbered, namespaces_ended, none_is_some, not-false, not-true, numbers_raised, outsiders, raised_task, replaced_if_called, same_name, settled, taken_away, task_called, without_task}
 use Rattle.vt_laws_containers.proofs.footholds.ServedCalls.{IsServedCall}
-use Rattle.vt_laws_members.proofs.judging.TheirCalls.{IsMember, caller_in, sealing_of}
-use Rattle.vt_laws_mounts.proofs.letting_go.Lists.{filter_less}
-use Rattle.vt_laws_mounts.proofs.mounts.MountsReplaced.{found_itself}
-use Rattle.vt_laws_rules.proofs.given.GivenPermits.{permits_are_for_their_calls}
-use Rattle.vt_laws_trees.specs.Trees.Calls.{mounts_overlay}
-use Rattle.vt_laws_worlds.proofs.worlds.CallsKept.{name_found}
-use Rattle.vt_laws_worlds.proofs.worlds.FitPermitsNamed.{all_permits_fit}
-use Rattle.vt_laws_sealed.specs.Part.Seals.{IsApart}
-use Rattle.vt_laws_sealed.proofs.part.seals.ByPart.{apart_if_sealed}
-use Rattle.vt_laws_sealed.proofs.outsiders.StandingApart.{NothingNew}
-use Rattle.vt_laws_sealed.proofs.outsiders.TakingAway.{namespaces_taken_away}
+use Rattle.vt_laws_containers.proofs.Common.{IsApart, IsCallOfTheirs, IsMember, IsTheirs, NothingNew, all_permits_fit, apart_if_sealed, caller_in, filter_less, found_itself, left, mounts_overlay, name_found, namespaces_taken_away, of_set, permits_are_for_their_calls, places_left, raised_is, sealing_of}
 use Rattle.vt_laws_sealed.proofs.outsiders.Unmounting.{others_go}
-use Rattle.vt_laws_members.proofs.judging.Grounds.{IsTheirs}
-use Rattle.vt_laws_members.specs.Changes.Changes.{IsCallOfTheirs, left}
-use Rattle.vt_laws_members.proofs.changes.letting_go.Callers.{of_set, places_left}
 use Rattle.vt_laws_members.proofs.changes.letting_go.Entering.{Enters, entered_was, enters, mine, stands}
 use Rattle.vt_laws_members.proofs.changes.letting_go.Leaving.{is_task, its, its_name, member, new_old, set_from, set_parts, stays}
 use Rattle.vt_laws_containers.specs.PermitFootholds.{DetachingGivesNoFoothold, is_of_detaching}
@@ -26,7 +13,6 @@ use Rattle.vt_laws_containers.proofs.footholds.Mirror.{mirror_stands, side, ours
 use Rattle.vt_laws_containers.proofs.footholds.TakenAsBefore.{TakesOwn, taken_as_before, taken_mounts, taken_tasks}
 use Rattle.vt_laws_containers.proofs.footholds.TasksAsBefore.{others_unmoved}
 use Rattle.vt_laws_containers.proofs.footholds.TasksPermits.{Before, kept, permit_out}
-use Rattle.vt_laws_members.proofs.changes.tasks.Rights.{raised_is}
 
 -- In a world that a call leaves a namespace with a mount has a task, and had it before the sweep.
 pub tasked_later : (before left : World ℕ) (name : TaskName) (changed : List ℕ)

@@ -1,14 +1,7 @@
 -- Where tasks of a set and filesystems change, and mounts do not, others are as they were.
 use Rattle.std.proofs.Common.{◌≡◌, refl, sym, ap, subst, ◌∙◌, ◌⊎◌, inl, inr, ⊎_elim, ℕ, nat_eq, Bool, true, false, cond, true≢false, List, [], ◌∷◌, ◌++◌, Some, filter, map, not, ◌+◌, ◌||◌, arith}
 use Rattle.vt_spec.proofs.Common.{Among, Call, Credentials, Filesystem, IsWorld, Location, Mount, Task, TaskName, World, among-append, among-append_left, among-append_right, among-flat_map, among-from_filter, among-from_flat_map, among-from_map, among-map, any_among, any_from_among, child_name, child_of, common_steps, contains_from_among, false_from_ne_true, found_among, holds_of, is_among, is_member_task, list_all, list_any, locations, locations_of, members, mount_at, name-replaced_if_called, not-true, outsiders, own_mounts, replaced_if_called, same_name, same_name_itself, same_task_name, same_truth, share_events, task_called, used_directly}
-use Rattle.vt_laws_members.proofs.judging.TheirCalls.{IsMember, caller_in}
-use Rattle.vt_laws_mounts.proofs.letting_go.Lists.{filter-map}
-use Rattle.vt_laws_sealed.specs.Part.Seals.{IsApart}
-use Rattle.vt_laws_sealed.proofs.part.seals.ByPart.{IsSealed, apart_if_sealed}
-use Rattle.vt_laws_members.proofs.judging.Grounds.{IsTheirs}
-use Rattle.vt_laws_members.proofs.judging.SeenInPart.{theirs_directly}
-use Rattle.vt_laws_members.specs.Changes.Changes.{IsCallOfTheirs}
-use Rattle.vt_laws_members.proofs.changes.letting_go.Callers.{StandsOnTheirs, of_set, places_left, replaced_how, spaces_kept}
+use Rattle.vt_laws_containers.proofs.Common.{IsApart, IsCallOfTheirs, IsMember, IsSealed, IsTheirs, StandsOnTheirs, apart_if_sealed, caller_in, filter-map, of_set, places_left, replaced_how, spaces_kept, theirs_directly}
 use Rattle.vt_laws_containers.proofs.footholds.AsBefore.{GoesOn, OthersAsBefore}
 
 -- These tasks stand in the place of the world's, and these filesystems: those of the set are in the namespaces of

@@ -1,17 +1,10 @@
 -- Permits to look, to change tasks, and to change files leave others as they were.
 use Rattle.std.proofs.Common.{◌≡◌, refl, sym, ap, subst, ◌∙◌, inl, inr, ⊎_elim, ℕ, nat_eq, Bool, true, false, true≢false, List, Ok, filter, map, not, arith, IfOk, ◌==◌}
-use Rattle.vt_spec.proofs.Common.{Access, Allowed, Among, Call, Descriptor, Filesystem, Fresh, Location, Make, Permit, Task, TaskName, ToChange, ToClose, ToExit, ToFork, ToList, ToListMounts, ToMake, ToOpen, ToOpenNew, ToRead, ToReadPart, ToSetCredentials, ToSetDirectory, ToSetRoot, ToSetUmask, ToStat, ToWritePart, World, among-from_filter, among-from_map, among-map, apply, common_steps, evens, is_copied_up, judge_in, odds, only_looks, replaced_if_called, settled, with_descriptor, without_descriptor}
+use Rattle.vt_spec.proofs.Common.{cases_Bool, Access, Allowed, Among, Call, Descriptor, Filesystem, Fresh, Location, Make, Permit, Task, TaskName, ToChange, ToClose, ToExit, ToFork, ToList, ToListMounts, ToMake, ToOpen, ToOpenNew, ToRead, ToReadPart, ToSetCredentials, ToSetDirectory, ToSetRoot, ToSetUmask, ToStat, ToWritePart, World, among-from_filter, among-from_map, among-map, apply, common_steps, evens, is_copied_up, judge_in, odds, only_looks, replaced_if_called, settled, with_descriptor, without_descriptor}
 use Rattle.vt_laws_containers.proofs.footholds.ServedCalls.{IsServedCall}
-use Rattle.vt_laws_members.proofs.judging.TheirCalls.{IsMember, caller_in, sealing_of}
+use Rattle.vt_laws_containers.proofs.Common.{IsMember, IsTheirs, StandsOnTheirs, caller_in, directory_theirs, granted_theirs, grown, is_theirs, left, permits_are_for_their_calls, root_theirs, sealing_of, theirs_from}
 use Rattle.vt_laws_sealed.proofs.outsiders.Opening.{inserted_at}
-use Rattle.vt_laws_rules.proofs.given.GivenPermits.{permits_are_for_their_calls}
-use Rattle.vt_laws_members.specs.Judging.{is_theirs}
-use Rattle.vt_laws_members.proofs.judging.Grounds.{IsTheirs, theirs_from}
-use Rattle.vt_laws_members.proofs.judging.SeenInPart.{directory_theirs, root_theirs}
-use Rattle.vt_laws_members.specs.Changes.Changes.{grown, left}
-use Rattle.vt_laws_members.proofs.changes.letting_go.Callers.{StandsOnTheirs}
 use Rattle.vt_laws_members.proofs.changes.letting_go.Moving.{SetsDirectory, SetsRoot, sets_directory, sets_root}
-use Rattle.vt_laws_members.proofs.changes.names.GrantedNames.{granted_theirs}
 use Rattle.vt_laws_members.proofs.changes.tasks.Opening.{OpensOn, opens_theirs}
 use Rattle.vt_laws_containers.specs.Footholds.{GivesNoFoothold}
 use Rattle.vt_laws_containers.specs.PermitFootholds.{DenialsGiveNoFoothold, FilesGiveNoFoothold, LooksGiveNoFoothold, TasksGiveNoFoothold, is_of_files, is_of_tasks}
@@ -230,13 +223,11 @@ module _ {world : World ℕ} {names : List TaskName} {name : TaskName} {call : C
       → OthersAsBefore world (settled nat_eq (apply nat_eq fresh world task permit).world) names
       (grown names name call (apply nat_eq fresh world task permit).answer))
       → GivesNoFoothold world names name call fresh
-  swept_out permit judged before = by (only_looks call) refl
-    where
-      by : (b : Bool) → only_looks call ≡ b → GivesNoFoothold world names name call fresh
-      by true e = looks_out it.it fresh e
-      by false e =
-          granted_out it.it fresh it.serves it.few e (one_permit it.it fresh it.serves it.few task it.called permit
-          judged before)
+  swept_out permit judged before = elim (cases_Bool (only_looks call)) [
+    | inl e ↦ looks_out it.it fresh e
+    | inr e ↦ granted_out it.it fresh it.serves it.few e (one_permit it.it fresh it.serves it.few task it.called permit
+        judged before)
+  ]
 
   -- or before the sweep
   pub permit_out : (permit : Permit ℕ) → judge_in nat_eq fresh world task call ≡ Ok permit

@@ -1,9 +1,7 @@
 -- Turns of outsiders change no turn of theirs.
 use Rattle.std.proofs.Common.{arith, ◌≡◌, ℕ, nat_eq, List, Option, Some}
 use Rattle.vt_spec.proofs.Common.{Fresh, Sched, Serves, Someone, TaskName, Turned, common_steps, turn}
-use Rattle.vt_laws_turns.specs.Commits.{left_by}
-use Rattle.vt_laws_turns.specs.Holds.Held.{HoldsWhatIsSeen}
-use Rattle.vt_laws_turns.proofs.holds.Holding.{schedules_hold_what_is_seen}
+use Rattle.vt_laws_containers.proofs.Common.{HoldsWhatIsSeen, left_by, schedules_hold_what_is_seen}
 use Rattle.vt_laws_containers.specs.SealedTurns.MembersTurns.{part_of_sched}
 use Rattle.vt_laws_containers.specs.SealedTurns.OutsidersTurns.{HasItSealed}
 use Rattle.vt_laws_containers.proofs.sealed_turns.members.Overtaking.{fit_turns}

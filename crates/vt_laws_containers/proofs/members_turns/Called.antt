@@ -1,10 +1,8 @@
 -- The set that a turn of theirs leaves has names of tasks alone.
 use Rattle.std.proofs.Common.{◌≡◌, refl, ⊎_elim, ℕ, nat_eq, false, true, true≢false, List, [], ◌∷◌, Option, Some, None}
 use Rattle.vt_spec.proofs.Common.{Asks, Calls, Fresh, Item, Queued, Refused, Sched, Someone, TaskName, Turned, first_of_list, queue_of, turn}
-use Rattle.vt_laws_sealed.specs.Outsiders.{are_all_called}
+use Rattle.vt_laws_containers.proofs.Common.{Answers, GoesOn, Turns, are_all_called, run_item, turn_is}
 use Rattle.vt_laws_containers.proofs.scripts.Called.{members_stay_called}
-use Rattle.vt_laws_turns.specs.Commits.{run_item}
-use Rattle.vt_laws_turns.proofs.played.Turning.{Answers, GoesOn, Turns, turn_is}
 use Rattle.vt_laws_containers.specs.MembersTurns.TheirTurns.{grown_after, grown_by, is_directive, set_left}
 use Rattle.vt_laws_containers.proofs.members_turns.EachTurn.{stays}
 

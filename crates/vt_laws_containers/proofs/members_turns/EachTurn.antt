@@ -1,14 +1,8 @@
 -- Each turn of a task of a sealed set is one of the part of the set.
 use Rattle.std.proofs.Common.{arith, ◌≡◌, refl, sym, ap, subst, ◌∙◌, ⊎_elim, ℕ, nat_eq, Bool, true, true≢false, not, List, [], ◌∷◌, Option, Some, None, filter, is_some}
 use Rattle.vt_spec.proofs.Common.{Asks, Call, Calls, Fresh, IsWorld, Item, Progress, Queue, Queued, Refused, Sched, Someone, TaskName, Turned, World, common_steps, denied, first_of_list, is_among, part_of, policy, queue_of, queue_turn, same_name, turn, without_progress}
-use Rattle.vt_laws_worlds.proofs.overlays_stay.weaving.WovenLists.{filters_swapped}
-use Rattle.vt_spec.specs.declared.errors.Deny.{Deny}
-use Rattle.vt_spec.specs.Machine.Turns.{replied}
-use Rattle.vt_laws_sealed.proofs.part.Kept.{filter_again}
-use Rattle.vt_laws_members.specs.Changes.Changes.{grown}
+use Rattle.vt_laws_containers.proofs.Common.{Deny, Turns, each_call_ends_alike, filter_again, filters_swapped, grown, replied, turn_is, unanswered_turns_change_nothing}
 use Rattle.vt_laws_members.proofs.changes.part.PartAgain.{part_of_the_part}
-use Rattle.vt_laws_members.proofs.each_call.EachCall.{each_call_ends_alike}
-use Rattle.vt_laws_turns.proofs.played.Turning.{Turns, turn_is, unanswered_turns_change_nothing}
 use Rattle.vt_laws_containers.specs.SealedTurns.MembersTurns.{TurnsAlikeFor, part_of_sched}
 use Rattle.vt_laws_containers.specs.SealedTurns.OutsidersTurns.{IsFirst, their_calls}
 use Rattle.vt_laws_containers.proofs.sealed_turns.members.Answering.{their_answers_are_of_the_grown_part}

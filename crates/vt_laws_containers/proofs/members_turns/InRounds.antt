@@ -1,9 +1,7 @@
 -- Turns of theirs reply as they do without the turns of others.
 use Rattle.std.proofs.Common.{arith, ◌≡◌, refl, sym, ap, subst, ◌∙◌, ℕ, nat_eq, true, List, [], ◌∷◌, Option, map}
 use Rattle.vt_spec.proofs.Common.{Reply, Sched, Someone, TaskName, common_steps, first_of_list, is_among, part_of, queue_of, same_name, same_who}
-use Rattle.vt_laws_turns.specs.Commits.{left_by}
-use Rattle.vt_laws_turns.specs.Holds.Held.{HoldsWhatIsSeen}
-use Rattle.vt_laws_turns.proofs.holds.Holding.{schedules_hold_what_is_seen, turns_hold_what_is_seen}
+use Rattle.vt_laws_containers.proofs.Common.{HoldsWhatIsSeen, left_by, schedules_hold_what_is_seen, turns_hold_what_is_seen}
 use Rattle.vt_laws_containers.specs.SealedTurns.OutsidersTurns.{HasItSealed, their_calls}
 use Rattle.vt_laws_containers.proofs.sealed_turns.members.Overtaking.{fit_turns}
 use Rattle.vt_laws_containers.proofs.sealed_turns.outsiders.Turned.{outsiders_turns_leave_it_sealed_in_turn}

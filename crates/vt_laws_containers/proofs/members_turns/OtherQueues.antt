@@ -1,10 +1,7 @@
 -- A turn looks at no queue but its own.
 use Rattle.std.proofs.Common.{arith, ◌≡◌, refl, ap, subst, ◌∙◌, inl, inr, sym, ℕ, nat_eq, Bool, true, false, cond, List, [], ◌∷◌, ◌+◌, Option, Some, None, Ok, Err, Result, find, Contains, nat_le, slice_get}
 use Rattle.vt_spec.proofs.Common.{Asks, Call, Calls, Fresh, Item, Progress, Queue, Queued, Refused, Reply, Route, Sched, Someone, Task, TaskName, Turned, Who, World, among_from_contains, call_turn, call_turn_of, common_steps, contains_from_among, entry_rules, first_progress, first_turn, first_turn_by, further, is_among, is_failing, is_overtaken, item_turn, later_turn, looks_of, most_restarts, next_word, queue_of, queue_turn, rest_of, restarted, routes, same_name, same_who, task_called, turn, turn_under_way, unless, word_walked_by, words_of}
-use Rattle.vt_spec.specs.declared.errors.Deny.{Deny}
-use Rattle.vt_laws_turns.specs.Commits.{Turn, left_by}
-use Rattle.vt_laws_turns.proofs.played.Fronts.{same_whos, shorter}
-use Rattle.vt_laws_turns.proofs.played.Turning.{GoesOn, Turns, turn_is}
+use Rattle.vt_laws_containers.proofs.Common.{Deny, GoesOn, Turn, Turns, left_by, same_whos, shorter, turn_is}
 use Rattle.vt_laws_containers.specs.SealedTurns.OutsidersTurns.{is_of_theirs}
 
 -- two turns have one reply, and leave one world and the same calls under way

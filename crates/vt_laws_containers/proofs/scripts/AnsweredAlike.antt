@@ -1,16 +1,8 @@
 -- Both runs answer the calls of the set alike.
-use Rattle.std.proofs.Common.{◌≡◌, refl, sym, ap, subst, ◌∙◌, ℕ, nat_eq, nat_lt, Bool, true, false, cond, List, [], ◌∷◌, ◌++◌, ◌+◌, ◌||◌, Option, Some, None, length, map, arith, Contains}
-use Rattle.vt_spec.proofs.Common.{Asking, Call, Calling, Fresh, Grammar, IsWorld, Outcome, Request, Serves, TaskName, World, among_numbers, common_steps, contains_from_among, is_among, is_silent, longest_line, numbers_for, part_of, policy, request_of, same_name, sealed, used_alone, used_filesystems, ⊤}
-use Rattle.vt_laws_sealed.proofs.outsiders.InTurn.{still_called}
-use Rattle.vt_laws_trees.specs.Trees.Limits.{names_few_groups}
+use Rattle.std.proofs.Common.{inl, inr, ◌≡◌, refl, sym, ap, subst, ◌∙◌, ℕ, nat_eq, nat_lt, Bool, true, false, cond, List, [], ◌∷◌, ◌++◌, ◌+◌, ◌||◌, Option, Some, None, length, map, arith, Contains}
+use Rattle.vt_spec.proofs.Common.{cases_Bool, Asking, Call, Calling, Fresh, Grammar, IsWorld, Outcome, Request, Serves, TaskName, World, among_numbers, common_steps, contains_from_among, is_among, is_silent, longest_line, numbers_for, part_of, policy, request_of, same_name, sealed, used_alone, used_filesystems, ⊤}
+use Rattle.vt_laws_containers.proofs.Common.{EndsAlike, HasNoMoreFootholds, IsCallOfTheirs, are_all_called, every_call_keeps_worlds, fewer_footholds_seal_too, grown, names_few_groups, outsiders_leave_a_sealed_set, same_used, still_called}
 use Rattle.vt_laws_worlds.proofs.worlds.WordsFew.{lines_name_few, request_names_few}
-use Rattle.vt_laws_worlds.proofs.overlay_permits.worlds.EveryCall.{every_call_keeps_worlds}
-use Rattle.vt_laws_sealed.specs.Part.Seals.{HasNoMoreFootholds}
-use Rattle.vt_laws_sealed.proofs.part.part.PartOfPart.{same_used}
-use Rattle.vt_laws_sealed.proofs.part.seals.ByPart.{fewer_footholds_seal_too}
-use Rattle.vt_laws_sealed.specs.Outsiders.{are_all_called}
-use Rattle.vt_laws_sealed.proofs.outsiders.EveryPermit.{outsiders_leave_a_sealed_set}
-use Rattle.vt_laws_members.specs.Changes.Changes.{EndsAlike, IsCallOfTheirs, grown}
 use Rattle.vt_laws_containers.specs.Footholds.{GivesNoFoothold, LeavesOthersOut}
 use Rattle.vt_laws_containers.specs.Scripts.{Along, Asked, EachEndsAlike, EndsInThePart, IsSealedOffAt, KeepsOthersOut, LeavesItSealed, SetsAreAnsweredAsAlone, Stand, StaysOnItsSide, after_theirs, asked, asked_by, moved, outcome_at, own_answers, told}
 use Rattle.vt_laws_containers.proofs.scripts.Called.{members_stay_called}
@@ -121,20 +113,19 @@ module _ {number : ℕ} {full lone : World ℕ} {names : List TaskName} (both : 
       used_left = used_by_parts of_full.world of_lone.world left parts_left
 
       no_more_left : HasNoMoreFootholds of_full.world of_lone.world left
-      no_more_left filesystem used alone = by (is_among nat_eq filesystem (used_filesystems nat_eq full names)) refl
+      no_more_left filesystem used alone = elim (cases_Bool (is_among nat_eq filesystem
+          (used_filesystems nat_eq full names))) [
+            | inl was ↦ cc (
+              full_left.as_before filesystem used was,
+              both.no_more filesystem (contains_from_among (used_filesystems nat_eq full names) filesystem
+                  (among_numbers (used_filesystems nat_eq full names) filesystem was)) (sym (lone_out.as_before
+                  filesystem used_too (cc (used_both))) ∙ alone),
+            )
+            | inr new ↦ full_left.none_on_new filesystem used new
+          ]
         where
           used_too : Contains (used_filesystems nat_eq of_lone.world left) filesystem
           used_too = subst (λ list. Contains list filesystem) used_left used
-
-          by : (b : Bool) → is_among nat_eq filesystem (used_filesystems nat_eq full names) ≡ b
-              → used_alone nat_eq of_full.world left filesystem ≡ true
-          by true was = cc (
-            full_left.as_before filesystem used was,
-            both.no_more filesystem (contains_from_among (used_filesystems nat_eq full names) filesystem
-                (among_numbers (used_filesystems nat_eq full names) filesystem was)) (sym (lone_out.as_before
-                filesystem used_too (cc (used_both))) ∙ alone),
-          )
-          by false new = full_left.none_on_new filesystem used new
 
       module _ (stays : sealed nat_eq of_lone.world left ≡ true) where
         theirs_leave : Both (number + 1) of_full.world of_lone.world left

@@ -1,12 +1,8 @@
 -- Each name of the set that a call leaves is the name of a task.
-use Rattle.std.proofs.Common.{◌≡◌, ◌≢◌, refl, sym, ap, subst, ◌∙◌, inl, ℕ, nat_eq, Bool, true, false, true≢false, cond, not, List, [], ◌∷◌, ◌++◌, ◌||◌, Option, Some, None, Result, Ok, Err, find, is_ok, is_some, map, ◌+◌, arith}
-use Rattle.vt_spec.proofs.Common.{Allowed, Answer, Call, Child, Exit, Fresh, Judgement, Outcome, Permit, Task, TaskName, ToBind, ToChange, ToClose, ToEnterNamespace, ToExit, ToFork, ToList, ToListMounts, ToMake, ToMountOverlay, ToMountPlain, ToMove, ToOpen, ToOpenNew, ToPivot, ToRead, ToReadPart, ToRemoveDirectory, ToRename, ToSetCredentials, ToSetDirectory, ToSetFlags, ToSetRoot, ToSetType, ToSetUmask, ToStat, ToUnmount, ToUnmountLazily, ToUnshare, ToWritePart, World, after, among-append_right, among-from_filter, among-map, among_from_list_all, and_from, apply, child_name, child_of, common_steps, filesystems_changed_by, finished_by, found_among, found_passes, judge_in, list_all_from_among, not-true, only_looks, policy, raised, raised_task, replaced_if_called, same_name, same_name_itself, same_task_name, some_from_is_some, task_called, ⊤}
-use Rattle.vt_laws_sealed.proofs.outsiders.InTurn.{found_called}
-use Rattle.vt_spec.specs.declared.errors.Deny.{Deny}
+use Rattle.std.proofs.Common.{inr, ◌≡◌, ◌≢◌, refl, sym, ap, subst, ◌∙◌, inl, ℕ, nat_eq, Bool, true, false, true≢false, cond, not, List, [], ◌∷◌, ◌++◌, ◌||◌, Option, Some, None, Result, Ok, Err, find, is_ok, is_some, map, ◌+◌, arith}
+use Rattle.vt_spec.proofs.Common.{cases_Bool, Allowed, Answer, Call, Child, Exit, Fresh, Judgement, Outcome, Permit, Task, TaskName, ToBind, ToChange, ToClose, ToEnterNamespace, ToExit, ToFork, ToList, ToListMounts, ToMake, ToMountOverlay, ToMountPlain, ToMove, ToOpen, ToOpenNew, ToPivot, ToRead, ToReadPart, ToRemoveDirectory, ToRename, ToSetCredentials, ToSetDirectory, ToSetFlags, ToSetRoot, ToSetType, ToSetUmask, ToStat, ToUnmount, ToUnmountLazily, ToUnshare, ToWritePart, World, after, among-append_right, among-from_filter, among-map, among_from_list_all, and_from, apply, child_name, child_of, common_steps, filesystems_changed_by, finished_by, found_among, found_passes, judge_in, list_all_from_among, not-true, only_looks, policy, raised, raised_task, replaced_if_called, same_name, same_name_itself, same_task_name, some_from_is_some, task_called, ⊤}
+use Rattle.vt_laws_containers.proofs.Common.{Deny, are_all_called, found_called, grown, left, ran}
 use Rattle.vt_laws_trees.proofs.calls.tasks.TasksLaws.{only_exit_leaves, other_tasks_stay}
-use Rattle.vt_laws_sealed.specs.Outsiders.{are_all_called}
-use Rattle.vt_laws_members.specs.Changes.Changes.{grown, left}
-use Rattle.vt_laws_members.proofs.changes.looks.Told.{ran}
 
 -- A child that is answered is there.
 abbrev ChildIsThere : List (Task ℕ) → Result Answer Deny → Type 0
@@ -121,7 +117,11 @@ module _ (world : World ℕ) (fresh : Fresh ℕ) (names : List TaskName) (name :
   -- a task stays, but for the caller of an exit
   stays : (member : TaskName) → is_some (task_called world member) ≡ true
       → (member ≡ name → is_exit call ≡ false) → is_some (task_called later member) ≡ true
-  stays member is kept = by (same_name member name) refl
+  stays member is kept = elim (cases_Bool (same_name member name)) [
+    | inl e ↦ found (same_task_name member name e) (task_called later name) refl
+    | inr e ↦ other_stays member was.0
+        (λ same. true≢false (sym (ap (same_name member) (sym same) ∙ same_name_itself member) ∙ e)) was.1
+  ]
     where
       was : (t : Task ℕ) × (task_called world member ≡ Some t)
       was = some_from_is_some (task_called world member) is
@@ -130,11 +130,6 @@ module _ (world : World ℕ) (fresh : Fresh ℕ) (names : List TaskName) (name :
           → is_some (task_called later member) ≡ true
       found same (Some t) e = ap (λ n. is_some (task_called later n)) same ∙ ap is_some e
       found same None e = grind (arith, common_steps, only_exit_leaves, true≢false)
-
-      by : (b : Bool) → same_name member name ≡ b → is_some (task_called later member) ≡ true
-      by true e = found (same_task_name member name e) (task_called later name) refl
-      by false e = other_stays member was.0
-          (λ same. true≢false (sym (ap (same_name member) (sym same) ∙ same_name_itself member) ∙ e)) was.1
 
   all_stay : is_exit call ≡ false → are_all_called later names ≡ true
   all_stay other = list_all_from_among (λ member. is_some (task_called later member)) names (λ member m.
@@ -167,12 +162,10 @@ module _ (world : World ℕ) (fresh : Fresh ℕ) (names : List TaskName) (name :
 pub members_stay_called : (world : World ℕ) (fresh : Fresh ℕ) (names : List TaskName) (name : TaskName) (call : Call)
     → are_all_called world names ≡ true → are_all_called (policy nat_eq fresh world name call).world
     (grown names name call (policy nat_eq fresh world name call).answer) ≡ true
-members_stay_called world fresh names name call there = by (is_exit call) refl
-  where
-    by : (b : Bool) → is_exit call ≡ b → are_all_called (policy nat_eq fresh world name call).world
-        (grown names name call (policy nat_eq fresh world name call).answer) ≡ true
-    by true e = subst (λ c. are_all_called (policy nat_eq fresh world name c).world
-        (grown names name c (policy nat_eq fresh world name c).answer) ≡ true) (sym (exit_if call e))
-        (exit_by world fresh names name there (task_called world name) refl)
-    by false e = others_stay world fresh names name call there e (policy nat_eq fresh world name call).answer
-        (child_is_there world name call fresh)
+members_stay_called world fresh names name call there = elim (cases_Bool (is_exit call)) [
+  | inl e ↦ subst (λ c. are_all_called (policy nat_eq fresh world name c).world
+      (grown names name c (policy nat_eq fresh world name c).answer) ≡ true) (sym (exit_if call e))
+      (exit_by world fresh names name there (task_called world name) refl)
+  | inr e ↦ others_stay world fresh names name call there e (policy nat_eq fresh world name call).answer
+      (child_is_there world name call fresh)
+]

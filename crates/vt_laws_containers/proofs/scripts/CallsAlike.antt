@@ -1,12 +1,7 @@
 -- Calls that end alike in every world, and the scripts of these.
-use Rattle.std.proofs.Common.{arith, ◌≡◌, refl, sym, ap, ◌∙◌, ℕ, nat_eq, Bool, true, false, true≢false, List, [], ◌∷◌, Option, Some, None, Ok, Err, map, ◌||◌, is_ok}
+use Rattle.std.proofs.Common.{inl, inr, arith, ◌≡◌, refl, sym, ap, ◌∙◌, ℕ, nat_eq, Bool, true, false, true≢false, List, [], ◌∷◌, Some, None, Ok, Err, map, ◌||◌, is_ok}
 use Rattle.vt_spec.proofs.Common.{Allowed, Bind, Call, Fresh, Judgement, MountOverlay, MountPlain, MoveMount, Permit, Serves, SetType, Task, TaskName, ToBind, ToChange, ToClose, ToEnterNamespace, ToExit, ToFork, ToList, ToListMounts, ToMake, ToMountOverlay, ToMountPlain, ToMove, ToOpen, ToOpenNew, ToPivot, ToRead, ToReadPart, ToRemoveDirectory, ToRename, ToSetCredentials, ToSetDirectory, ToSetFlags, ToSetRoot, ToSetType, ToSetUmask, ToStat, ToUnmount, ToUnmountLazily, ToUnshare, ToWritePart, Unshare, World, common_steps, denied, finished_by, is_among, judge_in, only_looks, same_name, task_called}
-use Rattle.vt_laws_rules.proofs.given.GivenPermits.{permits_are_for_their_calls}
-use Rattle.vt_laws_trees.specs.Trees.Limits.{names_few_groups}
-use Rattle.vt_laws_members.specs.Changes.Changes.{IsCallOfTheirs}
-use Rattle.vt_laws_members.proofs.changes.looks.Told.{ran}
-use Rattle.vt_laws_members.proofs.changes.tasks.Denied.{run_by}
-use Rattle.vt_laws_members.proofs.each_call.EachCall.{each_call_ends_alike}
+use Rattle.vt_laws_containers.proofs.Common.{cases_Option, IsCallOfTheirs, each_call_ends_alike, names_few_groups, permits_are_for_their_calls, ran, run_by}
 use Rattle.vt_laws_containers.specs.Calls.{AlwaysEndsAlike, RunsEndAlike, SetsThatKeepOthersOutAreAnsweredAsAlone}
 use Rattle.vt_laws_containers.specs.Footholds.{GivesNoFoothold}
 use Rattle.vt_laws_containers.specs.PermitFootholds.{is_of_detaching, is_of_files, is_of_removing, is_of_replacing, is_of_tasks}
@@ -109,7 +104,11 @@ module _ {world : World ℕ} {names : List TaskName} {name : TaskName} {call : C
     by_permit ToListMounts judged = of_tasks ToListMounts judged refl
 
   keeping : None_given
-  keeping = by (task_called world name) refl
+  keeping = elim (cases_Option (task_called world name)) [
+    | inl e ↦ denials_give_no_foothold world names name call it fresh
+        (ap (λ found. is_ok (ran name call world fresh found).answer) e)
+    | inr its ↦ judged_by its.0 its.1 (judge_in nat_eq fresh world its.0 call) refl
+  ]
     where
       judged_by : (task : Task ℕ) → task_called world name ≡ Some task → (judgement : Judgement ℕ)
           → judge_in nat_eq fresh world task call ≡ judgement → None_given
@@ -121,11 +120,6 @@ module _ {world : World ℕ} {names : List TaskName} {name : TaskName} {call : C
           refused : (b : Bool) → is_ok (finished_by nat_eq (b || true) world name [] (denied world deny)).answer ≡ false
           refused true = refl
           refused false = refl
-
-      by : (found : Option (Task ℕ)) → task_called world name ≡ found → None_given
-      by None e = denials_give_no_foothold world names name call it fresh
-          (ap (λ found. is_ok (ran name call world fresh found).answer) e)
-      by (Some task) e = judged_by task e (judge_in nat_eq fresh world task call) refl
 
 -- Granted or refused, each of them gives others no foothold.
 pub calls_give_no_foothold : (world : World ℕ) (names : List TaskName) (name : TaskName) (call : Call)

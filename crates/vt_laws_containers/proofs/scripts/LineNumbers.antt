@@ -2,9 +2,8 @@
 use Rattle.std.proofs.Common.{◌≡◌, sym, ap, ◌∙◌, ℕ, zero, suc, nat_eq, Bool, false, true≢false, List, Some, ◌+◌, ◌≤◌, ◌||◌, eq-eqb, eqb-true, ne_eqb, arith}
 use Rattle.vt_spec.proofs.Common.{Call, Grammar, Serves, TaskName, World, common_steps, false_from_ne_true, is_among, line_step, numbers_for, numbers_in_use, or_left, or_right, policy, step_world}
 use Rattle.vt_laws_turns.proofs.holds.Scripts.{row_of}
-use Rattle.vt_laws_rules.specs.Numbers.{IsSuppliedFrom, KeepsTo, LeavesOutTwo}
+use Rattle.vt_laws_containers.proofs.Common.{IsSuppliedFrom, KeepsTo, LeavesOutTwo, calls_keep_to_numbers, lines_keep_to_numbers, used_numbers_are_named}
 use Rattle.vt_laws_rules.proofs.numbers.Rows.{col, col-spread, row, spread_for}
-use Rattle.vt_laws_rules.proofs.numbers.Supports.{calls_keep_to_numbers, lines_keep_to_numbers, used_numbers_are_named}
 use Rattle.vt_laws_containers.specs.Scripts.{HasEarlierNumbers}
 
 col_of : (line place : ℕ) → col (numbers_for (suc line) place) ≡ place

@@ -2,8 +2,7 @@
 use Rattle.std.proofs.Common.{refl, subst, ℕ, nat_eq, List, [], ◌∷◌, Some, length, ◌+◌, ◌≤◌, ◌*◌, ◌/◌, arith, nat_lt, le-ltb}
 use Rattle.vt_spec.proofs.Common.{Grammar, IsWorld, World, first_world, is_silent, line_step, longest_line, numbers_for, step_world}
 use Rattle.vt_spec.specs.Machine.Run.{world_from}
-use Rattle.vt_laws_rules.proofs.numbers.Supports.{opening_keeps_to_four}
-use Rattle.vt_laws_rules.specs.Numbers.{first_four}
+use Rattle.vt_laws_containers.proofs.Common.{first_four, opening_keeps_to_four}
 use Rattle.vt_laws_worlds.proofs.opening.OpeningWorld.{opening_is_a_world}
 use Rattle.vt_laws_worlds.proofs.overlay_permits.worlds.EveryScript.{line_keeps}
 use Rattle.vt_laws_containers.specs.Scripts.{HasEarlierNumbers, SealedSetsStandSo}

@@ -1,8 +1,7 @@
 -- A filesystem that a set uses is there.
 use Rattle.std.proofs.Common.{arith, ◌≡◌, sym, subst, ⊎_elim, ℕ, nat_eq, true, true≢false, List, ◌++◌, flat_map, is_some, map, eqb-true, Contains}
 use Rattle.vt_spec.proofs.Common.{Among, Filesystem, IsWorld, Location, Mount, TaskName, World, all_locations, among-append, among-flat_map, among-from_filter, among-from_flat_map, among-from_map, among_from_contains, among_from_list_all, and_parts, change_layers, common_steps, contains_from_among, directory_is_there, filesystem_numbered, found_among, found_passes, has_its_root, is_among, is_directory_node, is_located_well, is_member_task, is_own_mount, is_there, locations, locations_of, members, mount_at, own_mounts, used_directly, used_filesystems}
-use Rattle.vt_laws_sealed.proofs.part.Kept.{among-from_each_once}
-use Rattle.vt_laws_sealed.proofs.part.seals.ByPart.{layer_directory}
+use Rattle.vt_laws_containers.proofs.Common.{among-from_each_once, layer_directory}
 use Rattle.vt_laws_sealed.proofs.outsiders.SeenLater.{changed_of}
 
 -- a filesystem has this number

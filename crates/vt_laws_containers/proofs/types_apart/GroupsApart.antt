@@ -2,17 +2,9 @@
 -- keep theirs: so mounts share no events with others.
 use Rattle.std.proofs.Common.{arith, ◌≡◌, refl, sym, ap, subst, ◌∙◌, ◌⊎◌, inl, inr, ⊎_elim, ℕ, nat_eq, Bool, true, false, cond, List, [], ◌∷◌, Option, Some, None, length, map, not, eq-eqb, eqb-true}
 use Rattle.vt_spec.proofs.Common.{Among, Fresh, Mount, Private, Propagation, Serves, Shared, Slave, TaskName, TypeWord, Unbindable, World, among-from_filter, among-from_map, among-map, any_among, any_from_among, common_steps, false_from_ne_true, find-chain_start, found_among, group_of, groups_up, has_members, heir, holds_of, index_of, inherited, is_among_numbers, is_member_of, is_own_mount, is_own_namespace, list_all, list_all_from_among, map_same, master_after, master_of, none_is_some, not-true, numbers_by, or_cases, other_mounts, own_mounts, receives_events_of, same_Some, share_events, shares_no_events, slave_of_heir, source_of, type_after, with_master, with_new_groups}
-use Rattle.vt_laws_trees.specs.Layers.Layers.ChangesUpper.{IsNewBy}
+use Rattle.vt_laws_containers.proofs.Common.{HearsGroup, IsApart, IsNewBy, IsSealed, NothingNew, OtherLives, StandsApart, apart_if_sealed, filter-map, found_itself, member_group, member_not_new, member_of_heard, members_of, none_other, not_heard, other_hears_foreign, sides, standing_apart, standing_apart_with, start_hears}
 use Rattle.vt_laws_mounts.specs.LettingGo.Detaching.{with_changed}
-use Rattle.vt_laws_mounts.proofs.letting_go.Lists.{filter-map}
-use Rattle.vt_laws_mounts.proofs.mounts.MountsReplaced.{found_itself}
 use Rattle.vt_laws_mounts.proofs.mounts.Receivers.{along_chain}
-use Rattle.vt_laws_sealed.specs.Part.Seals.{IsApart}
-use Rattle.vt_laws_sealed.proofs.part.groups.EventsApart.{member_group, members_of, sides, start_hears}
-use Rattle.vt_laws_sealed.proofs.part.groups.ReceiversAlike.{OtherLives, none_other}
-use Rattle.vt_laws_sealed.proofs.part.seals.ByPart.{IsSealed, apart_if_sealed}
-use Rattle.vt_laws_sealed.proofs.outsiders.OtherMounts.{HearsGroup, member_not_new, member_of_heard, not_heard, other_hears_foreign, standing_apart, standing_apart_with}
-use Rattle.vt_laws_sealed.proofs.outsiders.StandingApart.{NothingNew, StandsApart}
 use Rattle.vt_laws_members.proofs.types.Inherited.{kind_left, master_left, master_left_so}
 use Rattle.vt_laws_members.proofs.types.Retyped.{is_named, kind_by, new_kind, new_masters, retyped_between, master_source}
 

@@ -1,10 +1,7 @@
 -- No mount(2) of a task of a sealed set that changes propagation types gives others a foothold.
 use Rattle.std.proofs.Common.{◌≡◌, refl, sym, ap, subst, ◌∙◌, ℕ, nat_eq, Bool, List, Option, Some, None, Ok, Err, IfOk, is_ok}
 use Rattle.vt_spec.proofs.Common.{Fresh, Judgement, Serves, SetType, Task, TaskName, ToSetType, TypeWord, World, judge_in, task_called}
-use Rattle.vt_laws_members.proofs.judging.TheirCalls.{IsMember, caller_in, sealing_of}
-use Rattle.vt_laws_mounts.proofs.letting_go.sweeps.OfWorlds.{all_in_use}
-use Rattle.vt_laws_members.specs.Changes.Changes.{IsCallOfTheirs}
-use Rattle.vt_laws_members.proofs.changes.looks.Told.{ran}
+use Rattle.vt_laws_containers.proofs.Common.{IsCallOfTheirs, IsMember, all_in_use, caller_in, ran, sealing_of}
 use Rattle.vt_laws_members.proofs.types.Retyping.{SetsType, all_own, named, sets_type, types_settled}
 use Rattle.vt_laws_containers.specs.Footholds.{GivesNoFoothold}
 use Rattle.vt_laws_containers.proofs.footholds.AsBefore.{OthersAsBefore}

@@ -1,8 +1,7 @@
 -- Where mounts of a sealed set change their types, others are as they were.
 use Rattle.std.proofs.Common.{arith, ◌≡◌, refl, ap, subst, ◌∙◌, inl, ℕ, nat_eq, Bool, List, [], ◌∷◌, map, not}
 use Rattle.vt_spec.proofs.Common.{Among, Fresh, Location, Mount, Propagation, Serves, TaskName, TypeWord, World, among_from_list_all, common_steps, is_own_mount, list_all_from_among, locations, map_alike, map_twice, members, mount_at, mount_in, outsiders, own_mounts, used_directly}
-use Rattle.vt_laws_mounts.proofs.letting_go.Lists.{filter-map}
-use Rattle.vt_laws_sealed.proofs.part.seals.ByPart.{IsSealed, apart_if_sealed}
+use Rattle.vt_laws_containers.proofs.Common.{IsSealed, apart_if_sealed, filter-map}
 use Rattle.vt_laws_containers.proofs.footholds.AsBefore.{OthersAsBefore}
 use Rattle.vt_laws_containers.proofs.types_apart.GroupsApart.{groups_apart, kind_after, left, others_kept}
 

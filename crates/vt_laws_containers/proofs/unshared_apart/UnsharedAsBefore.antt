@@ -1,27 +1,16 @@
 -- After an unshare(2) of a task of a sealed set others are as they were.
 use Rattle.std.proofs.Common.{arith, ◌≡◌, refl, sym, ap, subst, ◌∙◌, ◌⊎◌, inl, inr, ⊎_elim, ℕ, nat_eq, Bool, true, false, cond, true≢false, List, [], ◌∷◌, ◌++◌, Option, Some, None, filter, map, not, ◌||◌, eq-eqb, eqb-true}
 use Rattle.vt_spec.proofs.Common.{Among, Fresh, Location, Mount, MountInvariants, Private, Serves, Task, TaskName, Unshare, World, all_locations, among-append, among-append_left, among-append_right, among-filter, among-from_filter, among-from_map, among-map, among_from_list_all, any_among, any_from_among, common_steps, detached, false_from_ne_true, group_of, holds_of, is_among, is_listed, is_member_of, is_member_task, is_own_mount, is_own_namespace, list_all, list_all_from_among, list_any, locations, locations_of, master_of, members, mount_at, mounts_of, name-replaced_if_called, namespaces_ended, not-true, other_mounts, outsiders, own_mounts, replaced_if_called, same_name, same_name_itself, same_task_name, share_events, shares_no_events, task_called, unshared, used_directly}
-use Rattle.vt_laws_members.proofs.judging.TheirCalls.{IsMember, caller_in, sealing_of}
-use Rattle.vt_laws_members.proofs.namespaces.Unsharing.{places_moved}
-use Rattle.vt_laws_mounts.proofs.letting_go.Lists.{filter-map}
+use Rattle.vt_laws_containers.proofs.Common.{IsApart, IsCallOfTheirs, IsMember, among-flat_map_filter, apart_if_sealed, caller_in, filter-map, found_itself, located_there, namespace_outside, only_task, places_moved, replaced_how, sealing_of, theirs_directly}
 use Rattle.vt_laws_mounts.proofs.ends.Ending.{ended_namespaces_keep_mounts}
-use Rattle.vt_laws_mounts.proofs.mounts.MountsReplaced.{found_itself}
 use Rattle.vt_laws_mounts.proofs.namespaces.Unsharing.{unshare_keeps_mounts}
-use Rattle.vt_laws_sealed.specs.Part.Seals.{IsApart}
-use Rattle.vt_laws_sealed.proofs.part.seals.ByPart.{apart_if_sealed}
-use Rattle.vt_laws_members.proofs.judging.SeenInPart.{theirs_directly}
-use Rattle.vt_laws_sealed.proofs.outsiders.OtherMounts.{located_there, namespace_outside}
-use Rattle.vt_laws_members.specs.Changes.Changes.{IsCallOfTheirs}
-use Rattle.vt_laws_members.proofs.changes.letting_go.Callers.{replaced_how}
 use Rattle.vt_laws_members.proofs.changes.letting_go.CutNamespace.{in_space}
 use Rattle.vt_laws_members.proofs.changes.letting_go.Heard.{own_in}
-use Rattle.vt_laws_members.proofs.changes.tasks.Rights.{only_task}
 use Rattle.vt_laws_members.proofs.namespaces.Remade.{remade}
 use Rattle.vt_laws_members.proofs.namespaces.Unshared.{CanUnshare, Ends, copy_of, cut, listed_in, moved_to_copies, new_among_spaces, new_space, unshare_plan, unshared_so}
 use Rattle.vt_laws_containers.proofs.footholds.AsBefore.{OthersAsBefore}
 use Rattle.vt_laws_containers.proofs.footholds.Mirror.{placed_listed}
 use Rattle.vt_laws_containers.proofs.footholds.TasksAsBefore.{others_unmoved}
-use Rattle.vt_laws_trees.proofs.trees.Lists.{among-flat_map_filter}
 
 module _ {world : World ℕ} {names : List TaskName} {name : TaskName} (it : IsCallOfTheirs world names name Unshare)
     (task : Task ℕ) (called : task_called world name ≡ Some task) (fresh : Fresh ℕ)

@@ -1,15 +1,13 @@
 -- No unshare(2) by a task of a sealed set gives others a foothold.
-use Rattle.std.proofs.Common.{◌≡◌, refl, sym, ap, ℕ, nat_eq, Bool, true, false, List, Option, Some, None, Ok, Err, filter, not, eqb-true, IfOk, is_ok}
-use Rattle.vt_spec.proofs.Common.{Fresh, Judgement, Serves, Task, TaskName, ToUnshare, Unshare, World, among-filter, among-from_filter, any_among, judge_in, list_any, namespaces_ended, none_among, not-true, same_name, task_called, unshared}
-use Rattle.vt_laws_members.specs.Changes.Changes.{IsCallOfTheirs}
-use Rattle.vt_laws_members.proofs.changes.looks.Told.{ran}
+use Rattle.std.proofs.Common.{inl, inr, ◌≡◌, refl, sym, ap, ℕ, nat_eq, true, false, List, Some, Ok, Err, filter, not, eqb-true, IfOk, is_ok}
+use Rattle.vt_spec.proofs.Common.{cases_Bool, Fresh, Judgement, Serves, Task, TaskName, ToUnshare, Unshare, World, among-filter, among-from_filter, any_among, judge_in, list_any, namespaces_ended, none_among, not-true, same_name, task_called, unshared}
+use Rattle.vt_laws_containers.proofs.Common.{cases_Option, IsCallOfTheirs, Unshares, ran, unshares}
 use Rattle.vt_laws_containers.specs.Footholds.{GivesNoFoothold}
 use Rattle.vt_laws_containers.proofs.footholds.AsBefore.{OthersAsBefore}
 use Rattle.vt_laws_containers.proofs.footholds.Granting.{refused_out}
 use Rattle.vt_laws_containers.proofs.footholds.TasksPermits.{permit_out}
 use Rattle.vt_laws_containers.specs.UnsharedApart.UnshareFootholds.{UnsharesGiveNoFoothold}
 use Rattle.vt_laws_containers.proofs.unshared_apart.UnsharedAsBefore.{unshared_as_before}
-use Rattle.vt_laws_members.proofs.namespaces.Unsharing.{Unshares, unshares}
 
 -- by whether another task is in the namespace of the caller
 either_as_before : (world : World ℕ) (names : List TaskName) (name : TaskName)
@@ -17,28 +15,28 @@ either_as_before : (world : World ℕ) (names : List TaskName) (name : TaskName)
     → (fresh : Fresh ℕ) → Serves nat_eq world fresh
     → OthersAsBefore world (namespaces_ended nat_eq (unshared nat_eq world fresh task)) names names
 either_as_before world names name it task called fresh serves =
-    by (list_any (λ (t : Task ℕ). nat_eq task.namespace t.namespace) rest) refl
+    elim (cases_Bool (list_any (λ (t : Task ℕ). nat_eq task.namespace t.namespace) rest)) [
+      | inl e ↦ let at = any_among (λ (t : Task ℕ). nat_eq task.namespace t.namespace) rest e in
+          let from = among-from_filter (λ (t : Task ℕ). not (same_name task.name t.name)) world.tasks at.0 at.1 in
+          unshared_as_before it task called fresh serves false (
+            at.0,
+            from.0,
+            sym (eqb-true task.namespace at.0.namespace at.2),
+            not-true (same_name task.name at.0.name) from.1,
+          )
+      | inr e ↦ unshared_as_before it task called fresh serves true
+          (λ t m differ. none_among (λ (x : Task ℕ). nat_eq task.namespace x.namespace) rest e t
+          (among-filter (λ (x : Task ℕ). not (same_name task.name x.name)) world.tasks t m (ap not differ)))
+    ]
   where
     rest : List (Task ℕ)
     rest = filter (λ (t : Task ℕ). not (same_name task.name t.name)) world.tasks
 
-    by : (b : Bool) → list_any (λ (t : Task ℕ). nat_eq task.namespace t.namespace) rest ≡ b
-        → OthersAsBefore world (namespaces_ended nat_eq (unshared nat_eq world fresh task)) names names
-    by false e = unshared_as_before it task called fresh serves true
-        (λ t m differ. none_among (λ (x : Task ℕ). nat_eq task.namespace x.namespace) rest e t
-        (among-filter (λ (x : Task ℕ). not (same_name task.name x.name)) world.tasks t m (ap not differ)))
-    by true e =
-        let at = any_among (λ (t : Task ℕ). nat_eq task.namespace t.namespace) rest e in
-        let from = among-from_filter (λ (t : Task ℕ). not (same_name task.name t.name)) world.tasks at.0 at.1 in
-        unshared_as_before it task called fresh serves false (
-          at.0,
-          from.0,
-          sym (eqb-true task.namespace at.0.namespace at.2),
-          not-true (same_name task.name at.0.name) from.1,
-        )
-
 pub unshares_give_no_foothold : UnsharesGiveNoFoothold
-unshares_give_no_foothold world names name it fresh serves = by (task_called world name) refl
+unshares_give_no_foothold world names name it fresh serves = elim (cases_Option (task_called world name)) [
+  | inl e ↦ refused_out it fresh (ap (λ o. is_ok (ran name Unshare world fresh o).answer) e)
+  | inr its ↦ judged_by its.0 its.1 (judge_in nat_eq fresh world its.0 Unshare) refl (unshares its.0)
+]
   where
     judged_by : (task : Task ℕ) → task_called world name ≡ Some task
         → (j : Judgement ℕ) → judge_in nat_eq fresh world task Unshare ≡ j → IfOk j Unshares
@@ -48,7 +46,3 @@ unshares_give_no_foothold world names name it fresh serves = by (task_called wor
         (λ ends. either_as_before world names name it task e fresh serves)
     judged_by task e (Err deny) judged known = refused_out it fresh
         (cc)
-
-    by : (o : Option (Task ℕ)) → task_called world name ≡ o → GivesNoFoothold world names name Unshare fresh
-    by None e = refused_out it fresh (ap (λ o. is_ok (ran name Unshare world fresh o).answer) e)
-    by (Some task) e = judged_by task e (judge_in nat_eq fresh world task Unshare) refl (unshares task)

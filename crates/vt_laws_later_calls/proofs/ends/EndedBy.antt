@@ -1,20 +1,11 @@
 -- An inode that is there is there after a call that takes no use away, unless it is a whiteout of an upper layer.
 use Rattle.std.proofs.Common.{arith, ◌≡◌, refl, sym, ap, subst, ◌∙◌, ◌⊎◌, inl, inr, ⊎_elim, true≢false, ℕ, nat_eq, eq-eqb, Bool, true, false, cond, List, [], ◌∷◌, ◌++◌, find, Option, Some, None, Ok, is_some, unwrap_or}
 use Rattle.vt_spec.proofs.Common.{Call, Change, CopyUp, Filesystem, Fresh, IsWorld, Location, Permit, Serves, SetType, Task, ToChange, TypeWord, World, all_from_among, apply, call_outcome, common_steps, filesystem_at, filesystem_numbered, is_kind_in, judge_in, list_any, looks_of, no_filesystem, none_from_not_some, none_is_some, settled, task_called, when, with_change, ⊤}
-use Rattle.vt_spec.specs.declared.attributes.Kind.TheVariants.{White}
-use Rattle.vt_laws_trees.specs.Layers.Layers.Untouched.{changes_no_mount}
-use Rattle.vt_laws_rules.specs.Given.{IsFor}
-use Rattle.vt_laws_rules.proofs.given.GivenPermits.{permits_are_for_their_calls}
-use Rattle.vt_laws_mounts.specs.LettingGo.InUse.{has_upper_in}
-use Rattle.vt_laws_mounts.proofs.letting_go.Lists.{none_among}
-use Rattle.vt_laws_worlds.specs.OverlaysLetGo.NamesGiven.{takes_a_name}
-use Rattle.vt_laws_worlds.specs.OverlayPermits.Asked.{change_asked}
-use Rattle.vt_laws_worlds.specs.OverlayPermits.Changed.{numbers_left}
+use Rattle.vt_laws_later_calls.proofs.Common.{cases_Option, IsFor, White, change_asked, changes_no_mount, has_upper_in, inode_in, none_among, numbered, numbered_anyhow, numbers_left, permits_are_for_their_calls, takes_a_name}
 use Rattle.vt_laws_worlds.proofs.overlay_permits.kept.KeptOverlays.{permits_make_their_change}
 use Rattle.vt_laws_worlds.proofs.overlay_permits.through.CallsThrough.{as_permitted}
 use Rattle.vt_laws_worlds.proofs.overlay_permits.worlds.EveryCall.{LeavesFilesystems, as_they_were, unchanged, with_overlay, with_plain}
 use Rattle.vt_laws_worlds.proofs.overlay_permits.worlds.PolicyLeads.{policy_leads}
-use Rattle.vt_laws_trees.proofs.trees.TreesOfWorlds.{numbered, numbered_anyhow}
 use Rattle.vt_laws_later_calls.proofs.AfterChange.{raised_files}
 use Rattle.vt_laws_later_calls.proofs.ends.OtherCalls.{all_types_leave_all_but_masters, asks_nothing, other_calls_let_whiteouts_go}
 use Rattle.vt_laws_later_calls.proofs.ends.OverlaysRemain.{change_remains}
@@ -22,7 +13,6 @@ use Rattle.vt_laws_later_calls.proofs.ends.Replaced.{replaced_are_whiteouts}
 use Rattle.vt_laws_later_calls.proofs.ends.SweptWhiteouts.{leaves_all_but}
 use Rattle.vt_laws_later_calls.specs.Ends.{KeepsAllButMasters, sets_type, takes_uses}
 use Rattle.vt_laws_later_calls.specs.Whiteouts.{IsWhiteoutOfUpper, LeavesAllBut, OnlyTheseEndOtherInodes, OnlyWhiteoutsAreTaken, OtherCallsKeepAll, PlainChangesKeepAll, replaced_as, replaced_by, replaced_if, replaced_over}
-use Rattle.vt_laws_trees.specs.Trees.Settling.{inode_in}
 
 pub only_whiteouts_are_taken : OnlyWhiteoutsAreTaken
 only_whiteouts_are_taken world fresh task call is serves called only no_type =
@@ -94,7 +84,13 @@ module _ {world : World ℕ} {fresh : Fresh ℕ} (call : Call) (is : IsWorld nat
     -- so what it leaves has the inode,
     permit_remains : (permit : Permit ℕ) → judge_in nat_eq fresh world task call ≡ Ok permit
         → IsThere (apply nat_eq fresh world task permit).world
-    permit_remains permit judged = by (change_asked fresh world permit) refl
+    permit_remains permit judged = elim (cases_Option (change_asked fresh world permit)) [
+      | inl asks ↦ with_none (unchanged world fresh task permit asks)
+      | inr its ↦ same_there later (with_change nat_eq (numbers_left fresh permit) world its.0.0 its.0.1)
+          (permits_make_their_change world fresh task permit its.0.0 its.0.1 its.1)
+          (change_remains number (numbers_left fresh permit) is its.0.0 its.0.1 (subst TakesNone its.1
+          (takes_none permit (permits_are_for_their_calls fresh world task call permit judged))) filesystem there)
+    ]
       where
         later : World ℕ
         later = (apply nat_eq fresh world task permit).world
@@ -106,13 +102,6 @@ module _ {world : World ℕ} {fresh : Fresh ℕ} (call : Call) (is : IsWorld nat
         with_none (as_they_were same) = same_there later world same there
         with_none (with_plain more) = with_more _ more
         with_none (with_overlay unnamed new more) = with_more _ more
-
-        by : (o : Option (Location ℕ × Change ℕ)) → change_asked fresh world permit ≡ o → IsThere later
-        by None asks = with_none (unchanged world fresh task permit asks)
-        by (Some made) asks = same_there later (with_change nat_eq (numbers_left fresh permit) world made.0 made.1)
-            (permits_make_their_change world fresh task permit made.0 made.1 asks)
-            (change_remains number (numbers_left fresh permit) is made.0 made.1 (subst TakesNone asks
-            (takes_none permit (permits_are_for_their_calls fresh world task call permit judged))) filesystem there)
 
     abbrev left : World ℕ
     left = (call_outcome nat_eq fresh world task call).world

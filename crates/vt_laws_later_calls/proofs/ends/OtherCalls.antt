@@ -1,47 +1,26 @@
 -- After a call that takes no use away the sweep is to look at what a new name replaced; after one that sets types it
 -- takes at the most masters of groups.
 use Rattle.std.proofs.Common.{arith, ◌≡◌, refl, sym, ap, subst, ◌∙◌, inl, inr, ◌⊎◌, ⊎_elim, true≢false, ℕ, nat_eq, Bool, true, false, not, ◌&&◌, List, [], ◌∷◌, Option, Some, None, is_some, map, Ok, Err, Contains}
-use Rattle.vt_spec.proofs.Common.{Access, AddName, Call, Change, Chdir, Chroot, Close, CopyUp, Exit, FileTree, Filesystem, Fresh, IsWorld, Judgement, Layer, Lazy, Location, Make, MountFlags, MountOverlay, Move, MoveMount, Node, Outcome, Overlay, OverlayWords, Permit, PivotRoot, Remove, Rename, Rmdir, Serves, SetAttr, SetBytes, SetMark, SetType, Setns, Task, ToBind, ToChange, ToClose, ToEnterNamespace, ToExit, ToFork, ToMake, ToMountOverlay, ToMountPlain, ToMove, ToOpen, ToOpenNew, ToPivot, ToRemoveDirectory, ToRename, ToSetCredentials, ToSetDirectory, ToSetFlags, ToSetRoot, ToSetType, ToSetUmask, ToUnmount, ToUnmountLazily, ToUnshare, ToWritePart, Umount, Unlink, Unshare, World, after, among_from_contains, and-false, and_parts, apply, call_outcome, changed, common_steps, contains_from_among, evens, file_is_there, files_at, filesystem_at, filesystem_changed, is_among, is_copied_up, is_overlay, is_there, judge_in, lies_only_in_lowers, looks_of, mount_at, node_at, opened, opens_for_writing, overlay_changed, overlay_or, settled, task_called, when, with_change, with_copy, with_descriptor, with_task}
-use Rattle.vt_laws_rules.proofs.given.GivenPermits.{permits_are_for_their_calls}
-use Rattle.vt_laws_rules.proofs.judged.CallsJudged.{call_is_judged_then_applied}
-use Rattle.vt_laws_rules.specs.Given.{IsFor}
-use Rattle.vt_laws_trees.specs.Layers.Layers.Untouched.{changes_no_mount}
-use Rattle.vt_laws_mounts.proofs.letting_go.leaving.FilesChanged.{file_changes_let_go, none_left, opened_new_keeps_all}
+use Rattle.vt_spec.proofs.Common.{cases_Bool, Access, AddName, Call, Change, Chdir, Chroot, Close, CopyUp, Exit, FileTree, Filesystem, Fresh, IsWorld, Judgement, Layer, Lazy, Location, Make, MountFlags, MountOverlay, Move, MoveMount, Node, Outcome, Overlay, OverlayWords, Permit, PivotRoot, Remove, Rename, Rmdir, Serves, SetAttr, SetBytes, SetMark, SetType, Setns, Task, ToBind, ToChange, ToClose, ToEnterNamespace, ToExit, ToFork, ToMake, ToMountOverlay, ToMountPlain, ToMove, ToOpen, ToOpenNew, ToPivot, ToRemoveDirectory, ToRename, ToSetCredentials, ToSetDirectory, ToSetFlags, ToSetRoot, ToSetType, ToSetUmask, ToUnmount, ToUnmountLazily, ToUnshare, ToWritePart, Umount, Unlink, Unshare, World, after, among_from_contains, and-false, and_parts, apply, call_outcome, changed, common_steps, contains_from_among, evens, file_is_there, files_at, filesystem_at, filesystem_changed, is_among, is_copied_up, is_overlay, is_there, judge_in, lies_only_in_lowers, looks_of, mount_at, node_at, opened, opens_for_writing, overlay_changed, overlay_or, settled, task_called, when, with_change, with_copy, with_descriptor, with_task}
+use Rattle.vt_laws_later_calls.proofs.Common.{AllInUse, Inode, IsDestination, IsFor, IsListedTree, IsProper, IsReached, IsSettled, MayChange, NamesWhatIsThere, binds_keep_all, call_is_judged_then_applied, called_there, change_asked, changes_keep_numbers, changes_keep_trees, changes_no_mount, file_changes_let_go, let_go_all_inodes, let_go_group, let_go_groups, let_go_plain, locations_of_worlds_stand, mounts_of_worlds_stand, mounts_overlay, new_mounts_of_trees_keep_all, none_left, numbered_all, numbers_left, opened_new_keeps_all, permits_are_for_their_calls, permits_ask_properly, takes_a_name, worlds_are_settled}
 use Rattle.vt_laws_mounts.proofs.letting_go.leaving.LeftWithOverlays.{staying_keeps_overlays}
 use Rattle.vt_laws_mounts.proofs.letting_go.leaving.Retyped.{set_types_let_go}
 use Rattle.vt_laws_mounts.proofs.letting_go.leaving.TaskCalls.{forks_keep_all, new_credentials_keep_all, new_umasks_keep_all, opened_files_keep_all}
 use Rattle.vt_laws_mounts.proofs.letting_go.leaving.UsesKept.{flags_keep_all}
-use Rattle.vt_laws_mounts.proofs.letting_go.mounting.AttachedSwept.{binds_keep_all, new_mounts_of_trees_keep_all}
-use Rattle.vt_laws_mounts.proofs.letting_go.sweeps.OfWorlds.{locations_of_worlds_stand, mounts_of_worlds_stand, worlds_are_settled}
 use Rattle.vt_laws_mounts.specs.LettingGo.Attaching.{is_attached}
-use Rattle.vt_laws_mounts.specs.LettingGo.FileChanges.{MayChange}
-use Rattle.vt_laws_mounts.specs.LettingGo.InUse.{AllInUse, IsListedTree}
-use Rattle.vt_laws_mounts.specs.LettingGo.LeavingOverlays.{IsSettled}
-use Rattle.vt_laws_mounts.specs.LettingGo.OneByOne.{Inode, let_go_group, let_go_groups}
-use Rattle.vt_laws_mounts.specs.LettingGo.Overlays.{let_go_all_inodes, let_go_plain}
 use Rattle.vt_laws_mounts.specs.LettingGo.Retyping.{groups_of_types}
 use Rattle.vt_laws_worlds.proofs.merging.mounted.Left.{mounting_lets_nothing_go}
 use Rattle.vt_laws_worlds.proofs.merging.mounted.Worlds.{are_new}
 use Rattle.vt_laws_worlds.proofs.overlays_let_go.changing.NamesGiven.{given_names_let_go, no_name_lost, opened_names_let_go}
 use Rattle.vt_laws_worlds.proofs.overlays_let_go.changing.NamesLost.{opened_copies_keep_all}
 use Rattle.vt_laws_worlds.proofs.overlays_let_go.changing.OverlayCalls.{reached_on_mount}
-use Rattle.vt_laws_worlds.specs.OverlaysLetGo.NamesGiven.{takes_a_name}
 use Rattle.vt_laws_worlds.specs.OverlaysLetGo.OverlayCalls.{is_on_mount}
-use Rattle.vt_laws_worlds.proofs.overlay_permits.asked.AskedOverlays.{permits_ask_properly}
 use Rattle.vt_laws_worlds.proofs.overlay_permits.asked.Unlocked.{permits_spare_what_is_locked}
 use Rattle.vt_laws_worlds.proofs.overlay_permits.changed.ChangedOverlays.{permits_can_change}
-use Rattle.vt_laws_worlds.specs.OverlayPermits.Asked.{change_asked}
-use Rattle.vt_laws_worlds.specs.OverlayPermits.Changed.{numbers_left}
-use Rattle.vt_laws_trees.proofs.trees.ChangesKeepTrees.{changes_keep_numbers, changes_keep_trees}
-use Rattle.vt_laws_trees.proofs.trees.TreesOfWorlds.{numbered_all}
-use Rattle.vt_laws_trees.specs.Trees.{IsProper}
-use Rattle.vt_laws_trees.specs.Trees.Calls.{mounts_overlay}
 use Rattle.vt_laws_worlds.proofs.worlds.FitPermitsNamed.{all_permits_fit}
-use Rattle.vt_laws_worlds.specs.Worlds.Permits.{IsDestination, IsReached, NamesWhatIsThere}
 use Rattle.vt_laws_later_calls.proofs.AfterChange.{listed}
 use Rattle.vt_laws_later_calls.specs.Ends.{KeepsAllButMasters, sets_type, takes_uses}
 use Rattle.vt_laws_later_calls.specs.Whiteouts.{AllTypesLeaveAllButMasters, OtherCallsLetWhiteoutsGo, replaced_as, replaced_by, replaced_if, replaced_in, replaced_over}
-use Rattle.vt_laws_trees.proofs.trees.TreesTasks.{called_there}
 use Rattle.vt_laws_worlds.proofs.overlay_permits.worlds.LowersAfterCalls.{makes_files}
 
 -- the sweep takes nothing
@@ -204,7 +183,10 @@ module _ {world : World ℕ} {fresh : Fresh ℕ} {task : Task ℕ} (is : IsWorld
   opened_keeps : (call : Call) (file : Location ℕ) (access : Access)
       → judge_in nat_eq fresh world task call ≡ Ok (ToOpen file access) → is_on_mount world file ≡ true
       → KeepsAll (apply nat_eq fresh world task (ToOpen file access)).world
-  opened_keeps call file access judged on = by (is_copied_up nat_eq world file access) refl
+  opened_keeps call file access judged on = elim (cases_Bool (is_copied_up nat_eq world file access)) [
+    | inl copied ↦ in_overlay (filesystem_at nat_eq world file).overlay refl copied
+    | inr copied ↦ opened_files_keep_all fresh world task file access settles is.tasks.one_task among_tasks copied
+  ]
     where
       opens : World ℕ
       opens = (apply nat_eq fresh world task (ToOpen file access)).world
@@ -232,10 +214,6 @@ module _ {world : World ℕ} {fresh : Fresh ℕ} {task : Task ℕ} (is : IsWorld
           && overlay_or false (λ overlay. lies_only_in_lowers overlay file.node) o) e
           ∙ and-false (opens_for_writing access)))
       in_overlay (Some overlay) e copied = over overlay e overlay.upper refl copied
-
-      by : (b : Bool) → is_copied_up nat_eq world file access ≡ b → KeepsAll opens
-      by true copied = in_overlay (filesystem_at nat_eq world file).overlay refl copied
-      by false copied = opened_files_keep_all fresh world task file access settles is.tasks.one_task among_tasks copied
 
   -- and replaces nothing
   nothing_replaced : (file : Location ℕ) (b : Bool) → replaced_if world (when b (file, CopyUp file.node)) ≡ []

@@ -4,9 +4,8 @@ use Rattle.vt_spec.proofs.Common.{AddName, Change, CopyUp, FileTree, Filesystem,
 use Rattle.vt_laws_trees.proofs.calls.inodes.InodesRemain.{RemainsIn, at_node, changed_remains, made_remains, named_remains}
 use Rattle.vt_laws_trees.proofs.layers.layers.LowersWorld.{filesystem_elsewhere, filesystem_there, number_of_filesystem}
 use Rattle.vt_laws_trees.proofs.layers.layers.UpperWorld.{upper_elsewhere}
-use Rattle.vt_laws_worlds.specs.OverlaysLetGo.NamesGiven.{takes_a_name}
+use Rattle.vt_laws_later_calls.proofs.Common.{inode_in, takes_a_name}
 use Rattle.vt_laws_worlds.specs.OverlaysLetGo.OverlayChanges.{merge_at}
-use Rattle.vt_laws_trees.specs.Trees.Settling.{inode_in}
 
 module _ (other : ℕ) where
   abbrev In : FileTree ℕ → FileTree ℕ → Type 0

@@ -1,17 +1,12 @@
 -- What the upper layer has at a name that is free in the overlay is a whiteout.
 use Rattle.std.proofs.Common.{arith, ◌≡◌, refl, sym, ap, ◌∙◌, ℕ, nat_eq, Bool, true, false, List, [], ◌∷◌, ◌++◌, Option, Some, None, Ok, Err, option_and_then}
 use Rattle.vt_spec.proofs.Common.{Among, Change, IsWorld, Judgement, Layer, Location, Merge, Overlay, Permit, Stack, World, among_from_contains, common_steps, entry_at, filesystem_at, filesystem_numbered, is_kind_in, judge_in, led, merge_of, mount_at, none_is_some, number_at_path, same_Some, stack_of, then_some, upper_object}
-use Rattle.vt_spec.specs.declared.attributes.Kind.TheVariants.{White}
-use Rattle.vt_laws_trees.specs.Trees.{IsFree, IsProper}
+use Rattle.vt_laws_later_calls.proofs.Common.{Inode, IsFree, IsProper, White, change_asked, name_given, permits_ask_properly, replaced_in_upper, upper_at_name}
 use Rattle.vt_laws_trees.proofs.layers.layers.ShownNames.{last_name}
 use Rattle.vt_laws_trees.proofs.layers.layers.UpperFit.{upper_is}
 use Rattle.vt_laws_trees.specs.Overlays.WhatIsShown.{IsWhole}
 use Rattle.vt_laws_trees.proofs.overlays.changes.WholeWorlds.{overlays_are_whole}
 use Rattle.vt_laws_trees.proofs.overlays.steps.WholeNames.{above_named, named_above}
-use Rattle.vt_laws_mounts.specs.LettingGo.OneByOne.{Inode}
-use Rattle.vt_laws_worlds.specs.OverlaysLetGo.NamesGiven.{name_given, replaced_in_upper, upper_at_name}
-use Rattle.vt_laws_worlds.specs.OverlayPermits.Asked.{change_asked}
-use Rattle.vt_laws_worlds.proofs.overlay_permits.asked.AskedOverlays.{permits_ask_properly}
 use Rattle.vt_laws_later_calls.specs.Whiteouts.{IsWhiteoutOfUpper, ReplacedAreWhiteouts, replaced_as, replaced_if, replaced_over}
 
 -- what an option that leads on leads to

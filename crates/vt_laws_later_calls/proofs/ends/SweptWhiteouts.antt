@@ -1,11 +1,8 @@
 -- What is left where inodes of plain trees are looked at: mounts, groups, filesystems, and every other inode.
 use Rattle.std.proofs.Common.{arith, ◌≡◌, refl, ◌∙◌, ◌⊎◌, inl, inr, ⊎_elim, ℕ, nat_eq, eqb-true, Bool, true, false, cond, List, [], ◌∷◌, find, map, Option, Some, None, unwrap_or}
 use Rattle.vt_spec.proofs.Common.{Among, Filesystem, Node, World, and_parts, common_steps, contains_from_among, no_filesystem}
-use Rattle.vt_laws_mounts.specs.LettingGo.OneByOne.{Inode}
-use Rattle.vt_laws_mounts.specs.LettingGo.Overlays.{is_plain, let_go_in, let_go_in_of, let_go_plain}
-use Rattle.vt_laws_trees.proofs.trees.TreesOfWorlds.{numbered}
+use Rattle.vt_laws_later_calls.proofs.Common.{Inode, inode_in, is_plain, let_go_in, let_go_in_of, let_go_plain, numbered}
 use Rattle.vt_laws_later_calls.specs.Whiteouts.{LeavesAllBut}
-use Rattle.vt_laws_trees.specs.Trees.Settling.{inode_in}
 
 -- nothing changes but filesystems
 only_filesystems : (list : List Inode) (world : World ℕ)

@@ -1,14 +1,11 @@
 -- Without overlays no whiteout is replaced, so nothing goes.
 use Rattle.std.proofs.Common.{arith, ◌≡◌, inr, ℕ, false, []}
 use Rattle.vt_spec.proofs.Common.{Call, Filesystem, Fresh, Task, World, common_steps, is_overlay, list_any, none_from_not_some}
-use Rattle.vt_laws_mounts.specs.LettingGo.InUse.{has_upper_in}
-use Rattle.vt_laws_mounts.proofs.letting_go.Lists.{among_from_all, none_from_among}
-use Rattle.vt_laws_worlds.specs.Worlds.Kept.{IsPlain}
+use Rattle.vt_laws_later_calls.proofs.Common.{IsPlain, among_from_all, has_upper_in, none_from_among, plain_numbered}
 use Rattle.vt_laws_later_calls.specs.Ends.{OnlyTheseEndInodes, OtherCallsLeaveAll, TypesLeaveAllButMasters}
 use Rattle.vt_laws_later_calls.specs.Whiteouts.{replaced_by}
 use Rattle.vt_laws_later_calls.proofs.ends.EndedBy.{only_these_end_other_inodes, other_calls_keep_all}
 use Rattle.vt_laws_later_calls.proofs.ends.OtherCalls.{all_types_leave_all_but_masters}
-use Rattle.vt_laws_trees.proofs.runs.answered.PlainStays.{plain_numbered}
 
 -- no overlay changes
 none_replaced : (world : World ℕ) → IsPlain world → (fresh : Fresh ℕ) (task : Task ℕ) (call : Call)

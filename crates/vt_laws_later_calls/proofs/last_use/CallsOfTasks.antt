@@ -1,9 +1,7 @@
 -- A task that ends takes its namespace with it, and a descriptor that is closed its inode.
 use Rattle.std.proofs.Common.{◌≡◌, refl, sym, ap, subst, append_assoc, ◌∙◌, ⊎_elim, ℕ, nat_eq, eq-eqb, Bool, true, false, cond, ◌+◌, ◌||◌, List, [], ◌∷◌, ◌++◌, flat_map, map, arith, Contains, nat_le, nat_lt, ◌==◌}
 use Rattle.vt_spec.proofs.Common.{Descriptor, IsWorld, Location, Task, World, all_locations, among_from_contains, and_parts, any_pair, are_ascending_from, flat_map-append, is_within_limits, locations_of, map-append, namespaces_ended, nat_eq-swapped, nat_tests, replaced_if_called, same_name, same_name-swapped, same_name_itself, with_task, without_descriptor}
-use Rattle.vt_laws_mounts.specs.LettingGo.Ends.{without_namespace}
-use Rattle.vt_laws_mounts.specs.LettingGo.Leaving.{with_tasks}
-use Rattle.vt_laws_mounts.proofs.letting_go.Lists.{Among, among_from_list_all, none_from_among}
+use Rattle.vt_laws_later_calls.proofs.Common.{Among, among_from_list_all, none_from_among, with_tasks, without_namespace}
 use Rattle.vt_laws_later_calls.specs.LastUse.{CloseTakesItsFilesystem, CloseTakesItsInode, ExitEndsItsNamespace, task_count}
 use Rattle.vt_laws_later_calls.proofs.Opened.{descriptors_in_order}
 use Rattle.vt_laws_later_calls.proofs.last_use.LastLocations.{location_takes_its_filesystem}

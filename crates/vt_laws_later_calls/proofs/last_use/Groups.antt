@@ -1,17 +1,8 @@
 -- A group ends with its last member.
 use Rattle.std.proofs.Common.{arith, ◌≡◌, refl, sym, ap, ◌∙◌, ◌⊎◌, inl, inr, ⊎_elim, ℕ, nat_eq, eqb-true, eq-eqb, Bool, true, false, cond, not, ◌||◌, ◌&&◌, List, [], ◌∷◌, ◌++◌, Option, Some, None, option_to_list, nat_lt}
-use Rattle.vt_spec.proofs.Common.{HasLivingGroups, Lives, Mount, MountInvariants, Private, Propagation, Shared, Slave, Unbindable, World, common_steps, group_of, has_master, has_members, has_no_master, holds_of, is_lost_group, is_member_of, list_all, list_any, lost_a_group, or_false_left, regrouped, source_of, then_some, with_mounts, without_dead_groups}
-use Rattle.vt_laws_mounts.proofs.GroupsKept.{member_shared}
-use Rattle.vt_laws_mounts.proofs.GroupsUp.{live_members}
-use Rattle.vt_laws_mounts.proofs.GroupsUp.Up.{here}
-use Rattle.vt_laws_mounts.proofs.propagation.PropagationUp.{no_loop}
-use Rattle.vt_laws_mounts.specs.LettingGo.Counts.{member_count, times}
+use Rattle.vt_spec.proofs.Common.{cases_Bool, HasLivingGroups, Lives, Mount, MountInvariants, Private, Propagation, Shared, Slave, Unbindable, World, common_steps, group_of, has_master, has_members, has_no_master, holds_of, is_lost_group, is_member_of, list_all, list_any, lost_a_group, or_false_left, regrouped, source_of, then_some, with_mounts, without_dead_groups}
+use Rattle.vt_laws_later_calls.proofs.Common.{AllInUse, Among, GroupsInUseBut, among-append, among-append_left, among-append_right, among_from_all, any_among, any_from_among, group_is_looked_up, groups_go_one_by_one, here, list_all_from_among, live_members, member_count, member_shared, no_loop, none_from_among, times, without_master}
 use Rattle.vt_laws_mounts.specs.LettingGo.Groups.{GroupsLiveBut, OneGroupIsHandedOn, hand_on, is_group_or_lives}
-use Rattle.vt_laws_mounts.specs.LettingGo.InUse.{AllInUse}
-use Rattle.vt_laws_mounts.specs.LettingGo.OneByOne.{GroupsInUseBut, without_master}
-use Rattle.vt_laws_mounts.proofs.letting_go.Lists.{Among, among-append, among-append_left, among-append_right, among_from_all, any_among, any_from_among, list_all_from_among, none_from_among}
-use Rattle.vt_laws_mounts.proofs.letting_go.sweeps.LookedUp.{group_is_looked_up}
-use Rattle.vt_laws_mounts.proofs.letting_go.sweeps.OneByOne.{groups_go_one_by_one}
 use Rattle.vt_laws_later_calls.specs.LastUse.{GroupGoesWithItsLastMember, GroupIsHandedOnWithItsLastMember}
 use Rattle.vt_laws_later_calls.proofs.last_use.OneLess.{some_without_another, some_without_it}
 
@@ -179,11 +170,10 @@ module _ (world : World ℕ) (front back : List (Mount ℕ)) (old new : Mount �
         )))
       where
         still : (other : ℕ) → members other ≡ true → has_members nat_eq after.mounts other ≡ true
-        still other had = by (nat_eq other group) refl
-          where
-            by : (b : Bool) → nat_eq other group ≡ b → has_members nat_eq after.mounts other ≡ true
-            by true e = cc (eqb-true other group e)
-            by false e = members_as_before other e ∙ had
+        still other had = elim (cases_Bool (nat_eq other group)) [
+          | inl e ↦ cc (eqb-true other group e)
+          | inr e ↦ members_as_before other e ∙ had
+        ]
 
         all_still : (o : Option ℕ) → list_all members (option_to_list o) ≡ true
             → list_all (has_members nat_eq after.mounts) (option_to_list o) ≡ true

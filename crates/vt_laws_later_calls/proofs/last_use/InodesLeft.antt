@@ -1,17 +1,10 @@
 -- An inode goes with its last use.
 use Rattle.std.proofs.Common.{◌≡◌, refl, sym, ap, subst, ◌∙◌, ℕ, nat_eq, eqb-true, eq-eqb, Bool, true, false, true≢false, cond, not, ◌||◌, ◌&&◌, ◌+◌, [], ◌∷◌, ◌++◌, find, map, Option, Some, None, is_some, option_map, unwrap_or, arith, nat_lt}
 use Rattle.vt_spec.proofs.Common.{Filesystem, Overlay, World, and-false, and-true, and_parts, any_pair, common_steps, filesystem_numbered, is_overlay, list_all, map_alike, no_filesystem, of_overlay, overlay_or, without_dead_inodes}
-use Rattle.vt_laws_mounts.specs.LettingGo.Counts.{inode_uses}
-use Rattle.vt_laws_mounts.specs.LettingGo.InUse.{HasTrees, InodesInUse, UppersArePlain, is_inode_used}
-use Rattle.vt_laws_mounts.specs.LettingGo.OneByOne.{Inode, InodesInUseBut, is_used_or_among, let_go_inode, without_inode_at}
-use Rattle.vt_laws_mounts.specs.LettingGo.Overlays.{RealsAreThere, is_plain, let_go_in, let_go_in_of, let_go_plain, uppers_in, uppers_of, uppers_of_inode, uppers_of_inode_in, without_real}
-use Rattle.vt_laws_mounts.proofs.letting_go.Lists.{Among, all_from_among, among-from_map, among_from_all, among_from_list_all, flat_map_none, found_by, found_in, list_all_from_among, map_same}
-use Rattle.vt_laws_mounts.proofs.letting_go.sweeps.InUse.{inodes_stay}
+use Rattle.vt_laws_later_calls.proofs.Common.{Among, HasTrees, Inode, InodesInUse, InodesInUseBut, RealsAreThere, UppersArePlain, all_from_among, among-from_map, among_from_all, among_from_list_all, flat_map_none, found_by, inode_is_looked_up, inode_uses, inodes_stay, is_inode, is_inode_used, is_plain, is_used_or_among, let_go_in, let_go_in_of, let_go_inode, let_go_plain, list_all_from_among, map_same, uppers_in, uppers_of, uppers_of_inode, uppers_of_inode_in, used_while_counted, without_inode_at, without_real}
+use Rattle.vt_laws_mounts.proofs.letting_go.Lists.{found_in}
 use Rattle.vt_laws_mounts.proofs.letting_go.sweeps.Inodes.{inodes_go_one_by_one}
-use Rattle.vt_laws_mounts.proofs.letting_go.sweeps.LookedUp.{inode_is_looked_up}
-use Rattle.vt_laws_mounts.proofs.letting_go.sweeps.UsesCounted.{used_while_counted}
 use Rattle.vt_laws_mounts.proofs.letting_go.sweeps.WithOverlays.{all_inodes_go_one_by_one}
-use Rattle.vt_laws_mounts.specs.Counts.Using.{is_inode}
 use Rattle.vt_laws_later_calls.specs.LastUse.{ExchangeOfOneLosesOneUse, InodeBesideOverlaysGoesWithItsLastUse, InodeGoesWithItsLastUse, InodeOfOverlayGoesWithItsLastUse, LosesOneUse, without_inode_of_any, without_merged_inode}
 use Rattle.vt_laws_later_calls.proofs.last_use.OneLess.{some_left}
 

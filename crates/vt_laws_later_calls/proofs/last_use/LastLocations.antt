@@ -1,21 +1,12 @@
 -- The whole sweep, where the last location on a mount is left, and its filesystem goes.
 use Rattle.std.proofs.Common.{◌≡◌, refl, sym, ap, subst, ◌∙◌, inl, inr, ⊎_elim, ℕ, nat_eq, eqb-true, eq-eqb, Bool, true, false, true≢false, cond, not, ◌||◌, ◌&&◌, ◌+◌, List, [], ◌∷◌, ◌++◌, filter, find, map, Some, is_some, arith, nat_lt}
 use Rattle.vt_spec.proofs.Common.{Filesystem, IsWorld, Location, Mount, Task, World, all_locations, common_steps, filesystem_numbered, filter_alike, is_among, is_member_of, is_nowhere_or_attached, is_overlay, list_all, mount_at, nat_eq-swapped, no_filesystem, or_parts, settled, without_dead_filesystems, without_dead_groups, without_dead_in, without_dead_inodes, without_dead_mounts}
-use Rattle.vt_laws_mounts.specs.LettingGo.Counts.{inode_uses, mount_uses, mounts_showing}
-use Rattle.vt_laws_mounts.specs.LettingGo.InUse.{AllInUse, GroupsInUse, InodesInUse, is_inode_used}
+use Rattle.vt_laws_later_calls.proofs.Common.{AllInUse, Among, Exchanges, GroupsInUse, InodesInUse, MountsStand, all_from_among, all_in_use, among-append, among-append_left, among-append_right, among-from_filter, among-from_map, among_from_all, among_from_list_all, among_numbers, any-filter, exchanges_follow, found_by, groups_stay, inode_at, inode_uses, inodes_stay, is_inode_used, is_mount_used, list_all_from_among, locations_are_uses, locations_of_worlds_stand, mount_uses, mounts_of_worlds_stand, mounts_showing, none_among, nowhere_parts, others_use_nothing, private_is_no_member, root_inode, used_while_counted, with_tasks, without_filesystem, without_mount}
 use Rattle.vt_laws_mounts.specs.LettingGo.Keeping.{LocationsStand}
-use Rattle.vt_laws_mounts.specs.LettingGo.Leaving.{MountsStand, with_tasks}
-use Rattle.vt_laws_mounts.specs.LettingGo.Mounting.{inode_at, root_inode}
-use Rattle.vt_laws_mounts.specs.LettingGo.OneByOne.{IsPlain, is_mount_used, without_filesystem, without_mount}
-use Rattle.vt_laws_mounts.proofs.letting_go.Lists.{Among, all_from_among, among-append, among-append_left, among-append_right, among-from_filter, among-from_map, among_from_all, among_from_list_all, among_numbers, any-filter, found_by, list_all_from_among, none_among}
-use Rattle.vt_laws_mounts.proofs.letting_go.leaving.PlacesLeft.{found_itself, nowhere_parts, private_is_no_member}
-use Rattle.vt_laws_mounts.proofs.letting_go.sweeps.InUse.{groups_stay, inodes_stay}
-use Rattle.vt_laws_mounts.proofs.letting_go.sweeps.OfWorlds.{all_in_use, locations_of_worlds_stand, mounts_of_worlds_stand}
-use Rattle.vt_laws_mounts.proofs.letting_go.sweeps.UsesCounted.{used_while_counted}
+use Rattle.vt_laws_mounts.specs.LettingGo.OneByOne.{IsPlain}
+use Rattle.vt_laws_mounts.proofs.letting_go.leaving.PlacesLeft.{found_itself}
 use Rattle.vt_laws_mounts.specs.Counts.Counted
-use Rattle.vt_laws_mounts.specs.Counts.Using.{Exchanges}
 use Rattle.vt_laws_mounts.proofs.counts.using.MountRoots.{mounts_leave_their_roots}
-use Rattle.vt_laws_mounts.proofs.counts.using.Places.{exchanges_follow, locations_are_uses, others_use_nothing}
 use Rattle.vt_laws_later_calls.specs.LastUse.{LocationTakesItsFilesystem}
 use Rattle.vt_laws_later_calls.proofs.last_use.OneLess.{IsSplit, split_around}
 use Rattle.vt_laws_later_calls.proofs.last_use.MountsAndFilesystems.{filesystem_goes_with_its_last_use, located_still, mount_goes_with_its_last_use}

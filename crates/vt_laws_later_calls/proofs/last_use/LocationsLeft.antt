@@ -1,14 +1,7 @@
 -- The whole sweep, where one location is left.
 use Rattle.std.proofs.Common.{◌≡◌, refl, ap, ◌∙◌, ℕ, nat_eq, Bool, true, false, cond, [], ◌∷◌, nat_lt}
 use Rattle.vt_spec.proofs.Common.{World, filesystem_at, without_dead_filesystems, without_dead_groups, without_dead_inodes}
-use Rattle.vt_laws_mounts.specs.LettingGo.Counts.{inode_uses}
-use Rattle.vt_laws_mounts.specs.LettingGo.InUse.{AllInUse}
-use Rattle.vt_laws_mounts.specs.LettingGo.Leaving.{with_tasks}
-use Rattle.vt_laws_mounts.specs.LettingGo.Mounting.{inode_at}
-use Rattle.vt_laws_mounts.specs.LettingGo.OneByOne.{without_inode_at, without_mount}
-use Rattle.vt_laws_mounts.proofs.letting_go.sweeps.InUse.{filesystems_stay, groups_stay}
-use Rattle.vt_laws_mounts.proofs.letting_go.sweeps.OfWorlds.{all_in_use, reals_of_worlds_are_there, uppers_of_worlds_are_plain, worlds_have_trees}
-use Rattle.vt_laws_mounts.proofs.counts.using.Places.{locations_are_uses}
+use Rattle.vt_laws_later_calls.proofs.Common.{AllInUse, all_in_use, filesystems_stay, groups_stay, inode_at, inode_uses, locations_are_uses, reals_of_worlds_are_there, uppers_of_worlds_are_plain, with_tasks, without_inode_at, without_mount, worlds_have_trees}
 use Rattle.vt_laws_later_calls.specs.LastUse.{LocationTakesItsInode}
 use Rattle.vt_laws_later_calls.proofs.last_use.InodesLeft.{exchange_of_one_loses_one_use, inode_beside_overlays_goes_with_its_last_use}
 use Rattle.vt_laws_later_calls.proofs.last_use.MountsAndFilesystems.{mount_goes_with_its_last_use}

@@ -1,14 +1,8 @@
 -- A mount goes with its last location, and a filesystem with its last mount.
 use Rattle.std.proofs.Common.{arith, ◌≡◌, refl, ap, ◌∙◌, ℕ, nat_eq, eq-eqb, false, cond, ◌||◌, List, [], ◌∷◌, ◌++◌, nat_lt}
 use Rattle.vt_spec.proofs.Common.{Filesystem, Location, Mount, Task, World, all_locations, common_steps, filesystem_lives, is_located, is_mounted, is_overlay, list_any, or-false, without_dead_filesystems}
-use Rattle.vt_laws_mounts.specs.LettingGo.Counts.{mount_uses, mounts_showing}
-use Rattle.vt_laws_mounts.specs.LettingGo.InUse.{FilesystemsInUse, MountsInUse}
-use Rattle.vt_laws_mounts.specs.LettingGo.Leaving.{with_tasks}
-use Rattle.vt_laws_mounts.specs.LettingGo.OneByOne.{FilesystemsInUseBut, IsPlain, MountsInUseBut, without_filesystem}
-use Rattle.vt_laws_mounts.proofs.letting_go.Lists.{among_from_list_all, list_all_from_among}
-use Rattle.vt_laws_mounts.proofs.letting_go.leaving.PlacesLeft.{no_layers}
-use Rattle.vt_laws_mounts.proofs.letting_go.sweeps.LookedUp.{filesystem_is_looked_up, mount_is_looked_up}
-use Rattle.vt_laws_mounts.proofs.letting_go.sweeps.OneByOne.{filesystems_go_one_by_one, mounts_go_one_by_one}
+use Rattle.vt_laws_later_calls.proofs.Common.{FilesystemsInUse, FilesystemsInUseBut, MountsInUse, MountsInUseBut, among_from_list_all, filesystem_is_looked_up, filesystems_go_one_by_one, list_all_from_among, mount_is_looked_up, mount_uses, mounts_go_one_by_one, mounts_showing, no_layers, with_tasks, without_filesystem}
+use Rattle.vt_laws_mounts.specs.LettingGo.OneByOne.{IsPlain}
 use Rattle.vt_laws_later_calls.specs.LastUse.{FilesystemGoesWithItsLastUse, MountGoesWithItsLastUse}
 use Rattle.vt_laws_later_calls.proofs.last_use.OneLess.{some_without_another, some_without_it}
 

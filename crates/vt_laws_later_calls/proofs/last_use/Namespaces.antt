@@ -1,10 +1,7 @@
 -- A namespace ends with its last task.
 use Rattle.std.proofs.Common.{arith, ◌≡◌, refl, sym, ap, ◌∙◌, ℕ, nat_eq, eqb-true, eq-eqb, Bool, true, false, cond, ◌||◌, List, ◌∷◌, ◌++◌, nat_lt}
 use Rattle.vt_spec.proofs.Common.{MountInvariants, Namespace, NamespaceInvariants, Task, World, common_steps, has_tasks, list_any, namespaces_ended, nat_eq-swapped, regrouped_by}
-use Rattle.vt_laws_mounts.specs.LettingGo.Ends.{without_namespace}
-use Rattle.vt_laws_mounts.specs.LettingGo.Leaving.{with_tasks}
-use Rattle.vt_laws_mounts.proofs.letting_go.Lists.{Among, among_from_list_all, list_all_from_among}
-use Rattle.vt_laws_mounts.proofs.letting_go.ends.NamespacesEnd.{no_namespace_ends, one_namespace_ends}
+use Rattle.vt_laws_later_calls.proofs.Common.{Among, among_from_list_all, list_all_from_among, no_namespace_ends, one_namespace_ends, with_tasks, without_namespace}
 use Rattle.vt_laws_later_calls.specs.LastUse.{NamespaceEndsWithItsLastTask, task_count}
 use Rattle.vt_laws_later_calls.proofs.last_use.Groups.{none_lost}
 use Rattle.vt_laws_later_calls.proofs.last_use.OneLess.{some_without_another, some_without_it}

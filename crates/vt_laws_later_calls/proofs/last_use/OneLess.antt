@@ -1,8 +1,7 @@
 -- One less in a list: whether some of it pass a test, and how many did.
 use Rattle.std.proofs.Common.{◌≡◌, sym, ap, ◌∙◌, ⊎_elim, ℕ, Bool, true, false, not, ◌+◌, ◌++◌, List, [], ◌∷◌, filter, map, arith, nat_lt}
 use Rattle.vt_spec.proofs.Common.{any_pair, common_steps, list_any, list_any-append, nat_tests, or_parts, same_truth}
-use Rattle.vt_laws_mounts.specs.LettingGo.Counts.{times}
-use Rattle.vt_laws_mounts.proofs.letting_go.Lists.{times_around, Among, none_among, filter_all, filter_here, filter_skip, map_same, any_counted}
+use Rattle.vt_laws_later_calls.proofs.Common.{Among, any_counted, filter_all, filter_here, filter_skip, map_same, none_among, times, times_around}
 
 -- where one of them goes, some are left just where there was more than one
 pub some_left : (before after : ℕ) → before ≡ after + 1 → nat_lt 0 after ≡ nat_lt 1 before

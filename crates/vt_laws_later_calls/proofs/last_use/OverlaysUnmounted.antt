@@ -1,13 +1,7 @@
 -- A filesystem goes with its last mount, in a world with overlays.
 use Rattle.std.proofs.Common.{arith, ◌≡◌, refl, sym, ap, ◌∙◌, ◌⊎◌, inl, inr, ⊎_elim, ℕ, nat_eq, eqb-true, Bool, true, false, true≢false, cond, ◌||◌, ◌&&◌, List, [], ◌∷◌, ◌++◌, map, Some, nat_lt}
-use Rattle.vt_spec.proofs.Common.{Filesystem, Mount, Overlay, World, and_parts, any_pair, common_steps, filesystem_lives, filesystem_numbered, has_layer_on, is_among, is_mounted, is_overlay, layers_of, list_any, no_filesystem, or_cases, without_dead_filesystems}
-use Rattle.vt_laws_mounts.specs.LettingGo.Counts.{mounts_showing}
-use Rattle.vt_laws_mounts.specs.LettingGo.InUse.{FilesystemsInUse}
-use Rattle.vt_laws_mounts.specs.LettingGo.OneByOne.{FilesystemsInUseBut, let_go_filesystems, without_filesystem}
-use Rattle.vt_laws_mounts.proofs.letting_go.Lists.{Among, among_from_list_all, any-map, any_among, any_from_among, found_by, list_all_from_among, none_among, none_from_among, or_left, or_right}
-use Rattle.vt_laws_mounts.proofs.letting_go.sweeps.InUse.{filesystems_stay}
-use Rattle.vt_laws_mounts.proofs.letting_go.sweeps.LookedUp.{filesystem_is_looked_up}
-use Rattle.vt_laws_mounts.proofs.letting_go.sweeps.OneByOne.{filesystems_go_one_by_one}
+use Rattle.vt_spec.proofs.Common.{cases_Bool, Filesystem, Mount, Overlay, World, and_parts, any_pair, common_steps, filesystem_lives, filesystem_numbered, has_layer_on, is_among, is_mounted, is_overlay, layers_of, list_any, no_filesystem, or_cases, without_dead_filesystems}
+use Rattle.vt_laws_later_calls.proofs.Common.{Among, FilesystemsInUse, FilesystemsInUseBut, among_from_list_all, any-map, any_among, any_from_among, filesystem_is_looked_up, filesystems_go_one_by_one, filesystems_stay, found_by, let_go_filesystems, list_all_from_among, mounts_showing, none_among, none_from_among, or_left, or_right, without_filesystem}
 use Rattle.vt_laws_later_calls.specs.LastUse.{FilesystemBesideOverlaysGoesWithItsLastUse, OverlayGoesWithItsLastUse, is_layered}
 use Rattle.vt_laws_later_calls.proofs.last_use.MountsAndFilesystems.{mounted_as_before, mounted_still}
 
@@ -106,15 +100,13 @@ module _ (world after : World ℕ) (front back : List (Mount ℕ)) (mount : Moun
         by f false e (inl mounted) = or_right (is_among nat_eq f.number layers) (filesystem_lives nat_eq after f)
             (or_left (is_mounted nat_eq after f.number) (is_layered after f.number)
             (mounted_as_before world after front back mount before left f.number e ∙ mounted))
-        by f false e (inr t) = which (nat_eq t.0.number mount.filesystem) refl
-          where
-            which : (b : Bool) → nat_eq t.0.number mount.filesystem ≡ b
-                → (is_among nat_eq f.number layers || filesystem_lives nat_eq after f) ≡ true
-            which true g = or_left (is_among nat_eq f.number layers) (filesystem_lives nat_eq after f)
-                (is_layer f t.0 t.1 g t.2)
-            which false g = or_right (is_among nat_eq f.number layers) (filesystem_lives nat_eq after f)
-                (lives_layered f.number t.0 t.1 t.2
-                (mounted_as_before world after front back mount before left t.0.number g ∙ t.3))
+        by f false e (inr t) = elim (cases_Bool (nat_eq t.0.number mount.filesystem)) [
+          | inl g ↦ or_left (is_among nat_eq f.number layers) (filesystem_lives nat_eq after f)
+              (is_layer f t.0 t.1 g t.2)
+          | inr g ↦ or_right (is_among nat_eq f.number layers) (filesystem_lives nat_eq after f)
+              (lives_layered f.number t.0 t.1 t.2
+              (mounted_as_before world after front back mount before left t.0.number g ∙ t.3))
+        ]
 
     -- while another mount shows it, all are in use
     all_mounted : is_mounted nat_eq after mount.filesystem ≡ true → FilesystemsInUse after

@@ -1,13 +1,9 @@
 -- The upper inode of an inode of an overlay goes with it, where that was its last use.
 use Rattle.std.proofs.Common.{◌≡◌, refl, sym, ap, ◌∙◌, ⊎_elim, ℕ, nat_eq, eqb-true, eq-eqb, Bool, true, false, true≢false, cond, not, ◌&&◌, ◌+◌, List, [], ◌∷◌, ◌++◌, find, flat_map, map, Option, Some, None, is_some, option_map, option_to_list, unwrap_or, arith, All, nat_lt, append-nil}
 use Rattle.vt_spec.proofs.Common.{Filesystem, Layer, Overlay, Upper, World, and-false, and-true, any_pair, common_steps, filesystem_numbered, is_overlay, list_any, map_alike, nat_eq-swapped, no_filesystem, or_parts, upper_object}
-use Rattle.vt_laws_mounts.specs.LettingGo.Counts.{inode_uses, times}
-use Rattle.vt_laws_mounts.specs.LettingGo.InUse.{AllInUse, UppersArePlain, has_upper_in, is_inode_used}
-use Rattle.vt_laws_mounts.specs.LettingGo.OneByOne.{Inode, without_inode, without_inode_at, without_inode_in}
-use Rattle.vt_laws_mounts.specs.LettingGo.Overlays.{is_plain, let_go_in, let_go_in_of, let_go_plain, uppers_in, uppers_of, without_inode_of, without_real}
-use Rattle.vt_laws_mounts.proofs.letting_go.Lists.{Among, among-from_map, among_from_all, flat_map_none, found_in, map_same, none_among}
+use Rattle.vt_laws_later_calls.proofs.Common.{AllInUse, Among, Inode, UppersArePlain, among-from_map, among_from_all, flat_map_none, has_upper_in, inode_uses, is_inode_used, is_plain, let_go_in, let_go_in_of, let_go_plain, map_same, none_among, times, uppers_in, uppers_of, used_while_counted, without_inode, without_inode_at, without_inode_in, without_inode_of, without_real}
+use Rattle.vt_laws_mounts.proofs.letting_go.Lists.{found_in}
 use Rattle.vt_laws_mounts.proofs.letting_go.sweeps.UpperUses.{one_upper_use_less}
-use Rattle.vt_laws_mounts.proofs.letting_go.sweeps.UsesCounted.{used_while_counted}
 use Rattle.vt_laws_later_calls.specs.LastUse.{InodeOverLowersGoesAlone, LosesOneUse, UpperInodeGoesWithItsLastUse, without_inode_of_any, without_merged_inode}
 use Rattle.vt_laws_later_calls.proofs.last_use.InodesLeft.{found_after, its_kind, of_overlay_left}
 use Rattle.vt_laws_later_calls.proofs.last_use.OneLess.{IsSplit, some_left, split_around}

@@ -1,21 +1,9 @@
 -- The world that a granted rmdir leaves: the task's own mounts are seen as they were, the directory has lost its name,
 -- and walks that do not go up from it lead where they led.
-use Rattle.std.proofs.Common.{arith, ◌≡◌, ◌≢◌, refl, sym, ap, subst, ◌∙◌, inl, inr, ◌⊎◌, ⊎_elim, ℕ, nat_eq, eqb-true, Bool, true, false, ◌||◌, List, filter, Some, None, is_some}
-use Rattle.vt_spec.proofs.Common.{Answer, Call, Change, Credentials, FileTree, Filesystem, Fresh, IsWorld, Location, Mount, Remove, Task, TaskName, ToRemoveDirectory, Tree, World, and_parts, apply, changed, common_steps, denial, directory_used, entries_in, entry_at, entry_named, files_at, filesystem_numbered, filesystems-taken_away, is_directory_node, is_going, is_located, is_mount_point_in, looks_of, mount_at, mount_lives, mount_numbered, mounts_on, node_allows, node_at, parent_in, policy, raised_task, symlink_text, task_called, tasks-taken_away, tasks-with_change, with_change, without_mounts_on}
-use Rattle.vt_spec.specs.declared.errors.Deny.{Deny}
-use Rattle.vt_spec.specs.declared.errors.Rule.TheVariants.{W6}
-use Rattle.vt_laws_mounts.specs.LettingGo.Unmounting.{numbers_of_trees}
-use Rattle.vt_laws_mounts.proofs.mounts.Standing.{standing_is_computed}
-use Rattle.vt_laws_mounts.proofs.ends.Unmounting.{kept_by_number}
-use Rattle.vt_laws_mounts.proofs.ends.UnmountingTrees.{AreClosed, trees_closed}
+use Rattle.std.proofs.Common.{arith, ◌≡◌, ◌≢◌, refl, sym, ap, subst, ◌∙◌, inl, inr, ◌⊎◌, ⊎_elim, ℕ, nat_eq, eqb-true, true, false, ◌||◌, List, filter, Some, None, is_some}
+use Rattle.vt_spec.proofs.Common.{cases_Bool, Answer, Call, Change, Credentials, FileTree, Filesystem, Fresh, IsWorld, Location, Mount, Remove, Task, TaskName, ToRemoveDirectory, Tree, World, and_parts, apply, changed, common_steps, denial, directory_used, entries_in, entry_at, entry_named, files_at, filesystem_numbered, filesystems-taken_away, is_directory_node, is_going, is_located, is_mount_point_in, looks_of, mount_at, mount_lives, mount_numbered, mounts_on, node_allows, node_at, parent_in, policy, raised_task, symlink_text, task_called, tasks-taken_away, tasks-with_change, with_change, without_mounts_on}
+use Rattle.vt_laws_later_calls.proofs.Common.{AreClosed, Deny, IsOn, IsPlain, IsReached, MayRemove, SeesTo, W6, given_permits_are_seen_to, is_reached, kept_by_number, mounts-with_change, numbers_of_trees, standing_is_computed, taken_plain, trees_closed}
 use Rattle.vt_laws_worlds.proofs.overlays_let_go.changing.MountsOfOthers.{reached_stays, removal_reached}
-use Rattle.vt_laws_worlds.specs.Permits.Sees.{SeesTo}
-use Rattle.vt_laws_worlds.proofs.permits.sees.SeesTasks.{given_permits_are_seen_to}
-use Rattle.vt_laws_trees.specs.Trees.{MayRemove}
-use Rattle.vt_laws_worlds.specs.Worlds.Kept.{IsPlain}
-use Rattle.vt_laws_worlds.specs.Worlds.Permits.{IsReached}
-use Rattle.vt_laws_worlds.proofs.worlds.PermitsSeen.{taken_plain}
-use Rattle.vt_laws_worlds.proofs.worlds.Reached.{IsOn, is_reached}
 use Rattle.vt_laws_later_calls.proofs.AfterChange.{as_spent, later_files, later_is}
 use Rattle.vt_laws_later_calls.proofs.Changed.{files_changed, files_other}
 use Rattle.vt_laws_later_calls.proofs.Granted.{HasSucceeded}
@@ -27,7 +15,6 @@ use Rattle.vt_laws_later_calls.proofs.later.WaysLeft.{MountsSeen, ObjectsStay}
 use Rattle.vt_laws_later_calls.proofs.later.WaysMounts.{own_mount, top_same, topmost_same}
 use Rattle.vt_laws_later_calls.proofs.later.WaysRemoved.{removed_entry, removed_kind, removed_link, removed_name, removed_parent, removed_rights}
 use Rattle.vt_laws_later_calls.proofs.WaysStay.{mount_root, node_in, tree_in}
-use Rattle.vt_laws_mounts.proofs.mounts.MountsLeft.{mounts-with_change}
 
 module _ {world : World ℕ} {fresh : Fresh ℕ} {name : TaskName} {call : Call} {answer : Answer}
     (it : HasSucceeded world fresh name call answer) {parent : Location ℕ} {word : List ℕ}
@@ -154,7 +141,13 @@ module _ {world : World ℕ} {fresh : Fresh ℕ} {name : TaskName} {call : Call}
         ⊎ ((entry_at later here any ≡ None) × (number ≡ shown) × (next ≡ object.node))
 
   pub each : (number : ℕ) → IsLess number (tree_in world number) (tree_in spent number)
-  each number = by (nat_eq shown number) refl
+  each number = elim (cases_Bool (nat_eq shown number)) [
+    | inl e ↦ rw (← eqb-true shown number e) (subst (λ (f : FileTree ℕ). IsLess shown (tree_in world shown) f.tree)
+        (sym spent_shown) here)
+    | inr e ↦ subst (λ (f : FileTree ℕ). IsLess number (tree_in world number) f.tree) (sym (spent_files number
+        ∙ files_other fresh middle middle_plain parent change number (ap (λ n. nat_eq n number) middle_shown ∙ e)
+        ∙ ap (λ (f : Filesystem ℕ). f.files) (middle_numbered number))) same
+  ]
     where
       here : IsLess shown (tree_in world shown) (changed nat_eq (files_at nat_eq world parent) change).tree
       here = record {
@@ -170,13 +163,6 @@ module _ {world : World ℕ} {fresh : Fresh ℕ} {name : TaskName} {call : Call}
 
       same : IsLess number (tree_in world number) (tree_in world number)
       same = grind (arith, common_steps)
-
-      by : (b : Bool) → nat_eq shown number ≡ b → IsLess number (tree_in world number) (tree_in spent number)
-      by true e = rw (← eqb-true shown number e) (subst (λ (f : FileTree ℕ). IsLess shown (tree_in world shown) f.tree)
-          (sym spent_shown) here)
-      by false e = subst (λ (f : FileTree ℕ). IsLess number (tree_in world number) f.tree) (sym (spent_files number
-          ∙ files_other fresh middle middle_plain parent change number (ap (λ n. nat_eq n number) middle_shown ∙ e)
-          ∙ ap (λ (f : Filesystem ℕ). f.files) (middle_numbered number))) same
 
   pub node_left : (filesystem number : ℕ) → is_some (node_in left filesystem number) ≡ true
       → node_in left filesystem number ≡ node_in spent filesystem number

@@ -1,33 +1,15 @@
 -- The world that a granted rename leaves: the object has its new name and what it had, and no mount stands on it.
-use Rattle.std.proofs.Common.{arith, ◌≡◌, ◌≢◌, refl, sym, ap, subst, ◌∙◌, true≢false, ℕ, nat_eq, eq-eqb, ne_eqb, Bool, true, false, cond, List, [], length, filter, find, Option, Some, None, is_some, option_map, unwrap_or}
-use Rattle.vt_spec.proofs.Common.{Among, Answer, Call, Change, FileTree, Filesystem, Fresh, IsWorld, Location, Mount, Move, TaskName, ToRename, World, among-filter, among-from_filter, among_from_list_all, and_from, any_from_among, apply, bytes_decides, changed, child_at, common_steps, directory_from_entry, directory_used, entries_in, entry_at, entry_named, files_at, filesystem_at, filesystem_numbered, filesystems-without_replaced, is_among, is_directory_node, is_mount_point_anywhere, is_nowhere_or_attached, is_point, list_any, looks_of, mount_at, mount_lives, mount_numbered, mounts_on, no_filesystem, number-mount_in, points_of, policy, root_of, shown-without_replaced, stands_at, topmost, with_change, without_replaced}
-use Rattle.vt_laws_mounts.proofs.letting_go.leaving.PlacesLeft.{nowhere_parts}
-use Rattle.vt_laws_trees.specs.Layers.Layers.Untouched.{IsKept}
+use Rattle.std.proofs.Common.{inl, inr, arith, ◌≡◌, ◌≢◌, refl, sym, ap, subst, ◌∙◌, true≢false, ℕ, nat_eq, eq-eqb, ne_eqb, Bool, true, false, cond, List, [], length, filter, find, Option, Some, None, is_some, option_map, unwrap_or}
+use Rattle.vt_spec.proofs.Common.{cases_Bool, Among, Answer, Call, Change, FileTree, Filesystem, Fresh, IsWorld, Location, Mount, Move, TaskName, ToRename, World, among-filter, among-from_filter, among_from_list_all, and_from, any_from_among, apply, bytes_decides, changed, child_at, common_steps, directory_from_entry, directory_used, entries_in, entry_at, entry_named, files_at, filesystem_at, filesystem_numbered, filesystems-without_replaced, is_among, is_directory_node, is_mount_point_anywhere, is_nowhere_or_attached, is_point, list_any, looks_of, mount_at, mount_lives, mount_numbered, mounts_on, no_filesystem, number-mount_in, points_of, policy, root_of, shown-without_replaced, stands_at, topmost, with_change, without_replaced}
+use Rattle.vt_laws_later_calls.proofs.Common.{cases_Option, IsFileTree, IsKept, IsPlain, MayBeRenamed, SeesTo, found_in, found_itself, found_there, given_permits_are_seen_to, is_entry, is_that_entry, mounts-with_change, move_told, no_way_up, nowhere_parts, number_numbered, numbers_of, numbers_of_trees, replaced_plain, standing_is_computed, stands_there, tree_here, trees_closed}
 use Rattle.vt_laws_trees.proofs.layers.layers.LowersKept.{kept_both, kept_same, others_stay}
-use Rattle.vt_laws_trees.proofs.layers.views.Entries.{is_entry, is_that_entry}
-use Rattle.vt_laws_trees.proofs.layers.views.Moves.{move_told, no_way_up}
-use Rattle.vt_laws_mounts.specs.Mounts.Attaching.{numbers_of}
 use Rattle.vt_laws_mounts.proofs.ends.Ending.{replaced_keeps_mounts}
-use Rattle.vt_laws_mounts.proofs.mounts.MountsFound.{found_in, found_there}
-use Rattle.vt_laws_mounts.proofs.mounts.MountsPlaces.{stands_there}
-use Rattle.vt_laws_mounts.proofs.mounts.MountsReplaced.{found_itself}
-use Rattle.vt_laws_mounts.proofs.mounts.Standing.{standing_is_computed}
-use Rattle.vt_laws_mounts.proofs.ends.UnmountingTrees.{trees_closed}
-use Rattle.vt_laws_worlds.specs.Permits.Sees.{MayBeRenamed, SeesTo}
-use Rattle.vt_laws_worlds.proofs.permits.sees.SeesNames.{tree_here}
-use Rattle.vt_laws_worlds.proofs.permits.sees.SeesTasks.{given_permits_are_seen_to}
-use Rattle.vt_laws_mounts.specs.LettingGo.Unmounting.{numbers_of_trees}
-use Rattle.vt_laws_trees.specs.Trees.{IsFileTree}
-use Rattle.vt_laws_trees.proofs.trees.TreesOfWorlds.{number_numbered}
-use Rattle.vt_laws_worlds.specs.Worlds.Kept.{IsPlain}
-use Rattle.vt_laws_worlds.proofs.worlds.PermitsSeen.{replaced_plain}
 use Rattle.vt_laws_later_calls.proofs.AfterChange.{as_spent, later_is}
 use Rattle.vt_laws_later_calls.proofs.Changed.{files_changed}
 use Rattle.vt_laws_later_calls.proofs.Granted.{HasSucceeded}
 use Rattle.vt_laws_later_calls.proofs.OpenedNew.{given_of}
 use Rattle.vt_laws_later_calls.proofs.later.WaysMounts.{placed_before, stops}
 use Rattle.vt_laws_later_calls.proofs.WaysStay.{node_in, tree_in}
-use Rattle.vt_laws_mounts.proofs.mounts.MountsLeft.{mounts-with_change}
 
 -- Mounts that stand on an object, as its filesystem shows it
 module _ (world : World ℕ) (is : IsWorld nat_eq world) (object : Location ℕ)
@@ -39,7 +21,11 @@ module _ (world : World ℕ) (is : IsWorld nat_eq world) (object : Location ℕ)
   none_on_it mount place m at same node =
       true≢false (cc (any_from_among (λ (m : Mount ℕ). is_some m.namespace) (mounts_on nat_eq world object) mount
       (among-filter (λ (m : Mount ℕ). list_any (λ point. is_point nat_eq world point.0 point.1 m)
-      (points_of nat_eq world object)) world.mounts mount m on_it) (attached (is_some mount.namespace) refl)))
+      (points_of nat_eq world object)) world.mounts mount m on_it) ((elim (cases_Bool (is_some mount.namespace)) [
+        | inl e ↦ e
+        | inr e ↦ cc ((nowhere_parts mount (among_from_list_all is_nowhere_or_attached world.mounts
+            is.mounts.nowhere mount m) e).0)
+      ]))))
     where
       number_is : (mount_at nat_eq world place).filesystem ≡ (filesystem_at nat_eq world object).number
       number_is = cc (number_numbered (mount_at nat_eq world object).filesystem world.filesystems)
@@ -47,24 +33,16 @@ module _ (world : World ℕ) (is : IsWorld nat_eq world) (object : Location ℕ)
       on_it : list_any (λ point. is_point nat_eq world point.0 point.1 mount) (points_of nat_eq world object) ≡ true
       on_it = grind (arith, common_steps, and_from, eq-eqb, number_is)
 
-      attached : (b : Bool) → is_some mount.namespace ≡ b → is_some mount.namespace ≡ true
-      attached true e = e
-      attached false e = cc ((nowhere_parts mount (among_from_list_all is_nowhere_or_attached world.mounts
-          is.mounts.nowhere mount m) e).0)
-
   pub free_over : (place : Location ℕ)
       → (mount_at nat_eq world place).filesystem ≡ (mount_at nat_eq world object).filesystem
       → place.node ≡ object.node → topmost nat_eq world.mounts place ≡ place
   free_over place same node =
       stops (length world.mounts) (λ here. option_map root_of (child_at nat_eq world.mounts here)) place
-      (by (child_at nat_eq world.mounts place) refl)
-    where
-      by : (o : Option (Mount ℕ)) → child_at nat_eq world.mounts place ≡ o
-          → option_map root_of (child_at nat_eq world.mounts place) ≡ None
-      by None e = cc
-      by (Some mount) e =
-          let found = found_in (stands_at nat_eq place) world.mounts mount e in
-          absurd (none_on_it mount place found.0 (stands_there place mount found.1) same node)
+      ((elim (cases_Option (child_at nat_eq world.mounts place)) [
+        | inl e ↦ cc
+        | inr its ↦ let found = found_in (stands_at nat_eq place) world.mounts its.0 its.1 in
+            absurd (none_on_it its.0 place found.0 (stands_there place its.0 found.1) same node)
+      ]))
 
 module _ {world : World ℕ} {fresh : Fresh ℕ} {name : TaskName} {call : Call} {answer : Answer}
     (it : HasSucceeded world fresh name call answer) {from : Location ℕ} {old : List ℕ}
@@ -208,13 +186,10 @@ module _ {world : World ℕ} {fresh : Fresh ℕ} {name : TaskName} {call : Call}
       → topmost nat_eq left.mounts place ≡ place
   free_left place listed same node =
       stops (length left.mounts) (λ here. option_map root_of (child_at nat_eq left.mounts here)) place
-      (by (child_at nat_eq left.mounts place) refl)
-    where
-      by : (o : Option (Mount ℕ)) → child_at nat_eq left.mounts place ≡ o
-          → option_map root_of (child_at nat_eq left.mounts place) ≡ None
-      by None e = cc
-      by (Some mount) e =
-          let found = found_in (stands_at nat_eq place) left.mounts mount e in
-          let was = placed_in_world mount place found.0 (stands_there place mount found.1) in
-          absurd (none_on_it world it.is object uncovered was.0 place was.1 was.2
-          (cc (left_mount place.mount listed, object_shown)) node)
+      ((elim (cases_Option (child_at nat_eq left.mounts place)) [
+        | inl e ↦ cc
+        | inr its ↦ let found = found_in (stands_at nat_eq place) left.mounts its.0 its.1 in
+            let was = placed_in_world its.0 place found.0 (stands_there place its.0 found.1) in
+            absurd (none_on_it world it.is object uncovered was.0 place was.1 was.2
+            (cc (left_mount place.mount listed, object_shown)) node)
+      ]))

@@ -1,23 +1,8 @@
 -- A name that open made exists.
 use Rattle.std.proofs.Common.{arith, ◌≡◌, refl, sym, ap, subst, ◌∙◌, inl, inr, ◌⊎◌, ℕ, nat_eq, nat_le, length, eqb-true, true, false, List, [], ◌∷◌, Option, Some, None, is_some, option_map, Result, Ok, Err, find, reverse}
 use Rattle.vt_spec.proofs.Common.{Access, Answer, Call, Change, Credentials, Exclusive, FileTree, Fresh, IsWorld, Judgement, Location, Looks, Make, Named, Node, NoneFails, OpenFile, Opened, Place, Rules, Stop, Task, TaskName, World, after, and_then, answer-finished_by, apply, changed, common_steps, contains_from_among, denial, directory_used, ends_in_slash, entries_in, entry_location, entry_named, execute_right, files_at, filesystem_numbered, final_word, found_among, is_directory_at, is_special, last_word, looks_of, most_descriptors, mount_at, name_of, new_file, new_walk, node_allows, node_at, odds, open_new_permit, open_permit, passed, place_walk, placed, policy, raised_task, same_Some, same_name, search_rules, settled, steps_at, stopped_by, task_called, tasks-with_change, then_walk, unless, walk_start, walk_unless, with_descriptor, with_new_inode, with_task, words, words_walked}
-use Rattle.vt_spec.specs.declared.errors.Deny.{Deny}
-use Rattle.vt_spec.specs.declared.errors.Rule.TheVariants.{E1, W4}
+use Rattle.vt_laws_later_calls.proofs.Common.{Deny, E1, IsFileTree, IsListedTree, IsPlain, MayBeMade, SeesTo, W4, change_of, changes_keep_numbers, changes_keep_trees, followed, given_changes_are_proper, given_permits_are_seen_to, mounts-with_change, name_found, new_name_rules, opened_new_keeps_all, plain_numbered, prefix_walked, tree_here, unused_inode, worlds_are_settled}
 use Rattle.vt_spec.specs.Machine.Looks as Look
-use Rattle.vt_spec.specs.Machine.Walking.{followed, prefix_walked, new_name_rules}
-use Rattle.vt_laws_trees.specs.Calls.Inodes.{change_of}
-use Rattle.vt_laws_mounts.specs.LettingGo.InUse.{IsListedTree}
-use Rattle.vt_laws_mounts.proofs.letting_go.leaving.FilesChanged.{opened_new_keeps_all}
-use Rattle.vt_laws_mounts.proofs.letting_go.sweeps.OfWorlds.{worlds_are_settled}
-use Rattle.vt_laws_worlds.specs.Permits.Sees.{MayBeMade, SeesTo}
-use Rattle.vt_laws_worlds.proofs.permits.sees.SeesFit.{given_changes_are_proper}
-use Rattle.vt_laws_worlds.proofs.permits.sees.SeesNames.{tree_here}
-use Rattle.vt_laws_worlds.proofs.permits.sees.SeesTasks.{given_permits_are_seen_to}
-use Rattle.vt_laws_trees.specs.Trees.{IsFileTree}
-use Rattle.vt_laws_trees.proofs.trees.ChangesKeepTrees.{changes_keep_numbers, changes_keep_trees}
-use Rattle.vt_laws_worlds.specs.Worlds.Kept.{IsPlain}
-use Rattle.vt_laws_worlds.proofs.worlds.CallsKept.{name_found}
-use Rattle.vt_laws_worlds.proofs.worlds.SeenTrees.{unused_inode}
 use Rattle.vt_laws_later_calls.specs.LaterPaths.{ExclusiveTwice}
 use Rattle.vt_laws_later_calls.proofs.AfterChange.{later_files, later_is, listed, spent}
 use Rattle.vt_laws_later_calls.proofs.Changed.{files_changed, files_other}
@@ -32,8 +17,6 @@ use Rattle.vt_laws_later_calls.proofs.Ways.{LeadsToo, Stops, at, search_too}
 use Rattle.vt_laws_later_calls.proofs.WaysChanges.{RightsStay, TreeStays, made_entry, rights_made, ways_made}
 use Rattle.vt_laws_later_calls.proofs.WaysPlaces.{NamedPlace, front_too, named_place, through}
 use Rattle.vt_laws_later_calls.proofs.WaysStay.{Known, SeesLater, StandsAs, WorldStays, node_here, node_in, tree_in, world_leads}
-use Rattle.vt_laws_mounts.proofs.mounts.MountsLeft.{mounts-with_change}
-use Rattle.vt_laws_trees.proofs.runs.answered.PlainStays.{plain_numbered}
 
 -- A world in which one filesystem shows another tree
 module _ (world later : World ℕ) (shown : ℕ) {files : FileTree ℕ} (mounts : later.mounts ≡ world.mounts)

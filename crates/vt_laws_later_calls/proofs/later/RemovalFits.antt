@@ -1,18 +1,7 @@
 -- After a granted rmdir ways up stay, but from the directory that was removed: there is W8, or no walk comes there.
 use Rattle.std.proofs.Common.{arith, ◌≡◌, ◌≢◌, refl, sym, ap, ◌∙◌, inl, inr, ◌⊎◌, ⊎_elim, true≢false, ℕ, nat_eq, eqb-true, eq-eqb, Bool, true, false, not, ◌&&◌, ◌||◌, List, [], length, Some, None, is_some, option_map}
 use Rattle.vt_spec.proofs.Common.{Among, Answer, Call, FileTree, Fresh, IsWorld, Location, Mount, Task, TaskName, ToRemoveDirectory, Tree, World, among-filter, among_from_list_all, and_from, and_parts, any_from_among, child_at, common_steps, denial, directory_from_entry, directory_used, entries_in, entry_at, entry_named, files_at, filesystem_at, filesystem_numbered, holds_of, hop, is_directory_node, is_directory_under, is_lost, is_point, is_removed, list_any, mount_at, mounts_on, node_at, none_is_not, not-false, of_overlay, or_false_left, or_parts, or_right, parent_location, points_of, reached_named, root_of, same_Some, same_location, topmost, upper_points}
-use Rattle.vt_spec.specs.declared.errors.Deny.{Deny}
-use Rattle.vt_spec.specs.declared.errors.Rule.TheVariants.{W8}
-use Rattle.vt_laws_mounts.proofs.letting_go.leaving.PlacesLeft.{nowhere_parts}
-use Rattle.vt_laws_mounts.proofs.mounts.MountsFound.{found_in, placed_among}
-use Rattle.vt_laws_mounts.proofs.mounts.MountsReplaced.{found_itself}
-use Rattle.vt_laws_worlds.proofs.permits.sees.SeesNames.{tree_here}
-use Rattle.vt_laws_trees.specs.Trees.{IsFileTree}
-use Rattle.vt_laws_trees.proofs.trees.TreesEntered.{chain_ends_at}
-use Rattle.vt_laws_trees.proofs.trees.TreesOfWorlds.{number_numbered}
-use Rattle.vt_laws_trees.proofs.trees.TreesReached.{not_removed_reached}
-use Rattle.vt_laws_worlds.specs.Worlds.Kept.{IsPlain}
-use Rattle.vt_laws_worlds.proofs.worlds.Reached.{IsFoundDirectory}
+use Rattle.vt_laws_later_calls.proofs.Common.{Deny, IsFileTree, IsFoundDirectory, IsPlain, W8, chain_ends_at, found_in, found_itself, not_removed_reached, nowhere_parts, number_numbered, placed_among, tree_here}
 use Rattle.vt_laws_later_calls.proofs.later.AfterRemoval.{each, is_left, left, may, mounts_seen, node_left, reaches, root_left, seen_to, shown, spent, spent_shown}
 use Rattle.vt_laws_later_calls.proofs.Granted.{HasSucceeded}
 use Rattle.vt_laws_later_calls.proofs.later.WaysLeft.{BothAre, FitsWays, GoesUp, top}

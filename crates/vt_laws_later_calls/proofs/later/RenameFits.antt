@@ -1,26 +1,9 @@
 -- After a granted rename of a directory to a free name walks that begin outside of it lead where they led.
 use Rattle.std.proofs.Common.{arith, ◌≡◌, ◌≢◌, refl, sym, ap, ◌∙◌, inl, inr, ◌⊎◌, true≢false, ℕ, nat_eq, eqb-true, eq-eqb, Bool, true, false, cond, List, [], ◌∷◌, ◌++◌, length, Option, Some, None, is_some, option_map, option_to_list}
 use Rattle.vt_spec.proofs.Common.{Among, Answer, Call, Change, Credentials, FileTree, Fresh, IsReached, IsWorld, Location, Move, Node, TaskName, ToRename, Tree, World, allows, among_from_list_all, and_from, and_parts, apply, attr_in, bytes_in, changed, changed_node, child_at, common_steps, contains_from_among, denial, directory_from_entry, directory_used, entry_at, files_at, filesystem_numbered, found, hop, is_directory_node, is_directory_under, is_kind, is_mount_point_anywhere, is_nowhere_or_attached, led, led-append, list_all, looks_of, mount_at, node_allows, node_at, node_with_entry, node_with_parent, node_without_entry, none_is_not, parent-node_with_entry, parent-node_without_entry, parent_in, raised_task, root_of, same_Some, symlink_text, task_called, tasks-with_change, topmost, when, with_change, with_name, without_name, without_parent}
-use Rattle.vt_spec.specs.declared.attributes.Kind.TheVariants.{Symlink}
-use Rattle.vt_spec.specs.declared.errors.Deny.{Deny}
-use Rattle.vt_spec.specs.declared.errors.Rule.TheVariants.{W6}
+use Rattle.vt_laws_later_calls.proofs.Common.{Deny, IsFileTree, IsFoundDirectory, IsMoved, IsPlain, MayBeRenamed, Symlink, W6, chain_ends_at, change_of, elsewhere, found_in, found_itself, is_entry, is_that_entry, led_parts, move_told, no_way_up, nowhere_parts, part_stays, placed_among, tree_here, under_seen}
 use Rattle.vt_spec.specs.FileTree.{kind_in}
-use Rattle.vt_laws_trees.specs.Calls.Inodes.{change_of}
 use Rattle.vt_laws_trees.proofs.layers.layers.CopyingNames.{moved_part}
-use Rattle.vt_laws_trees.proofs.layers.views.Entries.{is_entry, is_that_entry}
-use Rattle.vt_laws_trees.proofs.layers.views.Moves.{led_parts, move_told, no_way_up}
-use Rattle.vt_laws_mounts.specs.LettingGo.FileChanges.{IsMoved}
-use Rattle.vt_laws_mounts.proofs.letting_go.leaving.PlacesLeft.{nowhere_parts}
-use Rattle.vt_laws_mounts.proofs.mounts.MountsFound.{found_in, placed_among}
-use Rattle.vt_laws_mounts.proofs.mounts.MountsReplaced.{found_itself}
-use Rattle.vt_laws_worlds.specs.Permits.Sees.{MayBeRenamed}
-use Rattle.vt_laws_worlds.proofs.permits.sees.SeesNames.{tree_here}
-use Rattle.vt_laws_trees.specs.Trees.{IsFileTree}
-use Rattle.vt_laws_trees.proofs.trees.ChangesNodes.{elsewhere, part_stays}
-use Rattle.vt_laws_trees.proofs.trees.TreesAbove.{under_seen}
-use Rattle.vt_laws_trees.proofs.trees.TreesEntered.{chain_ends_at}
-use Rattle.vt_laws_worlds.specs.Worlds.Kept.{IsPlain}
-use Rattle.vt_laws_worlds.proofs.worlds.Reached.{IsFoundDirectory}
 use Rattle.vt_laws_later_calls.specs.LaterNames.{StandsOutside, lies_in}
 use Rattle.vt_laws_later_calls.proofs.AfterChange.{ChangesTree, all_stays, as_spent, in_each, later_files, later_mounts}
 use Rattle.vt_laws_later_calls.proofs.later.AfterRename.{is_left, left, may, object_shown, shown}

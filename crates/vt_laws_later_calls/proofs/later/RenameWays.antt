@@ -2,17 +2,7 @@
 -- comes.
 use Rattle.std.proofs.Common.{arith, ◌≡◌, ◌≢◌, refl, sym, ap, subst, ◌∙◌, inl, inr, ◌⊎◌, ⊎_elim, true≢false, ℕ, nat_eq, eqb-true, eq-eqb, Bool, true, false, cond, not, ◌||◌, List, [], ◌∷◌, ◌++◌, length, Option, Some, None, is_some, option_and_then}
 use Rattle.vt_spec.proofs.Common.{Answer, Call, FileTree, Fresh, IsReached, IsWorld, Location, Mount, Task, TaskName, ToRename, Tree, World, chain, common_steps, denial, directory_used, entries_in, entry_at, entry_named, files_at, filesystem_numbered, found, hop, is_directory_node, is_directory_under, is_lost, is_mount_point_anywhere, is_removed, last_or, led, looks_of, mount_at, mount_in, mount_numbered, node_at, none_is_not, not-false, or_parts, parent_in, parent_location, reached_named, same_location, topmost}
-use Rattle.vt_spec.specs.declared.errors.Deny.{Deny}
-use Rattle.vt_spec.specs.declared.errors.Rule.TheVariants.{W8}
-use Rattle.vt_spec.proofs.Trees.{last_step}
-use Rattle.vt_laws_trees.proofs.layers.views.Moves.{led_parts}
-use Rattle.vt_laws_worlds.proofs.permits.sees.SeesNames.{tree_here}
-use Rattle.vt_laws_trees.specs.Trees.{IsFileTree}
-use Rattle.vt_laws_trees.proofs.trees.TreesAbove.{under_seen}
-use Rattle.vt_laws_trees.proofs.trees.TreesEntered.{chain_ends_at}
-use Rattle.vt_laws_trees.proofs.trees.TreesReached.{not_removed_reached}
-use Rattle.vt_laws_worlds.specs.Worlds.Kept.{IsPlain}
-use Rattle.vt_laws_worlds.proofs.worlds.Reached.{IsFoundDirectory}
+use Rattle.vt_laws_later_calls.proofs.Common.{Deny, IsFileTree, IsFoundDirectory, IsPlain, W8, chain_ends_at, last_step, led_parts, not_removed_reached, tree_here, under_seen}
 use Rattle.vt_laws_later_calls.specs.LaterNames.{StandsOutside}
 use Rattle.vt_laws_later_calls.proofs.later.AfterRename.{old_left}
 use Rattle.vt_laws_later_calls.proofs.Granted.{HasSucceeded}

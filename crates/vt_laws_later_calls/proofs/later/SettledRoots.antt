@@ -1,7 +1,7 @@
 -- A filesystem that something is in when what nothing uses is gone has the root that it had.
 use Rattle.std.proofs.Common.{arith, ◌≡◌, refl, sym, ap, ◌∙◌, inl, inr, true≢false, ℕ, nat_eq, eqb-true, Bool, true, false, cond, not, List, [], ◌∷◌, find, map, Option, Some, None, is_some, option_map, unwrap_or}
 use Rattle.vt_spec.proofs.Common.{Among, Filesystem, World, among-from_filter, any_pair, common_steps, filesystem_lives, filesystem_numbered, is_overlay, no_filesystem, only_used, same_Some, settled, without_dead_filesystems, without_dead_in, without_dead_mounts}
-use Rattle.vt_laws_mounts.proofs.letting_go.sweeps.OfWorlds.{found_filesystem}
+use Rattle.vt_laws_later_calls.proofs.Common.{cases_Option, found_filesystem}
 
 abbrev looked_up : ℕ → List (Filesystem ℕ) → Option (Filesystem ℕ)
 looked_up number list = find (λ (f : Filesystem ℕ). nat_eq number f.number) list
@@ -59,23 +59,19 @@ module _ (world : World ℕ) (one : any_pair (λ (a b : Filesystem ℕ). nat_eq 
       → is_some ((filesystem_numbered nat_eq (settled nat_eq world) number).files.tree.node inode) ≡ true
       → (filesystem_numbered nat_eq (settled nat_eq world) number).files.tree.root
       ≡ (filesystem_numbered nat_eq world number).files.tree.root
-  root_settled number inode there = by (looked_up number living.filesystems) refl
+  root_settled number inode there = elim (cases_Option (looked_up number living.filesystems)) [
+    | inl e ↦ absurd (true≢false
+        (sym there ∙ ap (λ (f : Filesystem ℕ). is_some (f.files.tree.node inode)) (left None e)))
+    | inr its ↦ let found = looked_up_is number living.filesystems its.0 its.1 in
+        let among = (among-from_filter
+        (filesystem_lives nat_eq (without_dead_mounts nat_eq world)) world.filesystems its.0 found.0).0 in
+        ap (λ (x : Filesystem ℕ). x.files.tree.root) (left (Some its.0) its.1)
+        ∙ (swept first (not (is_overlay (once its.0))) (once its.0)).1 ∙ (swept living (is_overlay its.0) its.0).1
+        ∙ ap (λ (x : Filesystem ℕ). x.files.tree.root)
+        (sym (found_filesystem world.filesystems one its.0 among) ∙ ap (filesystem_numbered nat_eq world) (sym found.1))
+  ]
     where
       left : (o : Option (Filesystem ℕ)) → looked_up number living.filesystems ≡ o
           → filesystem_numbered nat_eq (settled nat_eq world) number
           ≡ unwrap_or (option_map twice (option_map once o)) (no_filesystem number)
       left o e = cc (looked_up_settled number)
-
-      by : (o : Option (Filesystem ℕ)) → looked_up number living.filesystems ≡ o
-          → (filesystem_numbered nat_eq (settled nat_eq world) number).files.tree.root
-          ≡ (filesystem_numbered nat_eq world number).files.tree.root
-      by None e = absurd (true≢false
-          (sym there ∙ ap (λ (f : Filesystem ℕ). is_some (f.files.tree.node inode)) (left None e)))
-      by (Some f) e =
-          let found = looked_up_is number living.filesystems f e in
-          let among = (among-from_filter
-          (filesystem_lives nat_eq (without_dead_mounts nat_eq world)) world.filesystems f found.0).0 in
-          ap (λ (x : Filesystem ℕ). x.files.tree.root) (left (Some f) e)
-          ∙ (swept first (not (is_overlay (once f))) (once f)).1 ∙ (swept living (is_overlay f) f).1
-          ∙ ap (λ (x : Filesystem ℕ). x.files.tree.root)
-          (sym (found_filesystem world.filesystems one f among) ∙ ap (filesystem_numbered nat_eq world) (sym found.1))

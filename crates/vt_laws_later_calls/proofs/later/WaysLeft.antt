@@ -2,17 +2,10 @@
 -- and the ways up that it takes stay or are lost, walks lead where they led.
 use Rattle.std.proofs.Common.{◌≡◌, refl, ap, subst, ◌∙◌, inl, inr, ◌⊎◌, ℕ, nat_eq, Bool, true, false, cond, ◌||◌, List, [], ◌∷◌, length, Option, Some, None, is_some, option_map, ok_or, Result, Ok, Err}
 use Rattle.vt_spec.proofs.Common.{Dot, DotDot, IsWorld, LastWord, Location, Mount, Named, NoWord, Task, World, chain, denial, entries_in, entry_at, entry_named, execute_right, hop, is_among, is_directory_at, is_directory_node, is_lost, last_or, looks_of, may, mount_at, mount_numbered, mounter_allows, node_at, parent_in, parent_location, same_location, same_ok, symlink_text, task_called, topmost, unless}
-use Rattle.vt_spec.specs.declared.errors.Deny.{Deny}
-use Rattle.vt_spec.specs.declared.errors.Rule.TheVariants.{W4, W6, W8}
-use Rattle.vt_spec.proofs.Walk.{stepped}
-use Rattle.vt_laws_mounts.specs.Mounts.Attaching.{numbers_of}
-use Rattle.vt_laws_worlds.specs.Worlds.Kept.{IsPlain}
-use Rattle.vt_laws_worlds.proofs.worlds.Reached.{IsFound, IsFoundDirectory, IsOn, directory_found, step_found}
-use Rattle.vt_laws_worlds.proofs.worlds.ReachedWalks.{own_directory_found, root_found}
+use Rattle.vt_laws_later_calls.proofs.Common.{Deny, IsFound, IsFoundDirectory, IsOn, IsPlain, W4, W6, W8, directory_found, numbers_of, own_directory_found, plain_numbered, root_found, step_found, stepped}
 use Rattle.vt_laws_later_calls.proofs.Ways.{LeadsToo}
 use Rattle.vt_laws_later_calls.proofs.later.WaysMounts.{SeenAlike, top_known}
 use Rattle.vt_laws_later_calls.proofs.WaysStay.{StandsAs, node_in, tree_in}
-use Rattle.vt_laws_trees.proofs.runs.answered.PlainStays.{plain_numbered}
 
 -- What was there and still is, is of its kind, and a symlink has its text. A name leads where it led, or is missing.
 pub record ObjectsStay (world later : World ℕ) (Refused : Deny → Type 0) : Type 0 where

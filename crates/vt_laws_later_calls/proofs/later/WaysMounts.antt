@@ -2,21 +2,9 @@
 -- they found.
 use Rattle.std.proofs.Common.{◌≡◌, refl, sym, ap, subst, ◌∙◌, true≢false, ℕ, zero, suc, ◌≤◌, nat_eq, Bool, true, false, cond, List, filter, length, Option, Some, None, is_some, arith, option_map}
 use Rattle.vt_spec.proofs.Common.{Among, IsWorld, Location, Mount, Stands, Task, World, among-filter, among-from_filter, among_from_all, among_from_list_all, chain, chain_ends, chain_goes_on, child_at, common_steps, hop, is_among, is_going, last_of_chain, last_or, mount_at, mount_numbered, none_is_not, number-mount_in, root_of, same_Some, same_location, stands_at, taken_away, topmost}
-use Rattle.vt_laws_mounts.specs.Mounts.Attaching.{numbers_of}
+use Rattle.vt_laws_later_calls.proofs.Common.{AreClosed, IsFoundDirectory, IsOn, KeepsAllButMountPointAndType, chain_ends_at, detached_by_number, found_at_its_place, found_in, found_itself, found_there, is_one_of, kept_by_number, namespace_below, nowhere_parts, numbers_of, place_found, place_kept, placed_among, rank, rank_bounded, rank_child, root_stays, stands_at_its_place, stands_there, topmost_is_free, unfound}
 use Rattle.vt_laws_mounts.specs.Mounts.Invariants.{OneNumberEach}
-use Rattle.vt_laws_mounts.specs.Mounts.Unmounting.{KeepsAllButMountPointAndType}
-use Rattle.vt_laws_mounts.proofs.mounts.MountsFound.{found_in, found_there, placed_among, unfound}
 use Rattle.vt_laws_mounts.proofs.mounts.MountsKept.{taking_away_keeps_numbers}
-use Rattle.vt_laws_mounts.proofs.mounts.MountsNumbered.{is_one_of}
-use Rattle.vt_laws_mounts.proofs.mounts.MountsPlaces.{found_at_its_place, stands_at_its_place, stands_there}
-use Rattle.vt_laws_mounts.proofs.mounts.MountsReplaced.{found_itself}
-use Rattle.vt_laws_mounts.proofs.mounts.Standing.{rank, rank_bounded, rank_child}
-use Rattle.vt_laws_mounts.proofs.namespaces.Topmost.{topmost_is_free}
-use Rattle.vt_laws_mounts.proofs.ends.Unmounting.{detached_by_number, kept_by_number, place_kept, root_stays}
-use Rattle.vt_laws_mounts.proofs.ends.UnmountingTrees.{AreClosed}
-use Rattle.vt_laws_trees.proofs.trees.TreesEntered.{chain_ends_at}
-use Rattle.vt_laws_mounts.proofs.letting_go.leaving.PlacesLeft.{nowhere_parts}
-use Rattle.vt_laws_worlds.proofs.worlds.Reached.{IsFoundDirectory, IsOn, namespace_below, place_found}
 
 -- Chains that agree end at one place
 module _ {A : Type 0} where

@@ -1,8 +1,7 @@
 -- What the removal of an empty directory leaves of the ways through its tree.
 use Rattle.std.proofs.Common.{arith, ◌≡◌, ◌≢◌, refl, ap, ◌∙◌, inl, inr, ◌⊎◌, ⊎_elim, true≢false, ℕ, nat_eq, Bool, true, false, cond, not, ne_eqb, List, [], Option, Some, None, bytes_eq}
 use Rattle.vt_spec.proofs.Common.{Content, Credentials, Directory, FileTree, Node, Regular, Remove, Symlink, Tree, Whiteout, allows, bytes_decides, changed, common_steps, content_with_parent, entries-node_with_parent, entries-node_without_entry, entries_in, entry_at, entry_named, entry_named-without_entry, eqb_tells, is_directory-node_with_parent, is_directory-node_without_entry, is_directory_node, is_removed, kind_of, node_allows, node_with_parent, node_without_entry, parent-node_without_entry, parent_in, same_Some, symlink_text, without_name}
-use Rattle.vt_laws_trees.specs.Trees.{MayRemove}
-use Rattle.vt_laws_trees.proofs.trees.ChangesNodes.{changed_node_there, elsewhere, own_parent-node_with_parent, part_stays}
+use Rattle.vt_laws_later_calls.proofs.Common.{MayRemove, changed_node_there, elsewhere, own_parent-node_with_parent, part_stays}
 use Rattle.vt_laws_later_calls.proofs.WaysChanges.{RightsStay, allows_without, link_without}
 
 link_with_parent : (parent : ℕ) (o : Option (Node ℕ)) → symlink_text (node_with_parent parent o) ≡ symlink_text o

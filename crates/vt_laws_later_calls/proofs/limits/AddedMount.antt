@@ -1,9 +1,7 @@
 -- What a new mount leaves at a destination that is not shared: one mount more, and the filesystem that it shows.
 use Rattle.std.proofs.Common.{arith, ◌≡◌, refl, ap, subst, ◌∙◌, ℕ, nat_eq, eq-eqb, true, false, List, [], ◌∷◌, ◌++◌, None, Some, filter, flat_map, is_some, map, append-nil, if◌then◌else◌}
 use Rattle.vt_spec.proofs.Common.{Copies, Filesystem, Fresh, Graft, Location, Mount, MountFlags, Private, Serves, Task, ToMountPlain, World, among_numbers, apply, common_steps, copies_at, copies_from, copy_mount_point, graft_of, group_of, mount_at, mount_numbered, new_mount, number-mount_in, odds, plain_filesystem, pushed_up, receivers_of, takes_part, twig_of, type_at_part, with_new_filesystem}
-use Rattle.vt_laws_mounts.specs.Mounts.Attaching.{is_mount, numbers_of}
-use Rattle.vt_laws_mounts.proofs.mounts.MountsNumbered.{is_one_of, number_is_old}
-use Rattle.vt_laws_mounts.proofs.letting_go.leaving.PlacesLeft.{found_is_there}
+use Rattle.vt_laws_later_calls.proofs.Common.{found_is_there, is_mount, is_one_of, number_is_old, numbers_of}
 
 -- a mount that is in a namespace is one of the world's
 pub attached_is_mount : (world : World ℕ) (number : ℕ) → is_some (mount_numbered nat_eq world number).namespace ≡ true

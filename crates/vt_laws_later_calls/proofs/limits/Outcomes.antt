@@ -1,8 +1,7 @@
 -- How a call ends by its judgement.
 use Rattle.std.proofs.Common.{arith, ◌≡◌, ℕ, nat_eq, Some, Err}
 use Rattle.vt_spec.proofs.Common.{Call, Fresh, Judgement, Outcome, Task, TaskName, World, after, apply, common_steps, denied, filesystems_changed_by, finished, judge_in, policy, task_called}
-use Rattle.vt_spec.specs.declared.errors.Deny.{Deny}
-use Rattle.vt_laws_rules.proofs.judged.CallsJudged.{policy_judges_then_applies}
+use Rattle.vt_laws_later_calls.proofs.Common.{Deny, policy_judges_then_applies}
 
 module _ (world : World ℕ) (fresh : Fresh ℕ) (name : TaskName) {task : Task ℕ} (call : Call)
     (called : task_called world name ≡ Some task) where

@@ -1,11 +1,7 @@
 -- Walks of paths of one word, and of two, from the task's root to a destination.
 use Rattle.std.proofs.Common.{arith, ◌≡◌, ap, ◌∙◌, ℕ, nat_eq, true, false, List, [], ◌∷◌, None, Some, Result, Ok, reverse}
 use Rattle.vt_spec.proofs.Common.{Here, Location, Named, Stop, Task, World, common_steps, entries_in, entry_named, execute_right, filesystem_at, followed, if_symlink, is_absolute, is_directory_at, is_removed_at, last_word, most_symlinks, node_allows, node_at, passed, path_text, path_walked, symlink_text, then_walk, topmost, walk_unless, words}
-use Rattle.vt_spec.specs.declared.errors.Deny.{Deny}
-use Rattle.vt_spec.specs.declared.errors.Rule.TheVariants.{W8}
-use Rattle.vt_spec.proofs.Tables.{destination_walk, source_walk}
-use Rattle.vt_spec.proofs.Walk.{directory_walk, search_rules, steps_with, stepped, word_walked, words_walked}
-use Rattle.vt_laws_worlds.proofs.worlds.Reached.{directory_no_link}
+use Rattle.vt_laws_later_calls.proofs.Common.{Deny, W8, destination_walk, directory_no_link, directory_walk, search_rules, source_walk, stepped, steps_with, word_walked, words_walked}
 
 -- the path has one word, from the root on
 pub record HasOneWord (path word : List ℕ) : Type 0 where

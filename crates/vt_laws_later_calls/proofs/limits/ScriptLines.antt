@@ -1,8 +1,7 @@
 -- The text of a script by its lines, where no allocation fails.
 use Rattle.std.proofs.Common.{◌≡◌, refl, sym, ap, subst, ◌∙◌, ℕ, zero, suc, nat_eq, nat_lt, ◌+◌, ◌<◌, ◌≤◌, false, List, [], ◌∷◌, ◌++◌, Some, Ok, Err, append_assoc, length, arith, codes, decimal, append-nil}
 use Rattle.vt_spec.proofs.Common.{Answered, Call, Calling, Done, Fresh, Grammar, Outcome, Serves, TaskName, World, common_steps, denial, denied, granted, is_silent, line_step, line_step_by, longest_line, most_mounts, numbers_for, policy, reply_line, request_of, requested, step_world, text_from}
-use Rattle.std.specs.Fmt.{digits}
-use Rattle.vt_spec.specs.declared.errors.Rule.TheVariants.{M9}
+use Rattle.vt_laws_later_calls.proofs.Common.{M9, digits}
 use Rattle.vt_laws_later_calls.specs.Limits.FullNamespaces.{numbered}
 use Rattle.vt_laws_later_calls.proofs.limits.Supplies.{HasNumbersUntil, line_adds_its_numbers, next_numbers_serve}
 

@@ -1,17 +1,7 @@
 -- A stack of mounts with one mount more.
-use Rattle.std.proofs.Common.{◌≡◌, refl, sym, ap, subst, ◌∙◌, inl, true≢false, ℕ, suc, nat_eq, nat_lt, eq-eqb, Bool, true, false, cond, ◌&&◌, ◌<◌, ◌≤◌, List, [], ◌∷◌, ◌++◌, Option, None, Some, Ok, map, arith}
+use Rattle.std.proofs.Common.{inr, ◌≡◌, refl, sym, ap, subst, ◌∙◌, inl, true≢false, ℕ, suc, nat_eq, nat_lt, eq-eqb, Bool, true, false, cond, ◌&&◌, ◌<◌, ◌≤◌, List, [], ◌∷◌, ◌++◌, None, Some, Ok, map, arith}
 use Rattle.vt_spec.proofs.Common.{Among, Done, Filesystem, Fresh, IsWorld, Mount, MountFlags, MountPlain, Namespace, Serves, Task, TaskName, ToMountPlain, World, among-append_right, child_at, common_steps, denial, denied, entries_in, entry_named, execute_right, filesystem_numbered, find-append, granted, is_directory_at, is_directory_node, is_removed_at, most_mounts, mount_at, mount_numbered, nat_eq_false_turned, nat_tests, new_directory, node_allows, node_at, numbers_raised, policy, raised, raised_if_changed, raised_namespace, raised_task, root_attr, root_of, same_mounts_in, same_name, settled, stands_at, topmost, unless}
-use Rattle.vt_spec.specs.declared.errors.Rule.TheVariants.{M9}
-use Rattle.vt_laws_mounts.proofs.mounts.MountsFound.{found_in}
-use Rattle.vt_laws_mounts.proofs.mounts.MountsPlaces.{same_location_itself, stands_there}
-use Rattle.vt_laws_mounts.proofs.mounts.MountsReplaced.{found-append, found_itself}
-use Rattle.vt_laws_mounts.proofs.namespaces.Topmost.{topmost_is_free}
-use Rattle.vt_laws_mounts.proofs.letting_go.leaving.PlacesLeft.{place_attached}
-use Rattle.vt_laws_mounts.proofs.letting_go.mounting.AttachedSwept.{new_mounts_of_trees_keep_all}
-use Rattle.vt_laws_mounts.proofs.letting_go.sweeps.OfWorlds.{all_in_use, found_filesystem, locations_of_worlds_stand, mounts_of_worlds_stand}
-use Rattle.vt_laws_worlds.specs.Worlds.Kept.{IsPlain}
-use Rattle.vt_laws_worlds.proofs.worlds.CallsKept.{calls_keep_worlds}
-use Rattle.vt_laws_worlds.proofs.worlds.ReachedWalks.{root_found}
+use Rattle.vt_laws_later_calls.proofs.Common.{cases_Option, IsPlain, M9, all_in_use, calls_keep_worlds, found-append, found_filesystem, found_in, found_itself, locations_of_worlds_stand, mounts_of_worlds_stand, new_mounts_of_trees_keep_all, place_attached, plain_numbered, root_found, same_location_itself, stands_there, topmost_is_free}
 use Rattle.vt_laws_later_calls.proofs.Granted.{called_raised}
 use Rattle.vt_laws_later_calls.proofs.limits.AddedMount.{added_filesystem, added_mount, attached_is_mount, master-new_mount, other_number}
 use Rattle.vt_laws_later_calls.proofs.limits.PathWalks.{HasOneWord}
@@ -19,7 +9,6 @@ use Rattle.vt_laws_later_calls.proofs.limits.Outcomes.{policy_by_judgement, refu
 use Rattle.vt_laws_later_calls.proofs.limits.StackedMounts.{IsStack, judged_by_room, mounted_world, mounts_after, one_more_mount}
 use Rattle.vt_laws_later_calls.proofs.limits.TopmostGrows.{topmost_is_new, topmost_of_free}
 use Rattle.vt_laws_later_calls.proofs.Readers.{own_name}
-use Rattle.vt_laws_trees.proofs.runs.answered.PlainStays.{plain_numbered}
 
 -- a filesystem with a directory is found where another comes last
 pub filesystem_stays : (world : World ℕ) (added : Filesystem ℕ) (number node : ℕ)
@@ -141,20 +130,17 @@ module _ {world : World ℕ} {name : TaskName} {path word : List ℕ} (one : Has
 
     -- no mount stands on it
     nothing_on_new : child_at nat_eq world.mounts (root_of new) ≡ None
-    nothing_on_new = by (child_at nat_eq world.mounts (root_of new)) refl
-      where
-        by : (found : Option (Mount ℕ)) → child_at nat_eq world.mounts (root_of new) ≡ found
-            → child_at nat_eq world.mounts (root_of new) ≡ None
-        by None e = e
-        by (Some child) e =
-            let found = found_in (stands_at nat_eq (root_of new)) world.mounts child e in
-            let attached = place_attached world (mounts_of_worlds_stand world stack.is) child found.0 (root_of new)
-            (stands_there (root_of new) child found.1) in
-            cc (
-              eq-eqb new.number new.number refl,
-              other_number fresh world stack.top flags serves new.number
-                  (attached_is_mount world new.number attached),
-            )
+    nothing_on_new = elim (cases_Option (child_at nat_eq world.mounts (root_of new))) [
+      | inl e ↦ e
+      | inr its ↦ let found = found_in (stands_at nat_eq (root_of new)) world.mounts its.0 its.1 in
+          let attached = place_attached world (mounts_of_worlds_stand world stack.is) its.0 found.0 (root_of new)
+          (stands_there (root_of new) its.0 found.1) in
+          cc (
+            eq-eqb new.number new.number refl,
+            other_number fresh world stack.top flags serves new.number
+                (attached_is_mount world new.number attached),
+          )
+    ]
 
     -- nor does it stand on itself
     new_stands_apart : stands_at nat_eq (root_of new) new ≡ false

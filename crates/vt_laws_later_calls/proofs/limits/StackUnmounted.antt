@@ -1,13 +1,7 @@
 -- The topmost mount of a stack, unmounted: the stack is as it was before that mount.
 use Rattle.std.proofs.Common.{◌≡◌, refl, sym, ap, subst, ◌∙◌, ℕ, suc, nat_eq, eq-eqb, Bool, true, false, cond, not, ◌||◌, ◌<◌, List, [], ◌∷◌, Option, Some, Ok, is_some, map, map-id}
 use Rattle.vt_spec.proofs.Common.{Done, Filesystem, Fresh, Here, Judgement, Location, Mount, MountFlags, Namespace, Permit, Serves, Task, TaskName, ToUnmount, Umount, World, all_locations, and_then, granted, holds_of, is_busy, judge_in, locations_of, looks_of, most_mounts, mount_at, mount_numbered, numbers_raised, policy, raised, raised_task, same_name, settled, umount_permit, umount_rules, unless, unmounted, walk_end}
-use Rattle.vt_spec.specs.declared.errors.Rule.TheVariants.{K1, M10, M2, M7, M8}
-use Rattle.vt_spec.proofs.Walk.{directory_walk}
-use Rattle.vt_laws_mounts.specs.LettingGo.InUse.{AllInUse}
-use Rattle.vt_laws_mounts.proofs.letting_go.Lists.{flat_map-map}
-use Rattle.vt_laws_mounts.proofs.letting_go.sweeps.OfWorlds.{all_in_use}
-use Rattle.vt_laws_worlds.proofs.Raised.{counted}
-use Rattle.vt_laws_worlds.proofs.RaisedInUse.{in_use_later}
+use Rattle.vt_laws_later_calls.proofs.Common.{AllInUse, K1, M10, M2, M7, M8, all_in_use, counted, directory_walk, flat_map-map, in_use_later}
 use Rattle.vt_laws_later_calls.proofs.limits.AddedMount.{added_mount}
 use Rattle.vt_laws_later_calls.proofs.limits.PathWalks.{HasOneWord, directory_is_walked, end_of_one, one_word_leads}
 use Rattle.vt_laws_later_calls.proofs.limits.Outcomes.{policy_by_judgement}

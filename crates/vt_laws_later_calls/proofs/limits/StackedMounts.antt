@@ -1,10 +1,7 @@
 -- Mounts stacked on a place: each new mount comes onto the topmost one, while its namespace has room.
 use Rattle.std.proofs.Common.{◌≡◌, refl, ap, ◌∙◌, ℕ, suc, nat_eq, nat_lt, eq-eqb, true, false, not, ◌≤◌, ◌&&◌, List, [], ◌∷◌, ◌++◌, Some, Ok, length, arith}
 use Rattle.vt_spec.proofs.Common.{Fresh, Here, IsWorld, Judgement, Location, Mount, MountFlags, MountPlain, Permit, Private, Task, TaskName, ToMountPlain, World, among_from_list_all, and_then, apply, attach_permit, cap_sys_admin, common_steps, found_among, holds_of, is_listed, judge_in, lacks, list_all, looks_of, most_mounts, mount_at, mount_plain_permit, mounts_of, new_mount_rules, overfills, task_called, unless, walk_end, with_mounts}
-use Rattle.vt_spec.specs.declared.errors.Rule.TheVariants.{K1, M2, M9}
-use Rattle.vt_spec.proofs.Tables.{destination_walk}
-use Rattle.vt_laws_mounts.proofs.letting_go.ends.NamespacesEnd.{added_mounts_count, added_mounts_count_in_no_other, too_many_is_of_one}
-use Rattle.vt_laws_worlds.specs.Worlds.Kept.{IsPlain}
+use Rattle.vt_laws_later_calls.proofs.Common.{IsPlain, K1, M2, M9, added_mounts_count, added_mounts_count_in_no_other, destination_walk, too_many_is_of_one}
 use Rattle.vt_laws_later_calls.proofs.limits.AddedMount.{added_mount, mounts-new_mount}
 use Rattle.vt_laws_later_calls.proofs.limits.PathWalks.{HasOneWord, IsDestination, WordLeads, destination_is_walked, end_of_one, one_word_leads}
 

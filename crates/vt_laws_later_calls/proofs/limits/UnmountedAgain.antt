@@ -2,20 +2,11 @@
 use Rattle.std.proofs.Common.{arith, ◌≡◌, refl, ap, ◌∙◌, inl, ⊎_elim, true≢false, ℕ, nat_eq, eq-eqb, eqb-true, Bool, true, false, cond, not, ◌||◌, ◌&&◌, List, [], ◌∷◌, ◌++◌, Option, None, Some, filter, find, flat_map, is_some, map, unwrap_or, append-nil, map-id}
 use Rattle.vt_spec.proofs.Common.{Among, Filesystem, Fresh, HasLivingGroups, IsWorld, Lives, Location, Mount, MountFlags, Namespace, Private, Serves, Task, World, all_locations, among-append, among-append_left, among-append_right, among-flat_map, among_from_all, and_parts, common_steps, detached, filesystem_lives, filter-append, filter_all, find-append, found_among, found_passes, going, going_from, has_child, has_layer_on, has_master, has_members, has_no_master, is_among, is_lost_group, is_member_of, is_mounted, is_overlay, is_shared, is_used, list_any, list_any-append, lost_a_group, map-append, map_alike, mount_at, mount_lives, mount_numbered, nat_eq_false_turned, no_mount, none_among, none_from_among, numbers_in_use, or-false, regrouped, regrouped_by, settled, source_of, stands_on, unmounted, used_by_filesystem, used_by_mount, without_dead_filesystems, without_dead_groups, without_dead_in, without_dead_inodes}
 use Rattle.std.specs.Option.{option_or}
-use Rattle.vt_laws_mounts.specs.Mounts.Attaching.{numbers_of}
-use Rattle.vt_laws_mounts.proofs.mounts.MountsNumbered.{is_one_of}
-use Rattle.vt_laws_mounts.proofs.mounts.MountsReplaced.{found-append}
+use Rattle.vt_laws_later_calls.proofs.Common.{AllInUse, IsPlain, among_from_list_all, find_none, found-append, groups_stay, inodes_stay, is_one_of, live_members, locations_of_worlds_stand, mounts_of_worlds_stand, numbers_of, place_attached}
 use Rattle.vt_laws_mounts.specs.LettingGo.Detaching.{StandsUnshared, detached_if, without_place}
-use Rattle.vt_laws_mounts.specs.LettingGo.InUse.{AllInUse}
-use Rattle.vt_laws_mounts.proofs.letting_go.Lists.{among_from_list_all, find_none}
 use Rattle.vt_laws_mounts.proofs.letting_go.leaving.Detached.{unmount_is_of_one}
-use Rattle.vt_laws_mounts.proofs.letting_go.leaving.PlacesLeft.{place_attached}
-use Rattle.vt_laws_mounts.proofs.letting_go.sweeps.InUse.{groups_stay, inodes_stay}
-use Rattle.vt_laws_mounts.proofs.letting_go.sweeps.OfWorlds.{locations_of_worlds_stand, mounts_of_worlds_stand}
-use Rattle.vt_laws_worlds.specs.Worlds.Kept.{IsPlain}
 use Rattle.vt_laws_worlds.proofs.Plain.{no_overlay}
 use Rattle.vt_laws_later_calls.proofs.limits.AddedMount.{added_filesystem, added_mount, attached_is_mount, other_number}
-use Rattle.vt_laws_mounts.proofs.GroupsUp.{live_members}
 
 module _ {world : World ℕ} {fresh : Fresh ℕ} (place : Location ℕ) (flags : MountFlags) (is : IsWorld nat_eq world)
     (plain : IsPlain world) (serves : Serves nat_eq world fresh)

@@ -1,20 +1,9 @@
 -- What is left of a world after an unshare: the mounts of a namespace that ends have copies, so that nothing else goes.
 use Rattle.std.proofs.Common.{arith, ◌≡◌, refl, sym, ap, subst, ◌∙◌, ◌⊎◌, inl, inr, ⊎_elim, ℕ, nat_eq, eqb-true, eq-eqb, Bool, true, false, cond, not, ◌||◌, ◌&&◌, List, [], ◌∷◌, ◌++◌, filter, map, flat_map, Option, Some, None, is_some, option_map, true≢false, filter_map}
 use Rattle.vt_spec.proofs.Common.{Filesystem, Fresh, HasLivingGroups, IsWorld, Lives, Location, Mount, MountInvariants, Namespace, Serves, Task, World, after_going, all_locations, and_parts, any_pair, bytes_decides, cases_Bool, common_steps, copied_mount, detached, evens, false_from_ne_true, filesystem_lives, has_layer_on, has_master, has_members, has_no_master, has_tasks, holds_of, is_among, is_among_left, is_among_right, is_copied, is_going, is_in_ended, is_located, is_lost_group, is_member_of, is_mounted, is_overlay, layers_in, list_all, list_any, list_any-append, located_in, location_on_copy, locations_of, lost_a_group, mount_at, mount_in, mount_lives, mount_numbered, mount_point_left, mounts_of, moved_location, named_in, namespaces_ended, none_among, number-mount_in, numbers_by, objects_of_overlay, odds, or_cases, or_parts, pair-filter, regrouped_by, replaced_if_called, root_of, same_name, same_task_name, settled, source_of, task_called, then_some, unshared, unshared_task, with_mounts, without_dead_groups, without_dead_in, without_dead_inodes, without_dead_mounts}
-use Rattle.vt_laws_mounts.specs.LettingGo.InUse.{FilesystemsInUse, InodesInUse, is_inode_used}
-use Rattle.vt_laws_mounts.specs.LettingGo.Mounting.{ended_mounts}
-use Rattle.vt_laws_mounts.proofs.letting_go.sweeps.InUse.{filesystems_stay, inodes_stay, used_at}
-use Rattle.vt_laws_mounts.proofs.letting_go.Lists.{Among, all_from_among, among-append, among-append_left, among-append_right, among-filter, among-filter_map, among-flat_map, among-from_filter, among-from_filter_map, among-from_flat_map, among-from_map, among-map, among_from_all, among_from_list_all, among_numbers, any_among, any_from_among, is_among_numbers, list_all_from_among, none_from_among, or_left, or_right}
+use Rattle.vt_laws_later_calls.proofs.Common.{Among, AreNamespaces, FilesystemsInUse, InodesInUse, OneNumberAMount, Parent, all_from_among, all_in_use, among-append, among-append_left, among-append_right, among-filter, among-filter_map, among-flat_map, among-from_filter, among-from_filter_map, among-from_flat_map, among-from_map, among-map, among_from_all, among_from_list_all, among_numbers, any_among, any_from_among, are_namespaces, called_there, ended_mounts, filesystems_stay, found_itself, found_there, inodes_stay, is_among_numbers, is_in, is_inode_used, list_all_from_among, locations_of_worlds_stand, mounts_of_worlds_stand, none_from_among, numbers-map, one_number_by_numbers, or_left, or_right, parent_of, placed_inside, unshare_keeps_mounts, used_at}
 use Rattle.vt_laws_mounts.proofs.letting_go.mounting.MountingLosers.{places_of, places_stand}
 use Rattle.vt_laws_mounts.proofs.letting_go.mounting.MountingTaken
-use Rattle.vt_laws_mounts.proofs.letting_go.sweeps.OfWorlds.{all_in_use, locations_of_worlds_stand, mounts_of_worlds_stand}
-use Rattle.vt_laws_mounts.specs.Mounts.Attaching.{OneNumberAMount}
-use Rattle.vt_laws_mounts.proofs.mounts.MountsFound.{found_there, numbers-map}
-use Rattle.vt_laws_mounts.proofs.mounts.MountsReplaced.{found_itself, one_number_by_numbers}
-use Rattle.vt_laws_mounts.proofs.namespaces.Unsharing.{Parent, parent_of, placed_inside, unshare_keeps_mounts}
-use Rattle.vt_laws_worlds.proofs.kept.NamespacesListed.{AreNamespaces, are_namespaces}
-use Rattle.vt_laws_mounts.specs.LettingGo.Ends.{is_in}
-use Rattle.vt_laws_trees.proofs.trees.TreesTasks.{called_there}
 
 -- where no two of a list pass a test, those that do are one
 only_one : {A : Type 0} (test : A → A → Bool) (xs : List A) → any_pair test xs ≡ false → (a b : A) → Among a xs
@@ -215,7 +204,10 @@ module _ {world : World ℕ} {fresh : Fresh ℕ} {task : Task ℕ} (is : IsWorld
   master_kept group (has_master it above has e later) = cc (group_kept above later)
 
   not_lost : (mount : Mount ℕ) → Among mount base.mounts → lost_a_group nat_eq without (change mount) ≡ false
-  not_lost mount m = by (is_going nat_eq ended mount.number) refl
+  not_lost mount m = elim (cases_Bool (is_going nat_eq ended mount.number)) [
+    | inl e ↦ cc (goes mount e)
+    | inr e ↦ cc (MountingTaken.stays_there base ended lasting mount e, of_source (source_of mount.propagation) refl)
+  ]
     where
       living : HasLivingGroups nat_eq base mount
       living = among_from_all (HasLivingGroups nat_eq base) base.mounts base_mounts.groups mount m
@@ -223,11 +215,6 @@ module _ {world : World ℕ} {fresh : Fresh ℕ} {task : Task ℕ} (is : IsWorld
       of_source : (o : Option ℕ) → source_of mount.propagation ≡ o
           → (is_lost_group nat_eq without o || is_lost_group nat_eq without (then_some o base.master)) ≡ false
       of_source o e = grind (arith, common_steps, living, group_kept, master_kept)
-
-      by : (b : Bool) → is_going nat_eq ended mount.number ≡ b → lost_a_group nat_eq without (change mount) ≡ false
-      by true e = cc (goes mount e)
-      by false e =
-          cc (MountingTaken.stays_there base ended lasting mount e, of_source (source_of mount.propagation) refl)
 
   abbrev pub ended_world : World ℕ
   ended_world = record without { namespaces = lasting }
@@ -462,7 +449,32 @@ module _ {world : World ℕ} {fresh : Fresh ℕ} {task : Task ℕ} (is : IsWorld
 
   of_point : (mount : Mount ℕ) → Among mount world.mounts → (place : Location ℕ) → mount.mount_point ≡ Some place
       → SamePlace place
-  of_point mount m place e = by (is_going nat_eq ended mount.number) refl
+  of_point mount m place e = elim (cases_Bool (is_going nat_eq ended mount.number)) [
+    | inl going ↦ let c = going_is_copied mount (old_there mount m) going in
+        let below_copied : Among below.parent copied = among-filter (is_in task.namespace) world.mounts below.parent
+        below.there (cc (below.namespace, (among-from_filter (is_in task.namespace) world.mounts mount c).1)) in
+        let on : is_going nat_eq ended (new_number place.mount) ≡ false =
+        cc (below.number, copy_stays below.parent below_copied) in (
+          location_on_copy new_number place,
+          point_place (copy mount) (copy_there mount c) (copy_lives mount c) (location_on_copy new_number place)
+              (MountingTaken.same_place base ended lasting false (copy mount) (location_on_copy new_number place)
+              (cc) (copy_stays mount c) on),
+          refl,
+          of_copy below.parent below_copied place below.number,
+        )
+    | inr isnt ↦ let below_stays : is_going nat_eq ended below.parent.number ≡ false =
+        stays_if below.parent (old_there below.parent below.there)
+        (cc (below.namespace, outside isnt)) in
+        let in_one = inside mount.namespace refl in (
+          place,
+          point_place mount (old_there mount m) (lives_in mount isnt in_one) place
+              (MountingTaken.same_place base ended lasting false mount place e isnt
+              (cc below.number)),
+          refl,
+          of_itself below.parent below.there
+              (lives_in below.parent below_stays (cc below.namespace)) place below.number,
+        )
+  ]
     where
       below : Parent world mount place
       below = parent_of world is.mounts mount m place e
@@ -474,34 +486,6 @@ module _ {world : World ℕ} {fresh : Fresh ℕ} {task : Task ℕ} (is : IsWorld
       outside : is_going nat_eq ended mount.number ≡ false → is_in_ended nat_eq base mount ≡ false
       outside isnt = false_from_ne_true (is_in_ended nat_eq base mount) (λ it. true≢false
           (cc (goes_if mount (old_there mount m) it)))
-
-      by : (b : Bool) → is_going nat_eq ended mount.number ≡ b → SamePlace place
-      by true going =
-          let c = going_is_copied mount (old_there mount m) going in
-          let below_copied : Among below.parent copied = among-filter (is_in task.namespace) world.mounts below.parent
-          below.there (cc (below.namespace, (among-from_filter (is_in task.namespace) world.mounts mount c).1)) in
-          let on : is_going nat_eq ended (new_number place.mount) ≡ false =
-          cc (below.number, copy_stays below.parent below_copied) in (
-            location_on_copy new_number place,
-            point_place (copy mount) (copy_there mount c) (copy_lives mount c) (location_on_copy new_number place)
-                (MountingTaken.same_place base ended lasting false (copy mount) (location_on_copy new_number place)
-                (cc) (copy_stays mount c) on),
-            refl,
-            of_copy below.parent below_copied place below.number,
-          )
-      by false isnt =
-          let below_stays : is_going nat_eq ended below.parent.number ≡ false =
-          stays_if below.parent (old_there below.parent below.there)
-          (cc (below.namespace, outside isnt)) in
-          let in_one = inside mount.namespace refl in (
-            place,
-            point_place mount (old_there mount m) (lives_in mount isnt in_one) place
-                (MountingTaken.same_place base ended lasting false mount place e isnt
-                (cc below.number)),
-            refl,
-            of_itself below.parent below.there
-                (lives_in below.parent below_stays (cc below.namespace)) place below.number,
-          )
 
   same_place : (location : Location ℕ) → Among location (places_of world) → SamePlace location
   same_place location m =

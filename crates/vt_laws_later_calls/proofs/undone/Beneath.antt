@@ -1,32 +1,19 @@
 -- An unmount of a mount that was attached, where mounts stood at receivers: the others are as they were before.
 use Rattle.std.proofs.Common.{cond, eq-eqb, zero, ◌&&◌, ◌≡◌, refl, sym, ap, subst, ◌∙◌, true, false, nat_eq, ℕ, List, None, Option, Some, [], filter, flat_map, inl, inr, is_some, map, option_map, true≢false, unwrap_or, ⊎_elim, ◌++◌, ◌∷◌, ◌⊎◌, eqb-true, Contains}
-use Rattle.vt_spec.proofs.Common.{Among, Fresh, Location, Mount, Private, Propagation, Shared, Slave, Unbindable, World, among-append, among-filter, among-from_filter, among-from_flat_map, among-from_map, among_from_contains, any_among, any_from_among, any_pair, chain_ends, child_at, contains_from_among, copies_from, detached, false_from_ne_true, going, graft_of, group_of, groups_up, has_members, holds_of, is_among, is_member_of, is_shared, list_any, lost_a_group, may_go, mount_at, mount_numbered, none_among, number-mount_in, only_cover, or_parts, pair-filter, parts_of, pushed_onto, receiver_stood_on, receivers, receivers_of, receives, rest_of, root_of, same_Some, same_location, share_a_mount_point, source_of, stands_at, stands_on, takes_part, topmost, unmounted}
-use Rattle.vt_laws_mounts.specs.Mounts.Attaching.{KeepsAllButMountPoint, OneNumberAMount, is_mount}
+use Rattle.vt_spec.proofs.Common.{Among, Fresh, Location, Mount, Private, Propagation, Shared, Slave, Unbindable, World, among-append, among-filter, among-from_filter, among-from_flat_map, among-from_map, among_from_contains, any_among, any_from_among, any_pair, chain_ends, child_at, contains_from_among, copies_from, detached, false_from_ne_true, going, graft_of, group_of, groups_up, has_members, holds_of, is_among, is_member_of, is_shared, list_any, lost_a_group, may_go, mount_at, mount_numbered, none_among, number-mount_in, only_cover, or_parts, pair-filter, parts_of, pushed_onto, receivers, receivers_of, receives, rest_of, root_of, same_Some, same_location, share_a_mount_point, source_of, stands_at, stands_on, takes_part, topmost, unmounted}
+use Rattle.vt_laws_later_calls.proofs.Common.{cases_Option, Attachment, CanAttach, ChainsEnd, Goes, IsPart, KeepsAllButMountPoint, OneNumberAMount, above, attach_keeps_numbers, copy_of, found_at_its_place, found_in, found_itself, found_there, goes_with, groups_keep_their_masters, has_its_master, heard, hears, hears_group, here, is_mount, is_one_of, later_number, live_members, lives_in, lives_up, member_shared, middle, mount_left, number_at, one_of, one_place_of_two, part_old, receives_completely, receives_soundly, root_mounts_stay, shared_member, stands_at_its_place, stands_there, unfound, unmount_keeps_the_order, what_covered_falls, what_goes_is_detached, what_stays_keeps, what_stays_keeps_its_place, what_stays_keeps_its_type, world_after}
 use Rattle.vt_laws_mounts.specs.Mounts.MountPoints.{OneMountAMountPoint}
-use Rattle.vt_laws_mounts.specs.Mounts.Propagation.{Attachment, CanAttach, IsPart, copy_of, number_at, world_after}
 use Rattle.vt_laws_mounts.specs.Mounts.Receivers.{GroupsLive}
-use Rattle.vt_laws_mounts.specs.Mounts.Unmounting.{Goes, ChainsEnd, goes_with, has_its_master, mount_left}
 use Rattle.vt_laws_mounts.specs.Mounts.Unmounting.FallsTo.{falls, rests}
 use Rattle.vt_laws_mounts.specs.Mounts.Unmounting.Goes.{alone, at_receiver, from_nowhere}
 use Rattle.vt_laws_mounts.proofs.attached.AttachedMasters.{old_master}
-use Rattle.vt_laws_mounts.proofs.GroupsKept.{member_shared, shared_member}
-use Rattle.vt_laws_mounts.proofs.GroupsUp.{live_members, lives_in}
-use Rattle.vt_laws_mounts.proofs.GroupsUp.Up.{above, here}
 use Rattle.vt_laws_mounts.proofs.mounts.MountsAttached.{found_attached, push_keeps}
-use Rattle.vt_laws_mounts.proofs.mounts.MountsFound.{found_in, found_there, unfound}
-use Rattle.vt_laws_mounts.proofs.mounts.MountsNumbered.{attach_keeps_numbers, is_one_of}
-use Rattle.vt_laws_mounts.proofs.mounts.MountsPlaces.{found_at_its_place, one_place_of_two, stands_at_its_place, stands_there}
-use Rattle.vt_laws_mounts.proofs.mounts.MountsReplaced.{found_itself}
 use Rattle.vt_laws_mounts.proofs.propagation.PropagationAttaching.{copies_are_new, each_is_copied, first_stands_on_its_part, is_copy, serve_images}
 use Rattle.vt_laws_mounts.proofs.propagation.PropagationCopies.{copies, push}
 use Rattle.vt_laws_mounts.proofs.propagation.PropagationHeard.{copies_hear_as_their_origins, groups_after, only_part}
 use Rattle.vt_laws_mounts.proofs.propagation.PropagationHearing.{old_up, old_up_after}
-use Rattle.vt_laws_mounts.proofs.propagation.PropagationUp.{heard, hears, lives_up}
-use Rattle.vt_laws_mounts.proofs.mounts.Receivers.{receives_completely, receives_soundly}
-use Rattle.vt_laws_mounts.proofs.ends.Unmounting.{root_mounts_stay, unmount_keeps_the_order, what_covered_falls, what_goes_is_detached, what_stays_keeps, what_stays_keeps_its_place, what_stays_keeps_its_type, groups_keep_their_masters, middle}
 use Rattle.vt_laws_mounts.proofs.ends.UnmountingGoes.{what_goes_is_named}
 use Rattle.vt_spec.proofs.Worlds.{master-regrouped_by}
-use Rattle.vt_laws_mounts.proofs.propagation.OneAttached.{one_of, later_number, part_old, hears_group}
 
 -- a mount that does not stand on itself is the topmost one over its root, where it is alone
 top_alone : (mount : Mount ℕ) → stands_at nat_eq (root_of mount) mount ≡ false
@@ -166,37 +153,33 @@ module _ {world : World ℕ} {fresh : Fresh ℕ} {place : Location ℕ} {first :
       × ((push_it mount).mount_point ≡ Some (root_of (copy part))))
 
   rises_or_stays : (mount : Mount ℕ) → StaysOrRises mount
-  rises_or_stays mount = by _ refl
-    where
-      by : (o : Option (Mount ℕ)) → receiver_stood_on nat_eq (graft_of nat_eq world
-          (copies_from nat_eq fresh (parts_of nat_eq world place) (first ∷ [])) place false (first ∷ [])) parts mount
-          ≡ o → StaysOrRises mount
-      by None e = inl (
-        ap (pushed_onto nat_eq world (copies_from nat_eq fresh (parts_of nat_eq world place) (first ∷ []))
-            (graft_of nat_eq world (copies_from nat_eq fresh (parts_of nat_eq world place) (first ∷ [])) place false
-            (first ∷ [])) parts mount) e,
-        unfound (λ part. stands_at nat_eq (record { mount = part.number; node = place.node }) mount) (rest_of parts) e,
-      )
-      by (Some part) e =
-          let found = found_in
-          (λ other. stands_at nat_eq (record { mount = other.number; node = place.node }) mount) (rest_of parts) part
-          e in
-          let contained : IsPart it part = contains_from_among parts part (inr found.0) in
-          let made_is = is_copy it can part first contained of_first in
-          let off : stands_at nat_eq (root_of (copy part)) (copy part) ≡ false =
-          ap (holds_of (same_location nat_eq (root_of (copy part)))) (copy_stands part contained)
-          ∙ ap (λ b. b && nat_eq (copy part).root place.node)
-          (new_apart part contained part (part_old world fresh place first there part contained)) in
-          inr (
-            part,
-            contained,
-            stands_there (record { mount = part.number; node = place.node }) mount found.1,
-            ap (λ o. (pushed_onto nat_eq world (copies_from nat_eq fresh (parts_of nat_eq world place) (first ∷ []))
-                (graft_of nat_eq world (copies_from nat_eq fresh (parts_of nat_eq world place) (first ∷ [])) place false
-                (first ∷ [])) parts mount o).mount_point) e
-                ∙ ap (λ (x : Mount ℕ). Some (topmost nat_eq (x ∷ []) (root_of x))) (sym made_is)
-                ∙ ap Some (top_alone (copy part) off),
-          )
+  rises_or_stays mount = elim (cases_Option _) [
+    | inl e ↦ inl (
+      ap (pushed_onto nat_eq world (copies_from nat_eq fresh (parts_of nat_eq world place) (first ∷ []))
+          (graft_of nat_eq world (copies_from nat_eq fresh (parts_of nat_eq world place) (first ∷ [])) place false
+          (first ∷ [])) parts mount) e,
+      unfound (λ part. stands_at nat_eq (record { mount = part.number; node = place.node }) mount) (rest_of parts) e,
+    )
+    | inr its ↦ let found = found_in
+        (λ other. stands_at nat_eq (record { mount = other.number; node = place.node }) mount) (rest_of parts) its.0
+        its.1 in
+        let contained : IsPart it its.0 = contains_from_among parts its.0 (inr found.0) in
+        let made_is = is_copy it can its.0 first contained of_first in
+        let off : stands_at nat_eq (root_of (copy its.0)) (copy its.0) ≡ false =
+        ap (holds_of (same_location nat_eq (root_of (copy its.0)))) (copy_stands its.0 contained)
+        ∙ ap (λ b. b && nat_eq (copy its.0).root place.node)
+        (new_apart its.0 contained its.0 (part_old world fresh place first there its.0 contained)) in
+        inr (
+          its.0,
+          contained,
+          stands_there (record { mount = its.0.number; node = place.node }) mount found.1,
+          ap (λ o. (pushed_onto nat_eq world (copies_from nat_eq fresh (parts_of nat_eq world place) (first ∷ []))
+              (graft_of nat_eq world (copies_from nat_eq fresh (parts_of nat_eq world place) (first ∷ [])) place false
+              (first ∷ [])) parts mount o).mount_point) its.1
+              ∙ ap (λ (x : Mount ℕ). Some (topmost nat_eq (x ∷ []) (root_of x))) (sym made_is)
+              ∙ ap Some (top_alone (copy its.0) off),
+        )
+  ]
 
   push_among : (mount : Mount ℕ) → Among mount world.mounts → Among (push_it mount) after.mounts
   push_among mount m = rw (← kept_itself mount m) (found_there after.mounts mount.number
@@ -216,7 +199,12 @@ module _ {world : World ℕ} {fresh : Fresh ℕ} {place : Location ℕ} {first :
   -- what stands on a copy covers its root
   covers : (part : Mount ℕ) → IsPart it part → (mount : Mount ℕ) → Among mount after.mounts
       → stands_on nat_eq (copy part).number mount ≡ true → mount.mount_point ≡ Some (root_of (copy part))
-  covers part c mount m on = by mount.mount_point refl
+  covers part c mount m on = elim (cases_Option mount.mount_point) [
+    | inl e ↦ absurd (true≢false (sym on ∙ ap (holds_of (λ (l : Location ℕ). nat_eq (copy part).number l.mount)) e))
+    | inr its ↦ at_place its.0 its.1 (sym (ap (holds_of (λ (l : Location ℕ). nat_eq
+        (copy part).number l.mount)) its.1) ∙ on)
+        (old_or_new mount m)
+  ]
     where
       no_old : (at : Location ℕ) → nat_eq (copy part).number at.mount ≡ true → is_mount world at.mount ≡ true → ⊥
       no_old at same is = true≢false (cc (eqb-true (copy part).number at.mount same, copy_number part, copy_new part c))
@@ -239,12 +227,6 @@ module _ {world : World ℕ} {fresh : Fresh ℕ} {place : Location ℕ} {first :
           (ap (λ (l : Location ℕ). l.mount) (sym here) ∙ sym (eqb-true (copy part).number at.mount same))
           ∙ found_itself after.mounts one_after (copy part) (copy_among part c) in
           e ∙ ap Some here ∙ ap (λ x. Some (root_of x)) one) (rises_or_stays old.0)
-
-      by : (o : Option (Location ℕ)) → mount.mount_point ≡ o → mount.mount_point ≡ Some (root_of (copy part))
-      by None e = absurd (true≢false (sym on ∙ ap (holds_of (λ (l : Location ℕ). nat_eq (copy part).number l.mount)) e))
-      by (Some at) e =
-          at_place at e (sym (ap (holds_of (λ (l : Location ℕ). nat_eq (copy part).number l.mount)) e) ∙ on)
-          (old_or_new mount m)
 
   may_leave : (part : Mount ℕ) → IsPart it part → may_go nat_eq after (copy part) ≡ true
   may_leave part c = only_one (copy part) (filter (stands_on nat_eq (copy part).number) after.mounts)
@@ -560,18 +542,17 @@ module _ {world : World ℕ} {fresh : Fresh ℕ} {place : Location ℕ} {first :
             × ((part : Mount ℕ) → Among part (rest_of parts)
             → stands_at nat_eq (record { mount = part.number; node = place.node }) (mount_numbered nat_eq world number)
             ≡ false) → (mount_left after gone number).mount_point ≡ (mount_numbered nat_eq world number).mount_point
-        same stayed = by (mount_numbered nat_eq world number).mount_point refl
+        same stayed = elim (cases_Option (mount_numbered nat_eq world number).mount_point) [
+          | inl e ↦ root_mounts_stay after gone number (as_before ∙ e) ∙ sym e
+          | inr its ↦ what_stays_keeps_its_place after gone number its.0 (stays number is) (as_before ∙ its.1)
+              (stays its.0.mount (on_old (mount_numbered nat_eq world number)
+              (found_there world.mounts number is) its.0 its.1))
+              ∙ sym its.1
+        ]
           where
             as_before : (mount_numbered nat_eq after number).mount_point
                 ≡ (mount_numbered nat_eq world number).mount_point
             as_before = cc (kept number is, stayed.0)
-
-            by : (found : Option (Location ℕ)) → (mount_numbered nat_eq world number).mount_point ≡ found
-                → (mount_left after gone number).mount_point ≡ (mount_numbered nat_eq world number).mount_point
-            by None e = root_mounts_stay after gone number (as_before ∙ e) ∙ sym e
-            by (Some at) e = what_stays_keeps_its_place after gone number at (stays number is) (as_before ∙ e)
-                (stays at.mount (on_old (mount_numbered nat_eq world number) (found_there world.mounts number is) at e))
-                ∙ sym e
 
         risen : (part : Mount ℕ) × IsPart it part × ((mount_numbered nat_eq world number).mount_point
             ≡ Some (record { mount = part.number; node = place.node }))
@@ -600,18 +581,16 @@ module _ {world : World ℕ} {fresh : Fresh ℕ} {place : Location ℕ} {first :
 
     pub masters_back : (group : ℕ) → has_members nat_eq world.mounts group ≡ true
         → undone.master group ≡ world.master group
-    masters_back group has = by (world.master group) refl
-      where
-        by : (found : Option ℕ) → world.master group ≡ found → undone.master group ≡ world.master group
-        by None e = master-regrouped_by (list_any (lost_a_group nat_eq (middle after (going nat_eq after
-            (mount_numbered nat_eq after gone))))
-            (middle after (going nat_eq after (mount_numbered nat_eq after gone))).mounts)
-            (middle after (going nat_eq after (mount_numbered nat_eq after gone))) group
-            (old_master place false (serve_images it can) can.each_once group has ∙ e) ∙ sym e
-        by (Some master) e =
-            let one = any_among (is_member_of nat_eq group) world.mounts has in
-            let life = lives_in world can.groups one.0 one.1 group (cc (member_shared group one.0 one.2)) in
-            groups_keep_their_masters after gone group master (old_master place false (serve_images it can)
-            can.each_once group has ∙ e) (still_members master (live_members world.master
-            (has_members nat_eq world.mounts) master (lives_up world.master (has_members nat_eq world.mounts) group
-            master life (above group master master e (here master))))) ∙ sym e
+    masters_back group has = elim (cases_Option (world.master group)) [
+      | inl e ↦ master-regrouped_by (list_any (lost_a_group nat_eq (middle after (going nat_eq after
+          (mount_numbered nat_eq after gone))))
+          (middle after (going nat_eq after (mount_numbered nat_eq after gone))).mounts)
+          (middle after (going nat_eq after (mount_numbered nat_eq after gone))) group
+          (old_master place false (serve_images it can) can.each_once group has ∙ e) ∙ sym e
+      | inr its ↦ let one = any_among (is_member_of nat_eq group) world.mounts has in
+          let life = lives_in world can.groups one.0 one.1 group (cc (member_shared group one.0 one.2)) in
+          groups_keep_their_masters after gone group its.0 (old_master place false (serve_images it can)
+          can.each_once group has ∙ its.1) (still_members its.0 (live_members world.master
+          (has_members nat_eq world.mounts) its.0 (lives_up world.master (has_members nat_eq world.mounts) group
+          its.0 life (above group its.0 its.0 its.1 (here its.0))))) ∙ sym its.1
+    ]

@@ -1,9 +1,8 @@
 -- Where copies come at a mount of theirs and at its receivers, the worlds that are left have one part.
 use Rattle.std.proofs.Common.{arith, ◌≡◌, refl, sym, ap, ◌∙◌, ⊎_elim, ℕ, nat_eq, Bool, true, false, cond, List, [], ◌++◌, Option, Some, None, append_assoc, filter, map}
 use Rattle.vt_spec.proofs.Common.{Among, Copies, Filesystem, Mount, Task, TaskName, World, among-filter, among-from_filter, any_among, attached_by, common_steps, folded, is_member_of, is_own_mount, list_any, master_above, masters_with, members, numbers_raised, own_mounts, part_of, part_of_master, source_of}
-use Rattle.vt_laws_mounts.proofs.GroupsUp.{source_from_group}
-use Rattle.vt_laws_sealed.proofs.part.part.PartOfPart.{is_own, same_members, same_own}
-use Rattle.vt_laws_members.proofs.changes.letting_go.Heard.{heard_by_own, master_same}
+use Rattle.vt_laws_members.proofs.Common.{IsSealed, is_own, member_group, same_members, same_own, source_from_group}
+use Rattle.vt_laws_members.proofs.changes.Common.{heard_by_own, master_same}
 use Rattle.vt_laws_members.proofs.changes.part.PartAgain.{part_again}
 use Rattle.vt_laws_members.proofs.attached.CopiesAlike.{AttachesTheirs, attached_as, attached_there, base, base_part, copies, made, masters_agree, parts, push}
 use Rattle.vt_laws_members.proofs.attached.GrownPart.{Grows, grown_world, own_how, part_grown}
@@ -11,8 +10,6 @@ use Rattle.vt_laws_members.proofs.attached.KnownMasters.{copy_known}
 use Rattle.vt_laws_members.proofs.attached.PartGrows.{part_grows}
 use Rattle.vt_laws_members.proofs.attached.PushedUp.{ShowTheirs, all_copies, copies_grow, of_copies, push_keeps}
 use Rattle.vt_laws_members.proofs.attached.RaisedAlike.{parts_left}
-use Rattle.vt_laws_sealed.proofs.part.groups.EventsApart.{member_group}
-use Rattle.vt_laws_sealed.proofs.part.seals.ByPart.{IsSealed}
 
 -- a world and its part grow alike, if the masters of what is theirs then are the same in both
 module _ {world : World ℕ} {names : List TaskName} (sealing : IsSealed world names) {change : Mount ℕ → Mount ℕ}

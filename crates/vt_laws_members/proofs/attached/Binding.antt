@@ -1,25 +1,11 @@
 -- Each mount(2) with MS_BIND, recursive or not, ends in the part as in the world.
-use Rattle.std.proofs.Common.{arith, ◌≡◌, refl, sym, ap, subst, ◌∙◌, ⊎_elim, ℕ, zero, suc, nat_eq, Bool, true, false, List, [], Option, Some, None, Ok, Err, filter, length, not, IfOk, is_ok}
-use Rattle.vt_spec.proofs.Common.{Among, Bind, Copies, Done, Filesystem, Fresh, IsWorld, Judgement, Location, Mount, Permit, Serves, Task, TaskName, ToBind, World, admin_rules, among-filter, among-from_filter, among-from_flat_map, and_then, attach, attach_permit, attached_by, bind_permit, bind_rules, bind_tree, bindable_children, bindable_tree, bound_at, children, common_steps, copies_from, destination_walk, granted, is_among, is_elsewhere, is_own_mount, is_unbindable, judge_in, list_any, members, mount_at, number-mount_in, numbers_raised, or_parts, overfills, part_of, policy, source_of, source_walk, stands_under, task_called, used_directly, used_filesystems, walk_end}
-use Rattle.vt_laws_members.proofs.judging.TheirCalls.{IsMember, caller_in, sealing_of}
-use Rattle.vt_laws_sealed.proofs.part.part.MountsOver.{numbered}
-use Rattle.vt_laws_mounts.proofs.letting_go.mounting.AttachedSwept.{binds_keep_all}
-use Rattle.vt_laws_mounts.proofs.letting_go.sweeps.OfWorlds.{all_in_use, locations_of_worlds_stand, mounts_of_worlds_stand}
-use Rattle.vt_laws_sealed.proofs.part.part.PartOfPart.{is_own}
+use Rattle.std.proofs.Common.{arith, ◌≡◌, refl, sym, ap, subst, ◌∙◌, ⊎_elim, ℕ, zero, suc, nat_eq, Bool, true, false, List, [], Some, None, Ok, filter, length, not, IfOk}
+use Rattle.vt_spec.proofs.Common.{Among, Bind, Copies, Done, Filesystem, Fresh, IsWorld, Location, Mount, Permit, Serves, Task, TaskName, ToBind, World, admin_rules, among-filter, among-from_filter, among-from_flat_map, and_then, attach_permit, attached_by, bind_permit, bind_rules, bind_tree, bindable_children, bindable_tree, bound_at, children, common_steps, copies_from, destination_walk, granted, is_among, is_elsewhere, is_own_mount, is_unbindable, judge_in, list_any, members, mount_at, number-mount_in, numbers_raised, or_parts, overfills, part_of, policy, source_of, source_walk, stands_under, task_called, used_directly, used_filesystems, walk_end}
+use Rattle.vt_laws_members.proofs.judging.Common.{IsMember, IsTheirs, bind_alike, caller_in, children_own, own_theirs, owned, sealing_of, theirs_directly, theirs_from}
+use Rattle.vt_laws_members.proofs.Common.{all_in_use, binds_keep_all, is_own, locations_of_worlds_stand, mounts_of_worlds_stand, numbered}
 use Rattle.vt_laws_members.specs.Judging.{is_theirs}
-use Rattle.vt_laws_members.proofs.judging.AllJudged.{owned}
-use Rattle.vt_laws_members.proofs.judging.Grounds.{IsTheirs, theirs_from}
-use Rattle.vt_laws_members.proofs.judging.MountTrees.{bind_alike, children_own, own_theirs}
-use Rattle.vt_laws_members.proofs.judging.SeenInPart.{theirs_directly}
 use Rattle.vt_laws_members.specs.Changes.Changes.{EndsAlike, IsCallOfTheirs}
-use Rattle.vt_laws_members.proofs.changes.letting_go.Heard.{heard_by_own, master_same}
-use Rattle.vt_laws_members.proofs.changes.letting_go.Moving.{StandsHere, one}
-use Rattle.vt_laws_members.proofs.changes.letting_go.Umounting.{of_passed}
-use Rattle.vt_laws_members.proofs.changes.looks.Granted.{of_rules, of_walk}
-use Rattle.vt_laws_members.proofs.changes.looks.Told.{ran, same_caller}
-use Rattle.vt_laws_members.proofs.changes.part.SettledPart.{part_in_use}
-use Rattle.vt_laws_members.proofs.changes.tasks.ByPermit.{by_known}
-use Rattle.vt_laws_members.proofs.changes.tasks.Denied.{denial_ends_alike, ran_there, run_by, unnamed_ends_alike}
+use Rattle.vt_laws_members.proofs.changes.Common.{StandsHere, by_known, heard_by_own, master_same, of_passed, of_rules, of_walk, one, part_in_use, ran, ran_there, run_by, same_caller}
 use Rattle.vt_laws_members.specs.Attached.Attaching.{BindsEndAlike}
 use Rattle.vt_laws_members.proofs.attached.AttachedAlike.{copies_alike}
 use Rattle.vt_laws_members.proofs.attached.CopiesAlike.{AttachesTheirs, base, base_part, no_new_ones, parts, parts_alike}
@@ -194,9 +180,6 @@ module _ {world : World ℕ} {names : List TaskName} {name : TaskName} {source p
       (λ w. granted Done (numbers_raised nat_eq part name [] w)) (binds_keep_all fresh part task from here recursive
       (part_in_use (sealing_of it)) (mounts_stand_there world names it.is it.sealed_off)
       (locations_stand_there world names it.is) (placed_there world names it.is it.sealed_off here here_theirs own))
-
-  abbrev attached_to : List (Mount ℕ) → World ℕ → World ℕ
-  attached_to mounts w = attach nat_eq w fresh here false mounts
 
   now_so : now ≡ attached_by nat_eq (base attaching) new here false origins
   now_so = cc (no_new_ones world)

@@ -1,20 +1,11 @@
 -- Copies that are attached at a mount of theirs, at its receivers and what they push up, are the same in the part.
-use Rattle.std.proofs.Common.{arith, ◌≡◌, refl, sym, ap, subst, ◌∙◌, inl, inr, ⊎_elim, ℕ, nat_eq, Bool, true, false, cond, List, [], ◌∷◌, ◌++◌, Option, Some, None, append-nil, filter, find, flat_map, is_some, map, not, ◌&&◌, option_map, filter_map}
-use Rattle.vt_spec.proofs.Common.{Among, Copies, Filesystem, Graft, Location, Mount, Private, Propagation, Shared, Slave, Task, TaskName, Twig, Unbindable, World, added_mounts, all_groups_made, among-filter, among-from_filter, attached_at, attached_by, common_steps, copies_at, copy_at, copy_mount_point, copy_number, copy_type, filesystem_numbered, filter_alike, folded, found_among, graft_of, group_made, group_of, has_members, image, is_among, is_destination, is_directory_under, is_member_of, is_own_mount, list_any, map_alike, masters_with, members, mount_at, nearest_image, number-mount_in, part_of, parts_of, pushed_up, receivers_of, rest_of, slave_of_heir, source_of, takes_part, then_some, twig_master, twig_of, used_filesystems, when, with_moved_mounts}
+use Rattle.std.proofs.Common.{arith, ◌≡◌, refl, sym, ap, subst, ◌∙◌, inl, inr, ⊎_elim, ℕ, nat_eq, Bool, true, false, cond, List, [], ◌∷◌, ◌++◌, Option, Some, None, append-nil, filter, flat_map, is_some, map, not, ◌&&◌, filter_map}
+use Rattle.vt_spec.proofs.Common.{Among, Copies, Filesystem, Graft, Location, Mount, Private, Propagation, Shared, Slave, Task, TaskName, Twig, Unbindable, World, added_mounts, all_groups_made, among-filter, among-from_filter, attached_at, attached_by, common_steps, copies_at, copy_at, copy_type, filesystem_numbered, filter_alike, folded, found_among, graft_of, group_made, group_of, image, is_among, is_destination, is_directory_under, is_member_of, is_own_mount, list_any, map_alike, masters_with, members, mount_at, nearest_image, number-mount_in, part_of, parts_of, pushed_up, receivers_of, rest_of, source_of, takes_part, then_some, twig_master, twig_of, used_filesystems, when, with_moved_mounts}
 use Rattle.vt_laws_members.proofs.detached.lazily.GoingAlike.{receivers_alike, receivers_own}
-use Rattle.vt_laws_mounts.proofs.GroupsUp.{source_from_group}
-use Rattle.vt_laws_sealed.proofs.part.part.MountsOver.{numbered}
-use Rattle.vt_laws_mounts.proofs.letting_go.Lists.{flat_map_alike}
-use Rattle.vt_laws_sealed.proofs.part.Kept.{filter_map_same}
-use Rattle.vt_laws_sealed.proofs.part.groups.ReceiversAlike.{same_up}
-use Rattle.vt_laws_sealed.proofs.part.part.PartOfPart.{found, is_own}
-use Rattle.vt_laws_members.proofs.judging.Busy.{no_events}
-use Rattle.vt_laws_members.proofs.judging.Grounds.{IsTheirs, same_mount}
-use Rattle.vt_laws_members.proofs.judging.MountTrees.{own_theirs}
-use Rattle.vt_laws_members.proofs.judging.SeenInPart.{theirs_used}
-use Rattle.vt_laws_members.proofs.changes.letting_go.Heard.{IsHeard, above_heard, apart, heard_by_own, master_same}
+use Rattle.vt_laws_members.proofs.Common.{IsSealed, filter_map_same, flat_map_alike, found, is_own, numbered, same_up, source_from_group}
+use Rattle.vt_laws_members.proofs.judging.Common.{IsTheirs, no_events, own_theirs, same_mount, theirs_used}
+use Rattle.vt_laws_members.proofs.changes.Common.{IsHeard, above_heard, apart, heard_by_own, master_same}
 use Rattle.vt_laws_members.proofs.attached.GrownPart.{found_before}
-use Rattle.vt_laws_sealed.proofs.part.seals.ByPart.{IsSealed}
 
 -- a world without new filesystems
 pub no_new_ones : (w : World ℕ) → w ≡ record w { filesystems = w.filesystems ++ [] }
@@ -146,14 +137,6 @@ module _ {world : World ℕ} {names : List TaskName} (attaching : AttachesTheirs
         by Private e = refl
         by Unbindable e = refl
 
-    abbrev copy_with : Mount ℕ → Twig ℕ → Propagation ℕ → Mount ℕ
-    copy_with p twig kind = record twig.origin {
-      number = copy_number nat_eq new tree p.number twig.origin.number;
-      namespace = p.namespace;
-      mount_point = Some (copy_mount_point nat_eq new tree p.number twig.origin);
-      propagation = cond (is_destination nat_eq tree p.number) twig.propagation kind;
-    }
-
     copy_alike : (p : Mount ℕ) → Among p parts → (twig : Twig ℕ)
         → copy_at nat_eq base_part new tree parts p twig ≡ copy_at nat_eq base new tree parts p twig
     copy_alike p n twig = cc (same_destination, type_alike p n twig)
@@ -194,9 +177,7 @@ module _ {world : World ℕ} {names : List TaskName} (attaching : AttachesTheirs
         by None e = refl
         by (Some g) e =
             let heard = heard_part p n g (source_from_group p.propagation g e) in
-            ap (λ k. when (not (is_member_of nat_eq g destination)) (image nat_eq new destination twig g, k))
-            (ap (nearest_image nat_eq base_part new parts destination twig) (master_same attaching.sealing g heard)
-            ∙ above g heard (world.master g) refl)
+            cc (master_same attaching.sealing g heard, above g heard (world.master g) refl)
 
     pub all_made_alike : all_groups_made nat_eq base_part new tree parts ≡ made
     all_made_alike = flat_map_alike (λ p. filter_map (group_made nat_eq base_part new tree parts p) tree.twigs)

@@ -1,18 +1,11 @@
 -- The part of a sealed set is fit for what is attached to a mount of theirs: mounts and locations stand in it.
-use Rattle.std.proofs.Common.{arith, ◌≡◌, sym, ap, subst, ◌∙◌, ⊎_elim, ℕ, nat_eq, true, List, is_some, map, eq-eqb, IfOk}
+use Rattle.std.proofs.Common.{arith, ◌≡◌, ⊎_elim, ℕ, nat_eq, true, List, map, eq-eqb, IfOk}
 use Rattle.vt_spec.proofs.Common.{Among, IsWorld, Location, Mount, Task, TaskName, World, all_locations, among-filter_map, among-flat_map, among-from_filter, among-from_flat_map, among-from_map, among-map, among_from_list_all, among_numbers, and_parts, any_from_among, common_steps, destination_walk, is_among, is_among_numbers, is_located_well, is_member_task, is_there, list_all_from_among, locations, locations_of, members, mount_at, part_of, sealed, source_walk}
-use Rattle.vt_laws_members.proofs.judging.TheirCalls.{IsMember}
-use Rattle.vt_laws_mounts.specs.LettingGo.Attaching.{is_attached}
-use Rattle.vt_laws_mounts.specs.LettingGo.Keeping.{LocationsStand}
+use Rattle.vt_laws_members.proofs.judging.Common.{IsMember, IsTheirs, destination_agrees, its_mount, same_mount, source_agrees}
+use Rattle.vt_laws_members.proofs.Common.{LocationsStand, is_attached, is_own, keep, kept_how, sealed_by, shown_at}
 use Rattle.vt_laws_mounts.specs.LettingGo.Leaving.{MountsStand}
 use Rattle.vt_laws_mounts.proofs.letting_go.mounting.MountsSwept.{mounts_stand}
-use Rattle.vt_laws_sealed.proofs.part.part.PartOfPart.{is_own, keep, kept_how}
-use Rattle.vt_laws_sealed.proofs.outsiders.SeenLater.{shown_at}
-use Rattle.vt_laws_members.proofs.judging.Grounds.{IsTheirs, its_mount, same_mount}
-use Rattle.vt_laws_members.proofs.judging.WalksLead.{destination_agrees, source_agrees}
-use Rattle.vt_laws_members.proofs.changes.letting_go.Moving.{StandsHere, alike, one}
-use Rattle.vt_laws_members.proofs.changes.letting_go.PartMounts.{part_mounts}
-use Rattle.vt_laws_sealed.proofs.part.seals.ByPart.{sealed_by}
+use Rattle.vt_laws_members.proofs.changes.Common.{StandsHere, alike, one, part_mounts}
 
 -- the mounts' numbers
 abbrev numbers : World ℕ → List ℕ

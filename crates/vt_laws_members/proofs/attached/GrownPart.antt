@@ -1,11 +1,9 @@
 -- The part of a world in which mounts of theirs changed, others came after all, and show filesystems of theirs or new
 -- ones.
 use Rattle.std.proofs.Common.{arith, ◌≡◌, refl, sym, ap, subst, ◌∙◌, ◌⊎◌, inl, inr, ⊎_elim, ℕ, nat_eq, Bool, true, false, cond, true≢false, List, [], ◌∷◌, ◌++◌, Option, Some, None, find, flat_map, map, ◌||◌, ◌&&◌, eqb-true, option_map, option_to_list, unwrap_or, filter_map}
-use Rattle.vt_spec.proofs.Common.{Among, Filesystem, Layer, Location, Mount, Overlay, Task, TaskName, World, among-append, among-append_left, among-append_right, among-filter, among-flat_map, among-from_filter, among-from_flat_map, among-from_map, among-map, among_numbers, and_parts, any_among, any_from_among, change_layers, common_steps, cons_option, filesystem_numbered, filter_alike, filter_map-append, find-append, is_among, is_among_numbers, is_at, is_own_mount, is_under, layers_of, lies_in_layer, lies_in_own_lower, list_any, locations, members, mount_at, mount_in, no_filesystem, no_mount, none_among, of_overlay, only_among, or_left, own_lowers, own_mounts, part_of, part_of_filesystem, part_of_lower, part_of_master, roots_and_directories, same_truth, seen_by_descriptor, used_directly, used_filesystems, when}
+use Rattle.vt_spec.proofs.Common.{Among, Filesystem, Layer, Location, Mount, Overlay, Task, TaskName, World, among-append, among-append_left, among-append_right, among-filter, among-flat_map, among-from_filter, among-from_flat_map, among-from_map, among-map, among_numbers, and_parts, any_among, any_from_among, change_layers, common_steps, filesystem_numbered, filter_alike, filter_map-append, find-append, is_among, is_among_numbers, is_at, is_own_mount, is_under, layers_of, lies_in_layer, lies_in_own_lower, list_any, locations, members, mount_at, mount_in, no_filesystem, no_mount, none_among, of_overlay, or_left, own_lowers, own_mounts, part_of, part_of_filesystem, part_of_lower, part_of_master, roots_and_directories, same_truth, seen_by_descriptor, used_directly, used_filesystems, when}
 use Rattle.std.specs.Option.{option_or}
-use Rattle.vt_laws_mounts.proofs.letting_go.Lists.{find_none}
-use Rattle.vt_laws_sealed.proofs.part.Kept.{among-each_once, among-from_each_once, filter_map_same}
-use Rattle.vt_laws_sealed.proofs.part.part.PartOfPart.{is_own, keep, kept_how, kept_whole, used_directly_used}
+use Rattle.vt_laws_members.proofs.Common.{among-each_once, among-from_each_once, filter_map_same, find_none, is_own, keep, kept_how, kept_whole, used_directly_used}
 
 -- what is kept of changed elements, where they are changed as they are kept
 filter_map_changed : {A : Type 0} (k : A → Option A) (f : A → A) (xs : List A)
@@ -128,10 +126,13 @@ module _ {v : World ℕ} {names : List TaskName} {change : Mount ℕ → Mount �
   kept_changed x m = grind (arith, common_steps, kept_how, own_kept)
 
   mounts_grown : filter_map kept u.mounts ≡ map change (filter_map kept v.mounts) ++ added
-  mounts_grown = filter_map-append kept (map change v.mounts) added
-      ∙ ap (λ l. l ++ filter_map kept added) (filter_map_changed kept change v.mounts kept_changed)
-      ∙ ap (λ l. map change (filter_map kept v.mounts) ++ l)
-      (filter_map_all kept added (λ x m. own_kept x (it.ours x m)))
+  mounts_grown = cc (
+    filter_map-append kept
+        (map change v.mounts) added,
+    filter_map_changed kept change v.mounts kept_changed,
+    filter_map_all kept added
+        (λ x m. own_kept x (it.ours x m)),
+  )
 
   pub as_before : (x : Mount ℕ) → Among x v.mounts
       → ((change x).number ≡ x.number) × ((change x).filesystem ≡ x.filesystem)

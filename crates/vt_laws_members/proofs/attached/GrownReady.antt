@@ -1,15 +1,9 @@
 -- A world that is ready to be swept for a set is ready still, where mounts of theirs change and more come.
-use Rattle.std.proofs.Common.{arith, ◌≡◌, refl, sym, ap, subst, ◌∙◌, ◌⊎◌, inl, inr, ⊎_elim, ℕ, nat_eq, Bool, true, false, true≢false, List, [], ◌++◌, Option, Some, None, filter, is_some, map, ◌&&◌}
-use Rattle.vt_spec.proofs.Common.{Among, Filesystem, Layer, Location, Mount, Stands, TaskName, World, all_locations, among-append, among-append_left, among-from_map, among-map, among_from_all, common_steps, filter_all, found_or_none, is_among, is_at, is_located, is_nowhere_or_attached, is_under, list_all, list_any, locations, members, mount_at, mount_lives, number-mount_in, or_left, own_lowers, part_of, roots_and_directories, settled, used_filesystems, with_mounts}
-use Rattle.vt_laws_mounts.proofs.letting_go.Lists.{among_from_list_all}
+use Rattle.std.proofs.Common.{arith, ◌≡◌, refl, sym, ap, ◌∙◌, ◌⊎◌, inl, inr, ⊎_elim, ℕ, nat_eq, Bool, true, false, true≢false, List, [], ◌++◌, Option, Some, None, filter, is_some, map, ◌&&◌}
+use Rattle.vt_spec.proofs.Common.{Among, Filesystem, Layer, Location, Mount, Stands, TaskName, World, all_locations, among-append, among-append_left, among-from_map, among-map, among_from_all, common_steps, filter_all, found_or_none, is_among, is_at, is_located, is_nowhere_or_attached, is_under, list_all, list_any, locations, members, mount_at, mount_lives, number-mount_in, or_left, own_lowers, part_of, roots_and_directories, settled, used_filesystems}
+use Rattle.vt_laws_members.proofs.Common.{AllStand, OneNumberEach, among_from_list_all, found_itself, is_own, namespace_below}
 use Rattle.vt_laws_mounts.proofs.letting_go.leaving.PlacesLeft.{placed_is_attached}
-use Rattle.vt_laws_mounts.specs.Mounts.Invariants.{OneNumberEach}
-use Rattle.vt_laws_mounts.specs.Mounts.Standing.{AllStand}
-use Rattle.vt_laws_mounts.proofs.mounts.MountsReplaced.{found_itself}
-use Rattle.vt_laws_sealed.proofs.part.part.PartOfPart.{is_own}
-use Rattle.vt_laws_worlds.proofs.worlds.Reached.{namespace_below}
-use Rattle.vt_laws_members.proofs.changes.letting_go.Ready.{Alone, IsCut, NoOthers, Ready}
-use Rattle.vt_laws_members.proofs.changes.letting_go.Sweep.{part_of_settled, swept_of}
+use Rattle.vt_laws_members.proofs.changes.Common.{Alone, IsCut, NoOthers, Ready, part_of_settled, swept_of}
 use Rattle.vt_laws_members.proofs.attached.CopiesAlike.{no_new_ones}
 use Rattle.vt_laws_members.proofs.attached.GrownPart.{Grows, as_before, grown_world, lowers_stay, shows_still, used_same}
 

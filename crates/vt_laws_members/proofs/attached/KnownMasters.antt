@@ -2,7 +2,7 @@
 -- part.
 use Rattle.std.proofs.Common.{arith, ◌≡◌, ℕ, nat_eq, Bool, List, Some, None}
 use Rattle.vt_spec.proofs.Common.{Among, Copies, Mount, Propagation, TaskName, Twig, World, common_steps, copy_type, group_of, image, mount_at, none_is_some, part_of, same_Some, source_of, type_at}
-use Rattle.vt_laws_mounts.proofs.GroupsUp.{source_from_group}
+use Rattle.vt_laws_members.proofs.Common.{source_from_group}
 use Rattle.vt_laws_members.proofs.attached.CopiesAlike.{AttachesTheirs, base, parts, tree}
 use Rattle.vt_laws_members.proofs.attached.PushedUp.{copy, twig}
 

@@ -1,24 +1,14 @@
 -- Where a tree of theirs moves, the worlds that are left have one part after the sweep.
 use Rattle.std.proofs.Common.{◌≡◌, refl, sym, ap, subst, ◌∙◌, ℕ, nat_eq, true, cond, List, [], ◌++◌, Option, Some, None, filter, map, All}
 use Rattle.vt_spec.proofs.Common.{Among, HasLivingGroups, Location, Mount, TaskName, World, all_locations, among-filter, among-from_filter, among_from_all, among_from_list_all, filter_all, has_members, is_among, is_nowhere_or_attached, is_own_mount, list_all, master_above, members, mount_lives, numbers_raised, own_lowers, part_of, settled, source_of, then_some, used_filesystems, with_mounts}
-use Rattle.vt_laws_mounts.proofs.letting_go.sweeps.OfWorlds.{all_in_use, locations_of_worlds_stand}
-use Rattle.vt_laws_mounts.specs.Mounts.Invariants.{OneNumberEach}
-use Rattle.vt_laws_mounts.specs.Mounts.Standing.{AllStand}
-use Rattle.vt_laws_sealed.proofs.part.part.PartOfPart.{is_own}
-use Rattle.vt_laws_members.proofs.changes.letting_go.PartReady.{part_ready}
-use Rattle.vt_laws_members.proofs.changes.letting_go.Ready.{Ready}
-use Rattle.vt_laws_members.proofs.changes.letting_go.Sweep.{swept_of}
-use Rattle.vt_laws_members.proofs.changes.letting_go.WorldReady.{world_ready}
-use Rattle.vt_laws_members.proofs.changes.part.SettledPart.{part_in_use}
+use Rattle.vt_laws_members.proofs.Common.{AllStand, IsSealed, OneNumberEach, all_in_use, is_own, live_members, locations_of_worlds_stand}
+use Rattle.vt_laws_members.proofs.changes.Common.{Ready, part_in_use, part_ready, swept_of, tasks_stay, world_ready}
 use Rattle.vt_laws_members.proofs.attached.AttachedAlike.{one_part, own_alike}
 use Rattle.vt_laws_members.proofs.attached.Destination.{located_there}
 use Rattle.vt_laws_members.proofs.attached.GrownPart.{Grows}
 use Rattle.vt_laws_members.proofs.attached.GrownReady.{all_live, grown, grown_settled, without_new}
 use Rattle.vt_laws_members.proofs.attached.PartGrows.{part_grows}
 use Rattle.vt_laws_members.proofs.attached.RaisedAlike.{parts_left}
-use Rattle.vt_laws_members.proofs.changes.letting_go.TasksStay.{tasks_stay}
-use Rattle.vt_laws_mounts.proofs.GroupsUp.{live_members}
-use Rattle.vt_laws_sealed.proofs.part.seals.ByPart.{IsSealed}
 
 module _ {world : World ℕ} {names : List TaskName} (sealing : IsSealed world names) where
   abbrev part : World ℕ

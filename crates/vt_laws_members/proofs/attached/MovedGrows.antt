@@ -1,18 +1,15 @@
 -- A tree of theirs moves, with copies at receivers: it grows the world.
-use Rattle.std.proofs.Common.{arith, ◌≡◌, refl, sym, ap, subst, ◌∙◌, ◌⊎◌, inl, inr, ⊎_elim, ℕ, zero, suc, nat_eq, Bool, true, false, cond, true≢false, List, [], ◌∷◌, ◌++◌, Option, Some, None, append-nil, flat_map, length, map, eq-eqb, eqb-true}
+use Rattle.std.proofs.Common.{arith, ◌≡◌, refl, sym, ap, subst, ◌∙◌, ◌⊎◌, inl, inr, ⊎_elim, ℕ, zero, suc, nat_eq, Bool, true, false, cond, List, [], ◌∷◌, ◌++◌, Option, Some, None, append-nil, flat_map, length, map, eq-eqb, eqb-true}
 use Rattle.vt_spec.proofs.Common.{Among, Copies, Filesystem, Location, Mount, TaskName, World, among-filter, among-from_flat_map, children, common_steps, folded, is_among, is_own_mount, list_any, map_twice, masters_with, members, mount_at, mount_numbered, moved_tree, number-mount_in, part_of, rest_of, seen_by_descriptor, source_of, tree_from, used_directly, used_filesystems}
 use Rattle.vt_laws_mounts.proofs.letting_go.mounting.Attached.{swapped_all, swapped}
-use Rattle.vt_laws_sealed.proofs.part.part.MountsOver.{numbered}
-use Rattle.vt_laws_sealed.proofs.part.part.PartOfPart.{is_own}
-use Rattle.vt_laws_members.proofs.judging.MountTrees.{children_own, own_theirs}
-use Rattle.vt_laws_members.proofs.judging.SeenInPart.{theirs_directly}
-use Rattle.vt_laws_members.proofs.changes.letting_go.Heard.{heard_by_own, master_same}
+use Rattle.vt_laws_members.proofs.Common.{IsSealed, is_own, numbered}
+use Rattle.vt_laws_members.proofs.judging.Common.{children_own, own_theirs, theirs_directly}
+use Rattle.vt_laws_members.proofs.changes.Common.{heard_by_own, master_same}
 use Rattle.vt_laws_members.proofs.attached.CopiesAlike.{AttachesTheirs, attached_as, copies, made, masters_agree, parts, parts_own, push}
 use Rattle.vt_laws_members.proofs.attached.Destination.{located_well}
 use Rattle.vt_laws_members.proofs.attached.GrownPart.{Grows, grown_world, own_how}
 use Rattle.vt_laws_members.proofs.attached.KnownMasters.{copy_known}
 use Rattle.vt_laws_members.proofs.attached.PushedUp.{copy, copy_of, other_stays, push_keeps, stub_stays}
-use Rattle.vt_laws_sealed.proofs.part.seals.ByPart.{IsSealed}
 
 -- a mount is as it was, or it is one of its number
 swapped_is : (copied : List (Mount ℕ)) (mount : Mount ℕ) → (swapped copied mount ≡ mount)

@@ -1,29 +1,16 @@
 -- Each mount(2) with MS_MOVE ends in the part as in the world.
-use Rattle.std.proofs.Common.{arith, ◌≡◌, refl, sym, ap, subst, ◌∙◌, ℕ, nat_eq, true, false, true≢false, List, [], Option, Some, None, Ok, Err, is_some, not, eqb-true, IfOk, is_ok}
-use Rattle.vt_spec.proofs.Common.{Among, Copies, Done, Fresh, Judgement, Location, Mount, MountInvariants, MoveMount, Permit, Serves, Task, TaskName, ToMove, World, admin_rules, among-filter, among-map, and_then, attach, attach_permit, attached_by, common_steps, copies_from, destination_walk, granted, holds_of, is_among_numbers, is_elsewhere, is_own_mount, judge_in, members, mount_at, mount_tree, move_permit, move_rules, moved_to, moved_tree, not-false, number-mount_in, numbers_raised, or_parts, overfills, part_of, policy, settled, source_walk, task_called, walk_end}
-use Rattle.vt_laws_members.proofs.judging.TheirCalls.{IsMember, caller_in, sealing_of}
-use Rattle.vt_laws_mounts.specs.Mounts.Attaching.{is_mount, numbers_of}
+use Rattle.std.proofs.Common.{arith, ◌≡◌, refl, sym, ap, subst, ◌∙◌, ℕ, nat_eq, true, false, List, [], Option, Some, None, Ok, is_some, not, eqb-true, IfOk}
+use Rattle.vt_spec.proofs.Common.{Among, Copies, Done, Fresh, Location, Mount, MountInvariants, MoveMount, Permit, Serves, Task, TaskName, ToMove, World, admin_rules, among-filter, among-map, and_then, attach, attach_permit, attached_by, common_steps, copies_from, destination_walk, granted, holds_of, is_among_numbers, is_elsewhere, is_own_mount, judge_in, members, mount_at, mount_tree, move_permit, move_rules, moved_to, moved_tree, not-false, number-mount_in, numbers_raised, or_parts, overfills, part_of, policy, settled, source_walk, task_called, walk_end}
+use Rattle.vt_laws_members.proofs.judging.Common.{IsMember, IsTheirs, caller_in, own_theirs, owned, same_mount, sealing_of, theirs_from, tree_alike}
+use Rattle.vt_laws_members.proofs.Common.{all_live, is_attached, is_mount, is_own, numbers_of, tested_live}
 use Rattle.vt_laws_mounts.specs.Mounts.Moving.{CanMove}
-use Rattle.vt_laws_mounts.proofs.GroupsLiving.{all_live, tested_live}
 use Rattle.vt_laws_mounts.proofs.attached.AttachedKept.{moves_keep_groups}
 use Rattle.vt_laws_mounts.proofs.attached.AttachedNowhere.{moves_keep_nowhere}
 use Rattle.vt_laws_mounts.proofs.attached.BindsStand.{moves_keep_numbers}
 use Rattle.vt_laws_mounts.proofs.moves.Moving.{moves_keep_standing}
-use Rattle.vt_laws_mounts.specs.LettingGo.Attaching.{is_attached}
-use Rattle.vt_laws_sealed.proofs.part.part.PartOfPart.{is_own}
 use Rattle.vt_laws_members.specs.Judging.{is_theirs}
-use Rattle.vt_laws_members.proofs.judging.AllJudged.{owned}
-use Rattle.vt_laws_members.proofs.judging.Grounds.{IsTheirs, same_mount, theirs_from}
-use Rattle.vt_laws_members.proofs.judging.MountTrees.{own_theirs, tree_alike}
-use Rattle.vt_laws_members.specs.Changes.Changes.{EndAlike, EndsAlike, IsCallOfTheirs, grown}
-use Rattle.vt_laws_members.proofs.changes.letting_go.Heard.{own_in_part}
-use Rattle.vt_laws_members.proofs.changes.letting_go.Moving.{StandsHere, one}
-use Rattle.vt_laws_members.proofs.changes.letting_go.PartMounts.{part_mounts}
-use Rattle.vt_laws_members.proofs.changes.letting_go.Umounting.{of_passed}
-use Rattle.vt_laws_members.proofs.changes.looks.Granted.{of_rules, of_walk}
-use Rattle.vt_laws_members.proofs.changes.looks.Told.{ended_alike, ran, same_caller}
-use Rattle.vt_laws_members.proofs.changes.tasks.ByPermit.{by_known}
-use Rattle.vt_laws_members.proofs.changes.tasks.Denied.{denial_ends_alike, ran_there, run_by, unnamed_ends_alike}
+use Rattle.vt_laws_members.specs.Changes.Changes.{EndsAlike, IsCallOfTheirs}
+use Rattle.vt_laws_members.proofs.changes.Common.{StandsHere, by_known, ended_alike, of_passed, of_rules, of_walk, one, own_in_part, part_mounts, ran, ran_there, run_by, same_caller}
 use Rattle.vt_laws_members.specs.Attached.Attaching.{MovesEndAlike}
 use Rattle.vt_laws_members.proofs.attached.CopiesAlike.{AttachesTheirs, attached_there, base_part, no_new_ones, parts, parts_alike}
 use Rattle.vt_laws_members.proofs.attached.Destination.{at_destination, at_source, placed, placed_there, there}
@@ -219,10 +206,12 @@ module _ {world : World ℕ} {names : List TaskName} {name : TaskName} {source p
 
   parts_same : part_of nat_eq (numbers_raised nat_eq world name [] (settled nat_eq now)) names
       ≡ part_of nat_eq (numbers_raised nat_eq part name [] (settled nat_eq now_there)) names
-  parts_same = ap (λ w. part_of nat_eq (numbers_raised nat_eq world name [] (settled nat_eq w)) names) now_so
-      ∙ moved_alike (sealing_of it) (with_made part.master) grows
-      (moved_known moving (λ a b. group_new world names it.is fresh serves _)) stays stays_too name ∙ sym
-      (ap (λ w. part_of nat_eq (numbers_raised nat_eq part name [] (settled nat_eq w)) names) there_so)
+  parts_same = cc (
+    now_so,
+    moved_alike (sealing_of it) (with_made part.master) grows (moved_known moving
+        (λ a b. group_new world names it.is fresh serves _)) stays stays_too name,
+    there_so,
+  )
 
   first : policy nat_eq fresh world name (MoveMount source path)
       ≡ granted Done (numbers_raised nat_eq world name [] (settled nat_eq now))

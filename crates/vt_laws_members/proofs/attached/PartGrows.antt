@@ -1,7 +1,7 @@
 -- What grows the world grows the part.
 use Rattle.std.proofs.Common.{◌≡◌, sym, ap, subst, ◌∙◌, ◌⊎◌, inl, inr, ⊎_elim, ℕ, nat_eq, true, false, true≢false, List, Option, Some}
-use Rattle.vt_spec.proofs.Common.{Among, Filesystem, IsWorld, Mount, Task, TaskName, World, among-from_filter_map, is_among, locations, members, part_of, part_of_filesystem, seen_by_descriptor}
-use Rattle.vt_laws_sealed.proofs.part.part.PartOfPart.{is_own, keep, kept_how, same_directly, same_members, same_used, shown_how}
+use Rattle.vt_spec.proofs.Common.{Among, Filesystem, IsWorld, Mount, Task, TaskName, World, among-from_filter_map, members, part_of, part_of_filesystem, seen_by_descriptor}
+use Rattle.vt_laws_members.proofs.Common.{is_own, keep, kept_how, same_directly, same_members, same_used, shown_how}
 use Rattle.vt_laws_members.proofs.attached.Destination.{located_there}
 use Rattle.vt_laws_members.proofs.attached.GrownPart.{Grows, is_new}
 

@@ -1,7 +1,7 @@
 -- A supply of numbers that a world does not use serves its part.
 use Rattle.std.proofs.Common.{arith, sym, subst, inl, inr, ⊎_elim, ℕ, nat_eq, true≢false, List, [], ◌∷◌, ◌++◌, filter, flat_map, map}
 use Rattle.vt_spec.proofs.Common.{Among, Filesystem, Fresh, Mount, Namespace, Serves, TaskName, World, among-append, among-append_left, among-append_right, among-flat_map, among-from_filter, among-from_filter_map, among-from_flat_map, among-from_map, among-map, among_numbers, common_steps, false_from_ne_true, is_among, is_among_numbers, is_own_namespace, lies_in_own_lower, members, numbers_in_use, part_of, part_of_filesystem, used_by_filesystem, used_by_mount}
-use Rattle.vt_laws_sealed.proofs.part.part.PartOfPart.{keep, kept_how, shown_how}
+use Rattle.vt_laws_members.proofs.Common.{keep, kept_how, shown_how}
 
 module _ (world : World ℕ) (names : List TaskName) where
   abbrev part : World ℕ

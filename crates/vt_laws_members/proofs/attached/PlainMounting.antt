@@ -1,21 +1,11 @@
 -- Each mount(2) of a new plain filesystem ends in the part as in the world.
-use Rattle.std.proofs.Common.{◌≡◌, refl, sym, ap, subst, ◌∙◌, inl, inr, ⊎_elim, ℕ, nat_eq, true, false, List, [], ◌∷◌, Option, Some, None, Ok, Err, ◌||◌, eq-eqb, IfOk, is_ok}
-use Rattle.vt_spec.proofs.Common.{Among, Copies, Done, Filesystem, Fresh, Judgement, Location, Mount, MountFlags, MountPlain, Permit, Serves, Task, TaskName, ToMountPlain, World, admin_rules, attach_permit, attached_by, copies_from, destination_walk, granted, is_among, judge_in, layers_of, list_any, members, mount_at, mount_plain_permit, mounted, new_mount, new_mount_rules, none_is_some, numbers_raised, odds, of_overlay, overfills, part_of, plain_filesystem, policy, source_of, task_called, used_filesystems}
-use Rattle.vt_laws_members.proofs.judging.TheirCalls.{IsMember, caller_in, sealing_of}
-use Rattle.vt_laws_mounts.proofs.letting_go.mounting.AttachedSwept.{new_mounts_of_trees_keep_all}
-use Rattle.vt_laws_mounts.proofs.letting_go.sweeps.OfWorlds.{all_in_use, locations_of_worlds_stand, mounts_of_worlds_stand}
-use Rattle.vt_laws_sealed.proofs.part.part.PartOfPart.{is_own}
+use Rattle.std.proofs.Common.{◌≡◌, refl, sym, ap, subst, ◌∙◌, inl, inr, ⊎_elim, ℕ, nat_eq, true, false, List, [], ◌∷◌, Some, None, Ok, ◌||◌, eq-eqb, IfOk}
+use Rattle.vt_spec.proofs.Common.{Among, Copies, Done, Filesystem, Fresh, Location, Mount, MountFlags, MountPlain, Permit, Serves, Task, TaskName, ToMountPlain, World, admin_rules, attach_permit, attached_by, copies_from, destination_walk, granted, is_among, judge_in, layers_of, list_any, members, mount_at, mount_plain_permit, mounted, new_mount, new_mount_rules, none_is_some, numbers_raised, odds, of_overlay, overfills, part_of, plain_filesystem, policy, source_of, task_called, used_filesystems}
+use Rattle.vt_laws_members.proofs.judging.Common.{IsMember, IsTheirs, caller_in, owned, sealing_of, theirs_from}
+use Rattle.vt_laws_members.proofs.Common.{all_in_use, is_own, locations_of_worlds_stand, mounts_of_worlds_stand, new_mounts_of_trees_keep_all}
 use Rattle.vt_laws_members.specs.Judging.{is_theirs}
-use Rattle.vt_laws_members.proofs.judging.AllJudged.{owned}
-use Rattle.vt_laws_members.proofs.judging.Grounds.{IsTheirs, theirs_from}
-use Rattle.vt_laws_members.specs.Changes.Changes.{EndAlike, EndsAlike, IsCallOfTheirs, grown}
-use Rattle.vt_laws_members.proofs.changes.letting_go.Moving.{StandsHere, one}
-use Rattle.vt_laws_members.proofs.changes.letting_go.Umounting.{of_passed}
-use Rattle.vt_laws_members.proofs.changes.looks.Granted.{of_rules, of_walk}
-use Rattle.vt_laws_members.proofs.changes.looks.Told.{ended_alike, ran, same_caller}
-use Rattle.vt_laws_members.proofs.changes.part.SettledPart.{part_in_use}
-use Rattle.vt_laws_members.proofs.changes.tasks.ByPermit.{by_known}
-use Rattle.vt_laws_members.proofs.changes.tasks.Denied.{denial_ends_alike, ran_there, run_by, unnamed_ends_alike}
+use Rattle.vt_laws_members.specs.Changes.Changes.{EndsAlike, IsCallOfTheirs}
+use Rattle.vt_laws_members.proofs.changes.Common.{StandsHere, by_known, ended_alike, of_passed, of_rules, of_walk, one, part_in_use, ran, ran_there, run_by, same_caller}
 use Rattle.vt_laws_members.specs.Attached.Attaching.{PlainMountsEndAlike}
 use Rattle.vt_laws_members.proofs.attached.AttachedAlike.{copies_alike}
 use Rattle.vt_laws_members.proofs.attached.CopiesAlike.{AttachesTheirs, base_part, parts, parts_alike}

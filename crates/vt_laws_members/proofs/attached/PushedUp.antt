@@ -1,11 +1,8 @@
 -- What copies push up at receivers is theirs, and copies grow the world.
-use Rattle.std.proofs.Common.{arith, ◌≡◌, refl, sym, ap, subst, ◌∙◌, ◌⊎◌, inl, inr, ℕ, nat_eq, Bool, true, false, true≢false, List, [], Option, flat_map, map}
+use Rattle.std.proofs.Common.{arith, ◌≡◌, refl, sym, ap, ◌∙◌, ◌⊎◌, inl, inr, ℕ, nat_eq, Bool, true, false, true≢false, List, [], Option, flat_map, map}
 use Rattle.vt_spec.proofs.Common.{Among, Copies, Filesystem, Layer, Location, Mount, Task, TaskName, Twig, World, among-flat_map, among-from_flat_map, among-from_map, among-map, common_steps, copy_at, group_of, is_among, layers_of, list_any, members, mount_at, of_overlay, pushed_onto, rest_of, seen_by_descriptor, stands_at, twig_of, used_directly, used_filesystems}
-use Rattle.vt_laws_mounts.proofs.mounts.MountsPlaces.{stands_there}
-use Rattle.vt_laws_mounts.proofs.letting_go.Lists.{find_none}
-use Rattle.vt_laws_sealed.proofs.part.part.PartOfPart.{is_own}
-use Rattle.vt_laws_members.proofs.judging.Grounds.{child_theirs}
-use Rattle.vt_laws_members.proofs.judging.MountTrees.{own_theirs}
+use Rattle.vt_laws_members.proofs.Common.{find_none, is_own, stands_there}
+use Rattle.vt_laws_members.proofs.judging.Common.{child_theirs, own_theirs}
 use Rattle.vt_laws_members.proofs.attached.CopiesAlike.{AttachesTheirs, base, copies, parts, parts_own, push, tree}
 use Rattle.vt_laws_members.proofs.attached.Destination.{located_well}
 use Rattle.vt_laws_members.proofs.attached.GrownPart.{Grows}

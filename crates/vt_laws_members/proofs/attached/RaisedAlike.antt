@@ -1,15 +1,9 @@
 -- Where a set sees the same after a change of mounts, masters and filesystems in the world and in its part, the worlds
 -- that are left have one part, with their change numbers.
-use Rattle.std.proofs.Common.{arith, ◌≡◌, refl, sym, ap, ◌∙◌, ⊎_elim, ℕ, nat_eq, Bool, true, cond, true≢false, List, [], ◌∷◌, Option, Some, None, filter, map, ◌&&◌, eqb-true}
-use Rattle.vt_spec.proofs.Common.{Among, Filesystem, Mount, Namespace, Task, TaskName, World, among-filter, among-from_filter, common_steps, holds_of, is_at, is_member_task, is_own_mount, list_any, locations_of, map_alike, map_same, master_above, members, mounts_of, numbers_raised, or_left, own_mounts, part_of, raised, raised_if_changed, raised_namespace, raised_task, roots_and_directories, same_flags, same_list, same_location, same_mount, same_mounts_in, same_option, same_propagation, source_of, then_some}
-use Rattle.vt_laws_mounts.proofs.letting_go.Lists.{filter-map}
-use Rattle.vt_laws_sealed.proofs.part.Kept.{filter_again, filter_both}
-use Rattle.vt_laws_sealed.proofs.part.part.PartOfPart.{is_own, keep, kept_how, kept_whole, same_members}
-use Rattle.vt_laws_members.proofs.changes.letting_go.EndedRaised.{raised_number, same_list_alike}
-use Rattle.vt_laws_members.proofs.changes.letting_go.Heard.{heard_by_own, master_same, own_in, space_in_part}
-use Rattle.vt_laws_members.proofs.changes.tasks.Retasked.{retasked}
-use Rattle.vt_laws_members.proofs.changes.tasks.Rights.{raised_is, sees_alike}
-use Rattle.vt_laws_sealed.proofs.part.seals.ByPart.{IsSealed}
+use Rattle.std.proofs.Common.{arith, ◌≡◌, refl, sym, ap, ◌∙◌, ⊎_elim, ℕ, nat_eq, Bool, true, cond, true≢false, List, [], ◌∷◌, Option, Some, None, filter, map, eqb-true}
+use Rattle.vt_spec.proofs.Common.{Among, Filesystem, Mount, Namespace, Task, TaskName, World, among-filter, among-from_filter, common_steps, holds_of, is_at, is_member_task, is_own_mount, list_any, locations_of, map_alike, map_same, master_above, members, mounts_of, numbers_raised, or_left, own_mounts, part_of, raised, raised_if_changed, raised_namespace, raised_task, roots_and_directories, same_mount, same_mounts_in, source_of, then_some}
+use Rattle.vt_laws_members.proofs.Common.{IsSealed, filter-map, filter_again, filter_both, is_own, keep, kept_how, kept_whole, same_members}
+use Rattle.vt_laws_members.proofs.changes.Common.{heard_by_own, master_same, own_in, raised_is, raised_number, retasked, same_list_alike, sees_alike, space_in_part}
 
 -- the namespaces of these tasks
 abbrev pub spaces : List (Task ℕ) → Namespace ℕ → Bool
@@ -98,19 +92,18 @@ module _ {world : World ℕ} {names : List TaskName} (sealing : IsSealed world n
 
       -- the mounts of a namespace of theirs changed in both, or in none
       spaces_alike : same_mounts_in nat_eq part later_part n ≡ same_mounts_in nat_eq world later n
-      spaces_alike = ap (λ l. same_list (same_mount nat_eq part later_part) l (mounts_of nat_eq later_part n))
-          (space_in_part sealing n space) ∙ ap (same_list (same_mount nat_eq part later_part)
-          (mounts_of nat_eq world n)) later_alike ∙ same_list_alike (same_mount nat_eq part later_part)
-          (same_mount nat_eq world later) (mounts_of nat_eq world n) (mounts_of nat_eq later n) (λ x y m l.
-          let first = among-from_filter (its_in n) world.mounts x m in
-          let second = among-from_filter (its_in n) mounts y l in
-          compared x y (above_in_part sealing x (among-filter (is_own_mount nat_eq world names) world.mounts x first.0
-          (own_in sealing n space x first.1))) (masters y second.0 (own_in sealing n space y second.1)))
+      spaces_alike = cc (
+        space_in_part sealing n space,
+        later_alike,
+        same_list_alike
+            (same_mount nat_eq part later_part) (same_mount nat_eq world later) (mounts_of nat_eq world n)
+            (mounts_of nat_eq later n) (λ x y m l. let first = among-from_filter
+            (its_in n) world.mounts x m in let second = among-from_filter
+            (its_in n) mounts y l in compared x y (above_in_part sealing x (among-filter
+            (is_own_mount nat_eq world names) world.mounts x first.0
+            (own_in sealing n space x first.1))) (masters y second.0 (own_in sealing n space y second.1))),
+      )
         where
-          same_ones : Mount ℕ → Mount ℕ → Bool
-          same_ones x y = nat_eq x.number y.number && same_option (same_location nat_eq) x.mount_point y.mount_point
-              && same_flags x.flags y.flags && same_propagation nat_eq x.propagation y.propagation
-
           compared : (x y : Mount ℕ) → master_above part x ≡ master_above world x
               → master_above later_part y ≡ master_above later y
               → same_mount nat_eq part later_part x y ≡ same_mount nat_eq world later x y

@@ -1,14 +1,10 @@
 -- Numbers of a supply are no group of the world, and no filesystem that tasks use.
 use Rattle.std.proofs.Common.{arith, ◌≡◌, refl, sym, ap, subst, ◌∙◌, inl, inr, ⊎_elim, ℕ, nat_eq, Bool, true, false, true≢false, List, [], ◌++◌, Option, Some, None, flat_map, map, eqb-true, option_to_list}
 use Rattle.vt_spec.proofs.Common.{Among, Filesystem, Fresh, IsWorld, Layer, Location, Mount, Namespace, Overlay, Serves, TaskName, World, among-append, among-append_left, among-append_right, among-flat_map, among-from_filter, among-from_map, among_from_list_all, among_numbers, and_parts, change_layers, common_steps, filesystem_numbered, found_among, found_passes, has_its_root, is_among, is_among_numbers, is_directory_node, is_member_of, is_own_mount, layers_of, locations, members, mount_at, mount_numbered, none_from_among, numbers_in_use, overlay_or, own_mounts, source_of, used_by_filesystem, used_by_mount, used_directly, used_filesystems}
-use Rattle.vt_laws_mounts.proofs.GroupsUp.{source_from_group}
-use Rattle.vt_laws_sealed.proofs.part.part.MountsOver.{numbered}
-use Rattle.vt_laws_mounts.proofs.letting_go.sweeps.OfWorlds.{all_in_use}
-use Rattle.vt_laws_sealed.proofs.part.seals.ByPart.{layer_directory}
-use Rattle.vt_laws_members.proofs.judging.LowersSeen.{overlay_there}
+use Rattle.vt_laws_members.proofs.Common.{all_in_use, layer_directory, member_group, numbered, source_from_group}
+use Rattle.vt_laws_members.proofs.judging.Common.{overlay_there}
 use Rattle.vt_laws_members.proofs.attached.GrownPart.{used_how}
 use Rattle.vt_laws_members.proofs.attached.Destination.{located_well}
-use Rattle.vt_laws_sealed.proofs.part.groups.EventsApart.{member_group}
 
 module _ (world : World ℕ) (names : List TaskName) (is : IsWorld nat_eq world) where
   -- a filesystem of the world has this number

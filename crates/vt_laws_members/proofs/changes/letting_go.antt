@@ -16,6 +16,7 @@ pub mod Gone
 pub mod Heard
 pub mod Leaving
 pub mod LessSeen
+pub mod Living
 pub mod Moving
 pub mod NamespaceLess
 pub mod PartFiles

@@ -1,15 +1,11 @@
 -- Every call of theirs ends in the part as in the world.
-use Rattle.std.proofs.Common.{◌≡◌, refl, ℕ, nat_eq, false, List, Option, Some, Ok}
-use Rattle.vt_spec.proofs.Common.{Allowed, Bind, Call, Chdir, Chmod, Chown, Chroot, Close, Drop, Exec, Exit, Fork, ForkWords, Fresh, Lazy, LinkTo, ListMounts, Ls, Lstat, MakeWhiteout, Mkdir, MountOverlay, MountPlain, MoveMount, Opaque, OpenFile, Permit, PivotRoot, Pread, Pwrite, Read, Readlink, Remount, Rename, Rmdir, SetType, Setns, Stat, SymlinkAt, Task, TaskName, ToFork, ToRemoveDirectory, ToRename, Umask, Umount, Unlink, Unshare, World, Write, filesystem_at, is_overlay, judge_in, looks_of, only_looks, overfills, task_called, ⊤}
-use Rattle.vt_laws_members.specs.Changes.Changes.{EndsAlike, IsCallOfTheirs}
+use Rattle.std.proofs.Common.{◌≡◌, refl, ℕ, nat_eq, List, Option, Some, Ok}
+use Rattle.vt_spec.proofs.Common.{Allowed, Bind, Chdir, Chmod, Chown, Chroot, Close, Drop, Exec, Exit, Fork, ForkWords, Lazy, LinkTo, ListMounts, Ls, Lstat, MakeWhiteout, Mkdir, MountOverlay, MountPlain, MoveMount, Opaque, OpenFile, Permit, PivotRoot, Pread, Pwrite, Read, Readlink, Remount, Rename, Rmdir, SetType, Setns, Stat, SymlinkAt, Task, TaskName, ToFork, ToRemoveDirectory, ToRename, Umask, Umount, Unlink, Unshare, World, Write, filesystem_at, is_overlay, judge_in, task_called}
+use Rattle.vt_laws_members.specs.Changes.Changes.{EndsAlike}
 use Rattle.vt_laws_members.proofs.changes.letting_go.EnterLast.{setns_ends_alike}
-use Rattle.vt_laws_members.proofs.changes.letting_go.Exiting.{exits_end_alike}
-use Rattle.vt_laws_members.proofs.changes.letting_go.Moving.{chdirs_end_alike, chroots_end_alike, closes_end_alike}
-use Rattle.vt_laws_members.proofs.changes.letting_go.Umounting.{umounts_end_alike}
-use Rattle.vt_laws_members.proofs.changes.looks.Told.{looks_end_alike}
+use Rattle.vt_laws_members.proofs.changes.Common.{chdirs_end_alike, chroots_end_alike, closes_end_alike, drops_end_alike, exits_end_alike, looks_end_alike, renames_of_one_end_alike, umasks_end_alike, umounts_end_alike}
 use Rattle.vt_laws_members.proofs.changes.mounts.Remounting.{remounts_end_alike}
 use Rattle.vt_laws_members.proofs.changes.tasks.Forking.{forks_end_alike}
-use Rattle.vt_laws_members.proofs.changes.tasks.Rights.{drops_end_alike, renames_of_one_end_alike, umasks_end_alike}
 use Rattle.vt_laws_members.specs.OverlayNames.EachCalls.{AlwaysEndsAlike}
 use Rattle.vt_laws_members.proofs.overlay_names.each_call.Permitted.{Forks, Removes, Renames, each_chmod_ends_alike, each_chown_ends_alike, each_link_ends_alike, each_mkdir_ends_alike, each_open_ends_alike, each_part_write_ends_alike, each_symlink_ends_alike, each_unlink_ends_alike, each_write_ends_alike, either, fit_ends}
 use Rattle.vt_laws_members.proofs.overlay_names.names.HidingEnding.{all_opaques_end_alike, all_whiteouts_end_alike}

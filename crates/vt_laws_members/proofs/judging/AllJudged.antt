@@ -1,11 +1,8 @@
 -- Calls of members are judged in their part as in the world.
-use Rattle.std.proofs.Common.{arith, ◌≡◌, refl, sym, ap, subst, ◌∙◌, inr, ℕ, nat_eq, Bool, true, false, cond, true≢false, List, [], ◌∷◌, filter, find, Option, Some, None, Ok, not, length, ◌&&◌, ◌||◌, ◌+◌, nat_lt, ok_or, option_to_list}
-use Rattle.vt_spec.proofs.Common.{Among, Bind, Call, Chdir, Chmod, Chown, Chroot, Close, Descriptor, Drop, Exec, Exit, Filesystem, Fork, Judgement, Lazy, LinkTo, ListMounts, Location, Looks, Ls, Lstat, MakeWhiteout, Mkdir, Mount, MountOverlay, MountPlain, MoveMount, Opaque, OpenFile, Permit, PivotRoot, Pread, Pwrite, Read, Readlink, Remount, Rename, Rmdir, SetType, Setns, Stat, SymlinkAt, Task, TaskName, ToWritePart, Umask, Umount, Unlink, Unshare, World, Write, among-append_left, among-append_right, among-flat_map, among-map, among_from_contains, and_then, common_steps, contains_from_among, denial, descriptor_numbered, found_among, holds_of, is_among, is_busy, is_elsewhere, is_empty, is_locked_at, is_member_task, is_removed, judge, largest_file, live_layers, live_upper_and_work, locations, locations_of, looks_of, members, mount_at, mount_tree, number-mount_in, of_overlay, overlaps_one_of, overlay_rules, part_of, pwrite_permit, pwrite_rules, same_name, same_task_name, setns_permit, unless, upper_and_work, used_filesystems}
-use Rattle.vt_spec.specs.declared.errors.Rule.TheVariants.{E6, L1, S4}
+use Rattle.std.proofs.Common.{arith, ◌≡◌, refl, sym, ap, subst, ◌∙◌, inr, ℕ, nat_eq, Bool, true, false, cond, List, [], ◌∷◌, filter, find, Option, Some, None, Ok, not, length, ◌&&◌, ◌||◌, ◌+◌, nat_lt, ok_or, option_to_list}
+use Rattle.vt_spec.proofs.Common.{Among, Bind, Call, Chdir, Chmod, Chown, Chroot, Close, Descriptor, Drop, Exec, Exit, Fork, Judgement, Lazy, LinkTo, ListMounts, Location, Looks, Ls, Lstat, MakeWhiteout, Mkdir, MountOverlay, MountPlain, MoveMount, Opaque, OpenFile, Permit, PivotRoot, Pread, Pwrite, Read, Readlink, Remount, Rename, Rmdir, SetType, Setns, Stat, SymlinkAt, Task, TaskName, ToWritePart, Umask, Umount, Unlink, Unshare, World, Write, among-append_left, among-append_right, among-flat_map, among-map, among_from_contains, and_then, common_steps, contains_from_among, denial, descriptor_numbered, found_among, holds_of, is_among, is_busy, is_elsewhere, is_empty, is_locked_at, is_member_task, judge, largest_file, live_layers, live_upper_and_work, locations, locations_of, looks_of, members, mount_at, mount_tree, number-mount_in, overlaps_one_of, part_of, pwrite_permit, pwrite_rules, same_name, same_task_name, setns_permit, unless, upper_and_work, used_filesystems}
+use Rattle.vt_laws_members.proofs.Common.{Alike, E6, L1, S4, each_from, is_own, located, sealed_by}
 use Rattle.vt_laws_members.proofs.judging.TheirCalls.{IsMember, a_member}
-use Rattle.vt_laws_sealed.proofs.part.part.PartOfPart.{is_own, located}
-use Rattle.vt_laws_sealed.proofs.part.seals.ByPart.{sealed_by}
-use Rattle.vt_laws_sealed.proofs.part.walks.WalksAgree.{Alike, each_from}
 use Rattle.vt_laws_members.specs.Judging.{MembersAreJudgedAlike, is_theirs}
 use Rattle.vt_laws_members.proofs.judging.Busy.{busy_alike}
 use Rattle.vt_laws_members.proofs.judging.Grounds.{IsTheirs, its_mount, over_alike, same_mount, theirs_from, theirs_test}
@@ -171,9 +168,8 @@ module _ {world : World ℕ} {names : List TaskName} {task : Task ℕ} (member :
   trees = record {
     busy = λ here e apart. let at = on here e in
         subst (λ n. is_busy nat_eq world n ≡ is_busy nat_eq part n) at.2
-        (busy_alike member.sealing at.0 at.1 (ap (is_own world names (members world names))
-        (sym (its_mount world names member.is.mounts here.mount at))
-        ∙ owned here apart));
+        (busy_alike member.sealing at.0 at.1 (cc
+        (its_mount world names member.is.mounts here.mount at, owned here apart)));
     tree = λ here e. let at = on here e in
         sym (ap (mount_tree nat_eq part.mounts) (same_mount world names member.is.mounts here.mount at) ∙ tree_alike
         world names member.is (mount_at nat_eq world here)

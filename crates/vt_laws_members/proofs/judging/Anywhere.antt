@@ -1,13 +1,9 @@
 -- Mounts of other namespaces stand on nothing that members reach but what is locked.
-use Rattle.std.proofs.Common.{◌≡◌, refl, sym, ap, subst, ◌∙◌, inl, ⊎_elim, ℕ, nat_eq, Bool, true, false, true≢false, not, List, [], ◌++◌, Option, Some, None, is_some, ◌&&◌, eq-eqb, eqb-true, arith, option_map, option_to_list}
-use Rattle.vt_spec.proofs.Common.{Among, Filesystem, Layer, Location, Mount, Overlay, Stands, TaskName, World, among-append_left, among-filter, among-flat_map, among_from_all, among_from_list_all, among_numbers, and_from, and_parts, any_among, any_from_among, common_steps, directory_used, filesystem_at, filesystem_numbered, found_or_none, holds_of, is_among, is_directory_at, is_directory_node, is_locked, is_locked_at, is_overlay, is_own_namespace, is_point, is_under, layers_of, lies_in_layer, lies_or_counts_under, list_any, live_lowers, live_upper_and_work, locations, members, mount_at, mounts_on, no_outsider_on, none_among, none_is_some, not-true, of_overlay, or_cases, or_left, other_mounts, outsiders, overlaps_one_of, overlay_or, overlays, part_of, points_of, then_some, upper_and_work, upper_object, upper_points, used_alone, used_filesystems, wholly_locked}
-use Rattle.vt_laws_sealed.proofs.part.part.MountsOver.{numbered}
+use Rattle.std.proofs.Common.{inr, ◌≡◌, refl, sym, ap, subst, ◌∙◌, inl, ⊎_elim, ℕ, nat_eq, Bool, true, false, true≢false, not, List, [], ◌++◌, Option, Some, None, is_some, ◌&&◌, eq-eqb, eqb-true, arith, option_map, option_to_list}
+use Rattle.vt_spec.proofs.Common.{cases_Bool, Among, Filesystem, Layer, Location, Mount, Overlay, Stands, TaskName, World, among-append_left, among-filter, among-flat_map, among_from_all, among_from_list_all, among_numbers, and_from, and_parts, any_among, any_from_among, common_steps, directory_used, filesystem_at, filesystem_numbered, found_or_none, holds_of, is_among, is_directory_at, is_directory_node, is_locked, is_locked_at, is_overlay, is_own_namespace, is_point, is_under, lies_in_layer, lies_or_counts_under, list_any, live_lowers, live_upper_and_work, locations, members, mount_at, mounts_on, no_outsider_on, none_among, none_is_some, not-true, of_overlay, or_cases, or_left, other_mounts, outsiders, overlaps_one_of, overlays, part_of, points_of, then_some, upper_and_work, upper_object, upper_points, used_alone, used_filesystems, wholly_locked}
+use Rattle.vt_laws_members.proofs.Common.{IsSealed, all_locked, is_own, layer_directory, namespace_below, numbered, used_are_free}
 use Rattle.vt_laws_trees.proofs.layers.layers.LowersWorld.{number_of_filesystem}
 use Rattle.vt_laws_trees.proofs.layers.locked.Apart.{under_itself}
-use Rattle.vt_laws_sealed.proofs.part.locks.LockedTrees.{all_locked}
-use Rattle.vt_laws_sealed.proofs.part.part.PartOfPart.{is_own}
-use Rattle.vt_laws_sealed.proofs.part.seals.ByPart.{IsSealed, layer_directory, used_are_free}
-use Rattle.vt_laws_worlds.proofs.worlds.Reached.{namespace_below}
 use Rattle.vt_laws_members.proofs.judging.Locks.{tree_there, whole_how}
 use Rattle.vt_laws_members.proofs.judging.LowersSeen.{overlay_there, upper_used}
 use Rattle.vt_laws_members.proofs.judging.MountPoints.{found_alike, stands_on_one}
@@ -169,9 +165,7 @@ module _ {world : World ℕ} {names : List TaskName} (sealing : IsSealed world n
             → mount.namespace ≡ o → is_some mount.namespace ≡ true
             → is_own world names (members world names) mount ≡ true
         by mount m on None e attached = cc
-        by mount m on (Some n) e attached = which (is_own_namespace nat_eq world names n) refl
-          where
-            which : (b : Bool) → is_own_namespace nat_eq world names n ≡ b
-                → is_own world names (members world names) mount ≡ true
-            which true its = cc
-            which false its = absurd (none_stands mount m n e its on)
+        by mount m on (Some n) e attached = elim (cases_Bool (is_own_namespace nat_eq world names n)) [
+          | inl its ↦ cc
+          | inr its ↦ absurd (none_stands mount m n e its on)
+        ]

@@ -1,10 +1,7 @@
 -- Whether a mount of theirs is busy is the same in the part.
-use Rattle.std.proofs.Common.{◌≡◌, refl, sym, ap, ◌∙◌, ⊎_elim, ℕ, nat_eq, Bool, true, false, true≢false, not, List, ◌||◌}
-use Rattle.vt_spec.proofs.Common.{Among, Location, Mount, Task, TaskName, World, all_locations, among-filter, among-filter_map, among-flat_map, among-from_filter, among-from_filter_map, among-from_flat_map, among_from_list_all, among_numbers, any_among, any_from_among, going, has_child, is_among, is_busy, is_member_task, is_used, locations, locations_of, members, mount_at, mount_numbered, not-true, outsiders, part_of, same_truth, shares_no_events, stands_on}
-use Rattle.vt_spec.specs.Machine.Sealed.{is_on_own_mount}
-use Rattle.vt_laws_sealed.proofs.part.part.MountsOver.{numbered}
-use Rattle.vt_laws_sealed.proofs.part.part.PartOfPart.{is_own, keep, kept_how}
-use Rattle.vt_laws_sealed.proofs.part.seals.ByPart.{IsSealed, apart_if_sealed}
+use Rattle.std.proofs.Common.{◌≡◌, refl, ap, ⊎_elim, ℕ, nat_eq, Bool, true, false, not, List}
+use Rattle.vt_spec.proofs.Common.{Among, Location, Mount, Task, TaskName, World, all_locations, among-filter, among-filter_map, among-flat_map, among-from_filter, among-from_filter_map, among-from_flat_map, among_from_list_all, among_numbers, any_among, any_from_among, going, has_child, is_among, is_busy, is_member_task, is_used, locations, locations_of, members, mount_at, not-true, outsiders, part_of, same_truth, shares_no_events, stands_on}
+use Rattle.vt_laws_members.proofs.Common.{IsSealed, apart_if_sealed, is_on_own_mount, is_own, keep, kept_how, numbered}
 use Rattle.vt_laws_members.proofs.detached.lazily.GoingAlike.{going_alike, going_own}
 use Rattle.vt_laws_members.proofs.judging.Grounds.{IsTheirs, same_mount}
 use Rattle.vt_laws_members.proofs.judging.MountTrees.{child_own, own_theirs, own_whole}

@@ -1,12 +1,8 @@
 -- Calls of theirs are judged by the part alone, with the limit of mounts.
-use Rattle.std.proofs.Common.{arith, ◌≡◌, refl, sym, ap, subst, ◌∙◌, ℕ, nat_eq, Bool, true, false, not, List, [], ◌∷◌, Option, Some, None, Ok, ◌&&◌, ◌||◌, is_some}
+use Rattle.std.proofs.Common.{arith, ◌≡◌, refl, ap, ◌∙◌, ℕ, nat_eq, Bool, true, false, not, List, [], ◌∷◌, Option, Some, None, Ok, ◌&&◌, ◌||◌, is_some}
 use Rattle.vt_spec.proofs.Common.{Among, Call, Fresh, Here, Judgement, LayerLocations, Location, Looks, Mount, MountFlags, OverlayWords, Permit, Rules, Task, TaskName, ToBind, ToMountOverlay, ToMountPlain, ToMove, World, admin_rules, among_from_contains, and_then, attach_permit, bind_permit, bind_rules, common_steps, destination_walk, has_shared_parent, is_among, is_elsewhere, is_no_root, is_shared, is_unbindable, judge, layer_rules, layers_walked, list_any, looks_of, members, mount_numbered, mount_overlay_permit, mount_plain_permit, move_permit, move_rules, new_mount_rules, or_parts, overfills, overlay_at, overlay_permit_by, part_of, source_walk, unless, used_filesystems, walk_end}
-use Rattle.vt_spec.specs.declared.errors.Rule.TheVariants.{M2, M3, M4, M5, M6, M7, M9, M10}
-use Rattle.vt_spec.specs.Machine.Looks.{mount_at}
+use Rattle.vt_laws_members.proofs.Common.{Agree, M10, M2, M3, M4, M5, M6, M7, M9, is_own, mount_at, sealed_by}
 use Rattle.vt_laws_members.proofs.judging.TheirCalls.{IsMember, a_member}
-use Rattle.vt_laws_sealed.proofs.part.part.PartOfPart.{is_own}
-use Rattle.vt_laws_sealed.proofs.part.seals.ByPart.{sealed_by}
-use Rattle.vt_laws_sealed.proofs.part.walks.WalksAgree.{Agree}
 use Rattle.vt_laws_members.specs.Judging.{MembersAreJudgedByTheirPart, is_theirs}
 use Rattle.vt_laws_members.proofs.judging.AllJudged.{judges, members_are_judged_alike, owned}
 use Rattle.vt_laws_members.proofs.judging.Grounds.{IsTheirs, its_mount, theirs_from}
@@ -70,15 +66,15 @@ module _ {world : World ℕ} {names : List TaskName} {task : Task ℕ} (member :
   plain_limited : (path : List ℕ) (flags : MountFlags)
       → mount_plain_permit nat_eq one full task path flags ≡ mount_plain_permit nat_eq one full_too task path flags
   unfolding mount_plain_permit
-  plain_limited path flags = ap (unless (admin_rules task))
-      (judged_alike StandsThere (destination_walk nat_eq one task path) (destination_walk nat_eq one task path)
-      (λ here. attach_permit (new_mount_rules nat_eq one task here.location) full (ToMountPlain here.location flags))
+  plain_limited path flags = cc (judged_alike StandsThere (destination_walk nat_eq one task path)
+      (destination_walk nat_eq one task path) (λ here. attach_permit
+      (new_mount_rules nat_eq one task here.location) full (ToMountPlain here.location flags))
       (λ here. attach_permit (new_mount_rules nat_eq one task here.location) full_too
-      (ToMountPlain here.location flags)) (at_destination path) (λ here on.
-      asked_later (is_elsewhere nat_eq one task here.location) (full (ToMountPlain here.location flags))
-      (full_too (ToMountPlain here.location flags)) (λ b. (b, M9) ∷ []) (Ok (ToMountPlain here.location flags))
-      (λ apart. plain_overfills member.sealing here.location (there here.location on) (its here.location apart) fresh
-      other task flags)))
+      (ToMountPlain here.location flags)) (at_destination path) (λ here on. asked_later
+      (is_elsewhere nat_eq one task here.location) (full (ToMountPlain here.location flags)) (full_too
+      (ToMountPlain here.location flags)) (λ b. (b, M9) ∷ []) (Ok (ToMountPlain here.location flags))
+      (λ apart. plain_overfills member.sealing here.location (there here.location on)
+      (its here.location apart) fresh other task flags)))
 
   overlay_limited_by : (here : Location ℕ) → On here.mount → (options : Option OverlayWords) (flags : MountFlags)
       → overlay_permit_by nat_eq one full task here options flags

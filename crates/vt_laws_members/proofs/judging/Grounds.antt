@@ -1,15 +1,7 @@
 -- Where members get: their part has these mounts as they are, and no step leads to another one.
-use Rattle.std.proofs.Common.{◌≡◌, refl, sym, ap, subst, ◌∙◌, ◌⊎◌, inl, inr, ⊎_elim, ℕ, zero, suc, nat_eq, Bool, true, false, cond, true≢false, List, [], ◌∷◌, Option, Some, None, map, find, length, ◌≤◌, arith, eqb-true, option_map, unwrap_or, filter_map}
-use Rattle.vt_spec.proofs.Common.{Among, Location, Mount, MountInvariants, Stands, Task, TaskName, World, among-filter_map, among-map, among_from_all, and_from, and_parts, any_among, any_from_among, chain, chain_ends, chain_goes_on, child_at, common_steps, cons_option, found_among, found_or_none, found_passes, is_at, length-map, members, mount_numbered, mounts_over, no_mount, none_is_some, number-mount_in, or_cases, or_left, or_right, part_of, root_of, roots_and_directories, same_Some, stands_at}
-use Rattle.vt_laws_mounts.proofs.mounts.MountsPlaces.{stands_there}
-use Rattle.vt_laws_mounts.proofs.mounts.Standing.{rank, rank_bounded, rank_child}
-use Rattle.vt_laws_mounts.proofs.letting_go.Chains.{Way, chains_alike}
-use Rattle.vt_laws_mounts.proofs.letting_go.Chains.Way.{ends, goes_on}
-use Rattle.vt_laws_worlds.proofs.worlds.Reached.{namespace_below}
-use Rattle.vt_laws_sealed.proofs.part.Kept.{length-filter_map}
-use Rattle.vt_laws_sealed.proofs.part.part.MountsOver.{IsWhole, same_over, nowhere_stands, numbered}
-use Rattle.vt_laws_sealed.proofs.part.part.PartOfPart.{is_own, keep, kept_how, kept_whole}
-use Rattle.vt_laws_sealed.proofs.part.walks.WalksAgree.{Each}
+use Rattle.std.proofs.Common.{◌≡◌, refl, sym, ap, subst, ◌∙◌, ◌⊎◌, inl, inr, ⊎_elim, ℕ, zero, suc, nat_eq, Bool, true, false, cond, true≢false, List, [], ◌∷◌, Option, Some, None, map, find, length, ◌≤◌, arith, eqb-true, option_map, filter_map}
+use Rattle.vt_spec.proofs.Common.{Among, Location, Mount, MountInvariants, Stands, Task, TaskName, World, among-filter_map, among-map, among_from_all, and_from, and_parts, any_among, any_from_among, chain, chain_ends, chain_goes_on, child_at, common_steps, cons_option, found_among, found_or_none, found_passes, is_at, length-map, members, mount_numbered, mounts_over, none_is_some, number-mount_in, or_cases, or_left, or_right, part_of, root_of, roots_and_directories, same_Some, stands_at}
+use Rattle.vt_laws_members.proofs.Common.{Each, IsWhole, Way, chains_alike, ends, goes_on, is_own, keep, kept_how, kept_whole, length-filter_map, namespace_below, nowhere_stands, numbered, rank, rank_bounded, rank_child, same_over, stands_there}
 use Rattle.vt_laws_members.specs.Judging.{is_theirs}
 
 -- each step of a chain is so

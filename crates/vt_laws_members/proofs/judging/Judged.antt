@@ -2,8 +2,7 @@
 -- is reached.
 use Rattle.std.proofs.Common.{◌≡◌, refl, ap, ℕ, nat_eq, Bool, true, List, [], ◌∷◌, Ok}
 use Rattle.vt_spec.proofs.Common.{Allowed, Looks, Task, ToList, ToRead, ToSetDirectory, ToSetRoot, ToStat, cap_sys_chroot, chdir_permit, chroot_permit, directory_walk, enter_rules, exec_permit, exec_rules, lacks, list_permit, list_rules, lstat_permit, object_walk, read_permit, read_rules, readlink_permit, readlink_rules, stat_permit, symlink_walk, unless}
-use Rattle.vt_spec.specs.declared.errors.Rule.TheVariants.{K1}
-use Rattle.vt_laws_sealed.proofs.part.walks.WalksAgree.{Alike}
+use Rattle.vt_laws_members.proofs.Common.{Alike, K1}
 use Rattle.vt_laws_members.proofs.judging.Masks.{RulesSeeAlike, by_mask}
 use Rattle.vt_laws_members.proofs.judging.WalksLead.{HereAt, directory_agrees, judged_alike, object_agrees, symlink_agrees}
 
@@ -15,9 +14,6 @@ pub record JudgesAlike (one other : Looks ℕ) (task : Task ℕ) (own uses : ℕ
   pub seen : (number : ℕ) → own number ≡ true → uses (one.mount number).filesystem ≡ true
 
 module _ {one other : Looks ℕ} {task : Task ℕ} {own uses : ℕ → Bool} (alike : JudgesAlike one other task own uses) where
-  abbrev On : ℕ → Type 0
-  On number = own number ≡ true
-
   abbrev pub Stands : Rattle.vt_spec.specs.Machine.Walking.Here ℕ → Type 0
   Stands = HereAt alike.walks alike.directory alike.rules.removed
 

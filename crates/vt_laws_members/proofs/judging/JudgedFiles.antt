@@ -1,7 +1,7 @@
 -- Calls that make, change, remove and rename files are judged alike.
 use Rattle.std.proofs.Common.{◌≡◌, refl, ap, ℕ, nat_eq, Bool, true, List, [], ◌∷◌, Option, Some, None, Ok, arith, unwrap_or}
-use Rattle.vt_spec.proofs.Common.{Access, Creation, Exclusive, Judgement, Location, Looks, NoCreation, Node, OrCreate, Place, SetMark, Symlink, Task, ToChange, Whiteout, admin_rules, and_then, attr_at, attr_permit, attr_with_mode, attr_with_owner, chmod_permit, chown_permit, common_steps, create_file_permit, descriptor_rules, directory_mode, directory_walk, exact_attr, exclusive_word_rules, file_walk, file_word_rules, hard_link_permit, hard_link_rules, is_read_only, is_special, linking, make_permit, may_chown, mkdir_permit, new_attr, new_directory, new_leaf_walk, new_walk, object_there, object_walk, old_leaf_walk, opaque_permit, opaque_rules, open_by_permit, open_file_permit, open_permit, opened_or_created_permit, owns, removing, symlink_mode, symlink_permit, symlink_text_rules, symlink_walk, unless, unlink_permit, unlink_rules, walk_end, whiteout_permit, whiteout_rules, write_permit, written_permit}
-use Rattle.vt_spec.specs.declared.errors.Rule.TheVariants.{E1, E2}
+use Rattle.vt_spec.proofs.Common.{Access, Creation, Exclusive, Judgement, Location, Looks, NoCreation, Node, OrCreate, Place, SetMark, Symlink, Task, ToChange, Whiteout, admin_rules, and_then, attr_at, attr_permit, attr_with_mode, attr_with_owner, chmod_permit, chown_permit, common_steps, create_file_permit, descriptor_rules, directory_mode, directory_walk, exact_attr, exclusive_word_rules, file_walk, file_word_rules, hard_link_permit, hard_link_rules, is_read_only, is_special, linking, make_permit, may_chown, mkdir_permit, new_attr, new_directory, new_leaf_walk, new_walk, object_there, object_walk, old_leaf_walk, opaque_permit, opaque_rules, open_by_permit, open_file_permit, open_permit, opened_or_created_permit, owns, removing, symlink_mode, symlink_permit, symlink_walk, unless, unlink_permit, unlink_rules, walk_end, whiteout_permit, whiteout_rules, write_permit, written_permit}
+use Rattle.vt_laws_members.proofs.Common.{E1, E2}
 use Rattle.vt_spec.specs.Machine.Judge.{made_permit}
 use Rattle.vt_spec.specs.Machine.Rules.Descriptors.{copy_rules, is_copied_up}
 use Rattle.vt_laws_members.proofs.judging.Judged.{JudgesAlike, Stands}
@@ -45,14 +45,14 @@ module _ {one other : Looks ℕ} {task : Task ℕ} {own uses : ℕ → Bool} (al
   pub symlink_alike : (text path : List ℕ)
       → symlink_permit nat_eq one task text path ≡ symlink_permit nat_eq other task text path
   unfolding symlink_permit
-  symlink_alike text path = ap (unless (symlink_text_rules text))
-      (judged_alike IsPlaced (new_leaf_walk nat_eq one task path) (new_leaf_walk nat_eq other task path)
-      (λ place. made_permit nat_eq one task place
+  symlink_alike text path = cc (judged_alike IsPlaced (new_leaf_walk nat_eq one task path)
+      (new_leaf_walk nat_eq other task path) (λ place. made_permit nat_eq one task place
       (record { attr = exact_attr task symlink_mode; content = Symlink text }))
       (λ place. made_permit nat_eq other task place
       (record { attr = exact_attr task symlink_mode; content = Symlink text }))
       (new_leaf_agrees alike.walks alike.directory alike.rules.removed path)
-      (λ place at. made_alike place (record { attr = exact_attr task symlink_mode; content = Symlink text }) at.0))
+      (λ place at. made_alike place
+      (record { attr = exact_attr task symlink_mode; content = Symlink text }) at.0))
 
   abbrev whiteout_by : Place ℕ → Looks ℕ → Judgement ℕ
   whiteout_by place looks = unless (whiteout_rules looks task place)

@@ -1,17 +1,13 @@
 -- Mount calls that ask for the mounts of what is reached alone are judged alike.
-use Rattle.std.proofs.Common.{◌≡◌, refl, ap, ℕ, nat_eq, Bool, true, List, Ok}
+use Rattle.std.proofs.Common.{◌≡◌, refl, ap, ℕ, nat_eq, Bool, List, Ok}
 use Rattle.vt_spec.proofs.Common.{Here, Judgement, Location, Looks, MountFlags, Permit, Task, ToBind, ToMountPlain, ToSetType, ToUnmountLazily, TypeWord, admin_rules, and_then, attach_permit, bind_permit, bind_rules, destination_walk, directory_walk, is_elsewhere, is_no_root, lazy_permit, mount_plain_permit, new_mount_rules, source_walk, type_permit, type_rules, unless, walk_end}
-use Rattle.vt_spec.specs.Machine.Looks.{mount_at}
-use Rattle.vt_spec.specs.Machine.Rules.Mounting.{lazy_rules}
+use Rattle.vt_laws_members.proofs.Common.{lazy_rules, mount_at}
 use Rattle.vt_laws_members.proofs.judging.Judged.{JudgesAlike, Stands}
 use Rattle.vt_laws_members.proofs.judging.Masks.{by_mask}
 use Rattle.vt_laws_members.proofs.judging.WalksLead.{destination_agrees, directory_agrees, judged_alike, source_agrees}
 
 module _ {one other : Looks ℕ} {task : Task ℕ} {own uses : ℕ → Bool} (alike : JudgesAlike one other task own uses)
     (overfills : Permit ℕ → Bool) where
-  abbrev On : ℕ → Type 0
-  On number = own number ≡ true
-
   abbrev StandsThere : Here ℕ → Type 0
   StandsThere = Stands alike
 
@@ -55,12 +51,12 @@ module _ {one other : Looks ℕ} {task : Task ℕ} {own uses : ℕ → Bool} (al
 
   pub lazy_alike : (path : List ℕ) → lazy_permit nat_eq one task path ≡ lazy_permit nat_eq other task path
   unfolding lazy_permit
-  lazy_alike path = ap (unless (admin_rules task))
-      (judged_alike StandsThere (directory_walk nat_eq one task path) (directory_walk nat_eq other task path)
-      (λ here. lazy_by here.location one) (λ here. lazy_by here.location other)
+  lazy_alike path = cc (judged_alike StandsThere (directory_walk nat_eq one task path)
+      (directory_walk nat_eq other task path) (λ here. lazy_by here.location one)
+      (λ here. lazy_by here.location other)
       (directory_agrees alike.walks alike.directory alike.rules.removed path)
-      (λ here on. by_mask own uses one other alike.rules (lazy_by here.location)
-      (λ looks. rw (is_elsewhere, is_no_root, mount_at, on) refl)))
+      (λ here on. by_mask own uses one other alike.rules (lazy_by here.location) (λ looks. rw
+      (is_elsewhere, is_no_root, mount_at, on) refl)))
 
   abbrev type_by : TypeWord → Bool → Location ℕ → Looks ℕ → Judgement ℕ
   type_by word recursive here looks =

@@ -1,8 +1,7 @@
 -- Unmounts and moves of mounts are judged alike.
 use Rattle.std.proofs.Common.{◌≡◌, refl, ap, ◌∙◌, ℕ, nat_eq, Bool, true, false, not, List, [], ◌∷◌, Ok, is_some, ◌||◌, ◌&&◌}
 use Rattle.vt_spec.proofs.Common.{Here, Judgement, Location, Looks, Mount, Permit, Task, ToMove, ToUnmount, admin_rules, and_then, destination_walk, directory_walk, has_shared_parent, is_elsewhere, is_no_root, is_shared, is_unbindable, list_any, move_permit, source_walk, umount_permit, unless, walk_end}
-use Rattle.vt_spec.specs.declared.errors.Rule.TheVariants.{M2, M4, M5, M6, M7, M8, M9, M10}
-use Rattle.vt_spec.specs.Machine.Looks.{mount_at}
+use Rattle.vt_laws_members.proofs.Common.{M10, M2, M4, M5, M6, M7, M8, M9, mount_at}
 use Rattle.vt_laws_members.proofs.judging.Judged.{JudgesAlike, Stands}
 use Rattle.vt_laws_members.proofs.judging.JudgedPivots.{ParentsAlike}
 use Rattle.vt_laws_members.proofs.judging.Masks.{by_mask}
@@ -35,14 +34,14 @@ module _ {one other : Looks ℕ} {task : Task ℕ} {own : ℕ → Bool} (uses : 
 
   pub umount_alike : (path : List ℕ) → umount_permit nat_eq one task path ≡ umount_permit nat_eq other task path
   unfolding umount_permit
-  umount_alike path = ap (unless (admin_rules task))
-      (judged_alike StandsThere (directory_walk nat_eq one task path) (directory_walk nat_eq other task path)
-      (λ here. unmount_by here.location (one.is_busy here.location.mount) one)
-      (λ here. unmount_by here.location (other.is_busy here.location.mount) other)
-      (directory_agrees alike.walks alike.directory alike.rules.removed path) (λ here on.
-      busy_by here.location on (is_elsewhere nat_eq one task here.location) refl
-      ∙ by_mask own uses one other alike.rules (unmount_by here.location (other.is_busy here.location.mount))
-      (λ looks. rw (is_elsewhere, is_no_root, mount_at, on) refl)))
+  umount_alike path = cc (judged_alike StandsThere (directory_walk nat_eq one task path)
+      (directory_walk nat_eq other task path) (λ here. unmount_by here.location
+      (one.is_busy here.location.mount) one) (λ here. unmount_by here.location
+      (other.is_busy here.location.mount) other)
+      (directory_agrees alike.walks alike.directory alike.rules.removed path) (λ here on. busy_by here.location on
+      (is_elsewhere nat_eq one task here.location) refl ∙ by_mask own uses one other alike.rules
+      (unmount_by here.location (other.is_busy here.location.mount)) (λ looks. rw
+      (is_elsewhere, is_no_root, mount_at, on) refl)))
 
   -- the rules of a move, with the tree that moves and whether it has a shared parent
   abbrev move_by : Bool → Location ℕ → Location ℕ → (parent : Bool) → List (Mount ℕ) → Looks ℕ → Judgement ℕ

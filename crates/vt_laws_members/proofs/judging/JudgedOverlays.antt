@@ -1,11 +1,7 @@
 -- Mounts of overlays are judged alike.
-use Rattle.std.proofs.Common.{arith, ◌≡◌, refl, sym, ap, subst, ◌∙◌, inl, inr, ⊎_elim, ℕ, nat_eq, Bool, true, not, List, [], ◌∷◌, ◌++◌, Option, Some, None, Ok, Err, Result, length, is_some, ◌||◌, ◌&&◌, nat_lt, option_map, option_to_list}
+use Rattle.std.proofs.Common.{arith, ◌≡◌, refl, ap, ◌∙◌, inl, inr, ⊎_elim, ℕ, nat_eq, Bool, true, not, List, [], ◌∷◌, ◌++◌, Option, Some, None, Ok, Err, Result, length, is_some, ◌||◌, ◌&&◌, nat_lt, option_map, option_to_list}
 use Rattle.vt_spec.proofs.Common.{Among, Here, Judgement, Layer, LayerLocations, Location, Looks, Mount, MountFlags, Overlay, OverlayWords, Permit, Stop, Task, ToMountOverlay, admin_rules, among-append, among-append_left, among-append_right, among-from_map, and_then, any_pair, attach_permit, common_steps, destination_walk, each_walked, has_single_lower, is_elsewhere, is_empty_list, is_overlay_at, is_read_only, layer_at, layer_locations, layer_rules, layers_walked, list_any, map_alike, most_lowers, mount_overlay_permit, new_mount_rules, one_under_another, overlay_at, overlay_permit_by, source_walk, unless, upper_and_work, walk_end, walked_if_given, work_walked}
-use Rattle.vt_spec.specs.declared.errors.Deny.{Deny}
-use Rattle.vt_spec.specs.declared.errors.Rule.TheVariants.{O2, O3, O5}
-use Rattle.vt_spec.specs.Machine.Looks.{mount_at}
-use Rattle.vt_spec.specs.Machine.Rules.Mounting.{lie_apart, upper_and_work_locations}
-use Rattle.vt_laws_sealed.proofs.part.walks.WalksAgree.{Agree, Each}
+use Rattle.vt_laws_members.proofs.Common.{Agree, Deny, Each, O2, O3, O5, lie_apart, mount_at, upper_and_work_locations}
 use Rattle.vt_laws_members.proofs.judging.Judged.{JudgesAlike, Stands}
 use Rattle.vt_laws_members.proofs.judging.Masks.{by_mask}
 use Rattle.vt_laws_members.proofs.judging.WalksLead.{destination_agrees, judged_alike, source_agrees}

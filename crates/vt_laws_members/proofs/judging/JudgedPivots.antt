@@ -1,8 +1,7 @@
 -- A change of a mount's flags, and of the root mount, are judged alike.
 use Rattle.std.proofs.Common.{◌≡◌, refl, ap, ◌∙◌, ℕ, nat_eq, Bool, true, false, not, List, [], ◌∷◌, Ok, ◌||◌, ◌&&◌}
 use Rattle.vt_spec.proofs.Common.{Here, Judgement, Location, Looks, MountFlags, Task, ToPivot, ToSetFlags, admin_rules, and_then, destination_walk, directory_walk, has_shared_parent, is_elsewhere, is_no_root, is_on_descendant, is_shared, lies_under_location, list_any, pivot_permit, remount_permit, source_walk, unless, walk_end}
-use Rattle.vt_spec.specs.declared.errors.Rule.TheVariants.{M2, M7, M8, M11, M12}
-use Rattle.vt_spec.specs.Machine.Looks.{mount_at}
+use Rattle.vt_laws_members.proofs.Common.{M11, M12, M2, M7, M8, mount_at}
 use Rattle.vt_laws_members.proofs.judging.Judged.{JudgesAlike, Stands}
 use Rattle.vt_laws_members.proofs.judging.Masks.{by_mask}
 use Rattle.vt_laws_members.proofs.judging.WalksLead.{destination_agrees, directory_agrees, judged_alike, source_agrees}
@@ -39,15 +38,15 @@ module _ {one other : Looks ℕ} {task : Task ℕ} {own : ℕ → Bool} (uses : 
   pub remount_alike : (path : List ℕ) (flags : MountFlags)
       → remount_permit nat_eq one task path flags ≡ remount_permit nat_eq other task path flags
   unfolding remount_permit
-  remount_alike path flags = ap (unless (admin_rules task))
-      (judged_alike StandsThere (directory_walk nat_eq one task path) (directory_walk nat_eq other task path)
-      (λ here. flags_by flags here.location (one.is_written_through here.location.mount) one)
-      (λ here. flags_by flags here.location (other.is_written_through here.location.mount) other)
-      (directory_agrees alike.walks alike.directory alike.rules.removed path) (λ here on.
-      by_namespace flags here.location on (is_elsewhere nat_eq one task here.location) refl
-      ∙ by_mask own uses one other alike.rules
-      (flags_by flags here.location (other.is_written_through here.location.mount))
-      (λ looks. rw (is_elsewhere, is_no_root, mount_at, on) refl)))
+  remount_alike path flags = cc (judged_alike StandsThere (directory_walk nat_eq one task path)
+      (directory_walk nat_eq other task path) (λ here. flags_by flags here.location
+      (one.is_written_through here.location.mount) one) (λ here. flags_by flags here.location
+      (other.is_written_through here.location.mount) other)
+      (directory_agrees alike.walks alike.directory alike.rules.removed path)
+      (λ here on. by_namespace flags here.location on
+      (is_elsewhere nat_eq one task here.location) refl ∙ by_mask own uses one other alike.rules
+      (flags_by flags here.location (other.is_written_through here.location.mount)) (λ looks. rw
+      (is_elsewhere, is_no_root, mount_at, on) refl)))
 
   -- the rules of pivot_root(2), with what they ask of mounts below
   abbrev pivot_by : Location ℕ → Location ℕ → (descends below parent root : Bool) → Looks ℕ → Judgement ℕ

@@ -2,8 +2,7 @@
 use Rattle.std.proofs.Common.{◌≡◌, refl, sym, ap, ◌∙◌, inl, inr, ℕ, nat_eq, Bool, true, false, ◌||◌, ◌&&◌, not, List, [], ◌∷◌, ◌++◌, Option, Some, None, Ok, option_to_list}
 use Rattle.vt_spec.proofs.Common.{Allowed, Judgement, Location, Looks, Place, Rules, Task, ToRemoveDirectory, ToRename, and_then, any_from_among, has_no_upper, holds_of, is_directory_there, is_mount_point_anywhere, is_mount_point_in, is_one_object, is_read_only, list_any, may_not, moving, name_of, object_there, old_leaf_walk, old_walk, old_word_rules, removing, rename_new_walk, rename_permit, renamed_permit, rmdir_permit, rmdir_word_rules, same_object_rules, unless, walk_end, write_right}
 use Rattle.vt_spec.specs.declared.errors.Rule.{Rule}
-use Rattle.vt_spec.specs.declared.errors.Rule.TheVariants.{B1, C1, C3, E2, E3, E4, E5, F1, F2, L1, O1, P1, P2}
-use Rattle.vt_spec.specs.Machine.Looks.{is_directory_at, mount_at}
+use Rattle.vt_laws_members.proofs.Common.{B1, C1, C3, E2, E3, E4, E5, F1, F2, L1, O1, P1, P2, is_directory_at, mount_at}
 use Rattle.vt_spec.specs.Machine.Rules.Conditions.{is_kept, mounter_may_not}
 use Rattle.vt_spec.specs.Machine.Rules.Removing.{changes_parent, is_nonempty, is_stuck, same_filesystem}
 use Rattle.vt_laws_members.proofs.judging.Judged.{JudgesAlike}
@@ -178,13 +177,13 @@ module _ {one other : Looks ℕ} {task : Task ℕ} {own uses : ℕ → Bool} (al
       (to_rename from one))) (λ from. unless (old_word_rules from)
       (and_then (walk_end (rename_new_walk nat_eq other task new (is_directory_there nat_eq other from)))
       (to_rename from other))) (old_leaf_agrees alike.walks alike.directory alike.rules.removed old)
-      (λ from at. ap (unless (old_word_rules from))
-      (judged_alike IsAt (rename_new_walk nat_eq one task new (is_directory_there nat_eq one from))
-      (rename_new_walk nat_eq other task new (is_directory_there nat_eq one from))
-      (to_rename from one) (to_rename from other)
-      (rename_new_agrees alike.walks alike.directory alike.rules.removed new
-      (is_directory_there nat_eq one from)) (λ to stands. ap (unless (old_word_rules to))
-      (renamed_alike renames from to (object_there from) at.0 stands.0
-      (there_own alike from at) stands.1))
-      ∙ ap (λ b. and_then (walk_end (rename_new_walk nat_eq other task new b)) (to_rename from other))
-      (same_directory_there alike.walks alike.directory alike.rules.removed from at)))
+      (λ from at. cc (
+        judged_alike IsAt (rename_new_walk nat_eq one task new (is_directory_there nat_eq one from))
+            (rename_new_walk nat_eq other task new (is_directory_there nat_eq one from)) (to_rename from one)
+            (to_rename from other) (rename_new_agrees alike.walks alike.directory alike.rules.removed new
+            (is_directory_there nat_eq one from)) (λ to stands. ap (unless (old_word_rules to))
+            (renamed_alike renames from to (object_there from) at.0 stands.0
+            (there_own alike from at) stands.1)),
+        same_directory_there alike.walks alike.directory alike.rules.removed
+            from at,
+      ))

@@ -1,12 +1,7 @@
 -- What is locked in the world is locked in the part, and the other way round.
-use Rattle.std.proofs.Common.{◌≡◌, refl, sym, ap, subst, ◌∙◌, ⊎_elim, ℕ, nat_eq, true, cond, true≢false, List, [], Option, Some, None, find, is_some, ◌||◌, ◌&&◌, eq-eqb, eqb-true, arith, unwrap_or}
-use Rattle.vt_spec.proofs.Common.{Among, FileTree, Filesystem, IsTree, Layer, ListsNumbers, Overlay, TaskName, World, all_named, among-append_left, among-append_right, among-filter, among-filter_map, among-flat_map, among-from_filter, among-from_filter_map, among-from_flat_map, among_from_all, among_from_contains, among_from_list_all, among_numbers, and_from, and_parts, any_among, any_from_among, common_steps, contains_from_among, counts_in_layer, filesystem_numbered, found_among, has_layer_on, holds_of, is_among, is_directory_node, is_locked, is_lower_root, is_object_of, is_overlay, is_real_upper, is_there, is_under, layers_of, lies_in_layer, lies_or_counts_under, list_any, live_layers, named_in, no_filesystem, of_overlay, or_cases, or_left, or_right, overlays, own_lowers, part_of, part_of_filesystem, part_of_lower, same_truth, upper_real, used_alone, used_filesystems, when, wholly_locked}
-use Rattle.vt_laws_trees.proofs.layers.layers.ShownDirectories.{led_is_there}
-use Rattle.vt_laws_mounts.proofs.letting_go.sweeps.OfWorlds.{found_filesystem}
-use Rattle.vt_laws_trees.proofs.overlays.whole.ApartPaths.{under_led}
-use Rattle.vt_laws_sealed.proofs.part.locks.LockedTrees.{named_under, root_under}
-use Rattle.vt_laws_sealed.proofs.part.part.PartOfPart.{found, shown_how}
-use Rattle.vt_laws_sealed.proofs.part.seals.ByPart.{IsSealed, layer_directory, lower_plain, overlay_without_others, their_overlays_are_in_the_part, used_are_free}
+use Rattle.std.proofs.Common.{◌≡◌, refl, sym, ap, subst, ◌∙◌, ⊎_elim, ℕ, nat_eq, true, true≢false, List, [], Option, Some, None, find, is_some, ◌||◌, ◌&&◌, eq-eqb, eqb-true, arith, unwrap_or}
+use Rattle.vt_spec.proofs.Common.{Among, FileTree, Filesystem, IsTree, Layer, ListsNumbers, Overlay, TaskName, World, all_named, among-append_left, among-append_right, among-filter, among-filter_map, among-flat_map, among-from_filter, among-from_filter_map, among-from_flat_map, among_from_all, among_from_contains, among_from_list_all, among_numbers, and_from, and_parts, any_among, any_from_among, common_steps, contains_from_among, counts_in_layer, filesystem_numbered, found_among, has_layer_on, holds_of, is_among, is_directory_node, is_locked, is_lower_root, is_object_of, is_overlay, is_real_upper, is_there, is_under, layers_of, lies_in_layer, lies_or_counts_under, list_any, live_layers, named_in, no_filesystem, of_overlay, or_cases, or_left, or_right, overlays, part_of, part_of_filesystem, same_truth, upper_real, used_alone, used_filesystems, wholly_locked}
+use Rattle.vt_laws_members.proofs.Common.{IsSealed, found, found_filesystem, layer_directory, led_is_there, lower_plain, named_under, overlay_without_others, root_under, shown_how, their_overlays_are_in_the_part, under_led, used_are_free}
 
 -- an overlay with one of its layers in the filesystem
 pub has_layer : (number : ℕ) (merged : Filesystem ℕ) (layer : Layer ℕ) → Among layer (of_overlay [] layers_of merged)

@@ -1,14 +1,8 @@
 -- What lower layers of overlays that members reach have at a path is in the part.
-use Rattle.std.proofs.Common.{◌≡◌, refl, sym, ap, subst, ◌∙◌, inl, inr, ⊎_elim, ℕ, nat_eq, Bool, true, false, cond, not, List, [], ◌∷◌, ◌++◌, filter, find, flat_map, map, Option, Some, None, ◌||◌, ◌&&◌, eq-eqb, eqb-true, arith, option_to_list, unwrap_or, filter_map}
-use Rattle.vt_spec.proofs.Common.{Among, FileTree, Filesystem, IsTree, IsWorld, Layer, ListsNumbers, Location, Node, Overlay, TaskName, World, among-append_left, among-append_right, among-filter, among-flat_map, among-map, among_from_all, among_numbers, and_from, any_from_among, change_layers, common_steps, cons_option, cuts, entries_in, entry_named, filesystem_at, filesystem_numbered, found_among, has_lower_directory, has_lower_directory_at, hides, is_among, is_among_numbers, is_directory_node, is_under, layers_of, led, lies_in_layer, lies_in_own_lower, list_any, mount_at, no_filesystem, node_led, none_is_some, of_overlay, open_layer, overlay_or, own_lowers, part_of, part_of_filesystem, part_of_lower, path_down, prefixes, used_directly, used_filesystems, view_of, when}
-use Rattle.vt_spec.specs.Machine.Views.{lowers_have_directory}
-use Rattle.vt_laws_trees.proofs.layers.layers.ShownDirectories.{led_is_there}
+use Rattle.std.proofs.Common.{◌≡◌, refl, sym, ap, ◌∙◌, inl, inr, ⊎_elim, ℕ, nat_eq, Bool, true, false, cond, not, List, [], ◌∷◌, ◌++◌, filter, find, flat_map, map, Option, Some, None, ◌||◌, ◌&&◌, eq-eqb, eqb-true, arith, option_to_list, unwrap_or, filter_map}
+use Rattle.vt_spec.proofs.Common.{cases_Bool, Among, FileTree, Filesystem, IsTree, IsWorld, Layer, ListsNumbers, Location, Node, Overlay, TaskName, World, among-append_left, among-append_right, among-filter, among-flat_map, among-map, among_from_all, among_numbers, and_from, any_from_among, change_layers, common_steps, cons_option, cuts, filesystem_at, filesystem_numbered, found_among, has_lower_directory, has_lower_directory_at, hides, is_among, is_among_numbers, is_directory_node, is_under, led, lies_in_layer, lies_in_own_lower, list_any, mount_at, no_filesystem, node_led, none_is_some, of_overlay, open_layer, overlay_or, own_lowers, part_of, part_of_filesystem, part_of_lower, path_down, prefixes, used_directly, used_filesystems, view_of, when}
+use Rattle.vt_laws_members.proofs.Common.{cases_Option, among-each_once, found, found_filesystem, layer_directory, led_is_there, led_under, lowers_have_directory, shown_how}
 use Rattle.vt_laws_trees.proofs.layers.views.Stay.{led_where}
-use Rattle.vt_laws_mounts.proofs.letting_go.sweeps.OfWorlds.{found_filesystem}
-use Rattle.vt_laws_trees.proofs.overlays.whole.ApartPaths.{led_under}
-use Rattle.vt_laws_sealed.proofs.part.Kept.{among-each_once}
-use Rattle.vt_laws_sealed.proofs.part.part.PartOfPart.{found, shown_how}
-use Rattle.vt_laws_sealed.proofs.part.seals.ByPart.{layer_directory}
 use Rattle.vt_laws_members.proofs.judging.SeenInPart.{OnTheirs, filesystem_alike, theirs_directly}
 
 module _ (world : World ℕ) (names : List TaskName) (is : IsWorld nat_eq world) where
@@ -80,24 +74,22 @@ module _ (world : World ℕ) (names : List TaskName) (is : IsWorld nat_eq world)
 
       kept : (x : Filesystem ℕ) → Among x world.filesystems → layer.filesystem ≡ x.number → (path : List (List ℕ))
           → (y : Filesystem ℕ) × (shown x ≡ Some y) × (view_at layer path y ≡ view_at layer path x)
-      kept x there its path = by (is_among nat_eq x.number used) refl
-        where
-          by : (b : Bool) → is_among nat_eq x.number used ≡ b
-              → (y : Filesystem ℕ) × (shown x ≡ Some y) × (view_at layer path y ≡ view_at layer path x)
-          by true e = (
-            x,
-            ap (λ b. cond b (Some x) (when (list_any (λ layer. nat_eq x.number layer.filesystem) lowers)
-                (part_of_lower nat_eq world names x))) e,
-            refl,
-          )
-          by false e = (
-            part_of_lower nat_eq world names x,
-            ap (λ b. cond b (Some x) (when (list_any (λ layer. nat_eq x.number layer.filesystem) lowers)
-                (part_of_lower nat_eq world names x))) e ∙ ap (λ b. when b (part_of_lower nat_eq world names x))
-                (any_from_among (λ (l : Layer ℕ). nat_eq x.number l.filesystem) lowers layer low
-                (eq-eqb x.number layer.filesystem (sym its))),
-            cut_view x there its path,
-          )
+      kept x there its path = elim (cases_Bool (is_among nat_eq x.number used)) [
+        | inl e ↦ (
+          x,
+          ap (λ b. cond b (Some x) (when (list_any (λ layer. nat_eq x.number layer.filesystem) lowers)
+              (part_of_lower nat_eq world names x))) e,
+          refl,
+        )
+        | inr e ↦ (
+          part_of_lower nat_eq world names x,
+          ap (λ b. cond b (Some x) (when (list_any (λ layer. nat_eq x.number layer.filesystem) lowers)
+              (part_of_lower nat_eq world names x))) e ∙ ap (λ b. when b (part_of_lower nat_eq world names x))
+              (any_from_among (λ (l : Layer ℕ). nat_eq x.number l.filesystem) lowers layer low
+              (eq-eqb x.number layer.filesystem (sym its))),
+          cut_view x there its path,
+        )
+      ]
 
       abbrev passes : Filesystem ℕ → Bool
       passes x = nat_eq layer.filesystem x.number
@@ -216,12 +208,10 @@ module _ (world : World ℕ) (names : List TaskName) (is : IsWorld nat_eq world)
 
     pub lower_directory_alike : (name : List ℕ)
         → has_lower_directory_at nat_eq world here name ≡ has_lower_directory_at nat_eq part here name
-    lower_directory_alike name = by merged.overlay refl
+    lower_directory_alike name = (elim (cases_Option merged.overlay) [
+      | inl e ↦ ap (asked world name merged) e ∙ sym (ap (asked part name merged) e)
+      | inr its ↦ ap (asked world name merged) its.1 ∙ all_alike its.0 its.1
+          (unwrap_or (path_down nat_eq merged.files merged.files.tree.root here.node) [] ++ (name ∷ []))
+          ∙ sym (ap (asked part name merged) its.1)
+    ])
         ∙ ap (λ (x : Filesystem ℕ). asked part name x x.overlay) (filesystem_alike world names is here own)
-      where
-        by : (o : Option (Overlay ℕ)) → merged.overlay ≡ o
-            → asked world name merged merged.overlay ≡ asked part name merged merged.overlay
-        by None e = ap (asked world name merged) e ∙ sym (ap (asked part name merged) e)
-        by (Some overlay) e = ap (asked world name merged) e ∙ all_alike overlay e
-            (unwrap_or (path_down nat_eq merged.files merged.files.tree.root here.node) [] ++ (name ∷ []))
-            ∙ sym (ap (asked part name merged) e)

@@ -1,6 +1,6 @@
 -- What two worlds show alike at some mounts is the same where the rest is covered. So a table of rules that asks for
 -- what is there alone is the same in both.
-use Rattle.std.proofs.Common.{◌≡◌, refl, sym, ap, ◌∙◌, ℕ, Bool, true, false, cond, [], None, arith}
+use Rattle.std.proofs.Common.{◌≡◌, refl, ℕ, Bool, true, false, cond, [], None, arith}
 use Rattle.vt_spec.proofs.Common.{Change, Location, Looks, common_steps, no_mount}
 
 same_if : {A : Type 0} (b : Bool) (x y d : A) → (b ≡ true → x ≡ y) → cond b x d ≡ cond b y d

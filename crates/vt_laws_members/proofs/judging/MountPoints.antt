@@ -1,8 +1,7 @@
 -- Which mounts are on what members reach is the same in the part.
-use Rattle.std.proofs.Common.{◌≡◌, refl, sym, ap, subst, ◌∙◌, inl, inr, ⊎_elim, ℕ, nat_eq, Bool, true, false, true≢false, ◌⊎◌, cond, List, [], ◌∷◌, Option, Some, None, ◌||◌, ◌&&◌, eqb-true, arith}
-use Rattle.vt_spec.proofs.Common.{Among, Filesystem, IsWorld, Location, Mount, Overlay, Task, TaskName, World, among-filter, among-filter_map, among-from_filter, among-from_filter_map, among-from_flat_map, any_among, any_from_among, common_steps, holds_of, is_at, is_point, list_any, locations, looks_of, members, mount_at, mount_numbered, mounts_on, none_is_some, of_overlay, or_left, or_right, part_of, points_of, roots_and_directories, same_Some, same_truth, seen_by_descriptor, upper_points, when}
-use Rattle.vt_laws_sealed.proofs.part.part.MountsOver.{numbered}
-use Rattle.vt_laws_sealed.proofs.part.part.PartOfPart.{is_own, keep, kept_how, kept_whole}
+use Rattle.std.proofs.Common.{◌≡◌, refl, sym, ap, ◌∙◌, inl, inr, ⊎_elim, ℕ, nat_eq, Bool, true, false, ◌⊎◌, List, [], ◌∷◌, Some, None, ◌||◌, ◌&&◌, eqb-true, arith}
+use Rattle.vt_spec.proofs.Common.{Among, IsWorld, Location, Mount, Task, TaskName, World, among-filter, among-filter_map, among-from_filter, among-from_filter_map, among-from_flat_map, any_among, any_from_among, common_steps, holds_of, is_at, is_point, list_any, locations, looks_of, members, mount_at, mounts_on, none_is_some, or_left, or_right, part_of, points_of, roots_and_directories, same_Some, same_truth, seen_by_descriptor, when}
+use Rattle.vt_laws_members.proofs.Common.{cases_Option, is_own, keep, kept_how, kept_whole, numbered}
 use Rattle.vt_laws_members.specs.Judging.{is_theirs}
 use Rattle.vt_laws_members.proofs.judging.Grounds.{IsTheirs, parent_theirs, same_mount, theirs_from}
 use Rattle.vt_laws_members.proofs.judging.JudgedRemoving.{PointsAlike}
@@ -20,18 +19,16 @@ module _ (world : World ℕ) (names : List TaskName) (is : IsWorld nat_eq world)
 
   point_same : (mount : Mount ℕ) → Among mount world.mounts → owns mount ≡ true → (filesystem node : ℕ)
       → is_point nat_eq part filesystem node mount ≡ is_point nat_eq world filesystem node mount
-  point_same mount m own filesystem node = by mount.mount_point refl
+  point_same mount m own filesystem node = elim (cases_Option mount.mount_point) [
+    | inl e ↦ cc
+    | inr its ↦ let below : IsTheirs world names is.mounts its.0.mount = parent_theirs world names is.mounts
+        mount.number
+        its.0 (mount, m, refl, inl own) (cc (numbered world names is.mounts mount m)) in
+        cc (same_mount world names is.mounts its.0.mount below)
+  ]
     where
       test : World ℕ → Location ℕ → Bool
       test w point = nat_eq point.node node && nat_eq (mount_at nat_eq w point).filesystem filesystem
-
-      by : (o : Option (Location ℕ)) → mount.mount_point ≡ o
-          → holds_of (test part) mount.mount_point ≡ holds_of (test world) mount.mount_point
-      by None e = cc
-      by (Some point) e =
-          let below : IsTheirs world names is.mounts point.mount = parent_theirs world names is.mounts mount.number
-          point (mount, m, refl, inl own) (cc (numbered world names is.mounts mount m)) in
-          cc (same_mount world names is.mounts point.mount below)
 
   abbrev pub stands_on_one : World ℕ → List (ℕ × ℕ) → Mount ℕ → Bool
   stands_on_one w points mount = list_any (λ (point : ℕ × ℕ). is_point nat_eq w point.0 point.1 mount) points

@@ -1,14 +1,7 @@
 -- Children of mounts of theirs, and trees of mounts, are the same in the part.
 use Rattle.std.proofs.Common.{◌≡◌, refl, sym, ap, subst, ◌∙◌, inl, ⊎_elim, ℕ, zero, suc, nat_eq, Bool, true, false, true≢false, List, [], ◌∷◌, Option, Some, None, filter, flat_map, length, not, ◌⊎◌, ◌+◌, ◌≤◌, arith, eqb-true, filter_map}
-use Rattle.vt_spec.proofs.Common.{Among, Filesystem, IsWorld, Location, Mount, Stands, Task, TaskName, World, all_from_among, among-from_filter, among-from_filter_map, among_from_all, any_pair, at_root, bind_tree, bindable_children, bindable_tree, bound, children, common_steps, cons_option, holds_of, is_at, is_directory_under, is_unbindable, list_any, locations, members, mount_tree, none_among, none_from_among, none_is_some, on_parent, or_from, or_left, or_parts, part_of, roots_and_directories, seen_by_descriptor, stands_on, stands_under, tree_from}
-use Rattle.vt_laws_sealed.proofs.part.part.MountsOver.{nowhere_stands}
-use Rattle.vt_laws_mounts.proofs.letting_go.Lists.{flat_map_alike}
-use Rattle.vt_laws_mounts.specs.Mounts.Invariants.{OneNumberEach}
-use Rattle.vt_laws_mounts.specs.Mounts.Standing.{AllStand}
-use Rattle.vt_laws_mounts.proofs.mounts.MountsReplaced.{found_itself}
-use Rattle.vt_laws_mounts.proofs.mounts.Standing.{rank, rank_bounded, rank_child}
-use Rattle.vt_laws_sealed.proofs.part.Kept.{filter_both}
-use Rattle.vt_laws_sealed.proofs.part.part.PartOfPart.{is_own, keep, kept_how, kept_whole}
+use Rattle.vt_spec.proofs.Common.{Among, Filesystem, IsWorld, Location, Mount, Stands, Task, TaskName, World, all_from_among, among-from_filter, among-from_filter_map, among_from_all, any_pair, at_root, bind_tree, bindable_children, bindable_tree, children, common_steps, cons_option, holds_of, is_at, is_directory_under, is_unbindable, list_any, locations, members, mount_tree, none_among, none_from_among, none_is_some, on_parent, or_from, or_left, or_parts, part_of, roots_and_directories, seen_by_descriptor, stands_on, stands_under, tree_from}
+use Rattle.vt_laws_members.proofs.Common.{AllStand, OneNumberEach, filter_both, flat_map_alike, found_itself, is_own, keep, kept_how, kept_whole, nowhere_stands, rank, rank_bounded, rank_child}
 use Rattle.vt_laws_members.proofs.judging.Grounds.{IsTheirs, child_theirs, parent_theirs, same_mount}
 use Rattle.vt_laws_members.proofs.judging.MountPoints.{part_mount}
 use Rattle.vt_laws_members.proofs.judging.SeenInPart.{filesystem_alike}
@@ -196,18 +189,18 @@ module _ (world : World ℕ) (names : List TaskName) (is : IsWorld nat_eq world)
       (filter (λ (x : Mount ℕ). not (is_unbindable x.propagation)) list))
       (sym (none_below_in_part mount (omega (arith, m))) ∙ children_alike mount.number own)
   bindables_alike (suc n) (suc k) mount own l m =
-      ap (λ list. mount ∷ flat_map (bindable_tree nat_eq k part.mounts) list) (bindable_alike mount.number own)
-      ∙ ap (λ list. mount ∷ list)
-      (flat_map_alike (bindable_tree nat_eq k part.mounts) (bindable_tree nat_eq n world.mounts)
-      (bindable_children nat_eq world.mounts mount.number) (λ child chosen.
-      let at = (among-from_filter (λ (x : Mount ℕ). not (is_unbindable x.propagation))
-      (children nat_eq world.mounts mount.number) child chosen).0 in
-      let it = children_own mount.number child own at in
-      let below = child_deeper world is.mounts.one_number is.mounts.standing mount child at in
-      let below_in_part = child_deeper part part_one_number part_stands mount child
-      (subst (Among child) (sym (children_alike mount.number own)) at) in
-      bindables_alike n k child (own_theirs child it.0 it.1) (omega (arith, l, below))
-      (omega (arith, m, below_in_part))))
+      cc (
+        bindable_alike mount.number own,
+        flat_map_alike (bindable_tree nat_eq k part.mounts)
+            (bindable_tree nat_eq n world.mounts) (bindable_children nat_eq world.mounts mount.number)
+            (λ child chosen. let at = (among-from_filter (λ (x : Mount ℕ). not (is_unbindable x.propagation))
+            (children nat_eq world.mounts mount.number) child chosen).0 in let it = children_own mount.number
+            child own at in let below = child_deeper world is.mounts.one_number is.mounts.standing mount
+            child at in let below_in_part = child_deeper part part_one_number part_stands mount child
+            (subst (Among child) (sym
+            (children_alike mount.number own)) at) in bindables_alike n k child
+            (own_theirs child it.0 it.1) (omega (arith, l, below)) (omega (arith, m, below_in_part))),
+      )
 
   under_alike : (source : Location ℕ) → IsTheirs world names is.mounts source.mount
       → filter (stands_under nat_eq part source) (bindable_children nat_eq part.mounts source.mount)

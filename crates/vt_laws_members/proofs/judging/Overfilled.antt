@@ -1,16 +1,11 @@
 -- Whether an attachment at a mount of theirs leaves a namespace with too many mounts is the same in the part (M9).
 use Rattle.std.proofs.Common.{◌≡◌, refl, sym, ap, subst, ◌∙◌, ⊎_elim, ℕ, nat_eq, nat_lt, Bool, true, false, true≢false, not, List, [], ◌∷◌, filter, is_some, length, ◌&&◌, ◌+◌, ◌*◌, ◌≤◌, arith}
-use Rattle.vt_spec.proofs.Common.{Among, Copies, Filesystem, Fresh, Location, Mount, MountFlags, Namespace, Overlay, Task, TaskName, ToBind, ToMountOverlay, ToMountPlain, ToMove, World, among-filter_map, among-from_filter, among_from_list_all, attach, attached_by, bind_tree, common_steps, copies_from, evens, false_from_ne_true, filesystem_numbered, filter_alike, find-append, has_too_many, is_among, is_directory_node, is_directory_under, is_own_namespace, list_any, members, most_mounts, mount_at, mount_numbered, mount_tree, new_mount, number-mount_in, odds, overfills, overlay_filesystem, part_of, parts_of, plain_filesystem, receivers_of, takes_part, tree_among, used_filesystems, with_new_filesystem}
+use Rattle.vt_spec.proofs.Common.{Among, Copies, Filesystem, Fresh, Location, Mount, MountFlags, Namespace, Overlay, Task, TaskName, ToBind, ToMountOverlay, ToMountPlain, ToMove, World, among-filter_map, among-from_filter, among_from_list_all, attach, attached_by, bind_tree, common_steps, copies_from, evens, false_from_ne_true, filesystem_numbered, filter_alike, find-append, has_too_many, is_directory_node, is_directory_under, is_own_namespace, list_any, members, most_mounts, mount_at, mount_numbered, mount_tree, new_mount, number-mount_in, odds, overfills, overlay_filesystem, part_of, parts_of, plain_filesystem, receivers_of, takes_part, tree_among, with_new_filesystem}
 use Rattle.vt_laws_members.proofs.detached.lazily.GoingAlike.{receivers_alike, receivers_own}
-use Rattle.vt_laws_mounts.proofs.letting_go.Lists.{any-filter}
-use Rattle.vt_laws_sealed.proofs.part.part.MountsOver.{numbered}
+use Rattle.vt_laws_members.proofs.Common.{IsSealed, any-filter, filter_kept, found, is_own, keep, kept_how, numbered, trees_have_each_once}
 use Rattle.vt_laws_mounts.specs.Mounts.Ending.{count_in, is_in}
 use Rattle.vt_laws_mounts.proofs.Counting.{added_counted, moved_all}
-use Rattle.vt_laws_mounts.proofs.mounts.Standing.{trees_have_each_once}
-use Rattle.vt_laws_sealed.proofs.part.seals.ByPart.{IsSealed}
 use Rattle.vt_laws_worlds.proofs.worlds.FewMounts.{few_of, none_counted, not_too_many}
-use Rattle.vt_laws_sealed.proofs.part.Kept.{filter_kept}
-use Rattle.vt_laws_sealed.proofs.part.part.PartOfPart.{found, is_own, keep, kept_how}
 use Rattle.vt_laws_members.proofs.judging.Busy.{no_events}
 use Rattle.vt_laws_members.proofs.judging.Grounds.{IsTheirs, same_mount}
 use Rattle.vt_laws_members.proofs.judging.JudgedOverlays.{any_same}

@@ -1,8 +1,7 @@
 -- Layers of a new overlay overlap others in the part as in the world: overlayfs, "sharing and copying layers".
-use Rattle.std.proofs.Common.{arith, ◌≡◌, refl, sym, ap, subst, ◌∙◌, inl, ⊎_elim, ℕ, nat_eq, true, List, [], Some, ◌&&◌, eqb-true, option_to_list}
-use Rattle.vt_spec.proofs.Common.{Among, Filesystem, Layer, Overlay, TaskName, World, among-append_left, among-flat_map, among-from_filter, among-from_flat_map, among_numbers, any_among, any_from_among, common_steps, counts_in_layer, filesystem_numbered, is_among, is_overlay, is_under, layers_of, lies_in_layer, lies_or_counts_under, list_any, live_layers, live_upper_and_work, of_overlay, or_cases, or_left, overlaps_one_of, overlays, part_of, same_truth, upper_and_work, used_alone, used_filesystems, wholly_locked}
-use Rattle.vt_laws_sealed.proofs.part.part.PartOfPart.{found}
-use Rattle.vt_laws_sealed.proofs.part.seals.ByPart.{IsSealed, used_are_free}
+use Rattle.std.proofs.Common.{arith, ◌≡◌, refl, sym, ◌∙◌, inl, ⊎_elim, ℕ, nat_eq, true, List, [], Some, ◌&&◌, eqb-true, option_to_list}
+use Rattle.vt_spec.proofs.Common.{Among, Filesystem, Layer, Overlay, TaskName, World, among-append_left, among-flat_map, among-from_filter, among-from_flat_map, among_numbers, any_among, any_from_among, common_steps, counts_in_layer, filesystem_numbered, is_among, is_overlay, layers_of, lies_in_layer, lies_or_counts_under, list_any, live_layers, live_upper_and_work, of_overlay, or_cases, or_left, overlaps_one_of, overlays, part_of, same_truth, upper_and_work, used_alone, used_filesystems, wholly_locked}
+use Rattle.vt_laws_members.proofs.Common.{IsSealed, found, used_are_free}
 use Rattle.vt_laws_members.proofs.judging.Anywhere.{not_whole}
 use Rattle.vt_laws_members.proofs.judging.Locks.{alone_in_part, counts_how, has_layer, locked_alike, part_in_world, under_at}
 

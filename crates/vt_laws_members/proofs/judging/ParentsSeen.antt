@@ -1,11 +1,8 @@
 -- What is below a mount of theirs, and which files are open through it, is the same in the part.
 use Rattle.std.proofs.Common.{◌≡◌, refl, sym, ap, ◌∙◌, inr, ℕ, nat_eq, Bool, true, false, true≢false, not, List, length, Option, Some, None, ◌&&◌, eqb-true, arith}
-use Rattle.vt_spec.proofs.Common.{Among, Descriptor, Location, Looks, Mount, Task, TaskName, World, among-filter, among-flat_map, among-map, among_from_list_all, and_parts, any_among, chain, common_steps, false_from_ne_true, has_shared_parent, holds_of, is_elsewhere, is_member_task, is_shared, lies_under_location, list_any, locations, locations_of, looks_of, members, mount_at, mount_numbered, not-true, outsiders, part_of, rest_of}
-use Rattle.vt_spec.specs.Machine.Sealed.{is_on_own_mount}
+use Rattle.vt_spec.proofs.Common.{Among, Descriptor, Location, Looks, Mount, Task, TaskName, World, among-filter, among-flat_map, among-map, among_from_list_all, and_parts, any_among, chain, common_steps, false_from_ne_true, has_shared_parent, holds_of, is_elsewhere, is_member_task, is_shared, lies_under_location, list_any, locations, locations_of, looks_of, members, mount_at, mount_numbered, not-true, outsiders, part_of}
+use Rattle.vt_laws_members.proofs.Common.{any-filter, apart_if_sealed, is_on_own_mount, is_own}
 use Rattle.vt_laws_members.proofs.judging.TheirCalls.{IsMember}
-use Rattle.vt_laws_mounts.proofs.letting_go.Lists.{any-filter}
-use Rattle.vt_laws_sealed.proofs.part.part.PartOfPart.{is_own}
-use Rattle.vt_laws_sealed.proofs.part.seals.ByPart.{apart_if_sealed}
 use Rattle.vt_laws_members.specs.Judging.{is_theirs}
 use Rattle.vt_laws_members.proofs.judging.Grounds.{parent_theirs, same_mount, theirs_from, up_alike}
 use Rattle.vt_laws_members.proofs.judging.JudgedPivots.{ParentsAlike}

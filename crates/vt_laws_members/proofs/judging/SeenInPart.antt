@@ -1,11 +1,8 @@
 -- What members see on the mounts that they get to is what their part shows.
 use Rattle.std.proofs.Common.{◌≡◌, refl, sym, ap, subst, ◌∙◌, inl, inr, ⊎_elim, ℕ, nat_eq, Bool, true, List, [], ◌∷◌, Option, Some, map, eq-eqb, eqb-true, arith, option_to_list}
-use Rattle.vt_spec.proofs.Common.{Among, Filesystem, IsWorld, Location, Mount, Task, TaskName, World, all_locations, among-append_left, among-append_right, among-filter, among-flat_map, among-from_filter, among-from_flat_map, among-from_map, among-map, among_from_contains, among_from_list_all, and_parts, any_among, any_from_among, common_steps, filesystem_at, filesystem_numbered, hops, is_among, is_at, is_directory_at, is_directory_seen_in, is_directory_under, is_located_well, is_member_task, is_own_mount, is_there, list_all, locations, locations_of, looks_of, members, mount_at, mount_numbered, none_is_some, own_mounts, part_of, roots_and_directories, stands_on_directories, used_directly, used_filesystems}
-use Rattle.vt_laws_sealed.proofs.part.part.MountsOver.{numbered}
-use Rattle.vt_spec.specs.Machine.Walking.{hop}
+use Rattle.vt_spec.proofs.Common.{Among, IsWorld, Location, Mount, Task, TaskName, World, all_locations, among-append_left, among-append_right, among-filter, among-flat_map, among-from_filter, among-from_flat_map, among-from_map, among-map, among_from_contains, among_from_list_all, and_parts, any_among, any_from_among, common_steps, filesystem_at, filesystem_numbered, hops, is_among, is_at, is_directory_at, is_directory_seen_in, is_directory_under, is_located_well, is_member_task, is_own_mount, is_there, list_all, locations, locations_of, looks_of, members, mount_at, mount_numbered, none_is_some, own_mounts, part_of, roots_and_directories, stands_on_directories, used_directly, used_filesystems}
+use Rattle.vt_laws_members.proofs.Common.{Each, found, hop, numbered, used_directly_used}
 use Rattle.vt_laws_sealed.specs.Part.Walks.{AreOn}
-use Rattle.vt_laws_sealed.proofs.part.part.PartOfPart.{found, used_directly_used}
-use Rattle.vt_laws_sealed.proofs.part.walks.WalksAgree.{Each}
 use Rattle.vt_laws_members.specs.Judging.{MembersSeeAlike, is_theirs}
 use Rattle.vt_laws_members.proofs.judging.Grounds.{IsGround, IsTheirs, its_mount, over_alike, over_theirs, same_mount, theirs_from, theirs_test, up_alike, up_each}
 

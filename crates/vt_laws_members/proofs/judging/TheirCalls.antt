@@ -1,7 +1,7 @@
 -- A task of a sealed set, and a call of theirs.
 use Rattle.std.proofs.Common.{◌≡◌, sym, ap, ◌∙◌, ℕ, true, false, List, Ok, Some}
 use Rattle.vt_spec.proofs.Common.{Among, Call, Done, Task, TaskName, World, among-filter, found_among, found_passes, is_among, is_member_task, members, only_looks, same_name, same_task_name, task_called}
-use Rattle.vt_laws_sealed.proofs.part.seals.ByPart.{IsSealed, sealed_by}
+use Rattle.vt_laws_members.proofs.Common.{IsSealed, sealed_by}
 use Rattle.vt_laws_members.specs.Changes.Changes.{IsCallOfTheirs, grown}
 
 pub record IsMember (world : World ℕ) (names : List TaskName) (task : Task ℕ) : Type 0 where

@@ -1,11 +1,7 @@
 -- Every walk of a path leads alike, where two worlds show alike what it meets.
-use Rattle.std.proofs.Common.{◌≡◌, refl, ap, subst, ◌∙◌, ℕ, zero, suc, ◌+◌, ◌-◌, ◌++◌, nat_eq, Bool, true, false, cond, not, List, [], ◌∷◌, Option, Some, None, is_some, Ok, Err, Result, reverse, ◌||◌, ◌&&◌, arith, IfOk, flat_map, length, nat_lt, option_map, option_to_list, unwrap_or, ◌==◌}
-use Rattle.vt_spec.proofs.Common.{Dot, DotDot, Here, LastWord, Location, Looks, Mount, Named, NoWord, Place, Rules, Stop, Task, all_met, also_met, and_then, at_topmost, common_steps, destination_walk, directory_walk, ends_in_slash, entered, entered_mounts, entry_location, file_walk, filesystems_of, final_word, follow_rules, is_absolute, is_directory_node, is_directory_there, is_special, list_any, longest_name, met_at, most_symlinks, new_leaf_walk, new_walk, none_is_some, object_named, object_walk, old_leaf_walk, old_walk, path_text, place_walk, placed, rename_new_walk, same_Some, search_rules, slash_rules, source_walk, start_of, stepped, steps_at, stopped_by, symlink_of, symlink_start, symlink_there, symlink_walk, symlink_walk_by, then_walk, unless, walk_end, walk_start, walk_unless, words, words_walked}
-use Rattle.vt_spec.specs.declared.errors.Deny.{Deny}
-use Rattle.vt_spec.specs.declared.errors.Rule.TheVariants.{W2, W3, W6, W7, W8, W9}
-use Rattle.vt_spec.specs.Machine.Looks.{is_directory_at, topmost}
-use Rattle.vt_spec.specs.Machine.Walking.{file_or_symlink, file_walked, followed, last_walked, new_name_rules, path_walked, prefix_walked}
-use Rattle.vt_laws_sealed.proofs.part.walks.WalksAgree.{Agree, Alike, FollowsAgree, both_each, none_each, one_each, own_topmost, same_entry, same_filesystems, same_met, same_search, same_topmost, stepped_agrees, texts_agree, then_agree, unless_agree, word_agrees, words_agree}
+use Rattle.std.proofs.Common.{◌≡◌, refl, ap, subst, ◌∙◌, ℕ, zero, suc, ◌+◌, ◌++◌, nat_eq, Bool, true, false, cond, not, List, [], ◌∷◌, Option, Some, None, is_some, Ok, Err, Result, reverse, ◌||◌, ◌&&◌, arith, IfOk, flat_map, option_map, option_to_list, unwrap_or}
+use Rattle.vt_spec.proofs.Common.{Dot, DotDot, Here, LastWord, Location, Looks, Named, NoWord, Place, Rules, Stop, Task, and_then, at_topmost, common_steps, destination_walk, directory_walk, ends_in_slash, entered, entry_location, file_walk, filesystems_of, final_word, follow_rules, is_directory_node, is_directory_there, is_special, met_at, most_symlinks, new_leaf_walk, new_walk, none_is_some, object_named, object_walk, old_leaf_walk, old_walk, path_text, place_walk, placed, rename_new_walk, same_Some, search_rules, slash_rules, source_walk, start_of, stepped, steps_at, stopped_by, symlink_of, symlink_start, symlink_there, symlink_walk, symlink_walk_by, then_walk, unless, walk_end, walk_start, walk_unless, words, words_walked}
+use Rattle.vt_laws_members.proofs.Common.{Agree, Alike, Deny, FollowsAgree, W3, W6, W8, both_each, file_or_symlink, file_walked, followed, is_directory_at, last_walked, new_name_rules, none_each, one_each, own_topmost, path_walked, prefix_walked, same_entry, same_filesystems, same_met, same_search, same_topmost, stepped_agrees, texts_agree, then_agree, topmost, unless_agree, word_agrees, words_agree}
 
 pub ok_any : {A E : Type 0} (r : Result A E) → IfOk r (λ a. Unit {0})
 ok_any (Ok a) = tt

@@ -1,14 +1,10 @@
 -- What a granted pivot_root(2) has passed, in any world whose mounts have their invariants.
 use Rattle.std.proofs.Common.{arith, ◌≡◌, ℕ, nat_eq, Bool, true, false, true≢false, List, [], ◌∷◌, None, Ok, Err, Result, not, eqb-true, IfOk}
 use Rattle.vt_spec.proofs.Common.{Here, Location, Looks, MountInvariants, Permit, Stop, Task, ToPivot, World, admin_rules, at_topmost, child_at, common_steps, destination_walk, is_elsewhere, is_no_root, is_on_descendant, lies_under_location, looks_of, mount_at, mount_numbered, not-false, or_parts, pivot_permit, pivot_rules, source_walk, then_walk, unless, walk_unless, ⊤}
-use Rattle.vt_spec.specs.declared.errors.Rule.TheVariants.{W8}
-use Rattle.vt_spec.specs.Machine.Looks.{topmost}
-use Rattle.vt_laws_mounts.specs.Mounts.Namespaces.{CanPivot, IsIn}
-use Rattle.vt_laws_mounts.proofs.namespaces.Pivoting.{numbered_mounts_can_pivot}
+use Rattle.vt_laws_members.proofs.Common.{CanPivot, IsIn, W8, numbered_mounts_can_pivot, topmost}
 use Rattle.vt_laws_mounts.proofs.namespaces.Topmost.{topmost_is_free}
 use Rattle.vt_laws_worlds.proofs.worlds.FitPermits.{first_two}
-use Rattle.vt_laws_members.proofs.changes.looks.Granted.{of_rules, of_walk}
-use Rattle.vt_laws_members.proofs.changes.letting_go.Umounting.{Passed, of_passed}
+use Rattle.vt_laws_members.proofs.changes.Common.{Passed, of_passed, of_rules, of_walk}
 
 -- wherever a walk ends
 ends_somewhere : (r : Result (Here ℕ) (Stop ℕ)) → IfOk r (λ here. ⊤)

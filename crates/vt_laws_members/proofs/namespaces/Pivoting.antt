@@ -1,22 +1,10 @@
 -- Each pivot_root(2) ends in the part as in the world.
-use Rattle.std.proofs.Common.{arith, ◌≡◌, refl, sym, ap, subst, ◌∙◌, ◌⊎◌, inl, inr, ⊎_elim, ℕ, nat_eq, Bool, true, false, cond, true≢false, List, [], ◌∷◌, Option, Some, None, Ok, Err, filter, map, not, eq-eqb, eqb-true, IfOk, is_ok, append-nil}
-use Rattle.vt_spec.proofs.Common.{Among, Descriptor, Done, Fresh, Judgement, Location, Mount, MountInvariants, Namespace, Permit, PivotRoot, Private, Task, TaskName, ToPivot, World, among-flat_map, among-from_filter, among-from_flat_map, among-from_map, any_from_among, common_steps, false_from_ne_true, filter_all, granted, holds_of, is_among, is_member_task, is_own_namespace, judge_in, locations, locations_of, members, mount_at, mount_numbered, number-mount_in, numbers_raised, outsiders, part_of, pivoted, pivoted_location, pivoted_mount, pivoted_task, policy, root_of, roots_and_directories, same_name, seen_by_descriptor, settled, task_called}
-use Rattle.vt_laws_members.proofs.judging.TheirCalls.{IsMember, caller_in, sealing_of}
-use Rattle.vt_laws_mounts.proofs.letting_go.Lists.{any-map, filter-map}
-use Rattle.vt_laws_mounts.specs.Mounts.Namespaces.{CanPivot}
-use Rattle.vt_laws_mounts.proofs.namespaces.Pivoting.{is_new, is_root, moved_namespace, moved_other, new_among, pivot_keeps_mounts}
-use Rattle.vt_laws_sealed.proofs.part.part.PartOfPart.{is_own, same_members}
-use Rattle.vt_laws_members.proofs.judging.Grounds.{IsTheirs, same_mount}
-use Rattle.vt_laws_members.proofs.judging.MountTrees.{own_theirs}
-use Rattle.vt_laws_members.proofs.judging.SeenInPart.{directory_theirs, root_theirs}
-use Rattle.vt_laws_sealed.proofs.outsiders.OtherMounts.{namespace_outside}
-use Rattle.vt_laws_members.specs.Changes.Changes.{EndAlike, EndsAlike, IsCallOfTheirs, grown}
-use Rattle.vt_laws_members.proofs.changes.looks.Told.{ended_alike, ran, same_caller}
-use Rattle.vt_laws_members.proofs.changes.tasks.ByPermit.{by_known}
-use Rattle.vt_laws_members.proofs.changes.tasks.Denied.{denial_ends_alike, run_by, same_judgement, unnamed_ends_alike}
-use Rattle.vt_laws_members.proofs.changes.letting_go.Heard.{apart}
-use Rattle.vt_laws_members.proofs.changes.letting_go.NamespaceLess.{KeepsShape}
-use Rattle.vt_laws_members.proofs.changes.letting_go.PartMounts.{part_mounts}
+use Rattle.std.proofs.Common.{arith, ◌≡◌, refl, sym, ap, subst, ◌∙◌, ◌⊎◌, inl, inr, ⊎_elim, ℕ, nat_eq, Bool, true, false, cond, true≢false, List, [], ◌∷◌, Some, Ok, filter, map, not, eq-eqb, eqb-true, IfOk, append-nil}
+use Rattle.vt_spec.proofs.Common.{Among, Descriptor, Done, Fresh, Location, Mount, MountInvariants, Namespace, Permit, PivotRoot, Private, Task, TaskName, ToPivot, World, among-flat_map, among-from_filter, among-from_flat_map, among-from_map, any_from_among, common_steps, false_from_ne_true, filter_all, granted, holds_of, is_among, is_member_task, judge_in, locations, locations_of, members, mount_at, mount_numbered, number-mount_in, numbers_raised, outsiders, part_of, pivoted, pivoted_location, pivoted_mount, pivoted_task, policy, root_of, roots_and_directories, same_name, seen_by_descriptor, settled, task_called}
+use Rattle.vt_laws_members.proofs.judging.Common.{IsMember, IsTheirs, caller_in, directory_theirs, own_theirs, root_theirs, same_mount, sealing_of}
+use Rattle.vt_laws_members.proofs.Common.{CanPivot, any-map, filter-map, is_new, is_own, is_root, moved_namespace, moved_other, namespace_outside, new_among, pivot_keeps_mounts, same_members}
+use Rattle.vt_laws_members.specs.Changes.Changes.{EndsAlike, IsCallOfTheirs}
+use Rattle.vt_laws_members.proofs.changes.Common.{KeepsShape, apart, by_known, ended_alike, part_mounts, ran, run_by, same_caller, same_judgement}
 use Rattle.vt_laws_members.specs.Namespaces.NamespaceChanges.{PivotsEndAlike}
 use Rattle.vt_laws_members.proofs.namespaces.MayPivot.{PivotsThere, pivots_there}
 use Rattle.vt_laws_members.proofs.namespaces.Remade.{ChangesTheirs, MovesTheirs, OnAdded, Plan, Remaking, in_spaces, remade}
@@ -26,10 +14,6 @@ use Rattle.vt_laws_members.proofs.namespaces.RemadeParts.{remade_parts}
 module _ (root new : Mount ℕ) (put : Location ℕ) where
   abbrev turned : Mount ℕ → Mount ℕ
   turned = pivoted_mount nat_eq root new put
-
-  abbrev turned_by : Bool → Bool → Mount ℕ → Mount ℕ
-  turned_by p q m =
-      cond p (record m { mount_point = root.mount_point }) (cond q (record m { mount_point = Some put }) m)
 
   turned_shape : (m : Mount ℕ) → KeepsShape m (turned m)
   turned_shape m = grind (arith, common_steps)

@@ -1,20 +1,12 @@
 -- Where mounts of theirs change, new ones come, and namespaces come and go, a set sees what is made of its part.
 use Rattle.std.proofs.Common.{arith, ◌≡◌, refl, sym, ap, subst, ◌∙◌, ◌⊎◌, inl, inr, ⊎_elim, ℕ, nat_eq, Bool, true, false, cond, true≢false, List, [], ◌∷◌, ◌++◌, Option, Some, None, filter, map, not, ◌||◌, eq-eqb, eqb-true, filter_map}
-use Rattle.vt_spec.proofs.Common.{Among, Location, Mount, MountInvariants, Namespace, Private, Propagation, Task, TaskName, World, among-append, among-append_left, among-append_right, among-filter, among-flat_map, among-from_filter, among-from_flat_map, among-from_map, among-map, any_among, any_from_among, common_steps, filter-append, filter_map-append, holds_of, is_at, is_member_of, is_member_task, is_own_mount, list_any, locations, locations_of, members, mount_at, mount_numbered, none_is_some, or_cases, or_left, or_parts, outsiders, own_mounts, part_of, roots_and_directories, seen_by_descriptor, source_of, then_some, used_directly, when}
-use Rattle.vt_laws_mounts.proofs.GroupsUp.{source_from_group}
-use Rattle.vt_laws_sealed.proofs.part.part.MountsOver.{numbered}
-use Rattle.vt_laws_mounts.proofs.mounts.MountsReplaced.{found_itself}
-use Rattle.vt_laws_sealed.proofs.part.Kept.{filter_map_map, filter_map_same}
-use Rattle.vt_laws_sealed.proofs.part.part.PartOfPart.{is_own, keep, kept_whole}
-use Rattle.vt_laws_members.proofs.judging.Grounds.{IsTheirs}
-use Rattle.vt_laws_members.proofs.judging.SeenInPart.{theirs_directly}
-use Rattle.vt_laws_sealed.proofs.outsiders.SeenLater.{shown_at}
+use Rattle.vt_spec.proofs.Common.{cases_Bool, Among, Location, Mount, MountInvariants, Namespace, Private, Propagation, Task, TaskName, World, among-append, among-append_left, among-append_right, among-filter, among-flat_map, among-from_filter, among-from_flat_map, among-from_map, among-map, any_among, any_from_among, common_steps, filter-append, filter_map-append, holds_of, is_at, is_member_of, is_member_task, is_own_mount, list_any, locations, locations_of, members, mount_at, mount_numbered, none_is_some, or_cases, or_left, or_parts, outsiders, own_mounts, part_of, roots_and_directories, seen_by_descriptor, source_of, then_some, used_directly, when}
+use Rattle.vt_laws_members.proofs.Common.{IsSealed, filter_map_map, filter_map_same, found_itself, is_own, keep, kept_whole, member_group, numbered, shown_at, source_from_group}
+use Rattle.vt_laws_members.proofs.judging.Common.{IsTheirs, theirs_directly}
 use Rattle.vt_laws_members.proofs.changes.letting_go.Changed.{mount_under}
 use Rattle.vt_laws_members.proofs.changes.letting_go.Heard.{IsHeard, heard_by_own, master_same}
 use Rattle.vt_laws_members.proofs.changes.letting_go.LessSeen.{AreLess, filter_map_then}
 use Rattle.vt_laws_members.proofs.changes.letting_go.NamespaceLess.{KeepsShape, ground_at, ground_whole}
-use Rattle.vt_laws_sealed.proofs.part.groups.EventsApart.{member_group}
-use Rattle.vt_laws_sealed.proofs.part.seals.ByPart.{IsSealed}
 
 -- what becomes of mounts, which ones come, and which namespaces stay and come
 pub record Plan : Type 0 where
@@ -161,11 +153,7 @@ module _ (it : Remaking) (does : ChangesTheirs it) (moves : MovesTheirs it) wher
           (moves.entered k h)
 
   pub own_before : (m : Mount ℕ) → Among m world.mounts → owns new (turn m) ≡ true → owns old m ≡ true
-  own_before m n h = by (owns old m) refl
-    where
-      by : (b : Bool) → owns old m ≡ b → owns old m ≡ true
-      by true e = e
-      by false e = own_was m n (cc ((does.others m n e).0))
+  own_before m n h = elim (cases_Bool (owns old m)) [ inl e ↦ e | inr e ↦ own_was m n (cc ((does.others m n e).0)) ]
 
   whole_at : (m : Mount ℕ) → Among m world.mounts → (l : Location ℕ) → nat_eq l.mount m.number ≡ true
       → IsTheirs world names it.is.mounts l.mount ⊎ OnAdded it.plan l → (owns old m || stands old m) ≡ true
@@ -215,19 +203,22 @@ module _ (it : Remaking) (does : ChangesTheirs it) (moves : MovesTheirs it) wher
           (or_parts (owns new m) (stands new m) (less_whole m n e)).1 ∙ sym (after e)
       by false e false f true g =
           absurd (⊎_elim (λ whole. true≢false (sym whole ∙ e)) (λ there. true≢false (sym there ∙ f)) (at_was m n g))
-      by false e false f false g = ap (λ c. then_some (kept_as c (at old m)) (λ y. keep world names new (turn y))) e
-          ∙ ap (λ c. then_some (when c (stub m)) (λ y. keep world names new (turn y))) f
-          ∙ sym (after e ∙ ap (λ c. when c (stub m)) g)
+      by false e false f false g = cc (after e)
 
   mounts_less : filter_map (keep world names new) v_part.mounts ≡ filter_map (keep world names new) v.mounts
-  mounts_less = filter_map-append (keep world names new) (map turn part.mounts) it.plan.added
-      ∙ ap (λ l. l ++ filter_map (keep world names new) it.plan.added)
-      (filter_map_map (keep world names new) turn part.mounts
-      ∙ filter_map_then (keep world names old) (λ y. keep world names new (turn y)) world.mounts
-      ∙ filter_map_same (λ m. then_some (keep world names old m) (λ y. keep world names new (turn y)))
-      (λ m. keep world names new (turn m)) world.mounts kept_then
-      ∙ sym (filter_map_map (keep world names new) turn world.mounts))
-      ∙ sym (filter_map-append (keep world names new) (map turn world.mounts) it.plan.added)
+  mounts_less = cc (
+    filter_map-append (keep world names new) (map turn part.mounts) it.plan.added,
+    filter_map_map
+        (keep world names new) turn part.mounts,
+    filter_map_then (keep world names old) (λ y. keep world names new
+        (turn y)) world.mounts,
+    filter_map_same (λ m. then_some (keep world names old m) (λ y. keep world names new
+        (turn y))) (λ m. keep world names new (turn m)) world.mounts kept_then,
+    filter_map_map
+        (keep world names new) turn world.mounts,
+    filter_map-append (keep world names new)
+        (map turn world.mounts) it.plan.added,
+  )
 
   -- a mount of the set after the change shows and receives what one of before did
   pub origin : (y : Mount ℕ) → Among y v.mounts → owns new y ≡ true

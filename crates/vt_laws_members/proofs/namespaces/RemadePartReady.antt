@@ -1,15 +1,15 @@
 -- So is the part, where the same is done in it.
 use Rattle.std.proofs.Common.{◌≡◌, sym, ap, subst, ◌∙◌, ◌⊎◌, inl, inr, ⊎_elim, ℕ, nat_eq, true, List, Option, Some, None, filter, map}
 use Rattle.vt_spec.proofs.Common.{Among, Location, Mount, Task, TaskName, World, among-append, among-append_left, among-append_right, among-filter, among-filter_map, among-flat_map, among-from_filter, among-from_filter_map, among-from_flat_map, among-from_map, among-map, is_at, is_member_task, locations, locations_of, members, mount_lives, own_lowers, pair-filter, part_of, roots_and_directories, used_filesystems, without_dead_mounts}
-use Rattle.vt_laws_sealed.proofs.part.part.Observed.{lowers_same, used_same}
-use Rattle.vt_laws_sealed.proofs.part.part.PartOfPart.{is_own, keep, kept_how}
-use Rattle.vt_laws_members.proofs.judging.MountPoints.{part_mount}
+use Rattle.vt_laws_members.proofs.Common.{is_own, keep, kept_how, lowers_same, used_same}
+use Rattle.vt_laws_members.proofs.judging.Common.{part_mount}
 use Rattle.vt_laws_members.proofs.changes.letting_go.LessSeen.{AreLess, less_lowers, less_used}
 use Rattle.vt_laws_members.proofs.changes.letting_go.PartFiles.{cut_in_part, numbers_in_part, plain_in_part}
 use Rattle.vt_laws_members.proofs.changes.letting_go.Ready.{NoOthers, Ready}
 use Rattle.vt_laws_members.proofs.changes.letting_go.WorldReady.{sees_living}
 use Rattle.vt_laws_members.proofs.namespaces.Remade.{ChangesTheirs, MovesTheirs, Remaking, place_shown, remade_less, v, v_part}
-use Rattle.vt_laws_members.proofs.namespaces.RemadeReady.{located_lives, none_after, nowhere_pointed, of_all, own_after, parent_lives}
+use Rattle.vt_laws_members.proofs.namespaces.RemadeReady.{none_after, own_after}
+use Rattle.vt_laws_members.proofs.changes.letting_go.Living.{located_lives, nowhere_pointed, of_all, parent_lives}
 
 module _ (it : Remaking) (does : ChangesTheirs it) (moves : MovesTheirs it) where
   abbrev world : World ℕ

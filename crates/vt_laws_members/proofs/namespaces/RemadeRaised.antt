@@ -1,15 +1,11 @@
 -- Where mounts of theirs change and new ones come, the change numbers of namespaces are raised alike.
-use Rattle.std.proofs.Common.{arith, ◌≡◌, refl, sym, ap, subst, ◌∙◌, ⊎_elim, ℕ, nat_eq, Bool, true, cond, true≢false, List, ◌++◌, Option, Some, None, filter, is_some, map, not, ◌&&◌, ◌||◌, eqb-true}
-use Rattle.vt_spec.proofs.Common.{Among, HasLivingGroups, Mount, MountInvariants, Namespace, Task, TaskName, World, among-filter, among-from_filter, among_from_all, among_from_list_all, and_parts, any_among, any_from_among, common_steps, filter-append, has_members, holds_of, is_located, is_member_of, is_member_task, is_nowhere_or_attached, is_own_mount, is_private, map_alike, master_above, members, mount_lives, mounts_of, none_is_some, or_left, part_of, raised, raised_namespace, same_flags, same_list, same_location, same_mount, same_mounts_in, same_option, same_propagation, settled, source_of, then_some}
-use Rattle.vt_laws_mounts.proofs.GroupsUp.{live_members, source_from_group}
-use Rattle.vt_laws_mounts.proofs.letting_go.Lists.{filter-map}
-use Rattle.vt_laws_sealed.proofs.part.Kept.{filter_both}
-use Rattle.vt_laws_sealed.proofs.part.part.PartOfPart.{is_own, keep, kept_how}
+use Rattle.std.proofs.Common.{arith, ◌≡◌, refl, sym, ap, subst, ◌∙◌, ⊎_elim, ℕ, nat_eq, Bool, true, cond, List, ◌++◌, Option, Some, None, filter, is_some, map, not, eqb-true}
+use Rattle.vt_spec.proofs.Common.{Among, HasLivingGroups, Mount, MountInvariants, Namespace, Task, TaskName, World, among-filter, among-from_filter, among_from_all, among_from_list_all, and_parts, any_among, any_from_among, common_steps, filter-append, has_members, holds_of, is_located, is_member_of, is_member_task, is_nowhere_or_attached, is_own_mount, is_private, map_alike, master_above, members, mount_lives, mounts_of, none_is_some, or_left, part_of, raised, raised_namespace, same_list, same_mount, same_mounts_in, settled, source_of, then_some}
+use Rattle.vt_laws_members.proofs.Common.{filter-map, filter_both, is_own, keep, kept_how, live_members, member_group, source_from_group}
 use Rattle.vt_laws_members.proofs.changes.letting_go.EndedRaised.{raised_number, same_list_alike}
 use Rattle.vt_laws_members.proofs.changes.letting_go.Heard.{heard_by_own, master_same, own_kept, private_source}
 use Rattle.vt_laws_members.proofs.changes.letting_go.SeeLess.{filter_less}
 use Rattle.vt_laws_members.proofs.namespaces.Remade.{ChangesTheirs, MovesTheirs, Remaking, in_spaces, namespaces_less, own_before, own_was, source_heard, v, v_part}
-use Rattle.vt_laws_sealed.proofs.part.groups.EventsApart.{member_group}
 
 abbrev its_in : ℕ → Mount ℕ → Bool
 its_in n m = holds_of (nat_eq n) m.namespace
@@ -144,10 +140,6 @@ module _ (it : Remaking) (does : ChangesTheirs it) (moves : MovesTheirs it) wher
         ∙ same_list_alike (same_mount nat_eq part u_part) (same_mount nat_eq world u) (mounts_of nat_eq world n)
         (mounts_of nat_eq u n) (λ x y m l. compared x y (above_before x m) (above_after y l))
       where
-        same_ones : Mount ℕ → Mount ℕ → Bool
-        same_ones x y = nat_eq x.number y.number && same_option (same_location nat_eq) x.mount_point y.mount_point
-            && same_flags x.flags y.flags && same_propagation nat_eq x.propagation y.propagation
-
         compared : (x y : Mount ℕ) → master_above part x ≡ master_above world x
             → master_above u_part y ≡ master_above u y
             → same_mount nat_eq part u_part x y ≡ same_mount nat_eq world u x y
@@ -159,11 +151,15 @@ module _ (it : Remaking) (does : ChangesTheirs it) (moves : MovesTheirs it) wher
   -- the namespaces of the set, raised
   pub raised_alike : filter (spaces new) (map (raised_namespace nat_eq part u_part) after_part.namespaces)
       ≡ filter (spaces new) (map (raised_namespace nat_eq world u) after.namespaces)
-  raised_alike = filter-map (spaces new) (raised_namespace nat_eq part u_part) after_part.namespaces
-      (λ n. ap (in_spaces new) (raised_number part u_part n))
-      ∙ ap (map (raised_namespace nat_eq part u_part)) (namespaces_less it does moves)
-      ∙ map_alike (raised_namespace nat_eq part u_part) (raised_namespace nat_eq world u)
-      (filter (spaces new) after.namespaces) (λ n m. ap (λ c. cond c n (record n { change = raised n.change }))
-      (spaces_alike n.number (among-from_filter (spaces new) after.namespaces n m).1))
-      ∙ sym (filter-map (spaces new) (raised_namespace nat_eq world u) after.namespaces
-      (λ n. ap (in_spaces new) (raised_number world u n)))
+  raised_alike = cc (
+    filter-map (spaces new) (raised_namespace nat_eq part u_part) after_part.namespaces (λ n. ap
+        (in_spaces new) (raised_number part u_part n)),
+    namespaces_less it does moves,
+    map_alike
+        (raised_namespace nat_eq part u_part) (raised_namespace nat_eq world u) (filter
+        (spaces new) after.namespaces) (λ n m. ap (λ c. cond c n (record n { change = raised n.change }))
+        (spaces_alike n.number (among-from_filter (spaces new) after.namespaces n m).1)),
+    filter-map
+        (spaces new) (raised_namespace nat_eq world u) after.namespaces (λ n. ap (in_spaces new)
+        (raised_number world u n)),
+  )

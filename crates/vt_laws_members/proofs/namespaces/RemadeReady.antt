@@ -1,51 +1,15 @@
 -- Where mounts of theirs change and new ones come, the world is ready to be swept.
-use Rattle.std.proofs.Common.{arith, ◌≡◌, refl, sym, ap, subst, ◌∙◌, ◌⊎◌, inl, inr, ⊎_elim, ℕ, nat_eq, Bool, true, false, true≢false, List, Option, Some, None, filter, is_some, map, not, ◌||◌, eq-eqb, eqb-true}
-use Rattle.vt_spec.proofs.Common.{Among, Filesystem, Location, Mount, MountInvariants, Task, TaskName, World, all_locations, among-append, among-append_right, among-filter, among-flat_map, among-from_filter, among-from_flat_map, among-from_map, among_from_list_all, among_numbers, and_parts, any_among, any_from_among, common_steps, has_layer_on, holds_of, is_at, is_located, is_member_task, is_overlay, list_all, list_any, locations, locations_of, members, mount_at, mount_lives, mount_numbered, no_outsider_on, none_among, not-true, or_cases, or_left, or_right, other_mounts, outsiders, overlays, own_lowers, pair-filter, roots_and_directories, used_alone, used_filesystems, wholly_locked, without_dead_mounts}
-use Rattle.vt_laws_mounts.specs.Mounts.Invariants.{OneNumberEach}
-use Rattle.vt_laws_mounts.proofs.mounts.MountsReplaced.{found_itself}
-use Rattle.vt_laws_sealed.proofs.part.part.Observed.{lowers_same, used_same}
-use Rattle.vt_laws_sealed.proofs.part.part.PartOfPart.{is_own}
-use Rattle.vt_laws_sealed.proofs.part.seals.ByPart.{used_are_free}
-use Rattle.vt_laws_members.proofs.judging.Grounds.{IsTheirs}
-use Rattle.vt_laws_members.proofs.changes.letting_go.Changed.{mount_parent, mount_under}
+use Rattle.std.proofs.Common.{arith, ◌≡◌, refl, sym, ap, ◌∙◌, ◌⊎◌, inl, inr, ⊎_elim, ℕ, nat_eq, true, true≢false, List, Option, None, filter, map, not, eq-eqb, eqb-true}
+use Rattle.vt_spec.proofs.Common.{Among, Location, Mount, Task, TaskName, World, all_locations, among-append, among-append_right, among-filter, among-flat_map, among-from_filter, among-from_flat_map, among-from_map, among_numbers, and_parts, any_among, common_steps, holds_of, is_at, is_member_task, list_any, locations, locations_of, members, mount_at, mount_lives, no_outsider_on, none_among, or_cases, outsiders, own_lowers, pair-filter, roots_and_directories, used_alone, used_filesystems, wholly_locked, without_dead_mounts}
+use Rattle.vt_laws_members.proofs.Common.{OneNumberEach, found_itself, is_own, lowers_same, used_are_free, used_same}
+use Rattle.vt_laws_members.proofs.judging.Common.{IsTheirs}
+use Rattle.vt_laws_members.proofs.changes.letting_go.Changed.{mount_under}
 use Rattle.vt_laws_members.proofs.changes.letting_go.LessSeen.{used_was}
 use Rattle.vt_laws_members.proofs.changes.letting_go.NamespaceLess.{ground_at}
-use Rattle.vt_laws_members.proofs.changes.letting_go.Ready.{Alone, NoOthers, Ready, layered_overlay}
+use Rattle.vt_laws_members.proofs.changes.letting_go.Ready.{Alone, NoOthers, Ready}
 use Rattle.vt_laws_members.proofs.changes.letting_go.WorldReady.{all_named_there, plain_in, sees_living, whole_cut}
 use Rattle.vt_laws_members.proofs.namespaces.Remade.{ChangesTheirs, MovesTheirs, OnAdded, Remaking, filesystem_after, placed_old, remade_less, shown_after, turned_in, v}
-
--- a mount of no namespace has no mount point
-pub nowhere_pointed : (b : World ℕ) → MountInvariants nat_eq b → (m : Mount ℕ) → Among m b.mounts
-    → m.namespace ≡ None → m.mount_point ≡ None
-nowhere_pointed b kept m n none = grind (arith, common_steps, and_parts, among_from_list_all, true≢false)
-
--- a parent lives
-pub parent_lives : (b : World ℕ) → MountInvariants nat_eq b → (y : Mount ℕ) (l : Location ℕ)
-    → Among y (without_dead_mounts nat_eq b).mounts → y.mount_point ≡ Some l
-    → (n : ℕ) × (y.namespace ≡ Some n) × (k : Mount ℕ) × Among k (without_dead_mounts nat_eq b).mounts
-    × (l.mount ≡ k.number) × (k.namespace ≡ Some n)
-parent_lives b kept y l n point =
-    let up = mount_parent b kept y l (among-from_filter (mount_lives nat_eq b) b.mounts y n).0 point in (
-      up.0,
-      up.1,
-      up.2,
-      among-filter (mount_lives nat_eq b) b.mounts up.2 up.3
-          (or_left (is_some up.2.namespace) (is_located nat_eq b up.2.number) (ap is_some up.5)),
-      up.4,
-      up.5,
-    )
-
--- a mount with a location lives
-pub located_lives : (b : World ℕ) (y : Mount ℕ) (l : Location ℕ) → Among y b.mounts → Among l (all_locations b)
-    → l.mount ≡ y.number → Among y (without_dead_mounts nat_eq b).mounts
-located_lives b y l n m e = grind (arith, common_steps, among-filter, or_right, any_from_among, eq-eqb)
-
--- of some of the tasks
-pub of_all : (names : List TaskName) (tasks : List (Task ℕ)) (l : Location ℕ)
-    → Among l (locations (filter (is_member_task names) tasks)) → Among l (locations tasks)
-of_all names tasks l m =
-    let t = among-from_flat_map locations_of (filter (is_member_task names) tasks) l m in
-    among-flat_map locations_of tasks t.0 l (among-from_filter (is_member_task names) tasks t.0 t.1).0 t.2
+use Rattle.vt_laws_members.proofs.changes.letting_go.Living.{located_lives, nowhere_pointed, of_all, overlay_alone, own_locations, parent_lives}
 
 module _ (it : Remaking) (does : ChangesTheirs it) (moves : MovesTheirs it) where
   abbrev world : World ℕ
@@ -89,16 +53,6 @@ module _ (it : Remaking) (does : ChangesTheirs it) (moves : MovesTheirs it) wher
 
   -- where others have no foothold
   module _ (number : ℕ) (none : no_outsider_on nat_eq world names number ≡ true) where
-    abbrev nobody : (list_any (λ (m : Mount ℕ). nat_eq number m.filesystem) (other_mounts nat_eq world names) ≡ false)
-        × (list_any (λ l. nat_eq number (mount_at nat_eq world l).filesystem) (locations (outsiders world names))
-        ≡ false)
-    nobody =
-        let both = and_parts (not
-        (list_any (λ (m : Mount ℕ). nat_eq number m.filesystem) (other_mounts nat_eq world names)))
-        (not (list_any (λ l. nat_eq number (mount_at nat_eq world l).filesystem)
-        (locations (outsiders world names)))) none in
-        (not-true _ both.0, not-true _ both.1)
-
     by_mount : (m : Mount ℕ) → Among m world.mounts → m.filesystem ≡ number → (o : Option ℕ) → m.namespace ≡ o
         → Fits (turn m)
     by_mount m n e o f =
@@ -126,49 +80,17 @@ module _ (it : Remaking) (does : ChangesTheirs it) (moves : MovesTheirs it) wher
               under.2,
         )
 
-    locations_own : (l : Location ℕ) → Among l (all_locations living) → (mount_at nat_eq living l).filesystem ≡ number
-        → Among l (locations new)
-    locations_own l m e =
-        let t = among-from_flat_map locations_of it.tasks l m in
-        by t.0 t.1 t.2 (is_member_task names t.0) refl
-      where
-        by : (t : Task ℕ) → Among t it.tasks → Among l (locations_of t) → (c : Bool) → is_member_task names t ≡ c
-            → Among l (locations new)
-        by t n at true member =
-            among-flat_map locations_of new t l (among-filter (is_member_task names) it.tasks t n member) at
-        by t n at false other =
-            let out = moves.outside l (among-flat_map locations_of (filter (λ y. not (is_member_task names y)) it.tasks)
-            t l (among-filter (λ y. not (is_member_task names y)) it.tasks t n (cc)) at) in
-            cc (
-              eq-eqb number (mount_at nat_eq world l).filesystem (sym (sym (other_shows l m out) ∙ e)),
-              none_among
-                  (λ q. nat_eq number (mount_at nat_eq world q).filesystem)
-                  (locations (outsiders world names)) nobody.1 l
-                  out,
-            )
-
     pub no_others : NoOthers living names number
-    no_others = record { mounts = mounts_own; locations = locations_own }
+    no_others = record {
+      mounts = mounts_own;
+      locations = own_locations world living names names number none moves.outside other_shows;
+    }
 
   alone : (number : ℕ) → used_alone nat_eq world names number ≡ true → Alone living names number
-  alone number h =
-      let both = and_parts (no_outsider_on nat_eq world names number)
-      (list_all (λ merged. not (has_layer_on nat_eq number merged) || no_outsider_on nat_eq world names merged.number)
-      (overlays world)) h in
-      record {
-        itself = no_others number both.0;
-        overlays = λ merged m has. no_others merged.number (by both.1 merged m has);
-      }
-    where
-      by : list_all (λ merged. not (has_layer_on nat_eq number merged)
-          || no_outsider_on nat_eq world names merged.number)
-          (overlays world) ≡ true → (merged : Filesystem ℕ) → Among merged world.filesystems
-          → has_layer_on nat_eq number merged ≡ true → no_outsider_on nat_eq world names merged.number ≡ true
-      by all merged m has = ⊎_elim (λ none. cc (not-true (has_layer_on nat_eq number merged) none)) (λ h. h)
-          (or_cases (not (has_layer_on nat_eq number merged)) (no_outsider_on nat_eq world names merged.number)
-          (among_from_list_all (λ y. not (has_layer_on nat_eq number y) || no_outsider_on nat_eq world names y.number)
-          (overlays world) all merged (among-filter is_overlay world.filesystems merged m
-          (layered_overlay number merged has))))
+  alone number h = record {
+    itself = no_others number (and_parts _ _ h).0;
+    overlays = λ merged m has. no_others merged.number (overlay_alone world names number h merged m has);
+  }
 
   located_so : (l : Location ℕ) → Among l (locations new) → (y : Mount ℕ) × Among y living.mounts × (l.mount ≡ y.number)
   located_so l m = ⊎_elim (λ before. let on = placed_old it does moves l before in of_before on.0 on.1 on.2)

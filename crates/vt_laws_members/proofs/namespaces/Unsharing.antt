@@ -1,35 +1,17 @@
 -- Each unshare(2) ends in the part as in the world.
-use Rattle.std.proofs.Common.{arith, ◌≡◌, refl, sym, ap, subst, ◌∙◌, ◌⊎◌, inl, inr, ⊎_elim, ℕ, nat_eq, Bool, true, false, cond, true≢false, List, [], ◌∷◌, Option, Some, None, Ok, Err, filter, map, not, ◌&&◌, ◌+◌, ◌*◌, eq-eqb, eqb-true, IfOk, is_ok}
-use Rattle.vt_spec.proofs.Common.{Among, Call, Done, Exit, Fresh, Judgement, Location, Mount, MountInvariants, Namespace, Permit, Private, Serves, Task, TaskName, ToUnshare, Unshare, World, admin_rules, among-filter, among-flat_map, among-from_filter, among-from_flat_map, among-from_map, among-map, among_from_list_all, any_among, any_from_among, common_steps, detached, false_from_ne_true, granted, has_tasks, index_of, is_among, is_copied, is_listed, is_member_task, is_own_mount, is_own_namespace, judge_in, list_all_from_among, list_any, location_on_copy, locations, locations_of, members, mounts_of, moved_location, name-replaced_if_called, namespaces_ended, none_among, not-true, numbers_by, numbers_raised, odds, outsiders, part_of, policy, replaced_if_called, roots_and_directories, same_name, same_name_itself, same_task_name, seen_by_descriptor, settled, task_called, unshare_permit, unshared}
+use Rattle.std.proofs.Common.{arith, ◌≡◌, refl, sym, ap, subst, ◌∙◌, ◌⊎◌, inl, inr, ⊎_elim, ℕ, nat_eq, Bool, true, false, cond, true≢false, List, [], ◌∷◌, Some, None, Ok, filter, map, not, ◌&&◌, ◌+◌, ◌*◌, eq-eqb, eqb-true, IfOk}
+use Rattle.vt_spec.proofs.Common.{cases_Bool, Among, Done, Exit, Fresh, Location, Mount, MountInvariants, Namespace, Permit, Private, Serves, Task, TaskName, ToUnshare, Unshare, World, admin_rules, among-filter, among-flat_map, among-from_filter, among-from_flat_map, among-from_map, among-map, among_from_list_all, any_among, any_from_among, common_steps, detached, false_from_ne_true, granted, has_tasks, index_of, is_among, is_copied, is_listed, is_member_task, is_own_mount, is_own_namespace, judge_in, list_all_from_among, list_any, location_on_copy, locations, locations_of, members, mounts_of, moved_location, name-replaced_if_called, namespaces_ended, none_among, not-true, numbers_by, numbers_raised, odds, outsiders, part_of, policy, replaced_if_called, roots_and_directories, same_name, same_name_itself, same_task_name, seen_by_descriptor, settled, task_called, unshare_permit, unshared}
 use Rattle.vt_laws_members.proofs.attached.PartServes.{serves_there}
-use Rattle.vt_laws_members.proofs.judging.TheirCalls.{IsMember, caller_in, sealing_of}
-use Rattle.vt_laws_mounts.proofs.letting_go.Lists.{filter-map}
-use Rattle.vt_laws_mounts.proofs.ends.Ending.{ended_namespaces_keep_mounts}
-use Rattle.vt_laws_mounts.proofs.namespaces.Unsharing.{unshare_keeps_mounts}
-use Rattle.vt_laws_sealed.proofs.part.part.PartOfPart.{is_own, same_members}
-use Rattle.vt_laws_members.proofs.judging.Grounds.{IsTheirs}
-use Rattle.vt_laws_members.proofs.judging.SeenInPart.{directory_theirs, root_theirs}
-use Rattle.vt_laws_sealed.proofs.outsiders.OtherMounts.{namespace_outside, number_not_new}
-use Rattle.vt_laws_members.specs.Changes.Changes.{EndAlike, IsCallOfTheirs, grown}
+use Rattle.vt_laws_members.proofs.judging.Common.{IsMember, IsTheirs, caller_in, directory_theirs, root_theirs, sealing_of}
+use Rattle.vt_laws_members.proofs.Common.{ended_namespaces_keep_mounts, filter-map, is_own, namespace_outside, number_not_new, same_members, unshare_keeps_mounts}
+use Rattle.vt_laws_members.specs.Changes.Changes.{IsCallOfTheirs}
 use Rattle.vt_laws_members.specs.Changes.NameChanges.{EndsAlikeByOne}
-use Rattle.vt_laws_members.proofs.changes.looks.Granted.{of_rules}
-use Rattle.vt_laws_members.proofs.changes.looks.Told.{ended_alike, ran, same_caller}
-use Rattle.vt_laws_members.proofs.changes.tasks.ByPermit.{by_known}
-use Rattle.vt_laws_members.proofs.changes.tasks.Denied.{denial_ends_alike, ran_there, run_by, unnamed_ends_alike}
-use Rattle.vt_laws_members.proofs.changes.tasks.Rights.{only_task}
-use Rattle.vt_laws_members.proofs.changes.letting_go.CutNamespace.{in_space}
-use Rattle.vt_laws_members.proofs.changes.letting_go.Heard.{apart, own_in, space_in_part}
+use Rattle.vt_laws_members.proofs.changes.Common.{KeepsShape, apart, by_known, ended_alike, in_space, of_rules, only_task, own_in, part_mounts, ran, ran_there, run_by, same_caller, space_in_part}
 use Rattle.vt_laws_members.proofs.changes.letting_go.Leaving.{part_listed}
-use Rattle.vt_laws_members.proofs.changes.letting_go.NamespaceLess.{KeepsShape}
-use Rattle.vt_laws_members.proofs.changes.letting_go.PartMounts.{part_mounts}
 use Rattle.vt_laws_members.specs.Namespaces.NamespaceChanges.{UnsharesEndAlike}
 use Rattle.vt_laws_members.proofs.namespaces.Remade.{ChangesTheirs, IsNewSpace, MovesTheirs, Plan, Remaking, in_spaces, remade}
 use Rattle.vt_laws_members.proofs.namespaces.RemadeParts.{remade_parts}
 use Rattle.vt_laws_members.proofs.namespaces.Unshared.{CanUnshare, Ends, copy_of, cut, listed_in, moved_to_copies, new_among_spaces, new_space, none_in_new, unshare_plan, unshared_so}
-
-abbrev is_exit : Call → Bool
-is_exit Exit = true
-is_exit call = false
 
 -- What an unshare makes of the tasks of the set
 module _ {world : World ℕ} {names : List TaskName} {name : TaskName} (it : IsCallOfTheirs world names name Unshare)
@@ -147,21 +129,19 @@ module _ {world : World ℕ} {names : List TaskName} {name : TaskName} (it : IsC
   -- the caller's root and working directory move to copies
   moved_how : (before l : Location ℕ) → OnTheirs before
       → l ≡ moved_location nat_eq copied (numbers_by nat_eq (odds fresh) copied) before → OnTheirs l ⊎ OnCopy l
-  moved_how before l on e = by (is_copied nat_eq copied before) refl
+  moved_how before l on e = elim (cases_Bool (is_copied nat_eq copied before)) [
+    | inl f ↦ let m = any_among (λ (x : Mount ℕ). nat_eq before.mount x.number) copied f in
+        inr (
+          copy m.0,
+          among-map copy copied m.0 m.1,
+          ap (λ (x : Location ℕ). x.mount) (e ∙ ap (λ b. cond b (location_on_copy number before) before) f)
+              ∙ ap number (eqb-true before.mount m.0.number m.2),
+        )
+    | inr f ↦ inl (subst OnTheirs (sym (e ∙ ap (λ b. cond b (location_on_copy number before) before) f)) on)
+  ]
     where
       number : ℕ → ℕ
       number = numbers_by nat_eq (odds fresh) copied
-
-      by : (b : Bool) → is_copied nat_eq copied before ≡ b → OnTheirs l ⊎ OnCopy l
-      by true f =
-          let m = any_among (λ (x : Mount ℕ). nat_eq before.mount x.number) copied f in
-          inr (
-            copy m.0,
-            among-map copy copied m.0 m.1,
-            ap (λ (x : Location ℕ). x.mount) (e ∙ ap (λ b. cond b (location_on_copy number before) before) f)
-                ∙ ap number (eqb-true before.mount m.0.number m.2),
-          )
-      by false f = inl (subst OnTheirs (sym (e ∙ ap (λ b. cond b (location_on_copy number before) before) f)) on)
 
   roots_moved : (l : Location ℕ) → Among l (roots_and_directories new) → OnTheirs l ⊎ OnCopy l
   roots_moved l m =

@@ -1,19 +1,11 @@
 -- The layers of an overlay that a task of a sealed set mounts lie in filesystems that the set uses.
-use Rattle.std.proofs.Common.{◌≡◌, refl, sym, subst, inl, ⊎_elim, ℕ, nat_eq, true, List, [], ◌∷◌, ◌++◌, Option, Some, None, Ok, Err, Result, IfOk, option_map, option_to_list}
+use Rattle.std.proofs.Common.{◌≡◌, refl, subst, inl, ⊎_elim, ℕ, nat_eq, true, List, [], ◌∷◌, ◌++◌, Option, Some, None, Ok, Err, Result, IfOk, option_map, option_to_list}
 use Rattle.vt_spec.proofs.Common.{Among, Fresh, Here, Layer, LayerLocations, Location, MountFlags, MountOverlay, Overlay, OverlayWords, Permit, Stop, Task, TaskName, ToMountOverlay, World, among-append, among-append_left, among-append_right, among-from_map, and_then, each_walked, is_among, layer_at, layer_locations, layers_of, layers_walked, looks_of, members, mount_at, overfills, overlay_at, shown_layers, source_walk, used_directly, used_filesystems, walk_end, walked_if_given, work_walked}
-use Rattle.vt_spec.specs.declared.errors.Deny.{Deny}
-use Rattle.vt_laws_members.proofs.judging.TheirCalls.{IsMember}
-use Rattle.vt_laws_rules.specs.Granted.{IsGranted}
-use Rattle.vt_laws_rules.specs.Granted.IsGranted.{mounts_overlayfs}
-use Rattle.vt_laws_trees.specs.Layers.Layers.Mounted.{AreLayers}
+use Rattle.vt_laws_members.proofs.Common.{AreLayers, Deny, Each, IsGranted, is_own, mounts_overlayfs, used_directly_used}
+use Rattle.vt_laws_members.proofs.judging.Common.{IsMember, owned, theirs_directly, theirs_from}
 use Rattle.vt_laws_trees.proofs.layers.mounting.Walked.{are_walked, has_layers, shown_plain}
-use Rattle.vt_laws_sealed.proofs.part.part.PartOfPart.{is_own, used_directly_used}
-use Rattle.vt_laws_sealed.proofs.part.walks.WalksAgree.{Each}
 use Rattle.vt_laws_members.specs.Judging.{is_theirs}
-use Rattle.vt_laws_members.proofs.judging.AllJudged.{owned}
-use Rattle.vt_laws_members.proofs.judging.Grounds.{theirs_from}
-use Rattle.vt_laws_members.proofs.judging.SeenInPart.{theirs_directly}
-use Rattle.vt_laws_members.proofs.changes.letting_go.Moving.{StandsHere}
+use Rattle.vt_laws_members.proofs.changes.Common.{StandsHere}
 use Rattle.vt_laws_members.proofs.attached.Destination.{at_destination, at_source}
 
 -- what a result gives, if it is none of a refusal

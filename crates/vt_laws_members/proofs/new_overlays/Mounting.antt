@@ -1,14 +1,11 @@
 -- Each mount(2) of a new overlay ends in the part as in the world.
-use Rattle.std.proofs.Common.{◌≡◌, refl, sym, ap, subst, ◌∙◌, ℕ, nat_eq, true, List, [], Option, Some, None, Ok, Err, is_ok}
-use Rattle.vt_spec.proofs.Common.{Among, Call, Done, Filesystem, Fresh, Judgement, Layer, MountFlags, MountOverlay, Overlay, OverlayWords, Permit, Serves, Task, TaskName, ToMountOverlay, World, evens, evens-distinct, granted, judge_in, layers_of, looks_of, members, mounted, numbers_raised, odds, overfills, overlay_at, overlay_filesystem, part_of, policy, served-distinct, settled, task_called, used_directly}
-use Rattle.vt_laws_members.proofs.judging.TheirCalls.{a_member, caller_in, sealing_of}
-use Rattle.vt_laws_rules.proofs.given.Inversion.{calls_are_granted}
-use Rattle.vt_laws_mounts.specs.LettingGo.Keeping.{has_only_named}
+use Rattle.std.proofs.Common.{◌≡◌, refl, ap, ◌∙◌, ℕ, nat_eq, true, List, [], Option, Some, Ok}
+use Rattle.vt_spec.proofs.Common.{Among, Call, Done, Filesystem, Fresh, Layer, MountFlags, MountOverlay, Overlay, OverlayWords, Permit, Serves, Task, TaskName, ToMountOverlay, World, evens, evens-distinct, granted, judge_in, layers_of, looks_of, members, mounted, numbers_raised, odds, overfills, overlay_at, overlay_filesystem, part_of, policy, served-distinct, settled, task_called, used_directly}
+use Rattle.vt_laws_members.proofs.judging.Common.{a_member, caller_in, sealing_of}
+use Rattle.vt_laws_members.proofs.Common.{calls_are_granted, has_only_named}
 use Rattle.vt_laws_worlds.proofs.overlays_let_go.mounting.NewOverlays.{new_overlays_are_named}
-use Rattle.vt_laws_members.specs.Changes.Changes.{EndAlike, EndsAlike, IsCallOfTheirs, grown}
-use Rattle.vt_laws_members.proofs.changes.looks.Told.{ended_alike, ran, same_caller}
-use Rattle.vt_laws_members.proofs.changes.tasks.ByPermit.{by_permit}
-use Rattle.vt_laws_members.proofs.changes.tasks.Denied.{denial_ends_alike, ran_there, run_by, unnamed_ends_alike}
+use Rattle.vt_laws_members.specs.Changes.Changes.{EndsAlike, IsCallOfTheirs}
+use Rattle.vt_laws_members.proofs.changes.Common.{by_permit, ended_alike, ran, ran_there, run_by, same_caller}
 use Rattle.vt_laws_members.specs.NewOverlays.OverlayMounts.{OverlayMountsEndAlike}
 use Rattle.vt_laws_members.proofs.new_overlays.LayersTheirs.{MountsOverlay, all_used, mounts_overlay, shown_used}
 use Rattle.vt_laws_members.proofs.new_overlays.NewFilesystem.{mounted_alike, now, now_there, settled_here, settled_there}

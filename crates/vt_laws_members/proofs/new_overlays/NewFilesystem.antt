@@ -1,19 +1,15 @@
 -- A new filesystem, of which the layers lie in what a sealed set uses, is mounted in the part as in the world.
 use Rattle.std.proofs.Common.{◌≡◌, refl, sym, ap, subst, ◌∙◌, inl, inr, ⊎_elim, ℕ, nat_eq, true, false, List, [], ◌∷◌, Some, None, ◌||◌, eq-eqb}
 use Rattle.vt_spec.proofs.Common.{Among, Copies, Filesystem, Fresh, Layer, Location, Mount, MountFlags, Serves, TaskName, World, attached_by, copies_from, is_among, layers_of, list_any, members, mount_at, mounted, new_mount, none_is_some, numbers_raised, odds, of_overlay, part_of, settled, source_of, used_directly, used_filesystems}
-use Rattle.vt_laws_mounts.specs.LettingGo.Keeping.{has_only_named}
-use Rattle.vt_laws_mounts.proofs.letting_go.mounting.AttachedSwept.{new_filesystems_keep_all}
-use Rattle.vt_laws_mounts.proofs.letting_go.sweeps.OfWorlds.{all_in_use, locations_of_worlds_stand, mounts_of_worlds_stand}
-use Rattle.vt_laws_sealed.proofs.part.part.PartOfPart.{is_own}
+use Rattle.vt_laws_members.proofs.Common.{IsSealed, all_in_use, has_only_named, is_own, locations_of_worlds_stand, mounts_of_worlds_stand, new_filesystems_keep_all}
 use Rattle.vt_laws_members.specs.Judging.{is_theirs}
-use Rattle.vt_laws_members.proofs.judging.Grounds.{IsTheirs, theirs_from}
-use Rattle.vt_laws_members.proofs.changes.part.SettledPart.{part_in_use}
+use Rattle.vt_laws_members.proofs.judging.Common.{IsTheirs, theirs_from}
+use Rattle.vt_laws_members.proofs.changes.Common.{part_in_use}
 use Rattle.vt_laws_members.proofs.attached.AttachedAlike.{copies_alike}
 use Rattle.vt_laws_members.proofs.attached.CopiesAlike.{AttachesTheirs, base_part, parts, parts_alike}
 use Rattle.vt_laws_members.proofs.attached.Destination.{locations_stand_there, mounts_stand_there, placed, placed_there, there}
 use Rattle.vt_laws_members.proofs.attached.PushedUp.{ShowTheirs}
 use Rattle.vt_laws_members.proofs.attached.Unused.{filesystem_unlike, group_new, used_unlike}
-use Rattle.vt_laws_sealed.proofs.part.seals.ByPart.{IsSealed}
 
 module _ {world : World ℕ} {names : List TaskName} (sealing : IsSealed world names) {fresh : Fresh ℕ}
     (serves : Serves nat_eq world fresh) (here : Location ℕ) (on : is_theirs world names here.mount ≡ true)

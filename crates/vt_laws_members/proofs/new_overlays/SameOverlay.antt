@@ -1,17 +1,13 @@
 -- The overlay that is made of layers which a sealed set uses is the same in the part of the set.
-use Rattle.std.proofs.Common.{◌≡◌, ◌≤◌, refl, sym, ap, subst, ◌∙◌, inl, true≢false, arith, ℕ, zero, suc, ◌+◌, nat_eq, true, List, [], ◌∷◌, ◌++◌, flat_map, length, map, not, Bool, Option, Some, None, is_some, slice_get, filter_map, find, sum, option_map}
-use Rattle.vt_spec.proofs.Common.{Among, Filesystem, Fresh, IsTree, IsWorld, Layer, ListsNumbers, OpenLayer, Overlay, Shown, TaskName, World, among_from_list_all, and_parts, common_steps, contains_from_among, evens, filesystem_numbered, inode_count, is_among, is_directory_node, is_overlay, is_plain_layer, led, map_alike, merged_at, merged_inodes, merged_objects, names_shown, none_is_some, odds, open_layer, overlay_filesystem, part_of, paths_from, same_Some, shown, shown_layers, slice_get-map, sum_by-cons, used_filesystems}
-use Rattle.vt_spec.specs.Machine.NewMounts.{overlay_of_inodes}
-use Rattle.vt_laws_mounts.proofs.letting_go.Lists.{flat_map_alike}
+use Rattle.std.proofs.Common.{◌≡◌, ◌≤◌, refl, sym, subst, ◌∙◌, inl, true≢false, arith, ℕ, zero, suc, ◌+◌, nat_eq, true, List, [], ◌∷◌, ◌++◌, length, map, not, Bool, Option, Some, None, slice_get, find, sum, option_map}
+use Rattle.vt_spec.proofs.Common.{Among, Filesystem, Fresh, IsTree, IsWorld, Layer, ListsNumbers, OpenLayer, Overlay, Shown, TaskName, World, among_from_list_all, and_parts, common_steps, contains_from_among, filesystem_numbered, inode_count, is_among, is_directory_node, is_overlay, is_plain_layer, led, map_alike, merged_objects, names_shown, none_is_some, open_layer, overlay_filesystem, part_of, paths_from, same_Some, shown, shown_layers, slice_get-map, sum_by-cons, used_filesystems}
+use Rattle.vt_laws_members.proofs.Common.{AreLayers, flat_map_alike, found, nth_among}
 use Rattle.vt_laws_trees.proofs.overlays.seen.Paths.{length-led}
-use Rattle.vt_laws_trees.specs.Layers.Layers.Mounted.{AreLayers}
 use Rattle.vt_laws_trees.proofs.layers.layers.ShownAtPath.{computed}
 use Rattle.vt_laws_trees.proofs.layers.layers.ShownMounted.{bounded}
 use Rattle.vt_laws_trees.proofs.layers.layers.ShownNames.{names_are_those_shown}
 use Rattle.vt_laws_trees.proofs.layers.layers.ShownPaths.{length_longer}
 use Rattle.vt_laws_trees.proofs.layers.layers.UpperWorld.{all_found}
-use Rattle.vt_laws_sealed.proofs.part.part.PartOfPart.{found}
-use Rattle.vt_laws_trees.proofs.trees.Lists.{nth_among}
 
 -- a part of a sum is no more than the sum
 in_sum : (test : Filesystem ℕ → Bool) (list : List (Filesystem ℕ)) (filesystem : Filesystem ℕ)

@@ -1,12 +1,7 @@
 -- Groups whose members have changed: what mounts and groups inherit, and what the sweep leaves of them.
-use Rattle.std.proofs.Common.{arith, ◌≡◌, refl, sym, ap, ◌∙◌, ℕ, nat_eq, Bool, true, false, cond, Option, None, map}
+use Rattle.std.proofs.Common.{arith, ◌≡◌, refl, ap, ◌∙◌, ℕ, nat_eq, Bool, true, false, cond, Option, None, map}
 use Rattle.vt_spec.proofs.Common.{Mount, Propagation, World, any_among, common_steps, find-chain_start, has_members, heir, inherited, inheriting, list_any, lost_a_group, map_twice, none_among, not-false, or_parts, regrouped, regrouped_by, settled}
-use Rattle.vt_laws_mounts.proofs.GroupsUp.{source_from_group}
-use Rattle.vt_laws_mounts.proofs.Groups.{members-inherited, mounts-regrouped}
-use Rattle.vt_laws_mounts.specs.LettingGo.Detaching.{with_changed}
-use Rattle.vt_laws_mounts.specs.LettingGo.InUse.{AllInUse}
-use Rattle.vt_laws_mounts.proofs.letting_go.leaving.UsesKept.{types_keep_all}
-use Rattle.vt_laws_sealed.proofs.part.groups.EventsApart.{member_group}
+use Rattle.vt_laws_members.proofs.Common.{AllInUse, member_group, members-inherited, mounts-regrouped, source_from_group, types_keep_all, with_changed}
 
 -- a group that has a member inherits its master, also where nothing is lost
 pub master-inherited : (t : World ℕ) (group : ℕ) → has_members nat_eq t.mounts group ≡ true
@@ -68,7 +63,9 @@ module _ (w : World ℕ) (kind : Mount ℕ → Propagation ℕ) (masters : ℕ �
 
   pub master_left_so : (group : ℕ) → has_members nat_eq between.mounts group ≡ true
       → master_left group ≡ heir nat_eq between (masters group)
-  master_left_so group h = ap (λ l. cond (has_members nat_eq l group) ((regrouped nat_eq between).master group) None)
-      (sym (map_twice (inheriting nat_eq between) (λ (m : Mount ℕ). record m { propagation = kind m }) w.mounts))
-      ∙ ap (λ b. cond b ((regrouped nat_eq between).master group) None)
-      (members-inherited between between.mounts group ∙ h) ∙ master-inherited between group h
+  master_left_so group h = cc (
+    map_twice (inheriting nat_eq between) (λ
+        (m : Mount ℕ). record m { propagation = kind m }) w.mounts,
+    members-inherited between between.mounts group,
+    master-inherited between group h,
+  )

@@ -1,19 +1,11 @@
 -- Where mounts of a sealed set change their types, types and masters are left in the part as in the world.
 use Rattle.std.proofs.Common.{arith, ◌≡◌, refl, sym, ap, subst, ◌∙◌, ◌⊎◌, inl, inr, ⊎_elim, ℕ, zero, suc, nat_eq, Bool, true, false, cond, true≢false, List, [], ◌∷◌, Option, Some, None, find, length, eq-eqb, eqb-true, option_to_list}
-use Rattle.vt_spec.proofs.Common.{Among, Fresh, IsWorld, Mount, Private, Propagation, Serves, Shared, Slave, Task, TaskName, TypeWord, Unbindable, World, among-filter, among-from_filter, among-from_filter_map, among-from_map, among-map, among_from_list_all, and_parts, any_among, any_from_among, chain, chain_ends, chain_goes_on, common_steps, false_from_ne_true, found_among, found_passes, group_of, groups_up, has_members, heir, holds_of, index_of, inherited, is_among_numbers, is_member_of, is_own_mount, is_private, length-map, list_any, master_after, members, mount_numbered, none_is_some, numbers_by, numbers_in_use, own_mounts, part_of, retyped_mount, same_Some, same_truth, shares_no_events, slave_of_heir, source_of, type_after, with_master, with_new_groups}
-use Rattle.vt_laws_members.proofs.changes.letting_go.Regrouped.{find_alike}
-use Rattle.vt_laws_mounts.proofs.GroupsUp.{source_from_group}
-use Rattle.vt_laws_sealed.proofs.part.part.MountsOver.{numbered}
-use Rattle.vt_laws_mounts.proofs.mounts.MountsNumbered.{mount_uses}
-use Rattle.vt_laws_mounts.proofs.letting_go.sweeps.OfWorlds.{all_in_use}
-use Rattle.vt_laws_sealed.proofs.part.groups.EventsApart.{member_group, none_hears, sides}
-use Rattle.vt_laws_sealed.proofs.part.groups.ReceiversAlike.{own_member, same_up}
-use Rattle.vt_laws_sealed.proofs.part.part.PartOfPart.{keep, kept_how}
-use Rattle.vt_laws_members.proofs.changes.letting_go.Heard.{IsHeard, above_heard, apart, heard_by_own, master_same, own_in_part, part_source, up_heard}
+use Rattle.vt_spec.proofs.Common.{cases_Bool, Among, Fresh, IsWorld, Mount, Private, Propagation, Serves, Shared, Slave, Task, TaskName, TypeWord, Unbindable, World, among-filter, among-from_filter, among-from_filter_map, among-from_map, among-map, among_from_list_all, and_parts, any_among, any_from_among, chain, chain_ends, chain_goes_on, common_steps, false_from_ne_true, found_among, found_passes, group_of, groups_up, has_members, heir, holds_of, index_of, inherited, is_among_numbers, is_member_of, is_own_mount, is_private, length-map, list_any, master_after, members, none_is_some, numbers_by, numbers_in_use, own_mounts, part_of, retyped_mount, same_Some, same_truth, shares_no_events, slave_of_heir, source_of, type_after, with_master, with_new_groups}
+use Rattle.vt_laws_members.proofs.changes.Common.{IsHeard, above_heard, apart, find_alike, heard_by_own, master_same, own_in_part, part_source, up_heard}
+use Rattle.vt_laws_members.proofs.Common.{IsSealed, all_in_use, keep, kept_how, member_group, mount_uses, none_hears, numbered, own_member, same_up, sides, source_from_group}
 use Rattle.vt_laws_members.specs.Types.TypeChanges.{takes_groups}
 use Rattle.vt_laws_members.proofs.types.Inherited.{between, kind_left, master_left, master_left_so}
 use Rattle.vt_laws_members.proofs.types.TypesLeft.{AreTypedAlike}
-use Rattle.vt_laws_sealed.proofs.part.seals.ByPart.{IsSealed}
 
 -- chains by steps that agree on the way
 chain_alike : (f g : ℕ → Option ℕ) (P : ℕ → Type 0) → ((a b : ℕ) → f a ≡ Some b → P a → P b)
@@ -178,22 +170,20 @@ module _ {world : World ℕ} {names : List TaskName} (sealing : IsSealed world n
 
   member_own : (m : Mount ℕ) → Among m world.mounts → (g : ℕ) → Heard g → is_member_of nat_eq g (changed m) ≡ true
       → Among m owns
-  member_own m n g heard h = by (is_named fresh word named m) refl
-    where
-      by : (b : Bool) → is_named fresh word named m ≡ b → Among m owns
-      by true e = own_named m n e
-      by false e = ⊎_elim (λ own. own)
-          (λ other. absurd (none_hears world names sealing.is.mounts events g m heard.0 other (member_was m g e h)))
-          (sides world names sealing.is.mounts events m g n (member_group g m (member_was m g e h)))
+  member_own m n g heard h = elim (cases_Bool (is_named fresh word named m)) [
+    | inl e ↦ own_named m n e
+    | inr e ↦ ⊎_elim (λ own. own)
+        (λ other. absurd (none_hears world names sealing.is.mounts events g m heard.0 other (member_was m g e h)))
+        (sides world names sealing.is.mounts events m g n (member_group g m (member_was m g e h)))
+  ]
 
   part_member_own : (m : Mount ℕ) → Among m part.mounts → (g : ℕ) → is_member_of nat_eq g (changed m) ≡ true
       → Among m owns
-  part_member_own m n g h = by (is_named fresh word named m) refl
-    where
-      by : (b : Bool) → is_named fresh word named m ≡ b → Among m owns
-      by true e = part_named m n e
-      by false e = part_source sealing m n g
-          (source_from_group m.propagation g (member_group g m (member_was m g e h)))
+  part_member_own m n g h = elim (cases_Bool (is_named fresh word named m)) [
+    | inl e ↦ part_named m n e
+    | inr e ↦ part_source sealing m n g
+        (source_from_group m.propagation g (member_group g m (member_was m g e h)))
+  ]
 
   is_in : (m : Mount ℕ) → Among m owns → (g : ℕ) → is_member_of nat_eq g (changed m) ≡ true
       → (has t g ≡ true) × (has t_part g ≡ true)

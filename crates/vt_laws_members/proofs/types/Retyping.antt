@@ -1,23 +1,11 @@
 -- Each mount(2) that changes a propagation type ends in the part as in the world.
-use Rattle.std.proofs.Common.{◌≡◌, refl, sym, ap, subst, ◌∙◌, ⊎_elim, ℕ, zero, suc, nat_eq, Bool, true, false, List, [], ◌∷◌, Option, Some, None, Ok, Err, map, IfOk, is_ok}
-use Rattle.vt_spec.proofs.Common.{Among, Done, Fresh, IsWorld, Judgement, Location, Mount, Permit, Propagation, Serves, SetType, Task, TaskName, ToSetType, TypeWord, World, admin_rules, among-filter, among-from_filter, among-from_flat_map, children, directory_walk, granted, holds_of, is_own_mount, judge_in, members, mount_at, mount_numbered, mount_tree, named_mounts, not-false, number-mount_in, numbers_by, numbers_raised, own_mounts, part_of, policy, regrouped, retyped, settled, task_called, tree_from, type_permit, type_rules, unless}
-use Rattle.vt_laws_members.proofs.judging.TheirCalls.{IsMember, caller_in, sealing_of}
-use Rattle.vt_laws_mounts.specs.LettingGo.Detaching.{with_changed}
-use Rattle.vt_laws_mounts.specs.LettingGo.InUse.{AllInUse}
-use Rattle.vt_laws_mounts.proofs.letting_go.sweeps.OfWorlds.{all_in_use}
-use Rattle.vt_laws_sealed.proofs.part.part.PartOfPart.{is_own}
+use Rattle.std.proofs.Common.{◌≡◌, refl, sym, ap, subst, ◌∙◌, ⊎_elim, ℕ, zero, suc, nat_eq, Bool, true, false, List, [], Option, Some, Ok, map, IfOk}
+use Rattle.vt_spec.proofs.Common.{Among, Done, Fresh, IsWorld, Location, Mount, Permit, Propagation, Serves, SetType, Task, TaskName, ToSetType, TypeWord, World, admin_rules, among-filter, among-from_filter, among-from_flat_map, children, directory_walk, granted, holds_of, is_own_mount, judge_in, members, mount_at, mount_numbered, mount_tree, named_mounts, not-false, number-mount_in, numbers_by, numbers_raised, own_mounts, part_of, policy, regrouped, retyped, settled, task_called, tree_from, type_permit, type_rules, unless}
+use Rattle.vt_laws_members.proofs.judging.Common.{IsMember, IsTheirs, caller_in, children_own, in_own, its_mount, own_theirs, same_mount, sealing_of, theirs_from, tree_alike}
+use Rattle.vt_laws_members.proofs.Common.{AllInUse, all_in_use, is_own, with_changed}
 use Rattle.vt_laws_members.specs.Judging.{is_theirs}
-use Rattle.vt_laws_members.proofs.judging.Grounds.{IsTheirs, its_mount, same_mount, theirs_from}
-use Rattle.vt_laws_members.proofs.judging.MountPoints.{in_own}
-use Rattle.vt_laws_members.proofs.judging.MountTrees.{children_own, own_theirs, tree_alike}
-use Rattle.vt_laws_members.specs.Changes.Changes.{EndAlike, EndsAlike, IsCallOfTheirs, grown}
-use Rattle.vt_laws_members.proofs.changes.looks.Granted.{of_rules, of_walk}
-use Rattle.vt_laws_members.proofs.changes.looks.Told.{ended_alike, ran, same_caller}
-use Rattle.vt_laws_members.proofs.changes.tasks.ByPermit.{by_known}
-use Rattle.vt_laws_members.proofs.changes.tasks.Denied.{denial_ends_alike, ran_there, run_by, unnamed_ends_alike}
-use Rattle.vt_laws_members.proofs.changes.letting_go.Moving.{StandsHere, at_directory, one}
-use Rattle.vt_laws_members.proofs.changes.letting_go.Umounting.{of_passed}
-use Rattle.vt_laws_members.proofs.changes.part.SettledPart.{part_in_use}
+use Rattle.vt_laws_members.specs.Changes.Changes.{EndsAlike, IsCallOfTheirs}
+use Rattle.vt_laws_members.proofs.changes.Common.{StandsHere, at_directory, by_known, ended_alike, of_passed, of_rules, of_walk, one, part_in_use, ran, ran_there, run_by, same_caller}
 use Rattle.vt_laws_members.specs.Types.TypeChanges.{OtherTypesEndAlike, TypesEndAlike, takes_groups}
 use Rattle.vt_laws_members.proofs.types.Inherited.{kind_left, master_left, settled_so}
 use Rattle.vt_laws_members.proofs.types.Retyped.{alike_by_any, alike_by_one, new_kind, new_masters, retyped_so, same_kind}

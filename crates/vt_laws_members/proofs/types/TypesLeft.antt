@@ -1,16 +1,9 @@
 -- Where mounts of theirs have other types, and their groups other masters: the world that a call leaves, and its part.
-use Rattle.std.proofs.Common.{arith, ◌≡◌, refl, sym, ap, subst, ◌∙◌, ◌⊎◌, inl, ⊎_elim, ℕ, nat_eq, Bool, true, false, cond, List, [], ◌∷◌, ◌++◌, Option, Some, None, filter, map, ◌||◌, filter_map}
-use Rattle.vt_spec.proofs.Common.{Among, Location, Mount, Propagation, Task, TaskName, World, among-filter, among-from_filter, among-from_map, any_among, common_steps, is_at, is_member_of, is_own_mount, list_any, locations, map_alike, map_twice, master_above, members, mount_in, numbers_raised, or_cases, or_parts, own_mounts, part_of, roots_and_directories, seen_by_descriptor, source_of, then_some, used_directly, when}
-use Rattle.vt_laws_mounts.proofs.GroupsUp.{source_from_group}
-use Rattle.vt_laws_mounts.specs.LettingGo.Detaching.{with_changed}
-use Rattle.vt_laws_mounts.proofs.letting_go.Lists.{filter-map}
-use Rattle.vt_laws_sealed.proofs.part.Kept.{filter_again, filter_map_map, filter_map_same}
-use Rattle.vt_laws_sealed.proofs.part.part.PartOfPart.{is_own, keep, same_members}
-use Rattle.vt_laws_members.proofs.changes.letting_go.LessSeen.{AreLess, filter_map_then, one_part}
-use Rattle.vt_laws_members.proofs.changes.letting_go.NamespaceLess.{stands_on}
+use Rattle.std.proofs.Common.{inr, arith, ◌≡◌, refl, sym, ap, subst, ◌∙◌, ◌⊎◌, inl, ⊎_elim, ℕ, nat_eq, Bool, true, false, cond, List, [], ◌∷◌, Option, Some, None, filter, map, ◌||◌, filter_map}
+use Rattle.vt_spec.proofs.Common.{cases_Bool, Among, Location, Mount, Propagation, Task, TaskName, World, among-filter, among-from_filter, among-from_map, any_among, common_steps, is_at, is_member_of, is_own_mount, list_any, locations, map_alike, map_twice, master_above, members, mount_in, numbers_raised, or_cases, or_parts, own_mounts, part_of, roots_and_directories, seen_by_descriptor, source_of, then_some, used_directly, when}
+use Rattle.vt_laws_members.proofs.Common.{IsSealed, filter-map, filter_again, filter_map_map, filter_map_same, is_own, keep, member_group, same_members, source_from_group, with_changed}
+use Rattle.vt_laws_members.proofs.changes.Common.{AreLess, filter_map_then, one_part, stands_on}
 use Rattle.vt_laws_members.proofs.attached.RaisedAlike.{parts_left, spaces}
-use Rattle.vt_laws_sealed.proofs.part.groups.EventsApart.{member_group}
-use Rattle.vt_laws_sealed.proofs.part.seals.ByPart.{IsSealed}
 
 module _ {world : World ℕ} {names : List TaskName} (sealing : IsSealed world names) where
   abbrev part : World ℕ
@@ -64,19 +57,18 @@ module _ {world : World ℕ} {names : List TaskName} (sealing : IsSealed world n
     kept_as whole m = cond whole (Some m) (when (located m) (seen_by_descriptor m))
 
     kept_then : (m : Mount ℕ) → Among m world.mounts → then_some (kept m) (λ y. kept (after_there y)) ≡ kept (after m)
-    kept_then m n = by (owned m || stood m) refl
+    kept_then m n = elim (cases_Bool (owned m || stood m)) [
+      | inl e ↦ ap (λ c. then_some (kept_as c m) (λ y. kept (after_there y))) e
+          ∙ ap (λ k. kept (record m { propagation = k })) (alike.types m n
+          (⊎_elim inl (λ at. stands_on world names sealing.is m n at) (or_cases (owned m) (stood m) e)))
+      | inr e ↦ ap (λ c. then_some (kept_as c m) (λ y. kept (after_there y))) e ∙ stub e (located m) refl
+          ∙ sym (ap (λ c. cond c (Some (after m)) (when (located m) (seen_by_descriptor m))) e)
+    ]
       where
         stub : (owned m || stood m) ≡ false → (a : Bool) → located m ≡ a
             → then_some (when (located m) (seen_by_descriptor m)) (λ y. kept (after_there y))
             ≡ when (located m) (seen_by_descriptor m)
         stub e a f = grind (arith, common_steps, or_parts)
-
-        by : (b : Bool) → (owned m || stood m) ≡ b → then_some (kept m) (λ y. kept (after_there y)) ≡ kept (after m)
-        by true e = ap (λ c. then_some (kept_as c m) (λ y. kept (after_there y))) e
-            ∙ ap (λ k. kept (record m { propagation = k })) (alike.types m n
-            (⊎_elim inl (λ at. stands_on world names sealing.is m n at) (or_cases (owned m) (stood m) e)))
-        by false e = ap (λ c. then_some (kept_as c m) (λ y. kept (after_there y))) e ∙ stub e (located m) refl
-            ∙ sym (ap (λ c. cond c (Some (after m)) (when (located m) (seen_by_descriptor m))) e)
 
     mounts_alike : filter_map kept (map after_there part.mounts) ≡ filter_map kept (map after world.mounts)
     mounts_alike = filter_map_map kept after_there part.mounts

@@ -2,7 +2,7 @@
 use Rattle.std.proofs.Common.{arith, ◌≡◌, refl, sym, ap, subst, ◌∙◌, ◌⊎◌, inl, inr, ⊎_elim, ℕ, nat_eq, Bool, true, false, cond, List, [], ◌∷◌, ◌*◌, Option, Some, None, length, not, ◌+◌, eqb-true, option_map, unwrap_or, filter_map}
 use Rattle.vt_laws_mounts.proofs.letting_go.mounting.Attached.{masters_stay}
 use Rattle.vt_spec.proofs.Common.{Among, Copies, Filesystem, Fresh, Graft, Location, Mount, Private, Propagation, Serves, Shared, Slave, TaskName, Unbindable, World, all_groups_made, among-from_filter, among-from_filter_map, among-from_flat_map, among-from_map, any_among, attach, common_steps, copies_from, copy_at, copy_type, false_from_ne_true, folded, graft_of, group_made, group_of, image, index_in_rows, index_of, index_of_group, is_destination, is_member_of, is_own_mount, is_shared, list_any, master_after, master_of, masters_with, mount_at, nearest_image, none_is_some, other_mounts, own_mounts, parts_of, same_Some, slave_of_heir, then_some, twig_master, twig_of, type_at, type_on_shared, when}
-use Rattle.vt_laws_trees.specs.Layers.Layers.ChangesUpper.{IsNewBy}
+use Rattle.vt_laws_sealed.proofs.Common.{IsNewBy}
 use Rattle.vt_laws_sealed.specs.Part.Seals.{IsApart}
 use Rattle.vt_laws_sealed.proofs.outsiders.OtherMounts.{Foreign, HearsGroup, foreign_above, member_not_new, other_hears_foreign, standing_apart_with}
 use Rattle.vt_laws_sealed.proofs.outsiders.StandingApart.{StandsApart}

@@ -1,11 +1,8 @@
 -- Copies of mounts of others, attached at a mount of others and at its receivers.
 use Rattle.std.proofs.Common.{arith, ◌≡◌, refl, sym, ap, subst, ◌∙◌, ◌⊎◌, inl, inr, ⊎_elim, ℕ, nat_eq, Bool, true, false, cond, true≢false, List, [], ◌∷◌, ◌++◌, ◌*◌, append-nil, append_assoc, Option, Some, None, filter, find, flat_map, is_some, length, map, not, ◌&&◌, ◌||◌, eq-eqb, eqb-true, option_map, unwrap_or, filter_map}
-use Rattle.vt_spec.proofs.Common.{Among, Copies, Filesystem, Fresh, Graft, Location, Mount, Private, Propagation, Shared, Slave, Stands, Task, TaskName, Unbindable, World, added_mounts, all_locations, among-append, among-filter, among-flat_map, among-from_filter, among-from_flat_map, among-from_map, among-map, among_from_all, among_from_list_all, and_from, and_parts, any_from_among, attach, common_steps, cons_option, contains_from_among, copies_at, copies_from, copy_at, false_from_ne_true, filter_map-append, folded, found_among, found_or_none, found_passes, graft_of, group_of, has_layer_on, holds_of, index_in_rows, index_of, is_at, is_destination, is_member_of, is_member_task, is_own_mount, is_own_namespace, list_all_from_among, list_any, locations, locations_of, map_same, map_twice, master_of, members, mount_at, mount_in, mount_numbered, no_mount, no_outsider_on, none_among, none_from_among, none_is_some, not-true, number-mount_in, other_mounts, outsiders, overlays, own_mounts, parts_of, pushed_onto, pushed_up, receiver_stood_on, receivers, receivers_of, receives, replaced_if_same, rest_of, roots_and_directories, seen_by_descriptor, shares_no_events, stands_at, takes_part, twig_of, when, with_mount, with_moved_mounts}
-use Rattle.vt_laws_mounts.proofs.mounts.MountsPlaces.{stands_there}
-use Rattle.vt_laws_mounts.proofs.mounts.MountsReplaced.{found_itself}
-use Rattle.vt_laws_worlds.proofs.worlds.Reached.{namespace_below}
+use Rattle.vt_spec.proofs.Common.{cases_Bool, Among, Copies, Filesystem, Fresh, Graft, Location, Mount, Private, Propagation, Shared, Slave, Stands, Task, TaskName, Unbindable, World, added_mounts, all_locations, among-append, among-filter, among-flat_map, among-from_filter, among-from_flat_map, among-from_map, among-map, among_from_all, among_from_list_all, and_from, and_parts, any_from_among, attach, common_steps, cons_option, contains_from_among, copies_at, copies_from, copy_at, false_from_ne_true, filter_map-append, folded, found_among, found_or_none, found_passes, graft_of, group_of, has_layer_on, holds_of, index_in_rows, index_of, is_at, is_destination, is_member_of, is_member_task, is_own_mount, is_own_namespace, list_all_from_among, list_any, locations, locations_of, map_same, map_twice, master_of, members, mount_at, mount_in, mount_numbered, no_mount, no_outsider_on, none_among, none_from_among, none_is_some, not-true, number-mount_in, other_mounts, outsiders, overlays, own_mounts, parts_of, pushed_onto, pushed_up, receiver_stood_on, receivers, receivers_of, receives, replaced_if_same, rest_of, roots_and_directories, seen_by_descriptor, shares_no_events, stands_at, takes_part, twig_of, when, with_mount, with_moved_mounts}
+use Rattle.vt_laws_sealed.proofs.Common.{IsNewBy, among-flat_map_filter, found_itself, namespace_below, stands_there}
 use Rattle.vt_laws_sealed.specs.Part.Parts.{SeesTheSame}
-use Rattle.vt_laws_trees.specs.Layers.Layers.ChangesUpper.{IsNewBy}
 use Rattle.vt_laws_sealed.proofs.part.Kept.{filter_map_map, filter_map_same}
 use Rattle.vt_laws_sealed.proofs.part.groups.EventsApart.{no_event_of_others_reaches_them}
 use Rattle.vt_laws_sealed.proofs.part.part.Observed.{own_mounts_same}
@@ -16,7 +13,6 @@ use Rattle.vt_laws_sealed.proofs.outsiders.OtherMounts.{Foreign, HearsGroup, eve
 use Rattle.vt_laws_sealed.proofs.outsiders.Reshaping.{IsReshaped, reshaped_kept, reshaped_twice}
 use Rattle.vt_laws_sealed.proofs.outsiders.StandingApart.{StandsApart}
 use Rattle.vt_laws_sealed.proofs.outsiders.Staying.{IsOfTheWorld, LeavesApart, free_with}
-use Rattle.vt_laws_trees.proofs.trees.Lists.{among-flat_map_filter}
 
 -- a list of which nothing is kept
 pub none_kept : {A B : Type 0} (k : A → Option B) (xs : List A) → ((x : A) → Among x xs → k x ≡ None)
@@ -124,18 +120,16 @@ module _ {world : World ℕ} {names : List TaskName} {fresh : Fresh ℕ} (it : A
           by : Among part world.mounts → receives nat_eq base group part ≡ true → (n : Option ℕ) → part.namespace ≡ n
               → is_some n ≡ true → Among part (other_mounts nat_eq world names)
           by there hears None f some = absurd (true≢false (sym some))
-          by there hears (Some n) f some = which (is_own_namespace nat_eq world names n) refl
-            where
-              which : (b : Bool) → is_own_namespace nat_eq world names n ≡ b
-                  → Among part (other_mounts nat_eq world names)
-              which true own = absurd (true≢false (sym hears
-                  ∙ no_event_of_others_reaches_them world names part destination group
-                  (record { mounts = it.apart.is.mounts; apart = it.apart.events })
-                  (contains_from_among (own_mounts nat_eq world names) part
-                  (among-filter (is_own_mount nat_eq world names) world.mounts part there
-                  (ap (holds_of (is_own_namespace nat_eq world names)) f ∙ own)))
-                  (contains_from_among (other_mounts nat_eq world names) destination destination_other) e))
-              which false other = is_other world names other part there f
+          by there hears (Some n) f some = elim (cases_Bool (is_own_namespace nat_eq world names n)) [
+            | inl own ↦ absurd (true≢false (sym hears
+                ∙ no_event_of_others_reaches_them world names part destination group
+                (record { mounts = it.apart.is.mounts; apart = it.apart.events })
+                (contains_from_among (own_mounts nat_eq world names) part
+                (among-filter (is_own_mount nat_eq world names) world.mounts part there
+                (ap (holds_of (is_own_namespace nat_eq world names)) f ∙ own)))
+                (contains_from_among (other_mounts nat_eq world names) destination destination_other) e))
+            | inr other ↦ is_other world names other part there f
+          ]
 
   part_other : (part : Mount ℕ) → Among part parts → Among part (other_mounts nat_eq world names)
   part_other part m = ⊎_elim (λ e. subst (λ x. Among x (other_mounts nat_eq world names)) (sym e) destination_other)
@@ -300,22 +294,17 @@ module _ {world : World ℕ} {names : List TaskName} {fresh : Fresh ℕ} (it : A
   put_is : (mount : Mount ℕ) (list : List (Mount ℕ)) → (folded put mount list ≡ mount)
       ⊎ ((one : Mount ℕ) × Among one list × (folded put mount list ≡ one) × (one.number ≡ mount.number))
   put_is mount [] = inl refl
-  put_is mount (first ∷ rest) = by (nat_eq first.number mount.number) refl (put_is (put mount first) rest)
-    where
-      by : (b : Bool) → nat_eq first.number mount.number ≡ b → (folded put (put mount first) rest ≡ put mount first)
-          ⊎ ((one : Mount ℕ) × Among one rest × (folded put (put mount first) rest ≡ one)
-          × (one.number ≡ (put mount first).number)) → (folded put (put mount first) rest ≡ mount)
-          ⊎ ((one : Mount ℕ) × Among one (first ∷ rest) × (folded put (put mount first) rest ≡ one)
-          × (one.number ≡ mount.number))
-      by true e so =
-          let now : put mount first ≡ first = ap (λ b. cond b first mount) e in
-          let same : first.number ≡ mount.number = eqb-true first.number mount.number e in
-          ⊎_elim (λ stays. inr (first, inl refl, stays ∙ now, same))
-          (λ one. inr (one.0, inr one.1, one.2, one.3 ∙ ap (λ (x : Mount ℕ). x.number) now ∙ same)) so
-      by false e so =
-          let now : put mount first ≡ mount = ap (λ b. cond b first mount) e in
-          ⊎_elim (λ stays. inl (stays ∙ now))
-          (λ one. inr (one.0, inr one.1, one.2, one.3 ∙ ap (λ (x : Mount ℕ). x.number) now)) so
+  put_is mount (first ∷ rest) = elim (cases_Bool (nat_eq first.number mount.number)) [
+    | inl e ↦ let now : put mount first ≡ first = ap (λ b. cond b first mount) e in
+        let same : first.number ≡ mount.number = eqb-true first.number mount.number e in
+        ⊎_elim (λ stays. inr (first, inl refl, stays ∙ now, same))
+        (λ one. inr (one.0, inr one.1, one.2, one.3 ∙ ap (λ (x : Mount ℕ). x.number) now ∙ same)) (put_is
+        (put mount first) rest)
+    | inr e ↦ let now : put mount first ≡ mount = ap (λ b. cond b first mount) e in
+        ⊎_elim (λ stays. inl (stays ∙ now))
+        (λ one. inr (one.0, inr one.1, one.2, one.3 ∙ ap (λ (x : Mount ℕ). x.number) now)) (put_is
+        (put mount first) rest)
+  ]
 
   -- where a mount it.moves, it is one of those that are attached
   abbrev Moves : Bool → Mount ℕ → Type 0

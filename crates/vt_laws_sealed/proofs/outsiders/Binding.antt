@@ -2,11 +2,7 @@
 use Rattle.std.proofs.Common.{arith, ◌≡◌, refl, sym, ap, subst, ◌∙◌, inl, inr, ⊎_elim, ℕ, zero, suc, nat_eq, Bool, true, false, List, [], ◌∷◌, ◌++◌, append-nil, ◌*◌, ◌+◌, Some, Ok, filter, length, not}
 use Rattle.vt_spec.proofs.Common.{Among, Call, Filesystem, Fresh, Location, Mount, MountFlags, Task, TaskName, ToBind, ToMountPlain, World, among-from_filter, among-from_flat_map, apply, bind_tree, bindable_children, bindable_tree, bound, children, common_steps, found_or_none, is_own_namespace, is_unbindable, judge_in, mount_at, new_mount, none_is_some, number-mount_in, odds, overlays, plain_filesystem, settled, stands_under}
 use Rattle.vt_laws_sealed.proofs.outsiders.OthersCalls.{IsOthersCall, apart_from}
-use Rattle.vt_laws_trees.specs.Trees.Calls.{mounts_overlay}
-use Rattle.vt_laws_rules.proofs.given.GivenPermits.{permits_are_for_their_calls}
-use Rattle.vt_laws_worlds.proofs.worlds.CallsKept.{name_found}
-use Rattle.vt_laws_worlds.proofs.worlds.FitPermitsNamed.{all_permits_fit}
-use Rattle.vt_laws_later_calls.specs.Ends.{sets_type, takes_uses}
+use Rattle.vt_laws_sealed.proofs.Common.{all_permits_fit, mounts_overlay, name_found, permits_are_for_their_calls, sets_type, takes_uses}
 use Rattle.vt_laws_sealed.specs.Part.Seals.{IsApart}
 use Rattle.vt_laws_sealed.proofs.outsiders.AttachedGroups.{OriginOf}
 use Rattle.vt_laws_sealed.proofs.outsiders.Attaching.{AttachesApart, attaching_leaves_apart}

@@ -34,9 +34,6 @@ module _ {world : World ℕ} {names : List TaskName} {New : ℕ → Type 0} (apa
   abbrev pub left : World ℕ
   left = record world { mounts = map change world.mounts; master = master; namespaces = namespaces; tasks = tasks }
 
-  abbrev kept : Mount ℕ → Option (Mount ℕ)
-  kept = keep world names (members world names)
-
   abbrev own_by : List (Task ℕ) → ℕ → Bool
   own_by some namespace = list_any (λ (task : Task ℕ). nat_eq namespace task.namespace) some
 

@@ -1,25 +1,18 @@
 -- Where others change something: on mounts of their namespaces, where they stand, or where they have a file open.
 use Rattle.std.proofs.Common.{◌≡◌, subst, inr, ℕ, nat_eq, Bool, true, false, List, [], ◌∷◌, Option, Some, Ok, is_some, ◌==◌}
 use Rattle.vt_spec.proofs.Common.{Among, Call, Change, CopyUp, Descriptor, Fresh, Here, IsWorld, LastWord, Location, Permit, Place, SetMark, Task, TaskName, World, among-map, descriptor_found, directory_used, directory_walk, file_walk, files_at, found_among, is_copied_up, looks_of, none_is_some, object_walk, overfills, same_Some, task_called, when, words, ⊤}
-use Rattle.vt_laws_rules.specs.Granted.{IsGranted}
-use Rattle.vt_laws_rules.specs.Granted.IsGranted.{changes_mark, changes_mode, changes_owner, creates, creates_exclusively, makes_directory, makes_hard_link, makes_symlink, makes_whiteout, opens, opens_existing, overwrites_file, removes_directory, renames, unlinks, writes_new_file, writes_part}
+use Rattle.vt_laws_sealed.proofs.Common.{IsGranted, IsGround, at_end, change_asked, changes_mark, changes_mode, changes_owner, creates, creates_exclusively, directory_ground, directory_ways_are_searched, makes_directory, makes_hard_link, makes_symlink, makes_whiteout, name_found, new_leaf_ways_are_searched, new_name_ways_are_searched, object_ways_are_searched, old_leaf_ways_are_searched, old_name_ways_are_searched, opens, opens_existing, overwrites_file, removes_directory, renames, searched_ground, start_ground, unlinks, way_ground, writes_new_file, writes_part}
 use Rattle.vt_laws_sealed.proofs.outsiders.OthersCalls.{IsOthersCall}
-use Rattle.vt_laws_trees.proofs.trees.TreesWalked.{at_end}
 use Rattle.vt_laws_trees.specs.Calls.Inodes.{written_if_some}
 use Rattle.vt_laws_trees.specs.Calls.Searched.{IsSearchedToFile, IsSearchedToName, WayToFile, WayToName}
 use Rattle.vt_laws_trees.specs.Calls.Searched.WayToFile.{file_in, through_symlink}
 use Rattle.vt_laws_trees.specs.Calls.Searched.WayToName.{name_in, no_name}
-use Rattle.vt_laws_trees.proofs.calls.ways.WaysEnds.{directory_ways_are_searched, object_ways_are_searched}
 use Rattle.vt_laws_trees.proofs.calls.ways.WaysFiles.{file_ways_are_searched}
-use Rattle.vt_laws_trees.proofs.calls.ways.WaysNamed.{new_leaf_ways_are_searched, new_name_ways_are_searched, old_leaf_ways_are_searched, old_name_ways_are_searched}
-use Rattle.vt_laws_worlds.proofs.worlds.CallsKept.{name_found}
 use Rattle.vt_laws_worlds.proofs.worlds.ReachedPlaces.{HereDirectory}
 use Rattle.vt_laws_worlds.proofs.worlds.ReachedWalks.{directory_walk_end}
-use Rattle.vt_laws_worlds.specs.OverlayPermits.Asked.{change_asked}
 use Rattle.vt_laws_sealed.proofs.outsiders.Entering.{ground_outside, old_outside, task_there}
 use Rattle.vt_laws_sealed.proofs.outsiders.Opening.{IsFileGround, file_walk_ground}
 use Rattle.vt_laws_sealed.proofs.outsiders.OwnTasks.{IsOutside}
-use Rattle.vt_laws_worlds.proofs.worlds.Ground.{IsGround, directory_ground, searched_ground, start_ground, way_ground}
 
 -- what is marked is there
 abbrev pub MarksWhatIsThere : World ℕ → Location ℕ → Change ℕ → Type 0

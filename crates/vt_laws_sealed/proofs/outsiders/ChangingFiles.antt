@@ -1,18 +1,8 @@
 -- Files that others change, make and write to: chmod(2), mkdir(2), link(2), unlink(2), open(2), write(2), pwrite(2).
 use Rattle.std.proofs.Common.{arith, ◌≡◌, refl, sym, ap, subst, ◌∙◌, ℕ, nat_eq, Bool, true, false, List, [], ◌∷◌, Some, Ok}
 use Rattle.vt_spec.proofs.Common.{Access, Call, Change, CopyUp, Fresh, Location, Make, MountInvariants, Node, Outcome, OverlayInvariants, Permit, SetBytes, Task, TaskName, ToChange, ToMake, ToOpen, ToOpenNew, ToWritePart, TreeInvariants, World, after, apply, bytes_in, call_outcome, changed_at, changed_if, common_steps, evens, filesystems_changed, is_copied_up, judge_in, looks_of, node_at, none_is_some, odds, overfills, overwritten, settled, task_called, when, with_change, with_copy, with_descriptor, with_task}
-use Rattle.vt_laws_rules.proofs.given.Inversion.{calls_are_granted}
-use Rattle.vt_laws_rules.proofs.judged.CallsJudged.{call_is_judged_then_applied}
-use Rattle.vt_laws_rules.specs.Granted.{IsGranted}
-use Rattle.vt_laws_rules.specs.Granted.IsGranted.{mounts_overlayfs}
+use Rattle.vt_laws_sealed.proofs.Common.{IsGranted, OneNumberEach, call_is_judged_then_applied, calls_are_granted, change_asked, mounts_overlay, mounts_overlayfs, name_found, overlays_kept, permits_make_their_change, the_rest_stays, under}
 use Rattle.vt_laws_sealed.proofs.outsiders.OthersCalls.{IsOthersCall, apart_from}
-use Rattle.vt_laws_trees.specs.Trees.Calls.{mounts_overlay}
-use Rattle.vt_laws_trees.proofs.layers.layers.LowersWorld.{the_rest_stays}
-use Rattle.vt_laws_mounts.specs.Mounts.Invariants.{OneNumberEach}
-use Rattle.vt_laws_worlds.proofs.worlds.CallsKept.{name_found}
-use Rattle.vt_laws_worlds.specs.OverlayPermits.Asked.{change_asked}
-use Rattle.vt_laws_worlds.proofs.overlay_permits.kept.KeptOverlays.{permits_make_their_change}
-use Rattle.vt_laws_worlds.proofs.overlay_permits.worlds.EveryCall.{overlays_kept, under}
 use Rattle.vt_laws_sealed.proofs.outsiders.ChangesGround.{granted_theirs}
 use Rattle.vt_laws_sealed.proofs.outsiders.FilesOfCalls.{changed_files_leave}
 use Rattle.vt_laws_sealed.proofs.outsiders.Opening.{descriptor_leaves, open_outside}

@@ -1,10 +1,8 @@
 -- What lies under a directory of a tree lies there, too, once what nothing uses is gone.
 use Rattle.std.proofs.Common.{arith, ◌≡◌, refl, ap, ◌∙◌, inl, inr, ℕ, nat_eq, Bool, true, false, cond, true≢false, List, [], ◌∷◌, Option, Some, None, filter, ◌&&◌, option_and_then}
 use Rattle.vt_spec.proofs.Common.{Among, FileTree, IsDirectory, Layer, among-from_filter, among_numbers, and_parts, any_among, common_steps, entry_at, is_among, is_under, led, list_any, none_is_some, only_among, same_Some, same_truth}
-use Rattle.vt_laws_trees.specs.Trees.{IsFileTree}
+use Rattle.vt_laws_sealed.proofs.Common.{IsFileTree, entry_used, kept_file_tree, led_under, under_led}
 use Rattle.vt_laws_trees.specs.Trees.Settling.{HoldsTree}
-use Rattle.vt_laws_trees.proofs.trees.TreesForgotten.{entry_used, kept_file_tree}
-use Rattle.vt_laws_trees.proofs.overlays.whole.ApartPaths.{led_under, under_led}
 
 module _ (used : List ℕ) (files : FileTree ℕ) (holds : HoldsTree used files) (conditions : IsFileTree files) where
   abbrev cut : FileTree ℕ

@@ -1,10 +1,8 @@
 -- Namespaces of others that end with their last tasks: _exit(2).
 use Rattle.std.proofs.Common.{arith, ◌≡◌, refl, sym, ap, ◌∙◌, inl, ℕ, nat_eq, Bool, true, false, true≢false, List, [], Option, Some, filter, map, not, ◌&&◌, eqb-true}
 use Rattle.vt_spec.proofs.Common.{Among, Call, Fresh, Location, Mount, Namespace, Task, TaskName, ToExit, World, among-filter, among-flat_map, among-from_filter, among-from_flat_map, among-from_map, among_numbers, and_from, any_among, any_from_among, apply, common_steps, false_from_ne_true, has_tasks, holds_of, is_among, is_going, is_in_ended, is_listed, is_member_task, is_own_namespace, list_any, locations, locations_of, members, mount_numbered, namespaces_ended, not-false, outsiders, same_name, same_task_name, sealed, settled}
-use Rattle.vt_laws_mounts.proofs.letting_go.Lists.{filter_less}
-use Rattle.vt_laws_mounts.proofs.mounts.MountsReplaced.{found_itself}
+use Rattle.vt_laws_sealed.proofs.Common.{filter_less, found_itself, name_found}
 use Rattle.vt_laws_sealed.proofs.outsiders.OthersCalls.{IsOthersCall, apart_from}
-use Rattle.vt_laws_worlds.proofs.worlds.CallsKept.{name_found}
 use Rattle.vt_laws_sealed.specs.Part.Seals.{IsApart}
 use Rattle.vt_laws_sealed.proofs.outsiders.ChangedWorlds.{OthersMove}
 use Rattle.vt_laws_sealed.proofs.outsiders.OtherMounts.{namespace_outside, standing_apart}

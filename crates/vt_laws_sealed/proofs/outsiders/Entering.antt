@@ -1,15 +1,11 @@
 -- Other working and root directories of others: chdir(2), chroot(2).
 use Rattle.std.proofs.Common.{◌≡◌, refl, sym, subst, inl, inr, ⊎_elim, ℕ, nat_eq, List, [], Ok}
 use Rattle.vt_spec.proofs.Common.{Among, Call, Fresh, Location, Permit, Task, TaskName, ToSetDirectory, ToSetRoot, World, among-flat_map, apply, found_among, found_or_none, judge_in, locations_of, looks_of, mount_at, none_is_some, outsiders, overfills, same_name, settled}
-use Rattle.vt_laws_rules.proofs.given.Inversion.{calls_are_granted}
-use Rattle.vt_laws_rules.specs.Granted.{IsGranted}
-use Rattle.vt_laws_rules.specs.Granted.IsGranted.{changes_directory, changes_root}
+use Rattle.vt_laws_sealed.proofs.Common.{IsGranted, IsGround, calls_are_granted, changes_directory, changes_root, directory_ways_are_searched, searched_ground}
 use Rattle.vt_laws_sealed.proofs.outsiders.OthersCalls.{IsOthersCall, apart_from}
-use Rattle.vt_laws_trees.proofs.calls.ways.WaysEnds.{directory_ways_are_searched}
 use Rattle.vt_laws_sealed.specs.Part.Seals.{IsApart}
 use Rattle.vt_laws_sealed.proofs.outsiders.OtherMounts.{is_other, namespace_outside}
 use Rattle.vt_laws_sealed.proofs.outsiders.OwnTasks.{IsOutside, caller_outside, callers_outside, replacing_leaves_apart}
-use Rattle.vt_laws_worlds.proofs.worlds.Ground.{IsGround, searched_ground}
 use Rattle.vt_laws_sealed.proofs.outsiders.Staying.{LeavesApart}
 use Rattle.vt_laws_sealed.proofs.outsiders.Sweeping.{sweeping_leaves_apart}
 

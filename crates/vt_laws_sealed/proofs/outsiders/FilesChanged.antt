@@ -1,12 +1,8 @@
 -- What others change of filesystems is nothing that a sealed set uses, and nothing of its lower layers.
 use Rattle.std.proofs.Common.{arith, ◌≡◌, ◌≢◌, refl, sym, ap, subst, ◌∙◌, ℕ, nat_eq, Bool, true, false, cond, true≢false, List, Some, None, is_some, map, eqb-true, ne_eqb, option_map}
 use Rattle.vt_spec.proofs.Common.{AddName, Among, Change, CopyUp, FileTree, Filesystem, Layer, Location, Make, Merge, Move, Overlay, Remove, SetAttr, SetBytes, SetMark, TaskName, World, changed, common_steps, directory_used, false_from_ne_true, files_at, filesystem_numbered, has_layer_on, is_among, is_overlay, layers_of, list_any, map_alike, map_twice, overlay_or, own_lowers, replaced_if_numbered, used_filesystems, with_files, ⊤}
-use Rattle.vt_laws_mounts.proofs.letting_go.sweeps.OfWorlds.{found_filesystem}
+use Rattle.vt_laws_sealed.proofs.Common.{AsksWell, SparesInode, found_filesystem, has_entries, number_of_filesystem}
 use Rattle.vt_laws_trees.proofs.layers.layers.LowersKept.{kept_elsewhere}
-use Rattle.vt_laws_trees.proofs.layers.layers.LowersWorld.{number_of_filesystem}
-use Rattle.vt_laws_trees.proofs.layers.layers.UpperLine.{has_entries}
-use Rattle.vt_laws_worlds.specs.OverlayPermits.Asked.{AsksWell}
-use Rattle.vt_laws_worlds.specs.OverlayPermits.Unlocked.{SparesInode}
 use Rattle.vt_laws_sealed.specs.Part.Seals.{IsApart}
 use Rattle.vt_laws_sealed.proofs.outsiders.ChangesGround.{MarksWhatIsThere}
 use Rattle.vt_laws_sealed.proofs.outsiders.FilesStep.{IsFilesStep}

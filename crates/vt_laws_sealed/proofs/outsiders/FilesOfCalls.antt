@@ -1,28 +1,22 @@
 -- The filesystems after a call of others that changes something: the change of one, and of its upper layer.
-use Rattle.std.proofs.Common.{arith, ◌≡◌, ◌≢◌, refl, sym, ap, subst, ◌∙◌, inr, ⊎_elim, ℕ, nat_eq, Bool, true, false, true≢false, List, [], ◌∷◌, Option, Some, None, Ok, is_some, not, ◌&&◌, ◌||◌, eq-eqb, eqb-true}
+use Rattle.std.proofs.Common.{inl, arith, ◌≡◌, ◌≢◌, refl, sym, ap, subst, ◌∙◌, inr, ⊎_elim, ℕ, nat_eq, Bool, true, false, true≢false, List, [], ◌∷◌, Option, Some, None, Ok, is_some, not, ◌&&◌, ◌||◌, eq-eqb, eqb-true}
 use Rattle.vt_spec.proofs.Common.{Among, Call, Change, CopyUp, Filesystem, Fresh, HasOwnParents, IsTree, Layer, ListsNumbers, Location, Merge, Overlay, Permit, Task, TaskName, World, among-append_left, among-append_right, among-filter, among-flat_map, among-from_filter, among-from_flat_map, among_from_list_all, among_numbers, and_from, and_parts, any_among, any_from_among, changed, changed_at, common_steps, counts_in_layer, directory_used, false_from_ne_true, files_at, filesystem_at, filesystem_changed, filesystem_numbered, found_among, has_layer_on, is_among, is_among_numbers, is_directory_node, is_locked, is_lower_root, is_overlay, is_plain_layer, is_under, judge_in, layers_of, led, lies_in_layer, lies_only_in_lowers, lies_or_counts_under, list_any, live_layers, live_lowers, looks_of, merge_changed, merge_of, mount_at, no_outsider_on, none_is_some, not-true, numbers_of_change, of_overlay, or_cases, or_left, overfills, overlay_changed, overlay_or, overlays, own_lowers, same_Some, stack_of, task_called, upper_and_work, used_alone, used_directly, used_filesystems, when, wholly_locked, with_change}
 use Rattle.vt_spec.specs.Machine.Filesystems.{numbers_over}
-use Rattle.vt_laws_rules.proofs.given.GivenPermits.{permits_are_for_their_calls}
-use Rattle.vt_laws_rules.proofs.given.Inversion.{calls_are_granted}
+use Rattle.vt_laws_sealed.proofs.Common.{cases_Option, AsksWell, AsksWellIf, IsFileTree, IsProper, SparesLocked, SparesLockedIf, calls_are_granted, change_asked, name_found, number_of_filesystem, permits_are_for_their_calls}
 use Rattle.vt_laws_rules.specs.Given.{IsFor}
 use Rattle.vt_laws_sealed.proofs.outsiders.OthersCalls.{IsOthersCall, apart_from}
-use Rattle.vt_laws_trees.specs.Trees.{IsFileTree, IsProper}
 use Rattle.vt_laws_trees.proofs.trees.ChangesKeepTrees.{changes_keep_numbers, changes_keep_own_parents, changes_keep_trees}
 use Rattle.vt_laws_trees.proofs.trees.TreesOfWorlds.{numbered_all, numbered_anyhow}
-use Rattle.vt_laws_trees.proofs.layers.layers.LowersWorld.{number_of_filesystem}
 use Rattle.vt_laws_trees.proofs.layers.layers.UpperWorld.{overlay_found}
 use Rattle.vt_laws_trees.proofs.layers.locked.Apart.{layer_among, layer_plain}
 use Rattle.vt_laws_trees.specs.Overlays.WholeChanges.{IsAskedWell}
 use Rattle.vt_laws_trees.proofs.overlays.whole.ApartLater
 use Rattle.vt_laws_trees.proofs.overlays.whole.ApartReached.{inode_stays}
-use Rattle.vt_laws_worlds.specs.OverlayPermits.Asked.{AsksWell, AsksWellIf, change_asked}
 use Rattle.vt_laws_worlds.specs.OverlayPermits.Changed.{numbers_left}
-use Rattle.vt_laws_worlds.specs.OverlayPermits.Unlocked.{SparesLocked, SparesLockedIf}
 use Rattle.vt_laws_worlds.proofs.overlay_permits.asked.Asked.{permits_ask_well}
 use Rattle.vt_laws_worlds.proofs.overlay_permits.asked.AskedOverlays.{permits_ask_overlays_well, permits_ask_properly}
 use Rattle.vt_laws_worlds.proofs.overlay_permits.asked.Unlocked.{permits_spare_what_is_locked}
 use Rattle.vt_laws_worlds.proofs.overlay_permits.changed.ChangedOverlays.{are_left}
-use Rattle.vt_laws_worlds.proofs.worlds.CallsKept.{name_found}
 use Rattle.vt_laws_sealed.specs.Part.Seals.{IsApart}
 use Rattle.vt_laws_sealed.proofs.part.locks.LockedTrees.{all_locked}
 use Rattle.vt_laws_sealed.proofs.part.seals.ByPart.{used_are_free}
@@ -413,14 +407,12 @@ module _ {world : World ℕ} {fresh : Fresh ℕ} {names : List TaskName} {name :
   pub changed_files_leave : (base left : World ℕ) → base.filesystems ≡ world.filesystems
       → left ≡ record base { filesystems = (with_change nat_eq supply world location change).filesystems }
       → LeavesApart world base names [] → LeavesApart world left names (changed_at nat_eq world location)
-  changed_files_leave base left same left_is leaves = by there.overlay refl
+  changed_files_leave base left same left_is leaves = elim (cases_Option there.overlay) [
+    | inl plain ↦ plain_leaves plain base left same left_is leaves
+    | inr its ↦ over its.0 its.1 its.0.upper refl
+  ]
     where
       over : (overlay : Overlay ℕ) → there.overlay ≡ Some overlay → (upper : Option (Layer ℕ)) → overlay.upper ≡ upper
           → LeavesApart world left names (changed_at nat_eq world location)
       over overlay is None has = grind (arith, common_steps)
       over overlay is (Some upper) has = merged_leaves overlay is upper has base left same left_is leaves
-
-      by : (o : Option (Overlay ℕ)) → there.overlay ≡ o
-          → LeavesApart world left names (changed_at nat_eq world location)
-      by None plain = plain_leaves plain base left same left_is leaves
-      by (Some overlay) is = over overlay is overlay.upper refl

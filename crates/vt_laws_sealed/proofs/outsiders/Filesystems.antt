@@ -1,10 +1,11 @@
 -- Filesystems that a set of tasks uses are there, and a new one is none of them.
-use Rattle.std.proofs.Common.{arith, ◌≡◌, refl, sym, ap, subst, ◌∙◌, inl, ⊎_elim, ℕ, nat_eq, true, false, cond, true≢false, List, [], ◌∷◌, ◌++◌, append-nil, Option, Some, None, filter, find, flat_map, is_some, map, not, ◌&&◌, eqb-true, option_to_list, unwrap_or, filter_map}
+use Rattle.std.proofs.Common.{inr, arith, ◌≡◌, refl, sym, ap, subst, ◌∙◌, inl, ⊎_elim, ℕ, nat_eq, true, false, cond, true≢false, List, [], ◌∷◌, ◌++◌, append-nil, Option, Some, None, filter, find, flat_map, is_some, map, not, ◌&&◌, eqb-true, option_to_list, unwrap_or, filter_map}
 use Rattle.vt_spec.proofs.Common.{Among, Filesystem, Fresh, Layer, Location, Mount, Namespace, Overlay, Serves, TaskName, World, all_locations, among-append, among-append_left, among-append_right, among-flat_map, among-from_filter, among-from_flat_map, among-from_map, among-map, among_from_contains, among_from_list_all, among_numbers, and_parts, change_layers, common_steps, cons_option, directory_used, false_from_ne_true, filesystem_numbered, filter-append, filter_map-append, found_among, has_its_root, is_among, is_among_left, is_among_numbers, is_among_right, is_directory_node, is_located_well, is_member_task, is_overlay, is_own_mount, is_plain_layer, is_under, layers_of, list_all, list_any, locations, locations_of, members, mount_at, no_filesystem, none_from_among, numbers_in_use, of_overlay, only_among, overlay_or, overlays, own_lowers, own_mounts, used_by_filesystem, used_by_mount, used_directly, used_filesystems, when}
 use Rattle.vt_laws_sealed.specs.Part.Parts.{SeesTheSame, shown_of}
 use Rattle.vt_laws_sealed.specs.Part.Seals.{IsApart}
 use Rattle.vt_laws_sealed.proofs.part.Kept.{among-from_each_once, filter_map_same}
 use Rattle.vt_laws_sealed.proofs.outsiders.Staying.{IsOfTheWorld}
+use Rattle.vt_laws_sealed.proofs.Common.{cases_Option}
 
 module _ {world : World ℕ} {names : List TaskName} (apart : IsApart world names) where
   abbrev numbers : List ℕ
@@ -50,19 +51,18 @@ module _ {world : World ℕ} {names : List TaskName} (apart : IsApart world name
   -- a layer of an overlay is in one
   layer_there : (merged : Filesystem ℕ) → Among merged world.filesystems → (layer : Layer ℕ)
       → Among layer (of_overlay [] layers_of merged) → is_among nat_eq layer.filesystem numbers ≡ true
-  layer_there merged there layer m = by merged.overlay refl
-    where
-      by : (o : Option (Overlay ℕ)) → merged.overlay ≡ o → is_among nat_eq layer.filesystem numbers ≡ true
-      by None e = absurd (subst (Among layer) (ap (overlay_or [] layers_of) e) m)
-      by (Some overlay) e = there_by_node layer.filesystem layer.directory
-          (directory_used (filesystem_numbered nat_eq world layer.filesystem).files.tree layer.directory
-          (and_parts (not (is_overlay (filesystem_numbered nat_eq world layer.filesystem)))
-          (is_directory_node ((filesystem_numbered nat_eq world layer.filesystem).files.tree.node layer.directory))
-          (among_from_list_all (is_plain_layer nat_eq world) (layers_of overlay)
-          (sym (ap (overlay_or true (λ o. list_all (is_plain_layer nat_eq world) (layers_of o))) e)
-          ∙ among_from_list_all (of_overlay true (λ o. list_all (is_plain_layer nat_eq world) (layers_of o)))
-          world.filesystems apart.is.overlays.plain_layers merged there)
-          layer (subst (Among layer) (ap (overlay_or [] layers_of) e) m))).1)
+  layer_there merged there layer m = elim (cases_Option merged.overlay) [
+    | inl e ↦ absurd (subst (Among layer) (ap (overlay_or [] layers_of) e) m)
+    | inr its ↦ there_by_node layer.filesystem layer.directory
+        (directory_used (filesystem_numbered nat_eq world layer.filesystem).files.tree layer.directory
+        (and_parts (not (is_overlay (filesystem_numbered nat_eq world layer.filesystem)))
+        (is_directory_node ((filesystem_numbered nat_eq world layer.filesystem).files.tree.node layer.directory))
+        (among_from_list_all (is_plain_layer nat_eq world) (layers_of its.0)
+        (sym (ap (overlay_or true (λ o. list_all (is_plain_layer nat_eq world) (layers_of o))) its.1)
+        ∙ among_from_list_all (of_overlay true (λ o. list_all (is_plain_layer nat_eq world) (layers_of o)))
+        world.filesystems apart.is.overlays.plain_layers merged there)
+        layer (subst (Among layer) (ap (overlay_or [] layers_of) its.1) m))).1)
+  ]
 
   -- of a filesystem that is found, layers are in filesystems that are there
   found_layer_there : (number : ℕ) (some : Overlay ℕ → List (Layer ℕ))

@@ -1,13 +1,12 @@
 -- Each filesystem is replaced by another one of its number: what a sealed set uses stays, and so does what its part has
 -- of lower layers.
 use Rattle.std.proofs.Common.{◌≡◌, refl, sym, ap, ◌∙◌, inl, inr, ℕ, nat_eq, Bool, true, false, cond, List, [], ◌∷◌, Some, find, map, not, ◌||◌, eqb-true, unwrap_or}
-use Rattle.vt_spec.proofs.Common.{Among, Filesystem, Layer, TaskName, World, among-map, among_from_contains, any_pair, filesystem_numbered, has_layer_on, is_among, is_overlay, list_any, no_filesystem, no_outsider_on, overlays, own_lowers, pair-map, used_alone, used_directly, used_filesystems, when}
-use Rattle.vt_laws_mounts.proofs.letting_go.sweeps.OfWorlds.{found_filesystem}
+use Rattle.vt_spec.proofs.Common.{cases_Bool, Among, Filesystem, Layer, TaskName, World, among-map, among_from_contains, any_pair, filesystem_numbered, has_layer_on, is_among, is_overlay, list_any, no_filesystem, no_outsider_on, overlays, own_lowers, pair-map, used_alone, used_directly, used_filesystems, when}
+use Rattle.vt_laws_sealed.proofs.Common.{filter-map, found_filesystem}
 use Rattle.vt_laws_sealed.specs.Part.Parts.{SeesTheSame, shown_of}
 use Rattle.vt_laws_sealed.proofs.part.Kept.{filter_map_map, filter_map_same}
 use Rattle.vt_laws_sealed.proofs.part.part.PartOfPart.{used_directly_used}
 use Rattle.vt_laws_sealed.proofs.outsiders.SeenLater.{lowered_by}
-use Rattle.vt_laws_mounts.proofs.letting_go.Lists.{filter-map}
 use Rattle.vt_laws_sealed.proofs.outsiders.Raising.{all-map_same}
 
 module _ {world before : World ℕ} {names : List TaskName} (sees : SeesTheSame world before names)
@@ -57,36 +56,34 @@ module _ {world before : World ℕ} {names : List TaskName} (sees : SeesTheSame 
 
   each_shown : (x : Filesystem ℕ) → Among x before.filesystems
       → shown_of stepped used lowers (step x) ≡ shown_of before used lowers x
-  each_shown x m = by (is_among nat_eq x.number used) refl
+  each_shown x m = elim (cases_Bool (is_among nat_eq x.number used)) [
+    | inl e ↦ ap (λ y. shown_of stepped used lowers y) (used_is x m e)
+        ∙ ap (λ b. cond b (Some x) (when (list_any (λ (layer : Layer ℕ). nat_eq x.number layer.filesystem) lowers)
+        (lowered_by used lowers (filesystem_numbered nat_eq stepped x.number).files x))) e
+        ∙ sym (ap (λ b. cond b (Some x) (when
+        (list_any (λ (layer : Layer ℕ). nat_eq x.number layer.filesystem) lowers)
+        (lowered_by used lowers (filesystem_numbered nat_eq before x.number).files x))) e)
+    | inr e ↦ ap (λ (f : Filesystem ℕ). cond (is_among nat_eq (step x).number used) (Some (step x))
+        (when (list_any (λ (layer : Layer ℕ). nat_eq (step x).number layer.filesystem) lowers)
+        (lowered_by used lowers f.files (step x))))
+        (ap (filesystem_numbered nat_eq stepped) (step_number x) ∙ found_after x m)
+        ∙ ap (λ n. cond (is_among nat_eq n used) (Some (step x))
+        (when (list_any (λ (layer : Layer ℕ). nat_eq n layer.filesystem) lowers)
+        (lowered_by used lowers (step x).files (step x)))) (step_number x) ∙ ap (λ b. cond b (Some (step x)) (when
+        (list_any (λ (layer : Layer ℕ). nat_eq x.number layer.filesystem) lowers)
+        (lowered_by used lowers (step x).files (step x)))) e
+        ∙ lower_by (list_any (λ (layer : Layer ℕ). nat_eq x.number layer.filesystem) lowers) refl
+        ∙ sym (ap (λ (f : Filesystem ℕ). cond (is_among nat_eq x.number used) (Some x)
+        (when (list_any (λ (layer : Layer ℕ). nat_eq x.number layer.filesystem) lowers)
+        (lowered_by used lowers f.files x))) (found_before x m)
+        ∙ ap (λ b. cond b (Some x) (when (list_any (λ (layer : Layer ℕ). nat_eq x.number layer.filesystem) lowers)
+        (lowered_by used lowers x.files x))) e)
+  ]
     where
       lower_by : (c : Bool) → list_any (λ (layer : Layer ℕ). nat_eq x.number layer.filesystem) lowers ≡ c
           → when c (lowered_by used lowers (step x).files (step x)) ≡ when c (lowered_by used lowers x.files x)
       lower_by true e = ap Some (lower_same x m e)
       lower_by false e = refl
-
-      by : (b : Bool) → is_among nat_eq x.number used ≡ b
-          → shown_of stepped used lowers (step x) ≡ shown_of before used lowers x
-      by true e = ap (λ y. shown_of stepped used lowers y) (used_is x m e)
-          ∙ ap (λ b. cond b (Some x) (when (list_any (λ (layer : Layer ℕ). nat_eq x.number layer.filesystem) lowers)
-          (lowered_by used lowers (filesystem_numbered nat_eq stepped x.number).files x))) e
-          ∙ sym (ap (λ b. cond b (Some x) (when
-          (list_any (λ (layer : Layer ℕ). nat_eq x.number layer.filesystem) lowers)
-          (lowered_by used lowers (filesystem_numbered nat_eq before x.number).files x))) e)
-      by false e = ap (λ (f : Filesystem ℕ). cond (is_among nat_eq (step x).number used) (Some (step x))
-          (when (list_any (λ (layer : Layer ℕ). nat_eq (step x).number layer.filesystem) lowers)
-          (lowered_by used lowers f.files (step x))))
-          (ap (filesystem_numbered nat_eq stepped) (step_number x) ∙ found_after x m)
-          ∙ ap (λ n. cond (is_among nat_eq n used) (Some (step x))
-          (when (list_any (λ (layer : Layer ℕ). nat_eq n layer.filesystem) lowers)
-          (lowered_by used lowers (step x).files (step x)))) (step_number x) ∙ ap (λ b. cond b (Some (step x)) (when
-          (list_any (λ (layer : Layer ℕ). nat_eq x.number layer.filesystem) lowers)
-          (lowered_by used lowers (step x).files (step x)))) e
-          ∙ lower_by (list_any (λ (layer : Layer ℕ). nat_eq x.number layer.filesystem) lowers) refl
-          ∙ sym (ap (λ (f : Filesystem ℕ). cond (is_among nat_eq x.number used) (Some x)
-          (when (list_any (λ (layer : Layer ℕ). nat_eq x.number layer.filesystem) lowers)
-          (lowered_by used lowers f.files x))) (found_before x m)
-          ∙ ap (λ b. cond b (Some x) (when (list_any (λ (layer : Layer ℕ). nat_eq x.number layer.filesystem) lowers)
-          (lowered_by used lowers x.files x))) e)
 
   pub filesystems_stepped : SeesTheSame world stepped names
   filesystems_stepped = record {

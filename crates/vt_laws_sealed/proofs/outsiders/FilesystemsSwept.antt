@@ -1,7 +1,7 @@
 -- The sweeps of mounts, groups and filesystems take nothing that a sealed set sees.
 use Rattle.std.proofs.Common.{arith, ◌≡◌, refl, sym, ap, ◌∙◌, ⊎_elim, ℕ, nat_eq, Bool, true, false, cond, true≢false, List, [], ◌∷◌, ◌++◌, Option, Some, None, filter, find, flat_map, map, ◌&&◌, ◌||◌, eq-eqb, eqb-true, unwrap_or, filter_map}
 use Rattle.vt_spec.proofs.Common.{Among, Filesystem, Layer, Location, Mount, TaskName, World, among-append, among-flat_map, among-from_filter, among-from_flat_map, among-from_map, among_from_contains, among_numbers, and_from, any_among, any_from_among, change_layers, common_steps, false_from_ne_true, filesystem_lives, filesystem_numbered, has_layer_on, is_among, is_member_of, is_member_task, is_mounted, layers_of, list_any, locations, locations_of, members, mount_at, mount_numbered, no_filesystem, of_overlay, or_left, or_right, own_lowers, own_mounts, used_directly, used_filesystems, when, without_dead_filesystems, without_dead_groups, without_dead_mounts}
-use Rattle.vt_laws_mounts.proofs.mounts.MountsReplaced.{found_itself}
+use Rattle.vt_laws_sealed.proofs.Common.{found_itself}
 use Rattle.vt_laws_sealed.specs.Part.Parts.{SeesTheSame, shown_of}
 use Rattle.vt_laws_sealed.specs.Part.Seals.{IsApart}
 use Rattle.vt_laws_sealed.proofs.part.Kept.{among-from_each_once}

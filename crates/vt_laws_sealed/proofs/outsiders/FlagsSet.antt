@@ -1,14 +1,8 @@
 -- Flags of a mount of others that are set.
 use Rattle.std.proofs.Common.{arith, ◌≡◌, refl, sym, ap, subst, ◌∙◌, inl, ℕ, nat_eq, Bool, true, false, cond, List, [], Some, Ok, filter, map, not, ◌||◌, eqb-true}
-use Rattle.vt_spec.proofs.Common.{Among, Call, Fresh, Mount, MountFlags, Propagation, Remount, Task, TaskName, ToSetFlags, World, apply, common_steps, holds_of, is_at, is_own_namespace, judge_in, locations, map_alike, members, mount_numbered, no_mount, number-mount_in, other_mounts, own_mounts, replaced_if_same, roots_and_directories, seen_by_descriptor, settled, share_events, shares_no_events, when, with_mounts}
-use Rattle.vt_laws_mounts.proofs.letting_go.Lists.{filter-map}
+use Rattle.vt_spec.proofs.Common.{Among, Call, Fresh, Mount, MountFlags, Remount, Task, TaskName, ToSetFlags, World, apply, common_steps, holds_of, is_at, is_own_namespace, judge_in, locations, map_alike, members, mount_numbered, number-mount_in, other_mounts, own_mounts, replaced_if_same, roots_and_directories, seen_by_descriptor, settled, shares_no_events, when, with_mounts}
+use Rattle.vt_laws_sealed.proofs.Common.{all_permits_fit, filter-map, found_itself, mounts_overlay, name_found, permits_are_for_their_calls, sets_type, takes_uses}
 use Rattle.vt_laws_sealed.proofs.outsiders.OthersCalls.{IsOthersCall, apart_from}
-use Rattle.vt_laws_trees.specs.Trees.Calls.{mounts_overlay}
-use Rattle.vt_laws_worlds.proofs.worlds.FitPermitsNamed.{all_permits_fit}
-use Rattle.vt_laws_later_calls.specs.Ends.{sets_type, takes_uses}
-use Rattle.vt_laws_mounts.proofs.mounts.MountsReplaced.{found_itself}
-use Rattle.vt_laws_rules.proofs.given.GivenPermits.{permits_are_for_their_calls}
-use Rattle.vt_laws_worlds.proofs.worlds.CallsKept.{name_found}
 use Rattle.vt_laws_sealed.proofs.part.part.PartOfPart.{is_own, keep}
 use Rattle.vt_laws_sealed.specs.Part.Seals.{IsApart}
 use Rattle.vt_laws_sealed.proofs.outsiders.ChangedWorlds.{KeepsOrDetaches, changing_leaves_apart, others_rest}
@@ -96,11 +90,6 @@ module _ {world : World ℕ} {fresh : Fresh ℕ} {names : List TaskName} {name :
             ∙ sym (ap (λ b. cond b (Some mount)
             (when (is_at nat_eq (locations (members world names)) mount) (seen_by_descriptor mount))) no)
         by false e = refl
-
-    -- events go by types alone
-    abbrev share_by : Propagation ℕ → Propagation ℕ → Bool
-    share_by a b =
-        share_events nat_eq world (record (no_mount 0) { propagation = a }) (record (no_mount 0) { propagation = b })
 
     abbrev flagged : World ℕ
     flagged = with_mounts world (map (set world number flags) world.mounts)

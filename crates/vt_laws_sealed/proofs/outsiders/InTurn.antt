@@ -1,8 +1,7 @@
 -- Calls of others, one after the other, leave a sealed set sealed and its part as it was.
 use Rattle.std.proofs.Common.{◌≡◌, refl, sym, ap, subst, ◌∙◌, ⊎_elim, ℕ, nat_eq, Bool, true, false, cond, List, [], ◌∷◌, Some, find, is_some}
 use Rattle.vt_spec.proofs.Common.{Among, IsWorld, Task, TaskName, World, among-filter, among-from_filter, among_from_list_all, any_from_among, found_among, found_passes, is_among, is_member_task, list_all_from_among, members, part_of, policy, same_name, sealed, some_from_is_some, task_called}
-use Rattle.vt_laws_worlds.proofs.overlay_permits.worlds.EveryCall.{every_call_keeps_worlds}
-use Rattle.vt_laws_worlds.proofs.worlds.CallsKept.{name_found}
+use Rattle.vt_laws_sealed.proofs.Common.{every_call_keeps_worlds, name_found}
 use Rattle.vt_laws_sealed.specs.Outsiders.{AreOutsiders, IsOutsidersCall, OneCall, OutsidersLeaveItSealedInTurn, after_calls, are_all_called}
 use Rattle.vt_laws_sealed.proofs.outsiders.EveryPermit.{outsiders_leave_a_sealed_set}
 

@@ -1,9 +1,7 @@
 -- The sweep of inodes takes nothing that a sealed set sees.
 use Rattle.std.proofs.Common.{arith, ◌≡◌, refl, sym, ap, ◌∙◌, inr, ℕ, nat_eq, Bool, true, false, List, [], ◌++◌, None, filter, flat_map, option_map}
 use Rattle.vt_spec.proofs.Common.{Among, FileTree, Filesystem, IsDirectory, Layer, TaskName, World, among-append_left, among-filter, among-flat_map, among-map, any_pair, common_steps, has_layer_on, is_among, is_among_numbers, is_overlay, layers_in, layers_of, list_all, list_any, located_in, named_in, number-only_used, objects_of_overlay, of_overlay, only_used, only_used_by, own_lowers, real_among, sealed, used_filesystems, used_in, without_dead_in}
-use Rattle.vt_laws_trees.specs.Trees.{IsFileTree}
-use Rattle.vt_laws_trees.proofs.trees.TreesForgotten.{named_is_used}
-use Rattle.vt_laws_mounts.specs.Mounts.Invariants.{OneNumberEach}
+use Rattle.vt_laws_sealed.proofs.Common.{IsFileTree, OneNumberEach, named_is_used}
 use Rattle.vt_laws_sealed.specs.Part.Parts.{SeesTheSame}
 use Rattle.vt_laws_sealed.specs.Part.Seals.{IsApart}
 use Rattle.vt_laws_sealed.proofs.outsiders.CutTrees.{lower_part_same}

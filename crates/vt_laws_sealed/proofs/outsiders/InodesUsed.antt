@@ -1,10 +1,7 @@
 -- The inodes of a filesystem that a sealed set uses are in use, where the set sees the same.
 use Rattle.std.proofs.Common.{arith, ◌≡◌, refl, sym, ap, subst, ◌∙◌, inl, inr, ⊎_elim, ℕ, nat_eq, Bool, true, false, true≢false, List, [], ◌++◌, Option, Some, None, filter, flat_map, is_some, map, not, ◌&&◌, ◌||◌, eq-eqb, eqb-true, filter_map}
 use Rattle.vt_spec.proofs.Common.{Among, Filesystem, Layer, Location, Mount, Overlay, Stands, Task, TaskName, World, all_locations, all_named, among-append, among-append_left, among-append_right, among-filter, among-filter_map, among-flat_map, among-from_filter, among-from_filter_map, among-from_flat_map, among-from_map, among-map, among_from_all, among_from_list_all, among_numbers, and_parts, any_among, any_from_among, common_steps, filesystem_numbered, found_or_none, has_layer_on, holds_of, is_among, is_among_numbers, is_located, is_lower_root, is_member_task, is_nowhere_or_attached, is_overlay, is_own_mount, is_own_namespace, is_private, layers_in, layers_of, list_all, list_all_from_among, list_any, located_in, locations, locations_of, members, mount_at, mount_in, mount_lives, mount_numbered, named_in, no_outsider_on, none_is_some, not-true, number-mount_in, objects_of_overlay, of_overlay, only_used, only_used_by, or_cases, or_left, other_mounts, outsiders, overlay_or, overlays, own_mounts, root_of, sealed, used_alone, used_filesystems, used_in, wholly_locked}
-use Rattle.vt_laws_mounts.proofs.letting_go.sweeps.OfWorlds.{all_in_use, found_filesystem}
-use Rattle.vt_laws_mounts.specs.Mounts.Invariants.{OneNumberEach}
-use Rattle.vt_laws_mounts.proofs.mounts.MountsReplaced.{found_itself}
-use Rattle.vt_laws_worlds.proofs.worlds.Reached.{namespace_below}
+use Rattle.vt_laws_sealed.proofs.Common.{OneNumberEach, all_in_use, found_filesystem, found_itself, namespace_below}
 use Rattle.vt_laws_sealed.specs.Part.Parts.{SeesTheSame}
 use Rattle.vt_laws_sealed.specs.Part.Seals.{IsApart}
 use Rattle.vt_laws_sealed.proofs.part.part.PartOfPart.{is_own, keep, kept_whole, located}

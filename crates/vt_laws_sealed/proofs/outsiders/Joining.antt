@@ -1,14 +1,8 @@
 -- Others that enter other namespaces: setns(2).
 use Rattle.std.proofs.Common.{arith, ◌≡◌, refl, sym, ap, subst, ◌∙◌, ◌⊎◌, inl, inr, ⊎_elim, ℕ, nat_eq, true, false, List, [], Option, Some, None, Ok, filter, is_some, map, not, eqb-true, ok_or, option_map, unwrap_or}
 use Rattle.vt_spec.proofs.Common.{Among, Call, Fresh, Location, Mount, Permit, Task, TaskName, ToEnterNamespace, World, among-filter, among-flat_map, among-from_filter, among-from_flat_map, among-from_map, apply, common_steps, denial, entered_at, found_among, holds_of, is_among, is_member_task, is_own_namespace, judge_in, locations_of, looks_of, mounts_of, namespace_root, outsiders, overfills, replaced_if_called, root_mount, root_of, same_name, settled, task_called, topmost}
-use Rattle.vt_spec.specs.declared.errors.Rule.TheVariants.{S2}
-use Rattle.vt_laws_mounts.proofs.mounts.MountsReplaced.{found_itself}
-use Rattle.vt_laws_rules.proofs.given.Inversion.{calls_are_granted}
-use Rattle.vt_laws_rules.specs.Granted.{IsGranted}
-use Rattle.vt_laws_rules.specs.Granted.IsGranted.{enters_namespace}
+use Rattle.vt_laws_sealed.proofs.Common.{IsGranted, S2, calls_are_granted, enters_namespace, found_itself, name_found, topmost_ground}
 use Rattle.vt_laws_sealed.proofs.outsiders.OthersCalls.{IsOthersCall}
-use Rattle.vt_laws_worlds.proofs.worlds.Ground.{topmost_ground}
-use Rattle.vt_laws_worlds.proofs.worlds.CallsKept.{name_found}
 use Rattle.vt_laws_sealed.proofs.outsiders.Ending.{ending_leaves_apart}
 use Rattle.vt_laws_sealed.proofs.outsiders.Entering.{apart, ground_of_others, old_outside}
 use Rattle.vt_laws_sealed.proofs.outsiders.OtherMounts.{namespace_outside}

@@ -1,14 +1,10 @@
 -- Trees of mounts of others that are unmounted at once: umount2(2) with MNT_DETACH.
-use Rattle.std.proofs.Common.{◌≡◌, refl, sym, ap, subst, ◌∙◌, ⊎_elim, inl, inr, ℕ, nat_eq, Bool, true, false, cond, List, [], ◌∷◌, Option, Some, None, Ok, is_some, length}
+use Rattle.std.proofs.Common.{◌≡◌, refl, sym, ap, subst, ◌∙◌, ⊎_elim, inl, inr, ℕ, nat_eq, Bool, true, false, cond, List, [], ◌∷◌, Some, Ok, is_some, length}
 use Rattle.vt_spec.proofs.Common.{Among, Call, Fresh, Mount, MountInvariants, Task, TaskName, ToUnmountLazily, World, apply, folded, found_or_none, going, is_going, is_own_namespace, judge_in, lazily_unmounted, mount_numbered, none_is_some, number-mount_in, same_Some, settled, unmounted, unmounted_if_there}
 use Rattle.vt_laws_sealed.proofs.outsiders.OthersCalls.{IsOthersCall, apart_from}
-use Rattle.vt_laws_trees.specs.Trees.Calls.{mounts_overlay}
-use Rattle.vt_laws_rules.proofs.given.GivenPermits.{permits_are_for_their_calls}
+use Rattle.vt_laws_sealed.proofs.Common.{cases_Option, all_permits_fit, found_itself, mounts_overlay, name_found, permits_are_for_their_calls}
 use Rattle.vt_laws_mounts.proofs.ends.EndingLazy.{IsUnderWay, begun, lazy_unmount_keeps_mounts, next}
 use Rattle.vt_laws_mounts.proofs.ends.EndingOrder.{from_tree, taken_in_turn}
-use Rattle.vt_laws_mounts.proofs.mounts.MountsReplaced.{found_itself}
-use Rattle.vt_laws_worlds.proofs.worlds.CallsKept.{name_found}
-use Rattle.vt_laws_worlds.proofs.worlds.FitPermitsNamed.{all_permits_fit}
 use Rattle.vt_laws_sealed.specs.Part.Seals.{IsApart}
 use Rattle.vt_laws_sealed.proofs.outsiders.ChangedWorlds.{OthersMove, others_rest}
 use Rattle.vt_laws_sealed.proofs.outsiders.OtherMounts.{namespace_outside, standing_apart, tree_in}
@@ -99,21 +95,18 @@ module _ {world : World ℕ} {names : List TaskName} (apart : IsApart world name
   all_go [] now way gone_so_far of = gone_so_far
   all_go (mount ∷ events) now way gone_so_far of =
       all_go events (unmounted_if_there nat_eq now mount) (next world apart.is.mounts one now mount events way)
-      (by (mount_numbered nat_eq now mount.number).namespace refl
-      (next world apart.is.mounts one now mount events way).kept) (λ x m. of x (inr m))
+      ((elim (cases_Option (mount_numbered nat_eq now mount.number).namespace) [
+        | inl e ↦ subst (λ o. HasGone (event (is_some o))) (sym e) gone_so_far
+        | inr its ↦ let same : its.0 ≡ namespace =
+            same_Some its.0 namespace (sym (gone_so_far.was_in mount.number its.0 its.1) ∙ event_placed mount
+            (of mount (inl refl)))
+            in subst (λ o. HasGone (event (is_some o))) (sym its.1) (goes_on now gone_so_far mount.number (cc)
+            (subst (λ o. MountInvariants nat_eq (event (is_some o))) its.1
+            (next world apart.is.mounts one now mount events way).kept))
+      ])) (λ x m. of x (inr m))
     where
       event : Bool → World ℕ
       event b = cond b (unmounted nat_eq now mount.number) now
-
-      by : (o : Option ℕ) → (mount_numbered nat_eq now mount.number).namespace ≡ o → MountInvariants nat_eq
-          (event (is_some (mount_numbered nat_eq now mount.number).namespace))
-          → HasGone (event (is_some (mount_numbered nat_eq now mount.number).namespace))
-      by None e kept = subst (λ o. HasGone (event (is_some o))) (sym e) gone_so_far
-      by (Some n) e kept =
-          let same : n ≡ namespace =
-          same_Some n namespace (sym (gone_so_far.was_in mount.number n e) ∙ event_placed mount (of mount (inl refl)))
-          in subst (λ o. HasGone (event (is_some o))) (sym e) (goes_on now gone_so_far mount.number (cc)
-          (subst (λ o. MountInvariants nat_eq (event (is_some o))) e kept))
 
   pub lazily_leaves : LeavesApart world world names [] → LeavesApart world (lazily_unmounted nat_eq world one) names []
       × ((lazily_unmounted nat_eq world one).filesystems ≡ world.filesystems)

@@ -1,10 +1,9 @@
 -- What lies under directories of a tree that is changed elsewhere: a part of the tree has the same of it.
 use Rattle.std.proofs.Common.{arith, ◌≡◌, refl, sym, ap, ◌∙◌, ℕ, nat_eq, Bool, true, false, cond, true≢false, List, [], ◌∷◌, ◌++◌, Option, Some, None, filter, is_some, ◌&&◌}
 use Rattle.vt_spec.proofs.Common.{Among, FileTree, IsDirectory, Layer, Node, among-from_filter, among_numbers, and_parts, any_among, common_steps, directory_used, entries_in, entry_named, false_from_ne_true, is_among, is_directory_node, is_under, led, list_any, only_among, same_truth}
-use Rattle.vt_laws_trees.specs.Trees.{IsFileTree}
+use Rattle.vt_laws_sealed.proofs.Common.{IsFileTree, led_under, under_led}
 use Rattle.vt_laws_trees.proofs.layers.layers.ShownDirectories.{led_is_there}
 use Rattle.vt_laws_trees.proofs.layers.views.Stay.{led_where}
-use Rattle.vt_laws_trees.proofs.overlays.whole.ApartPaths.{led_under, under_led}
 use Rattle.vt_laws_sealed.proofs.outsiders.CutTrees.{any_alike, filter_same}
 
 -- what is put before a list, and does not pass

@@ -1,11 +1,10 @@
 -- Where a set of tasks sees the same, its namespaces have the mounts that they had.
 use Rattle.std.proofs.Common.{arith, ◌≡◌, refl, sym, ap, subst, ◌∙◌, inl, inr, ℕ, nat_eq, Bool, true, false, true≢false, List, [], ◌∷◌, Option, Some, None, filter, eq-eqb, eqb-true}
 use Rattle.vt_spec.proofs.Common.{Among, HasLivingGroups, Lives, Location, Mount, MountFlags, MountInvariants, Propagation, TaskName, World, among-from_filter, among_from_all, and_from, any_from_among, common_steps, false_from_ne_true, has_members, holds_of, is_own_mount, is_own_namespace, master_above, mounts_of, own_mounts, same_bool, same_flags, same_list, same_location, same_mount, same_mounts_in, same_option, same_propagation, shares_no_events, source_of}
-use Rattle.vt_laws_mounts.proofs.letting_go.Lists.{filter_less}
+use Rattle.vt_laws_sealed.proofs.Common.{filter_less, same_location_itself}
 use Rattle.vt_laws_sealed.specs.Part.Parts.{SeesTheSame}
 use Rattle.vt_laws_sealed.proofs.part.groups.ReceiversAlike.{own_member}
 use Rattle.vt_laws_sealed.proofs.part.part.Observed.{own_mounts_same}
-use Rattle.vt_laws_mounts.proofs.mounts.MountsPlaces.{same_location_itself}
 use Rattle.vt_laws_sealed.proofs.part.groups.EventsApart.{start_hears}
 
 -- what is compared with itself is the same

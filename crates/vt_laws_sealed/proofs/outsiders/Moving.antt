@@ -2,10 +2,7 @@
 use Rattle.std.proofs.Common.{◌≡◌, refl, sym, ap, inl, ⊎_elim, ℕ, nat_eq, true, false, List, [], append-nil, Some, Ok, length}
 use Rattle.vt_spec.proofs.Common.{Among, Call, Fresh, Location, Mount, Task, TaskName, ToMove, World, apply, found_or_none, judge_in, mount_numbered, moved_tree, none_is_some, overlays, settled}
 use Rattle.vt_laws_sealed.proofs.outsiders.OthersCalls.{IsOthersCall, apart_from}
-use Rattle.vt_laws_trees.specs.Trees.Calls.{mounts_overlay}
-use Rattle.vt_laws_rules.proofs.given.GivenPermits.{permits_are_for_their_calls}
-use Rattle.vt_laws_worlds.proofs.worlds.CallsKept.{name_found}
-use Rattle.vt_laws_worlds.proofs.worlds.FitPermitsNamed.{all_permits_fit}
+use Rattle.vt_laws_sealed.proofs.Common.{all_permits_fit, mounts_overlay, name_found, permits_are_for_their_calls}
 use Rattle.vt_laws_sealed.specs.Part.Seals.{IsApart}
 use Rattle.vt_laws_sealed.proofs.outsiders.Attaching.{AttachesApart, attaching_leaves_apart}
 use Rattle.vt_laws_sealed.proofs.outsiders.ChangingFiles.{call_swept}

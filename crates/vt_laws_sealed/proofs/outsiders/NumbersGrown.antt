@@ -1,7 +1,7 @@
 -- A change of a tree, or of an upper layer, leaves its root, and puts new numbers before those that it had.
 use Rattle.std.proofs.Common.{arith, ◌≡◌, refl, ◌∙◌, ⊎_elim, ℕ, nat_eq, Bool, true, false, List, [], ◌∷◌, ◌++◌, ◌*◌, ◌+◌, append_assoc, Option, Some, None, is_some}
 use Rattle.vt_spec.proofs.Common.{AddName, Among, Change, CopyUp, FileTree, Fresh, Make, Merge, Move, Node, Remove, SetAttr, SetBytes, SetMark, Stack, among-append, changed, changed_node, common_steps, copied_each, copied_up, copy_of, evens, hides_directory, is_in_upper, line_to, merge_changed, name_left_by, node_with_attr, node_with_bytes, node_with_mark, odds, shown_in_lowers_at, upper_directory_named, upper_of, with_inode, with_mark, with_moved, with_name, without_contents}
-use Rattle.vt_laws_trees.specs.Layers.Layers.ChangesUpper.{IsNewBy}
+use Rattle.vt_laws_sealed.proofs.Common.{IsNewBy}
 use Rattle.vt_laws_worlds.proofs.overlays_let_go.changing.Copied.{numbers_moved, root_moved}
 
 -- a tree that has its root, and its numbers behind new ones

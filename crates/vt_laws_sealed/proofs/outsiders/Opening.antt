@@ -1,20 +1,13 @@
 -- Files that others open to read: open(2) with O_RDONLY.
 use Rattle.std.proofs.Common.{arith, ◌≡◌, refl, sym, subst, ◌∙◌, ◌⊎◌, inl, inr, ⊎_elim, ℕ, zero, suc, ◌+◌, nat_eq, Bool, false, ◌||◌, List, [], ◌∷◌, map, Option, Some, None, Ok, Err, Result, reverse, option_map}
 use Rattle.vt_spec.proofs.Common.{Access, Among, Call, Descriptor, Dot, DotDot, Fresh, Here, IsWorld, LastWord, Location, Named, NoWord, Permit, Place, Stop, Task, TaskName, ToOpen, World, and_then, common_steps, ends_in_slash, file_or_symlink, file_walked, final_word, followed, inserted, judge_in, looks_of, most_symlinks, new_name_rules, none_is_some, overfills, path_text, prefix_walked, same_Some, start_of, symlink_of, then_walk, topmost, walk_start, walk_unless, with_descriptor, with_task, words}
-use Rattle.vt_spec.specs.declared.errors.Deny.{Deny}
+use Rattle.vt_laws_sealed.proofs.Common.{Deny, Ends, IsFront, IsGranted, IsGround, at_end, calls_are_granted, directory_ground, ends_then, ends_unless, object_ways_are_searched, opens, opens_existing, prefix_searched, searched_ground, start_ground, step_ground, topmost_ground, way_ground}
 use Rattle.vt_spec.proofs.Walk.{entry_location, file_walk, follow_rules, object_named, placed, stepped, symlink_start, symlink_there}
-use Rattle.vt_laws_rules.proofs.given.Inversion.{calls_are_granted}
-use Rattle.vt_laws_rules.specs.Granted.{IsGranted}
-use Rattle.vt_laws_rules.specs.Granted.IsGranted.{opens, opens_existing}
 use Rattle.vt_laws_sealed.proofs.outsiders.OthersCalls.{IsOthersCall}
-use Rattle.vt_laws_trees.proofs.trees.TreesWalked.{Ends, at_end, ends_then, ends_unless}
-use Rattle.vt_laws_trees.proofs.calls.ways.WaysEnds.{object_ways_are_searched}
-use Rattle.vt_laws_trees.proofs.calls.ways.WaysNamed.{IsFront, prefix_searched}
 use Rattle.vt_laws_trees.proofs.calls.ways.WaysSearched.{IsNamedAt, placed_step}
 use Rattle.vt_laws_trees.proofs.calls.ways.WaysWalked.{path_text_same}
 use Rattle.vt_laws_sealed.proofs.outsiders.Entering.{ground_outside, old_outside, task_there}
 use Rattle.vt_laws_sealed.proofs.outsiders.OwnTasks.{IsOutside, replacing_leaves_apart}
-use Rattle.vt_laws_worlds.proofs.worlds.Ground.{IsGround, directory_ground, searched_ground, start_ground, step_ground, topmost_ground, way_ground}
 use Rattle.vt_laws_sealed.proofs.outsiders.Staying.{LeavesApart}
 
 -- a new descriptor is at its file, the others where they were

@@ -1,13 +1,10 @@
 -- Mounts of others, and the groups that they hear.
 use Rattle.std.proofs.Common.{arith, ◌≡◌, refl, sym, ap, subst, ◌∙◌, ◌⊎◌, inl, inr, ⊎_elim, ℕ, zero, suc, nat_eq, true, false, true≢false, List, [], ◌∷◌, Option, Some, None, map, not, eq-eqb, eqb-true, option_to_list}
 use Rattle.vt_spec.proofs.Common.{Among, Fresh, HasLivingGroups, Location, Mount, Propagation, Serves, Stands, Task, TaskName, World, all_locations, among-filter, among-flat_map, among-from_filter, among-from_flat_map, among-from_map, among_from_all, among_from_list_all, and_parts, any_among, any_from_among, children, common_steps, false_from_ne_true, group_of, holds_of, is_among, is_among_left, is_among_numbers, is_at, is_directory_seen_in, is_located_well, is_member_of, is_member_task, is_own_mount, is_own_namespace, is_there, list_all, list_all_from_among, master_of, members, mount_at, mount_numbered, none_is_some, not-true, numbers_in_use, or_cases, other_mounts, outsiders, own_mounts, receives_events_of, roots_and_directories, share_events, shares_no_events, source_of, stands_on, stands_on_directories, tree_from, used_by_mount}
-use Rattle.vt_laws_mounts.proofs.letting_go.sweeps.OfWorlds.{all_in_use}
-use Rattle.vt_laws_mounts.proofs.mounts.MountsReplaced.{found_itself}
-use Rattle.vt_laws_worlds.proofs.worlds.Reached.{namespace_below}
+use Rattle.vt_laws_sealed.proofs.Common.{IsNewBy, all_in_use, found_itself, namespace_below}
 use Rattle.vt_laws_sealed.proofs.part.groups.EventsApart.{above_lives, member_group, members_of, none_hears, sides}
 use Rattle.vt_laws_sealed.proofs.part.groups.ReceiversAlike.{Living, OtherLives, none_other, other_above, own_member}
 use Rattle.vt_laws_sealed.proofs.part.part.PartOfPart.{is_own}
-use Rattle.vt_laws_trees.specs.Layers.Layers.ChangesUpper.{IsNewBy}
 use Rattle.vt_laws_sealed.specs.Part.Seals.{IsApart}
 use Rattle.vt_laws_sealed.proofs.outsiders.StandingApart.{NothingNew, StandsApart}
 

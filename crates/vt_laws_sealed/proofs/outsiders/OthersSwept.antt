@@ -1,19 +1,15 @@
 -- After the sweep others are where they were, and have no more footholds.
 use Rattle.std.proofs.Common.{arith, ◌≡◌, refl, sym, ap, ◌∙◌, inl, inr, ℕ, nat_eq, Bool, true, true≢false, List, [], ◌∷◌, filter, find, is_some, not, ◌||◌, eq-eqb, eqb-true, unwrap_or}
-use Rattle.vt_spec.proofs.Common.{Among, Filesystem, Location, Mount, TaskName, World, all_locations, among-filter, among-from_filter, among-from_map, among_from_list_all, and_from, and_parts, any_from_among, common_steps, false_from_ne_true, filesystem_lives, has_layer_on, is_member_task, is_overlay, is_own_mount, is_own_namespace, list_all, list_all_from_among, list_any, locations, locations_of, mount_at, mount_lives, no_mount, no_outsider_on, not-true, number-only_used, only_used, or_cases, or_left, or_right, other_mounts, outsiders, overlays, own_mounts, receives_events_of, settled, shares_no_events, used_alone, without_dead_filesystems, without_dead_in, without_dead_mounts}
-use Rattle.vt_laws_mounts.proofs.letting_go.Lists.{filter_less}
+use Rattle.vt_spec.proofs.Common.{Among, Filesystem, Location, Mount, TaskName, World, all_locations, among-filter, among-from_filter, among-from_map, among_from_list_all, and_from, and_parts, any_from_among, common_steps, false_from_ne_true, filesystem_lives, has_layer_on, is_member_task, is_overlay, is_own_mount, list_all, list_all_from_among, list_any, locations, locations_of, mount_at, mount_lives, no_mount, no_outsider_on, not-true, number-only_used, only_used, or_cases, or_left, or_right, other_mounts, outsiders, overlays, own_mounts, receives_events_of, settled, shares_no_events, used_alone, without_dead_filesystems, without_dead_in, without_dead_mounts}
+use Rattle.vt_laws_sealed.proofs.Common.{among-flat_map_filter, filter_less}
 use Rattle.vt_laws_sealed.proofs.part.part.PartOfPart.{located}
 use Rattle.vt_laws_sealed.proofs.outsiders.Staying.{OthersStayOut}
 use Rattle.vt_laws_sealed.proofs.outsiders.InodesSwept.{cut_overlay, cut_layers}
-use Rattle.vt_laws_trees.proofs.trees.Lists.{among-flat_map_filter}
 
 -- Others are where they were.
 module _ (world before : World ℕ) (names : List TaskName) (others : OthersStayOut world before names) where
   abbrev last : World ℕ
   last = settled nat_eq before
-
-  abbrev own_by : ℕ → Bool
-  own_by namespace = is_own_namespace nat_eq before names namespace
 
   owns_stay : own_mounts nat_eq last names ≡ own_mounts nat_eq before names
   owns_stay = grind (arith, common_steps, filter_less, located, true≢false)

@@ -1,23 +1,15 @@
 -- Overlays that others mount over their own layers: mount(2) of an overlay.
 use Rattle.std.proofs.Common.{arith, ◌≡◌, refl, sym, ap, subst, ◌∙◌, inl, inr, ⊎_elim, ℕ, nat_eq, false, true≢false, List, [], ◌∷◌, ◌++◌, ◌*◌, ◌+◌, Option, Some, None, Result, Ok, Err, map, eqb-true, eq-eqb, option_map, option_to_list}
 use Rattle.vt_spec.proofs.Common.{Among, Call, Filesystem, Fresh, Gives, Here, Layer, LayerLocations, Location, Mount, MountFlags, Overlay, OverlayWords, Permit, Stop, Task, TaskName, ToMountOverlay, World, among-append, among-append_left, among-append_right, among-from_map, and_parts, any_from_among, apply, common_steps, each_walked, evens, false_from_ne_true, given, has_layer_on, judge_in, layer_at, layer_locations, layers_of, layers_walked, looks_of, mount_at, new_mount, no_outsider_on, none_from_among, not-true, odds, overfills, overlay_at, overlay_filesystem, settled, source_walk, walk_end, walked_if_given, work_walked}
-use Rattle.vt_laws_rules.proofs.given.GivenPermits.{permits_are_for_their_calls}
-use Rattle.vt_laws_rules.proofs.given.Inversion.{calls_are_granted}
-use Rattle.vt_laws_rules.specs.Granted.{IsGranted}
-use Rattle.vt_laws_rules.specs.Granted.IsGranted.{mounts_overlayfs}
+use Rattle.vt_laws_sealed.proofs.Common.{Ends, IsGranted, IsGround, calls_are_granted, mounts_overlayfs, name_found, permits_are_for_their_calls, searched_ground, sets_type, source_ways_are_searched, takes_uses}
 use Rattle.vt_laws_sealed.proofs.outsiders.OthersCalls.{IsOthersCall, apart_from}
-use Rattle.vt_laws_trees.proofs.trees.TreesWalked.{Ends}
 use Rattle.vt_laws_trees.proofs.layers.mounting.Walked.{gives_end, gives_then}
-use Rattle.vt_laws_trees.proofs.calls.ways.WaysEnds.{source_ways_are_searched}
-use Rattle.vt_laws_worlds.proofs.worlds.CallsKept.{name_found}
 use Rattle.vt_laws_worlds.proofs.worlds.FitPermits.{own_if}
-use Rattle.vt_laws_later_calls.specs.Ends.{sets_type, takes_uses}
 use Rattle.vt_laws_sealed.proofs.outsiders.Attaching.{AttachesApart, attaching_leaves_apart}
 use Rattle.vt_laws_sealed.proofs.outsiders.Entering.{ground_outside, task_there}
 use Rattle.vt_laws_sealed.proofs.outsiders.Filesystems.{larger_sees, larger_with_overlay}
 use Rattle.vt_laws_sealed.proofs.outsiders.OtherMounts.{namespace_outside}
 use Rattle.vt_laws_sealed.proofs.outsiders.OwnTasks.{IsOutside, caller_outside, nothing_is_swept}
-use Rattle.vt_laws_worlds.proofs.worlds.Ground.{IsGround, searched_ground}
 use Rattle.vt_laws_sealed.proofs.outsiders.Staying.{LeavesApart}
 
 -- where one of the others may be, others have a foothold

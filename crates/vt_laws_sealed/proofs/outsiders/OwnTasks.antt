@@ -1,14 +1,9 @@
 -- Calls of others that set something of the task alone, or give it a child.
 use Rattle.std.proofs.Common.{◌≡◌, refl, sym, ap, subst, ◌∙◌, ◌⊎◌, inl, inr, ⊎_elim, ℕ, nat_eq, Bool, true, false, cond, List, [], ◌∷◌, ◌++◌, ◌+◌, append-nil, None, Ok, filter, is_some, map, not, arith, filter_map}
 use Rattle.vt_spec.proofs.Common.{Among, Call, Credentials, Drop, Fork, Fresh, Location, Mount, Namespace, Outcome, Permit, Task, TaskName, ToFork, ToSetCredentials, ToSetUmask, Umask, World, after, among-append, among-filter, among-flat_map, among-from_filter, among-from_flat_map, among-from_map, among_from_list_all, and_from, and_parts, any_among, apply, call_outcome, child_name, child_of, common_steps, contains_from_among, false_from_ne_true, filter-append, found_among, holds_of, is_among, is_member_task, is_own_mount, judge_in, list_all, list_all_from_among, list_any, locations, locations_of, map_same, members, mount_at, mount_numbered, name-replaced_if_called, no_outsider_on, none_among, none_from_among, not-true, other_mounts, outsiders, replaced_if_called, same_name, same_task_name, settled, share_events, some_from_is_some, task_called}
-use Rattle.vt_laws_mounts.proofs.letting_go.Lists.{filter-map}
-use Rattle.vt_laws_rules.proofs.judged.CallsJudged.{call_is_judged_then_applied}
-use Rattle.vt_laws_rules.proofs.given.GivenPermits.{permits_are_for_their_calls}
+use Rattle.vt_laws_sealed.proofs.Common.{call_is_judged_then_applied, change_asked, filter-map, name_found, permits_are_for_their_calls, sets_type, takes_uses}
 use Rattle.vt_laws_sealed.proofs.outsiders.OthersCalls.{IsOthersCall, apart_from}
-use Rattle.vt_laws_worlds.specs.OverlayPermits.Asked.{change_asked}
-use Rattle.vt_laws_worlds.proofs.worlds.CallsKept.{name_found}
 use Rattle.vt_laws_later_calls.proofs.ends.EndedBy.{other_calls_keep_all}
-use Rattle.vt_laws_later_calls.specs.Ends.{sets_type, takes_uses}
 use Rattle.vt_laws_later_calls.specs.Whiteouts.{replaced_as, replaced_if}
 use Rattle.vt_laws_sealed.proofs.part.part.PartOfPart.{keep}
 use Rattle.vt_laws_sealed.specs.Part.Seals.{IsApart}

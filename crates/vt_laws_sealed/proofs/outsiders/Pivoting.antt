@@ -1,14 +1,8 @@
 -- Another root mount of a namespace of others: pivot_root(2).
 use Rattle.std.proofs.Common.{arith, ◌≡◌, refl, sym, ap, subst, ◌∙◌, inl, inr, ⊎_elim, ℕ, nat_eq, Bool, true, false, cond, true≢false, List, [], Some, None, Ok, filter, map, not, eqb-true}
-use Rattle.vt_spec.proofs.Common.{Among, Call, Fresh, Location, Mount, PivotRoot, Propagation, Task, TaskName, ToPivot, World, among-filter, among-flat_map, among-from_filter, among-from_flat_map, among-from_map, among_from_list_all, any_from_among, apply, common_steps, found_or_none, is_among, is_member_task, is_own_namespace, judge_in, list_all, list_all_from_among, locations, locations_of, map_same, members, mount_at, mount_numbered, no_mount, none_is_some, number-mount_in, other_mounts, outsiders, own_mounts, pair-map, pivoted_location, pivoted_mount, pivoted_task, root_of, same_location, same_name, settled, share_events, shares_no_events}
-use Rattle.vt_laws_mounts.proofs.letting_go.Lists.{filter-map}
+use Rattle.vt_spec.proofs.Common.{cases_Bool, Among, Call, Fresh, Location, Mount, PivotRoot, Propagation, Task, TaskName, ToPivot, World, among-filter, among-flat_map, among-from_filter, among-from_flat_map, among-from_map, among_from_list_all, any_from_among, apply, common_steps, found_or_none, is_among, is_member_task, is_own_namespace, judge_in, list_all, list_all_from_among, locations, locations_of, map_same, members, mount_at, mount_numbered, no_mount, none_is_some, number-mount_in, other_mounts, outsiders, own_mounts, pair-map, pivoted_location, pivoted_mount, pivoted_task, root_of, same_location, same_name, settled, share_events, shares_no_events}
+use Rattle.vt_laws_sealed.proofs.Common.{OneNumberEach, all_permits_fit, filter-map, found_itself, mounts_overlay, name_found, permits_are_for_their_calls}
 use Rattle.vt_laws_sealed.proofs.outsiders.OthersCalls.{IsOthersCall, apart_from}
-use Rattle.vt_laws_trees.specs.Trees.Calls.{mounts_overlay}
-use Rattle.vt_laws_mounts.specs.Mounts.Invariants.{OneNumberEach}
-use Rattle.vt_laws_mounts.proofs.mounts.MountsReplaced.{found_itself}
-use Rattle.vt_laws_rules.proofs.given.GivenPermits.{permits_are_for_their_calls}
-use Rattle.vt_laws_worlds.proofs.worlds.CallsKept.{name_found}
-use Rattle.vt_laws_worlds.proofs.worlds.FitPermitsNamed.{all_permits_fit}
 use Rattle.vt_laws_worlds.specs.Worlds.Permits.{MayPivot}
 use Rattle.vt_laws_sealed.specs.Part.Seals.{IsApart}
 use Rattle.vt_laws_sealed.proofs.part.part.Observed.{own_mounts_same}
@@ -124,20 +118,17 @@ module _ {world : World ℕ} {fresh : Fresh ℕ} {names : List TaskName} {name :
   moved_outside : (old : Task ℕ) → Among old (outsiders world names) → (from location : Location ℕ)
       → Among from (locations_of old) → location ≡ pivoted_location nat_eq old_root new_root from
       → IsOutside world names location
-  moved_outside old m from location n e = by (same_location nat_eq from (root_of old_root)) refl
-    where
-      by : (b : Bool) → same_location nat_eq from (root_of old_root) ≡ b → IsOutside world names location
-      by true f =
-          let it : location ≡ root_of new_root = cc in
-          inr (subst (λ x. Among x (other_mounts nat_eq world names)) (sym (cc (number-mount_in world.mounts new)))
-          new_root_other)
-      by false f =
-          let it : location ≡ from = cc in
-          inl (
-            from,
-            among-flat_map locations_of (outsiders world names) old from m n,
-            ap (λ (l : Location ℕ). l.mount) it,
-          )
+  moved_outside old m from location n e = elim (cases_Bool (same_location nat_eq from (root_of old_root))) [
+    | inl f ↦ let it : location ≡ root_of new_root = cc in
+        inr (subst (λ x. Among x (other_mounts nat_eq world names)) (sym (cc (number-mount_in world.mounts new)))
+        new_root_other)
+    | inr f ↦ let it : location ≡ from = cc in
+        inl (
+          from,
+          among-flat_map locations_of (outsiders world names) old from m n,
+          ap (λ (l : Location ℕ). l.mount) it,
+        )
+  ]
 
   located : (location : Location ℕ) → Among location (locations those) → IsOutside world names location
   located location m =

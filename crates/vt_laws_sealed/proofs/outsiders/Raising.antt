@@ -1,7 +1,7 @@
 -- Change numbers that the call of a task outside a set raises are not those of the set's part.
-use Rattle.std.proofs.Common.{arith, ◌≡◌, refl, sym, ap, ◌∙◌, ℕ, nat_eq, Bool, true, false, cond, true≢false, List, [], ◌∷◌, Option, Some, is_some, filter, find, flat_map, map, not, ◌&&◌, ◌||◌, eqb-true, unwrap_or, filter_map}
-use Rattle.vt_spec.proofs.Common.{Among, FileTree, Filesystem, Layer, Location, Mount, MountInvariants, Namespace, Task, TaskName, World, among-from_filter, among_from_contains, among_numbers, common_steps, filesystem_numbered, has_layer_on, holds_all_tasks, holds_of, is_among, is_member_task, is_overlay, is_own_namespace, is_under, list_all, list_any, locations, locations_of, map_same, members, mount_at, no_filesystem, no_outsider_on, no_outsider_on_mounts, numbers_raised, only_among, outsiders, overlays, own_lowers, part_of, raised, raised_if_changed, raised_namespace, raised_task, same_name, same_task_name, share_events, shares_no_events, used_alone, used_directly, used_filesystems, when}
-use Rattle.vt_laws_mounts.proofs.letting_go.Lists.{filter-map, flat_map-map}
+use Rattle.std.proofs.Common.{inl, inr, arith, ◌≡◌, refl, sym, ap, ◌∙◌, ℕ, nat_eq, Bool, true, false, cond, true≢false, List, [], ◌∷◌, Option, Some, is_some, filter, find, flat_map, map, not, ◌&&◌, ◌||◌, eqb-true, unwrap_or, filter_map}
+use Rattle.vt_spec.proofs.Common.{cases_Bool, Among, FileTree, Filesystem, Layer, Location, Mount, MountInvariants, Namespace, Task, TaskName, World, among-from_filter, among_from_contains, among_numbers, common_steps, filesystem_numbered, has_layer_on, holds_all_tasks, holds_of, is_among, is_member_task, is_overlay, is_own_namespace, is_under, list_all, list_any, locations, locations_of, map_same, members, mount_at, no_filesystem, no_outsider_on, no_outsider_on_mounts, numbers_raised, only_among, outsiders, overlays, own_lowers, part_of, raised, raised_if_changed, raised_namespace, raised_task, same_name, same_task_name, share_events, shares_no_events, used_alone, used_directly, used_filesystems, when}
+use Rattle.vt_laws_sealed.proofs.Common.{filter-map, flat_map-map}
 use Rattle.vt_laws_later_calls.proofs.AfterChange.{raised_files}
 use Rattle.vt_laws_sealed.specs.Part.Parts.{SeesTheSame, shown_of}
 use Rattle.vt_laws_sealed.proofs.part.Kept.{filter_map_map, filter_map_same}
@@ -153,16 +153,15 @@ module _ (before left : World ℕ) (names : List TaskName) (name : TaskName) (ch
         }))
 
     shown_same : (files : FileTree ℕ) (x : Filesystem ℕ) → shown_by files (raise_in x) ≡ shown_by files x
-    shown_same files x = by (is_among nat_eq x.number used) refl
+    shown_same files x = elim (cases_Bool (is_among nat_eq x.number used)) [
+      | inl e ↦ ap (shown_by files) (used_stays x e)
+      | inr e ↦ either (list_any (λ n. nat_eq n x.number) changed) e
+    ]
       where
         either : (b : Bool) → is_among nat_eq x.number used ≡ false
             → shown_by files (cond b (record x { change = raised x.change }) x) ≡ shown_by files x
         either true e = grind (arith, common_steps)
         either false e = refl
-
-        by : (b : Bool) → is_among nat_eq x.number used ≡ b → shown_by files (raise_in x) ≡ shown_by files x
-        by true e = ap (shown_by files) (used_stays x e)
-        by false e = either (list_any (λ n. nat_eq n x.number) changed) e
 
     each_shown : (x : Filesystem ℕ) → shown_of later used lowers (raise_in x) ≡ shown_of left used lowers x
     each_shown x = ap (λ n. shown_by (filesystem_numbered nat_eq later n).files (raise_in x)) (number_kept x)

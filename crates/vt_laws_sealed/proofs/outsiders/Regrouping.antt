@@ -1,7 +1,7 @@
 -- Groups of others that lose their last members, and what mounts of others become.
 use Rattle.std.proofs.Common.{arith, ◌≡◌, refl, sym, ap, subst, ◌∙◌, ◌⊎◌, inl, inr, ⊎_elim, ℕ, nat_eq, Bool, true, false, cond, true≢false, List, [], Option, Some, None, length, map, eq-eqb}
 use Rattle.vt_spec.proofs.Common.{Among, Mount, Namespace, Private, Propagation, Shared, Slave, Task, TaskName, Unbindable, World, among-from_filter, among-map, among_from_list_all, and_parts, any_among, any_from_among, common_steps, find-chain_start, found_among, group_of, groups_up, has_members, heir, inherited, inheriting, is_among_numbers, is_member_of, list_any, map_same, map_twice, master_of, members, none_is_some, other_mounts, own_mounts, regrouped_by, same_Some, shares_no_events, slave_of_heir, source_of}
-use Rattle.vt_laws_mounts.proofs.mounts.Receivers.{along_chain}
+use Rattle.vt_laws_sealed.proofs.Common.{along_chain}
 use Rattle.vt_laws_sealed.proofs.part.part.Observed.{own_mounts_same}
 use Rattle.vt_laws_sealed.proofs.part.part.PartOfPart.{keep}
 use Rattle.vt_laws_sealed.proofs.outsiders.ChangedWorlds.{OthersMove, changing_leaves_apart, others_from, sees}

@@ -1,20 +1,12 @@
 -- Directories that others remove, and files and directories that they rename: rmdir(2), rename(2). Mounts on what goes
 -- are of others, in whatever namespace.
-use Rattle.std.proofs.Common.{arith, ◌≡◌, refl, sym, ap, subst, ◌∙◌, ⊎_elim, ℕ, nat_eq, true, false, true≢false, List, [], Option, Some, None, Ok, flat_map, length, map, ◌&&◌, eqb-true, option_map}
+use Rattle.std.proofs.Common.{inl, inr, arith, ◌≡◌, refl, sym, ap, subst, ◌∙◌, ⊎_elim, ℕ, nat_eq, true, false, true≢false, List, [], Option, Some, None, Ok, flat_map, length, map, ◌&&◌, eqb-true, option_map}
 use Rattle.vt_spec.proofs.Common.{Among, Call, Change, Filesystem, Fresh, Location, Mount, Move, Permit, Stands, Task, TaskName, ToRemoveDirectory, ToRename, World, among-append_left, among-filter, among-from_filter, among-from_flat_map, among-from_map, among-map, among_from_all, among_numbers, and_parts, any_among, any_from_among, apply, changed_at, common_steps, entry_at, false_from_ne_true, files_at, filesystem_at, filesystem_numbered, filesystems_changed, found_or_none, holds_of, is_among, is_directory_there, is_going, is_own_mount, is_own_namespace, is_point, judge_in, list_any, looks_of, mount_at, mount_numbered, mount_tree, mounts_on, name_of, none_is_some, object_there, overfills, own_mounts, points_of, same_Some, settled, special_word, used_filesystems, with_change, without_mounts_on}
-use Rattle.vt_laws_mounts.proofs.namespaces.Unsharing.{placed_inside}
-use Rattle.vt_laws_rules.proofs.given.Inversion.{calls_are_granted}
-use Rattle.vt_laws_rules.specs.Granted.{IsGranted}
-use Rattle.vt_laws_rules.specs.Granted.IsGranted.{removes_directory, renames}
+use Rattle.vt_laws_sealed.proofs.Common.{cases_Option, IsGranted, calls_are_granted, change_asked, found_itself, namespace_below, not-false, number_of_filesystem, place_named, placed_inside, removes_directory, renames, the_rest_stays}
 use Rattle.vt_laws_sealed.proofs.outsiders.OthersCalls.{IsOthersCall, apart_from}
 use Rattle.vt_laws_trees.proofs.trees.PlacesReached.{old_is, rename_new_is}
-use Rattle.vt_laws_trees.proofs.trees.TreesWalked.{not-false, place_named}
-use Rattle.vt_laws_mounts.proofs.mounts.MountsReplaced.{found_itself}
 use Rattle.vt_laws_trees.proofs.layers.layers.LowersMounts.{same_filesystems_without, same_mounted_without}
-use Rattle.vt_laws_trees.proofs.layers.layers.LowersWorld.{number_of_filesystem, the_rest_stays}
-use Rattle.vt_laws_worlds.proofs.worlds.Reached.{namespace_below}
 use Rattle.vt_laws_worlds.proofs.permits.sees.SeesNames.{old_mount}
-use Rattle.vt_laws_worlds.specs.OverlayPermits.Asked.{change_asked}
 use Rattle.vt_laws_sealed.specs.Part.Seals.{IsApart}
 use Rattle.vt_laws_sealed.proofs.part.part.PartOfPart.{used_directly_used}
 use Rattle.vt_laws_sealed.proofs.outsiders.ChangedWorlds.{others_rest}
@@ -44,30 +36,29 @@ module _ {world : World ℕ} {names : List TaskName} (apart : IsApart world name
   parent_not_own : (mount : Mount ℕ) → Among mount world.mounts → (point : Location ℕ) → mount.mount_point ≡ Some point
       → is_among nat_eq (mount_at nat_eq world point).filesystem (used_filesystems nat_eq world names) ≡ false
       → IsOfOthersAt mount
-  parent_not_own mount m point stands not_theirs = by mount.namespace refl
-    where
-      by : (o : Option ℕ) → mount.namespace ≡ o → IsOfOthersAt mount
-      by None e = absurd (placed_inside world apart.is.mounts mount m point stands e)
-      by (Some n) e = (
-        n,
-        e,
-        false_from_ne_true (is_own_namespace nat_eq world names n) (λ own.
-            let placed : (mount_at nat_eq world point).namespace ≡ Some n =
-            sym (namespace_below world mount.number point
-            (among_from_all (λ (x : Mount ℕ). Stands nat_eq world x.number) world.mounts apart.is.mounts.standing mount
-            m) (ap (λ (x : Mount ℕ). x.mount_point) (itself mount m) ∙ stands))
-            ∙ ap (λ (x : Mount ℕ). x.namespace) (itself mount m) ∙ e in
-            let parent : Among (mount_at nat_eq world point) (own_mounts nat_eq world names) =
-            among-filter (is_own_mount nat_eq world names) world.mounts (mount_at nat_eq world point) (⊎_elim (λ k. k)
-            (λ none. none_is_some n (cc (placed)))
-            (found_or_none world.mounts point.mount))
-            (cc (placed)) in
-            true≢false (sym (used_directly_used world names (mount_at nat_eq world point).filesystem
-            (among-append_left (map (λ (x : Mount ℕ). x.filesystem) (own_mounts nat_eq world names)) _
-            (mount_at nat_eq world point).filesystem
-            (among-map (λ (x : Mount ℕ). x.filesystem) (own_mounts nat_eq world names) (mount_at nat_eq world point)
-            parent))) ∙ not_theirs)),
-      )
+  parent_not_own mount m point stands not_theirs = elim (cases_Option mount.namespace) [
+    | inl e ↦ absurd (placed_inside world apart.is.mounts mount m point stands e)
+    | inr its ↦ (
+      its.0,
+      its.1,
+      false_from_ne_true (is_own_namespace nat_eq world names its.0) (λ own.
+          let placed : (mount_at nat_eq world point).namespace ≡ Some its.0 =
+          sym (namespace_below world mount.number point
+          (among_from_all (λ (x : Mount ℕ). Stands nat_eq world x.number) world.mounts apart.is.mounts.standing mount
+          m) (ap (λ (x : Mount ℕ). x.mount_point) (itself mount m) ∙ stands))
+          ∙ ap (λ (x : Mount ℕ). x.namespace) (itself mount m) ∙ its.1 in
+          let parent : Among (mount_at nat_eq world point) (own_mounts nat_eq world names) =
+          among-filter (is_own_mount nat_eq world names) world.mounts (mount_at nat_eq world point) (⊎_elim (λ k. k)
+          (λ none. none_is_some its.0 (cc (placed)))
+          (found_or_none world.mounts point.mount))
+          (cc (placed)) in
+          true≢false (sym (used_directly_used world names (mount_at nat_eq world point).filesystem
+          (among-append_left (map (λ (x : Mount ℕ). x.filesystem) (own_mounts nat_eq world names)) _
+          (mount_at nat_eq world point).filesystem
+          (among-map (λ (x : Mount ℕ). x.filesystem) (own_mounts nat_eq world names) (mount_at nat_eq world point)
+          parent))) ∙ not_theirs)),
+    )
+  ]
 
   mount_on_other : (mount : Mount ℕ) → Among mount (mounts_on nat_eq world directory) → IsOfOthersAt mount
   mount_on_other mount m =

@@ -2,14 +2,8 @@
 use Rattle.std.proofs.Common.{arith, ◌≡◌, refl, sym, ap, subst, ◌∙◌, ◌⊎◌, inl, inr, ⊎_elim, ℕ, nat_eq, Bool, true, false, cond, List, [], ◌∷◌, Option, Some, None, Ok, filter, is_some, length, map, eqb-true}
 use Rattle.vt_spec.proofs.Common.{Among, Call, Fresh, Mount, Private, Propagation, Serves, SetType, Shared, Slave, Task, TaskName, ToPrivate, ToSetType, ToShared, ToSlave, ToUnbindable, TypeWord, Unbindable, World, after, among-filter, among-from_filter, among-map, any_among, any_from_among, apply, call_outcome, common_steps, false_from_ne_true, found_or_none, holds_of, index_of, is_member_of, is_own_mount, is_own_namespace, judge_in, list_any, lost_a_group, master_after, mount_lives, mount_numbered, named_mounts, none_is_some, numbers_by, or_left, other_mounts, own_mounts, regrouped_by, retyped_mount, same_Some, settled, source_of, task_called, type_after, with_master, with_new_groups}
 use Rattle.vt_laws_sealed.proofs.outsiders.OthersCalls.{IsOthersCall, apart_from}
-use Rattle.vt_laws_trees.specs.Trees.Calls.{mounts_overlay}
-use Rattle.vt_laws_mounts.proofs.mounts.MountsReplaced.{found_itself}
-use Rattle.vt_laws_rules.proofs.given.GivenPermits.{permits_are_for_their_calls}
-use Rattle.vt_laws_worlds.proofs.worlds.CallsKept.{name_found}
-use Rattle.vt_laws_worlds.proofs.worlds.FitPermitsNamed.{all_permits_fit}
+use Rattle.vt_laws_sealed.proofs.Common.{IsNewBy, KeepsAllButMasters, all_permits_fit, found_itself, mounts_overlay, name_found, permits_are_for_their_calls}
 use Rattle.vt_laws_later_calls.proofs.ends.OtherCalls.{all_types_leave_all_but_masters}
-use Rattle.vt_laws_later_calls.specs.Ends.{KeepsAllButMasters}
-use Rattle.vt_laws_trees.specs.Layers.Layers.ChangesUpper.{IsNewBy}
 use Rattle.vt_laws_sealed.specs.Part.Seals.{IsApart}
 use Rattle.vt_laws_sealed.proofs.outsiders.ChangedWorlds.{others_rest}
 use Rattle.vt_laws_sealed.proofs.outsiders.OtherMounts.{Foreign, HearsGroup, IsIn, tree_in, foreign_above, is_other, member_not_new, namespace_outside, other_hears_foreign, standing_apart_with}

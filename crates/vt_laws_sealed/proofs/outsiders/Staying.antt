@@ -1,11 +1,10 @@
 -- A call of a task outside a sealed set leaves it sealed, if the set sees the same and others stay outside.
 use Rattle.std.proofs.Common.{arith, ◌≡◌, refl, sym, ap, subst, ◌∙◌, ◌⊎◌, inl, inr, ⊎_elim, ℕ, nat_eq, Bool, true, false, List, [], ◌++◌, append-nil, Result, Ok, Err, map, not, ◌||◌}
 use Rattle.vt_spec.proofs.Common.{Among, Answer, Call, Filesystem, Fresh, IsWorld, Permit, Task, TaskName, World, among-append, among-from_filter, among-map, among_from_contains, among_from_list_all, and_from, and_parts, apply, common_steps, filesystems_changed, has_layer_on, holds_all_tasks, is_among, is_among_numbers, is_overlay, judge_in, list_all, list_all_from_among, list_any, no_outsider_on, no_outsider_on_mounts, numbers_raised, only_looks, or_cases, or_left, or_right, overlays, policy, settled, shares_no_events, used_alone, used_filesystems}
-use Rattle.vt_spec.specs.declared.errors.Deny.{Deny}
+use Rattle.vt_laws_sealed.proofs.Common.{Deny, every_call_keeps_worlds}
 use Rattle.vt_laws_rules.proofs.denials.Unchanged.{look_changes_nothing}
 use Rattle.vt_laws_rules.proofs.rules.OwnRules.{denial_changes_nothing}
 use Rattle.vt_laws_sealed.proofs.outsiders.OthersCalls.{IsOthersCall, apart_from}
-use Rattle.vt_laws_worlds.proofs.overlay_permits.worlds.EveryCall.{every_call_keeps_worlds}
 use Rattle.vt_laws_later_calls.proofs.Granted.{permitted}
 use Rattle.vt_laws_sealed.specs.Part.Parts.{SeesTheSame}
 use Rattle.vt_laws_sealed.specs.Part.Seals.{IsApart}

@@ -1,9 +1,7 @@
 -- The sweep at the end of a call takes nothing that a sealed set uses.
 use Rattle.std.proofs.Common.{arith, ◌≡◌, sym, ap, ◌∙◌, ℕ, nat_eq, true, false, List, [], Option, Some, None, not, eqb-true}
 use Rattle.vt_spec.proofs.Common.{Among, Filesystem, HasOwnParents, IsTree, Layer, ListsNumbers, Mount, Overlay, OverlayInvariants, TaskName, TreeInvariants, World, among-from_filter, among-from_map, among_from_all, among_from_list_all, and_parts, any_among, any_pair, common_steps, filesystem_lives, filesystem_numbered, is_directory_node, is_overlay, is_plain_layer, layers_of, list_all, list_any, mount_lives, none_from_not_some, not-true, number-only_used, of_overlay, only_used, overlay_or, own_lowers, pair-filter, pair-map, sealed, settled, without_dead_filesystems, without_dead_in, without_dead_inodes, without_dead_mounts}
-use Rattle.vt_laws_mounts.proofs.letting_go.sweeps.OfWorlds.{found_filesystem}
-use Rattle.vt_laws_mounts.specs.Mounts.Invariants.{OneNumberEach}
-use Rattle.vt_laws_worlds.proofs.overlay_permits.kept.KeptOverlays.{overlays_in, trees_in}
+use Rattle.vt_laws_sealed.proofs.Common.{OneNumberEach, found_filesystem, overlays_in, trees_in}
 use Rattle.vt_laws_sealed.specs.Part.Parts.{SeesTheSame}
 use Rattle.vt_laws_sealed.specs.Part.Seals.{IsApart}
 use Rattle.vt_laws_sealed.proofs.outsiders.FilesystemsSwept.{filesystems_swept, groups_swept, mounts_swept}

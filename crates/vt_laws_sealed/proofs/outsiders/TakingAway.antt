@@ -1,11 +1,8 @@
 -- Mounts of others that are taken away: what is left for the set.
 use Rattle.std.proofs.Common.{arith, ◌≡◌, refl, sym, ap, subst, ◌∙◌, ⊎_elim, inl, inr, ℕ, nat_eq, Bool, true, false, cond, List, [], Option, Some, None, length, map, option_map}
 use Rattle.vt_spec.proofs.Common.{Among, Location, Mount, Namespace, Private, Stands, Task, TaskName, World, after_going, among-from_filter, among-from_map, among_from_all, common_steps, detached, false_from_ne_true, holds_of, is_going, is_own_mount, is_own_namespace, list_any, lost_a_group, mount_numbered, mount_point_left, mount_point_of_parent, none_is_some, other_mounts, own_mounts, pair-map, regrouped_by, same_Some, sealed, settled, taken_away, with_mounts}
-use Rattle.vt_laws_mounts.proofs.namespaces.Unsharing.{placed_inside}
+use Rattle.vt_laws_sealed.proofs.Common.{OneNumberEach, found_itself, namespace_below, placed_inside}
 use Rattle.vt_laws_trees.proofs.trees.TreesEntered.{chain_ends_at}
-use Rattle.vt_laws_mounts.specs.Mounts.Invariants.{OneNumberEach}
-use Rattle.vt_laws_mounts.proofs.mounts.MountsReplaced.{found_itself}
-use Rattle.vt_laws_worlds.proofs.worlds.Reached.{namespace_below}
 use Rattle.vt_laws_sealed.specs.Part.Seals.{IsApart}
 use Rattle.vt_laws_sealed.proofs.outsiders.ChangedWorlds.{OthersMove}
 use Rattle.vt_laws_sealed.proofs.outsiders.OtherMounts.{foreign_above, standing_apart}

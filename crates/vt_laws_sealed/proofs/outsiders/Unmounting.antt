@@ -1,15 +1,8 @@
 -- Mounts of others that are unmounted, with those that an event takes away: umount(2).
 use Rattle.std.proofs.Common.{arith, ◌≡◌, refl, sym, ap, subst, ◌∙◌, ⊎_elim, ℕ, nat_eq, Bool, true, false, true≢false, List, [], ◌∷◌, Option, Some, None, Ok, map, option_map, unwrap_or, filter_map}
 use Rattle.vt_spec.proofs.Common.{Among, Call, Fresh, Location, Mount, Stands, Task, TaskName, ToUnmount, Umount, World, among-filter, among-from_filter, among-from_filter_map, among-from_map, among_from_all, among_numbers, apply, child_at, common_steps, contains_from_among, false_from_ne_true, found_among, found_or_none, found_passes, goes_at, going, going_at, going_from, group_of, holds_of, is_going, is_own_mount, is_own_namespace, is_shared, judge_in, mount_at, mount_numbered, none_is_some, number-mount_in, other_mounts, own_mounts, receivers, receivers_of, receives, settled, stands_at}
-use Rattle.vt_laws_mounts.proofs.namespaces.Unsharing.{placed_inside}
+use Rattle.vt_laws_sealed.proofs.Common.{all_permits_fit, found_itself, mounts_overlay, name_found, namespace_below, permits_are_for_their_calls, placed_inside, stands_there}
 use Rattle.vt_laws_sealed.proofs.outsiders.OthersCalls.{IsOthersCall, apart_from}
-use Rattle.vt_laws_trees.specs.Trees.Calls.{mounts_overlay}
-use Rattle.vt_laws_mounts.proofs.mounts.MountsPlaces.{stands_there}
-use Rattle.vt_laws_mounts.proofs.mounts.MountsReplaced.{found_itself}
-use Rattle.vt_laws_rules.proofs.given.GivenPermits.{permits_are_for_their_calls}
-use Rattle.vt_laws_worlds.proofs.worlds.CallsKept.{name_found}
-use Rattle.vt_laws_worlds.proofs.worlds.FitPermitsNamed.{all_permits_fit}
-use Rattle.vt_laws_worlds.proofs.worlds.Reached.{namespace_below}
 use Rattle.vt_laws_sealed.specs.Part.Seals.{IsApart}
 use Rattle.vt_laws_sealed.proofs.part.groups.EventsApart.{no_event_of_others_reaches_them}
 use Rattle.vt_laws_sealed.proofs.outsiders.ChangedWorlds.{others_rest}

@@ -1,8 +1,8 @@
 -- Others that get a namespace of their own, with copies of the mounts of theirs: unshare(2) with CLONE_NEWNS.
 use Rattle.std.proofs.Common.{arith, ◌≡◌, refl, sym, ap, subst, ◌∙◌, ◌⊎◌, inl, inr, ⊎_elim, ℕ, nat_eq, Bool, true, false, cond, true≢false, List, [], ◌∷◌, ◌++◌, append-nil, Option, Some, None, filter, flat_map, map, ◌+◌, ◌*◌, not, eqb-true, filter_map}
-use Rattle.vt_spec.proofs.Common.{Among, Call, Fresh, Location, Mount, Namespace, Propagation, Serves, Task, TaskName, ToUnshare, World, all_locations, among-append, among-append_left, among-filter, among-flat_map, among-from_filter, among-from_flat_map, among-from_map, among-map, among_from_list_all, among_numbers, and_from, and_parts, any_among, apply, common_steps, copied_mount, evens, false_from_ne_true, filter-append, filter_map-append, holds_of, index_of, is_among_numbers, is_among_right, is_at, is_copied, is_listed, is_member_task, is_own_mount, is_own_namespace, list_all, list_all_from_among, list_any, location_on_copy, locations, locations_of, master_of, members, mount_at, mount_numbered, mounts_of, namespaces_ended, no_outsider_on, none_among, none_from_among, not-true, numbers_by, odds, other_mounts, outsiders, roots_and_directories, settled, unshared, unshared_task, used_by_filesystem, used_by_mount}
+use Rattle.vt_spec.proofs.Common.{cases_Bool, Among, Call, Fresh, Location, Mount, Namespace, Propagation, Serves, Task, TaskName, ToUnshare, World, all_locations, among-append, among-append_left, among-filter, among-flat_map, among-from_filter, among-from_flat_map, among-from_map, among-map, among_from_list_all, among_numbers, and_from, and_parts, any_among, apply, common_steps, copied_mount, evens, false_from_ne_true, filter-append, filter_map-append, holds_of, index_of, is_among_numbers, is_among_right, is_at, is_copied, is_listed, is_member_task, is_own_mount, is_own_namespace, list_all, list_all_from_among, list_any, location_on_copy, locations, locations_of, master_of, members, mount_at, mount_numbered, mounts_of, namespaces_ended, no_outsider_on, none_among, none_from_among, not-true, numbers_by, odds, other_mounts, outsiders, roots_and_directories, settled, unshared, unshared_task, used_by_filesystem, used_by_mount}
 use Rattle.vt_laws_mounts.proofs.ends.Ending.{ended_namespaces_keep_mounts}
-use Rattle.vt_laws_mounts.proofs.namespaces.Unsharing.{unshare_keeps_mounts}
+use Rattle.vt_laws_sealed.proofs.Common.{among-flat_map_filter, unshare_keeps_mounts}
 use Rattle.vt_laws_sealed.proofs.outsiders.OthersCalls.{IsOthersCall, apart_from}
 use Rattle.vt_laws_worlds.proofs.worlds.Roots.{found_copy}
 use Rattle.vt_laws_sealed.specs.Part.Parts.{SeesTheSame}
@@ -17,7 +17,6 @@ use Rattle.vt_laws_sealed.proofs.outsiders.StandingApart.{NothingNew, StandsApar
 use Rattle.vt_laws_sealed.proofs.outsiders.Staying.{IsOfTheWorld, LeavesApart, free_from}
 use Rattle.vt_laws_sealed.proofs.outsiders.Steps.{leaves_on}
 use Rattle.vt_laws_sealed.proofs.outsiders.Sweeping.{sweeping_leaves_apart}
-use Rattle.vt_laws_trees.proofs.trees.Lists.{among-flat_map_filter}
 
 module _ {world : World ℕ} {names : List TaskName} (apart : IsApart world names) (fresh : Fresh ℕ)
     (serves : Serves nat_eq world fresh) (task : Task ℕ) (caller : Among task (outsiders world names)) where
@@ -151,22 +150,19 @@ module _ {world : World ℕ} {names : List TaskName} (apart : IsApart world name
     moved_from : (location : Location ℕ) → Among location (locations_of task) → (new : Location ℕ)
         → new ≡ cond (is_copied nat_eq copied location) (location_on_copy copy location) location
         → Among new (locations (outsiders world names)) ⊎ IsOnCopy new
-    moved_from location m new e = by (is_copied nat_eq copied location) refl
-      where
-        by : (b : Bool) → is_copied nat_eq copied location ≡ b
-            → Among new (locations (outsiders world names)) ⊎ IsOnCopy new
-        by true f =
-            let at = any_among (λ (x : Mount ℕ). nat_eq location.mount x.number) copied f in
-            inr (
-              at.0,
-              at.1,
-              ap (mount_at nat_eq left) (e ∙ ap (λ b. cond b (location_on_copy copy location) location) f)
-                  ∙ ap (λ n. mount_numbered nat_eq left (copy n)) (eqb-true location.mount at.0.number at.2)
-                  ∙ found_copy world fresh task apart.is serves at.0 at.1,
-            )
-        by false f = inl (subst (λ l. Among l (locations (outsiders world names)))
-            (sym (cc))
-            (among-flat_map locations_of (outsiders world names) task location caller m))
+    moved_from location m new e = elim (cases_Bool (is_copied nat_eq copied location)) [
+      | inl f ↦ let at = any_among (λ (x : Mount ℕ). nat_eq location.mount x.number) copied f in
+          inr (
+            at.0,
+            at.1,
+            ap (mount_at nat_eq left) (e ∙ ap (λ b. cond b (location_on_copy copy location) location) f)
+                ∙ ap (λ n. mount_numbered nat_eq left (copy n)) (eqb-true location.mount at.0.number at.2)
+                ∙ found_copy world fresh task apart.is serves at.0 at.1,
+          )
+      | inr f ↦ inl (subst (λ l. Among l (locations (outsiders world names)))
+          (sym (cc))
+          (among-flat_map locations_of (outsiders world names) task location caller m))
+    ]
 
     located_from : (location : Location ℕ) → Among location (locations (outsiders left names))
         → Among location (locations (outsiders world names)) ⊎ IsOnCopy location

@@ -1,12 +1,10 @@
 -- Where a task gets: to mounts of its namespace, or where it stands. These show what it sees.
 use Rattle.std.proofs.Common.{arith, ◌≡◌, refl, sym, ap, subst, ◌∙◌, inl, inr, ⊎_elim, ℕ, nat_eq, Bool, true, false, List, [], ◌∷◌, ◌++◌, ◌||◌, Option, Some, None, Ok, Err, Result, flat_map, length, option_map, option_to_list}
 use Rattle.vt_spec.proofs.Common.{Among, Dot, DotDot, IsWorld, LastWord, Location, Looks, Mount, Named, NoWord, Task, World, among-append, among-filter, among-from_map, and_then, any_from_among, child_at, common_steps, entered_upward, entry_location, filesystems_of, found_among, holds_of, hops, last_or, list_any, looks_of, met_at, met_by, mount_at, mount_numbered, mounts_of, nat_eq_itself, object_named, root_of, same_Some, stepped, task_called}
-use Rattle.vt_spec.specs.declared.errors.Deny.{Deny}
-use Rattle.vt_spec.specs.Machine.Walking.{hop}
+use Rattle.vt_laws_turns.proofs.Common.{Deny, IsGround, child_ground, entry_ground, hop, hop_ground, own_there, step_ground}
 use Rattle.vt_laws_turns.proofs.walks.alike.StepsAlike.{chain_start, last_among}
 use Rattle.vt_laws_turns.proofs.walks.alike.MountsAlike.{chain_each}
 use Rattle.vt_laws_turns.specs.Holds.Held.{is_seen_by}
-use Rattle.vt_laws_worlds.proofs.worlds.Ground.{IsGround, child_ground, entry_ground, hop_ground, own_there, step_ground}
 
 module _ (world : World ℕ) (is : IsWorld nat_eq world) (task : Task ℕ)
     (called : task_called world task.name ≡ Some task) where

@@ -2,19 +2,7 @@
 use Rattle.std.proofs.Common.{◌≡◌, ◌≢◌, refl, sym, ap, subst, ◌∙◌, ◌⊎◌, inl, inr, ⊎_elim, ℕ, nat_eq, Bool, true, false, true≢false, cond, not, List, [], ◌∷◌, ◌++◌, ◌*◌, Some, map, reverse, is_some, eq-eqb, eqb-true, arith, Contains}
 use Rattle.vt_spec.proofs.Common.{Among, Call, Fresh, IsWorld, Location, Mount, Namespace, Outcome, Progress, Route, Sched, Serves, Task, TaskName, Turned, World, among-append, among-append_right, among-flat_map, among-from_filter, among-from_map, among-map, among_from_contains, among_from_list_all, among_numbers, apply, call_outcome, common_steps, contains_from_among, filesystem_change_of, finished_by, folded, found_among, is_among, is_listed, is_stale, list_any, looks_of, mount_at, mount_numbered, namespace_change_of, number-mount_in, one_further, policy, routes, same_name, same_name_itself, some_from_is_some, task_called, turn, without_progress, words_of}
 use Rattle.std.proofs.lemmas.Grind.{reverse_onto}
-use Rattle.vt_spec.specs.Machine.Turns.{hold_one}
-use Rattle.vt_laws_rules.proofs.judged.CallsJudged.{call_is_judged_then_applied}
-use Rattle.vt_laws_trees.proofs.calls.tasks.TasksLaws.{other_tasks_stay}
-use Rattle.vt_laws_mounts.specs.Mounts.Attaching.{numbers_of}
-use Rattle.vt_laws_mounts.proofs.mounts.MountsFound.{found_there}
-use Rattle.vt_laws_mounts.proofs.mounts.MountsReplaced.{found_itself}
-use Rattle.vt_laws_trees.proofs.trees.Lists.{nth_among}
-use Rattle.vt_laws_worlds.proofs.worlds.CallsKept.{name_found}
-use Rattle.vt_laws_worlds.proofs.worlds.ReachedWalks.{own_directory_found, root_found}
-use Rattle.vt_laws_worlds.proofs.worlds.SeenTrees.{unused_number}
-use Rattle.vt_laws_worlds.proofs.overlay_permits.worlds.EveryCall.{every_call_keeps_worlds}
-use Rattle.vt_laws_worlds.proofs.overlay_permits.worlds.PolicyLeads.{policy_leads}
-use Rattle.vt_laws_trees.specs.Trees.Limits.{names_few_groups}
+use Rattle.vt_laws_turns.proofs.Common.{call_is_judged_then_applied, every_call_keeps_worlds, found_itself, found_there, hold_one, name_found, names_few_groups, nth_among, numbers_of, other_tasks_stay, own_directory_found, policy_leads, root_found, unused_number}
 use Rattle.vt_laws_turns.specs.Commits.{Turn}
 use Rattle.vt_laws_turns.specs.Restarts.{under_way_of}
 use Rattle.vt_laws_turns.proofs.TurnShapes.{Before, Shape, turn_shape}

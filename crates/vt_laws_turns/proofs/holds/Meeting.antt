@@ -1,8 +1,7 @@
 -- What a walk meets is seen by its task.
 use Rattle.std.proofs.Common.{◌≡◌, refl, sym, subst, ⊎_elim, ℕ, zero, suc, nat_eq, Bool, true, false, cond, List, [], ◌∷◌, ◌++◌, ◌||◌, Option, Some, None, Ok, Err, Result, flat_map, length, arith, option_to_list}
 use Rattle.vt_spec.proofs.Common.{Among, Dot, DotDot, Here, IsWorld, LastWord, Location, Looks, Named, NoWord, Place, Rules, Stop, Task, World, all_met, also_met, among-append, among-append_left, among-append_right, among_from_contains, and_then, common_steps, ends_in_slash, entered, entered_mounts, filesystems_of, follow_rules, is_special, last_word, object_named, parsed_path, placed, search_rules, stepped, steps_at, steps_with, stopped_by, symlink_of, symlink_start, symlink_text, symlink_there, task_called, then_walk, unless, walk_start, walk_unless, word_walked}
-use Rattle.vt_spec.specs.declared.errors.Deny.{Deny}
-use Rattle.vt_laws_worlds.proofs.worlds.ReachedWalks.{own_directory_found, root_found}
+use Rattle.vt_laws_turns.proofs.Common.{Deny, directory_ground, own_directory_found, root_found, root_ground, start_ground, step_ground}
 use Rattle.vt_laws_turns.specs.Walks.ByWords.{Aim, StandsOnDirectories, begun, last_for, pending_for, steps_of, whole_walk}
 use Rattle.vt_laws_turns.specs.Walks.HalfWalks.{met_in, words_walked_in}
 use Rattle.vt_laws_turns.specs.Walks.Walkers.{Last, Pending, Walk, all_words, arrived, ended, first_words, gone_on, last_of, last_step, one_word, opened, text_word, walked_on}
@@ -12,7 +11,6 @@ use Rattle.vt_laws_turns.proofs.walks.alike.Seeing.{Met}
 use Rattle.vt_laws_turns.proofs.walks.by_words.Whole.{all_words_are_the_walk}
 use Rattle.vt_laws_turns.specs.Holds.Held.{WordsMeetWhatIsSeen}
 use Rattle.vt_laws_turns.proofs.holds.Grounds.{OnGround, Seen, looks, met_at_seen, met_seen, named_ground, object_ground, shown_on, shown_seen, there}
-use Rattle.vt_laws_worlds.proofs.worlds.Ground.{directory_ground, root_ground, start_ground, step_ground}
 
 module _ (world : World ℕ) (is : IsWorld nat_eq world) (task : Task ℕ)
     (called : task_called world task.name ≡ Some task) where

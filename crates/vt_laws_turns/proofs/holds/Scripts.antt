@@ -1,11 +1,10 @@
 -- In the schedules of a script the numbers handed in are unused, and forks name few groups.
 use Rattle.std.proofs.Common.{◌≡◌, refl, sym, ap, subst, ◌∙◌, inl, inr, ⊎_elim, ℕ, suc, nat_eq, Bool, true, false, true≢false, cond, List, [], ◌∷◌, ◌++◌, ◌+◌, Option, Some, None, find, map, eqb-true, add-one, arith, ◌<◌, nat_le, option_map, unwrap_or, filter_map}
 use Rattle.vt_spec.proofs.Common.{Among, Asking, Asks, Call, Calling, Calls, Fresh, Grammar, IsWorld, Item, Queue, Queued, Refused, Request, Sched, Serves, Turned, Who, World, among-append, among-from_map, common_steps, cons_option, counted_from, false_from_ne_true, first_of_list, first_world, folded, found_among, handed, is_among, later, lines_of, none_is_some, numbers_for, numbers_in_use, queue_of, rest_of, same_who, shortened, turn, whole}
-use Rattle.vt_spec.specs.Machine.Turns.{first_sched, queued_line, queued_request, queues_of, refused_line, schedule_who, with_item_last}
+use Rattle.vt_laws_turns.proofs.Common.{first_sched, names_few_groups, queued_line, queued_request, queues_of, refused_line, schedule_who, with_item_last}
 use Rattle.vt_laws_rules.specs.Numbers.{KeepsTo, LeavesOutTwo}
 use Rattle.vt_laws_rules.proofs.numbers.Rows.{col, col-spread, row, row-spread, row_first, spread, spread_for}
 use Rattle.vt_laws_rules.proofs.numbers.Supports.{calls_keep_to_numbers, opening_keeps_to_four, used_numbers_are_named}
-use Rattle.vt_laws_trees.specs.Trees.Limits.{names_few_groups}
 use Rattle.vt_laws_worlds.proofs.opening.OpeningWorld.{opening_is_a_world}
 use Rattle.vt_laws_worlds.proofs.worlds.WordsFew.{lines_name_few, request_names_few}
 use Rattle.vt_laws_turns.specs.Commits.{Turn, left_by, turn_given, turns_given}

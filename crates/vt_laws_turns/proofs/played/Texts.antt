@@ -1,7 +1,7 @@
 -- The text of a schedule is that of its commits.
 use Rattle.std.proofs.Common.{◌≡◌, refl, ℕ, Bool, List, [], ◌∷◌, ◌++◌, Option, Some, None, ◌+◌, arith, append_assoc, option_to_list}
 use Rattle.vt_spec.proofs.Common.{Fresh, Reply, Sched, Who, common_steps, handed, later}
-use Rattle.vt_spec.specs.Machine.Turns.{played, reply_text, schedule_who, turn_of_line, turns_text}
+use Rattle.vt_laws_turns.proofs.Common.{played, reply_text, schedule_who, turn_of_line, turns_text}
 use Rattle.vt_laws_turns.specs.Commits.{TextsAreOfCommits, replies, text_of_replies, turn_given, turns_given}
 use Rattle.vt_laws_turns.proofs.played.Turning.{replies_are_of_commits}
 

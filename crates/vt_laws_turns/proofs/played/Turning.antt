@@ -1,8 +1,7 @@
 -- What one turn does.
 use Rattle.std.proofs.Common.{arith, ◌≡◌, refl, sym, subst, ◌∙◌, ◌⊎◌, inl, inr, ⊎_elim, ℕ, nat_eq, Bool, true, false, true≢false, List, [], ◌∷◌, ◌++◌, Option, Some, None, Ok, Result, map, find, ◌+◌, nat_le, option_to_list, slice_get}
 use Rattle.vt_spec.proofs.Common.{Call, Calls, Fresh, Item, Progress, Queued, Route, Sched, Someone, Task, TaskName, Turned, Who, World, call_turn, call_turn_of, common_steps, entry_rules, first_of_list, first_turn, first_turn_by, found_passes, is_failing, is_overtaken, item_turn, later_turn, looks_of, most_restarts, next_word, none_is_some, queue_of, queue_turn, restarted, routes, same_name, same_task_name, shortened, task_called, turn, turn_under_way, unless, word_walked_by, words_of}
-use Rattle.vt_spec.specs.declared.errors.Deny.{Deny}
-use Rattle.vt_spec.specs.Machine.Turns.{run_whole}
+use Rattle.vt_laws_turns.proofs.Common.{Deny, run_whole}
 use Rattle.vt_laws_turns.specs.Commits.{Commit, FailedAllocationsAnswerS5, RepliesAreOfCommits, Turn, UnansweredTurnsChangeNothing, commit_by, commit_of, commits, committed, replies_of, run_item, world_after}
 
 -- a turn goes on: no reply, and the world and the queues as they were

@@ -1,9 +1,8 @@
 -- Calls of theirs end alike in all worlds that are the same.
 use Rattle.std.proofs.Common.{arith, subst, nat_eq}
 use Rattle.vt_spec.proofs.Common.{SameWorlds, common_steps, part_of, policy}
-use Rattle.vt_laws_members.specs.Changes.Changes.{grown}
+use Rattle.vt_laws_containers.proofs.Common.{grown, sameness_is_an_equivalence}
 use Rattle.vt_laws_worlds.proofs.one_text.answered.AlikeAnswered.{any_same_worlds_are_answered_alike}
-use Rattle.vt_laws_trees.proofs.runs.answered.AlikeWorlds.{sameness_is_an_equivalence}
 use Rattle.vt_laws_containers.proofs.same_sets.sets.PartsAlike.{same_worlds_have_same_parts}
 use Rattle.vt_laws_containers.specs.SameSets.Members.{CallsEndAlikeInSameWorlds}
 

@@ -1,18 +1,12 @@
 -- Calls of others leave a sealed set sealed and its part the same, in all worlds that are the same as the policy's.
 use Rattle.std.proofs.Common.{◌≡◌, refl, sym, ap, subst, ◌∙◌, ℕ, nat_eq, true, List, [], ◌∷◌, Option, Some, None, is_some}
 use Rattle.vt_spec.proofs.Common.{IsWorld, SameFilesystem, SameWorlds, Task, TaskName, World, among_from_contains, among_from_list_all, any_from_among, contains_from_among, list_all_from_among, part_of, policy, same_name, same_name_itself, sealed, task_called, used_alone}
-use Rattle.vt_laws_members.proofs.judging.AllJudged.{called_alike}
-use Rattle.vt_laws_trees.proofs.runs.answered.AlikeChanges.{task_alike}
-use Rattle.vt_laws_trees.proofs.runs.answered.AlikeWorlds.{alike_from_same, SameTask, sameness_is_an_equivalence}
+use Rattle.vt_laws_containers.proofs.Common.{IfAny, IsOutsidersCall, OneCall, SameTask, alike_from_same, are_all_called, called_alike, every_call_keeps_worlds, outsiders_leave_a_sealed_set, sameness_is_an_equivalence, task_alike}
 use Rattle.vt_laws_worlds.proofs.one_text.same.SameWhole.{any_same_worlds_are_worlds}
-use Rattle.vt_laws_worlds.proofs.overlay_permits.worlds.EveryCall.{every_call_keeps_worlds}
 use Rattle.vt_laws_trees.proofs.runs.EachHas.{each_among}
-use Rattle.vt_laws_trees.proofs.runs.Each.{IfAny}
 use Rattle.vt_laws_containers.proofs.same_sets.sets.PartsAlike.{same_worlds_have_same_parts}
 use Rattle.vt_laws_containers.proofs.same_sets.sets.SealedAlike.{same_worlds_are_sealed_alike, same_worlds_give_footholds_alike}
 use Rattle.vt_laws_containers.specs.SameSets.Outsiders.{OutsidersLeadTo, OutsidersLeadToSealedWorlds, OutsidersLeaveSameWorldsSealed}
-use Rattle.vt_laws_sealed.proofs.outsiders.EveryPermit.{outsiders_leave_a_sealed_set}
-use Rattle.vt_laws_sealed.specs.Outsiders.{IsOutsidersCall, OneCall, are_all_called}
 
 pub outsiders_leave_same_worlds_sealed : OutsidersLeaveSameWorldsSealed
 outsiders_leave_same_worlds_sealed world other same fresh names name call outsider later left =

@@ -1,12 +1,9 @@
 -- The parts of a set of tasks in two worlds that are alike.
 use Rattle.std.proofs.Common.{◌≡◌, ap, subst, ◌∙◌, ℕ, nat_eq, Bool, true, false, cond, ◌&&◌, ◌||◌, List, [], ◌∷◌, filter, filter_map, flat_map, Option, Some, None, IsPermutation}
 use Rattle.vt_spec.proofs.Common.{FileTree, Filesystem, Layer, Mount, Namespace, Overlay, SameFiles, SameFilesystem, Task, TaskName, World, cons_option, filesystem_numbered, holds_of, is_among, is_at, is_member_of, is_own_namespace, lies_in_layer, lies_in_own_lower, list_any, list_any-IsPermutation, locations, members, only_among, overlay_or, own_lowers, part_of, part_of_filesystem, part_of_lower, part_of_master, part_of_mount, roots_and_directories, seen_by_descriptor, used_filesystems, when}
-use Rattle.vt_laws_trees.proofs.runs.answered.AlikeChanges.{found_alike}
-use Rattle.vt_laws_trees.proofs.runs.answered.AlikeWorlds.{Alike, alike_from_same, mounts_of_one, same_from_alike, SameNamespace, SameTask, with_mounts_of}
+use Rattle.vt_laws_containers.proofs.Common.{Alike, Each, IfAny, SameNamespace, SameTask, alike_from_same, directly_same, each_filter, each_flat, found_alike, members_alike, mounts_of_one, own_same, places_same, same_from_alike, used_same, with_mounts_of}
 use Rattle.vt_laws_rules.proofs.same.SameFiles.{under_same}
-use Rattle.vt_laws_trees.proofs.runs.Each.{Each, IfAny, each_filter, each_flat}
 use Rattle.vt_laws_trees.proofs.runs.Permuted.{IsPermutation-filter}
-use Rattle.vt_laws_trees.proofs.runs.answered.AlikeDirected.{directly_same, members_alike, own_same, places_same, used_same}
 use Rattle.vt_laws_containers.specs.SameSets.Sets.{SameWorldsHaveSameParts}
 
 -- what is kept of each of two lists, where of each two elements the like is kept

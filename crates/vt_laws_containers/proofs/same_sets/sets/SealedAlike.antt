@@ -2,8 +2,7 @@
 use Rattle.std.proofs.Common.{◌≡◌, nat_eq}
 use Rattle.vt_spec.proofs.Common.{used_alone}
 use Rattle.vt_laws_containers.specs.SameSets.Sets.{SameWorldsAreSealedAlike, SameWorldsGiveFootholdsAlike}
-use Rattle.vt_laws_trees.proofs.runs.answered.AlikeDirected.{alone_same, sealed_alike}
-use Rattle.vt_laws_trees.proofs.runs.answered.AlikeWorlds.{Alike, alike_from_same, mounts_of_one}
+use Rattle.vt_laws_containers.proofs.Common.{Alike, alike_from_same, alone_same, mounts_of_one, sealed_alike}
 
 pub same_worlds_are_sealed_alike : SameWorldsAreSealedAlike
 same_worlds_are_sealed_alike one other same names = sealed_alike names one other (alike_from_same one other same)

@@ -1,7 +1,7 @@
 -- A sealed set is answered as if nobody else were there.
 use Rattle.std.proofs.Common.{arith, Bool, List, [], ◌∷◌, map, true, false}
 use Rattle.vt_spec.proofs.Common.{Call, TaskName, common_steps}
-use Rattle.vt_laws_members.proofs.each_call.EachCall.{each_call_ends_alike}
+use Rattle.vt_laws_containers.proofs.Common.{each_call_ends_alike}
 use Rattle.vt_laws_containers.specs.Calls.{AlwaysEndsAlike}
 use Rattle.vt_laws_containers.specs.Scripts.{Along, Asked, Stand, asked, next}
 use Rattle.vt_laws_containers.proofs.scripts.AnsweredAlike.{sets_are_answered_as_alone}

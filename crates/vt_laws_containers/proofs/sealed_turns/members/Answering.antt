@@ -1,12 +1,7 @@
 -- A turn of theirs that answers a call which ends alike in the part is a turn of their part.
 use Rattle.std.proofs.Common.{arith, ◌≡◌, refl, sym, ap, subst, ◌∙◌, ℕ, nat_eq, Bool, true, false, true≢false, not, List, [], ◌∷◌, Some, None, Ok, Err, Result, filter, is_ok, is_some, map}
-use Rattle.vt_spec.proofs.Common.{Among, Answer, Call, Calls, Fresh, Progress, Queue, Queued, Reply, Sched, Someone, TaskName, Turned, World, among-from_filter, common_steps, contains_from_among, first_of_list, is_among, none_is_some, part_of, policy, queue_of, same_name, shortened, turn, without_progress}
-use Rattle.vt_laws_worlds.proofs.overlays_stay.weaving.WovenLists.{filters_swapped}
-use Rattle.vt_spec.specs.declared.errors.Deny.{Deny}
-use Rattle.vt_laws_members.specs.Changes.Changes.{grown}
-use Rattle.vt_laws_members.proofs.changes.tasks.Denied.{denials_end_alike}
-use Rattle.vt_laws_turns.proofs.TurnShapes.{Shape, is_task_call, turn_shape}
-use Rattle.vt_laws_turns.proofs.played.Turning.{Turns, turn_is}
+use Rattle.vt_spec.proofs.Common.{Among, Answer, Call, Calls, Fresh, Progress, Queue, Queued, Sched, Someone, TaskName, Turned, World, among-from_filter, common_steps, contains_from_among, first_of_list, is_among, none_is_some, part_of, policy, queue_of, same_name, shortened, turn, without_progress}
+use Rattle.vt_laws_containers.proofs.Common.{Deny, Shape, Turns, denials_end_alike, filters_swapped, grown, is_task_call, turn_is, turn_shape}
 use Rattle.vt_laws_containers.specs.SealedTurns.MembersTurns.{TheirAnswersAreOfTheGrownPart, TheirAnswersAreOfTheirPart, TheirRefusalsAreOfTheirPart, TurnsAlikeFor, part_of_sched}
 use Rattle.vt_laws_containers.specs.SealedTurns.OutsidersTurns.{their_calls}
 use Rattle.vt_laws_containers.proofs.sealed_turns.members.Grown.{were_of_the_set}
@@ -85,9 +80,6 @@ their_answers_are_of_the_grown_part sched names name call fresh turns ends =
           (turns.has.holds.there p (contains_from_among sched.under_way p m)))
           ∙ ap (their_calls set) (sym one.under_way));
     }
-  where
-    reply_of : ℕ → Result Answer Deny → Reply
-    reply_of line answer = record { line = line; answer = answer }
 
 pub their_answers_are_of_their_part : TheirAnswersAreOfTheirPart
 their_answers_are_of_their_part sched names name call fresh turns ends stay =

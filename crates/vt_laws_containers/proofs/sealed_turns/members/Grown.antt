@@ -1,10 +1,7 @@
 -- Of the tasks in a world, those of the set that a call leaves were of the set before it.
 use Rattle.std.proofs.Common.{◌≡◌, refl, ℕ, nat_eq, Bool, true, false, not, List, [], ◌+◌, ◌||◌, Option, Some, None, Ok, Err, Result, is_ok, is_some, arith}
 use Rattle.vt_spec.proofs.Common.{Answer, Call, Child, Fresh, IsWorld, Judgement, Outcome, Permit, Task, TaskName, World, after, among-from_filter, any_among, any_from_among, apply, child_name, common_steps, contains_from_among, filesystems_changed_by, finished_by, found_among, is_among, judge_in, only_looks, or_cases, policy, same_name, same_task_name, some_from_is_some, task_called, ⊤}
-use Rattle.vt_spec.specs.declared.errors.Deny.{Deny}
-use Rattle.vt_laws_members.specs.Changes.Changes.{grown, left}
-use Rattle.vt_laws_members.proofs.changes.looks.Told.{ran}
-use Rattle.vt_laws_worlds.proofs.worlds.CallsKept.{name_found}
+use Rattle.vt_laws_containers.proofs.Common.{Deny, grown, left, name_found, ran}
 
 -- a child that is answered has the name of the task's next child
 abbrev NamesItsChild : Task ℕ → Result Answer Deny → Type 0

@@ -2,12 +2,7 @@
 use Rattle.std.proofs.Common.{arith, ◌≡◌, refl, ap, ◌∙◌, inl, inr, ⊎_elim, ℕ, nat_eq, Bool, true, false, List, [], ◌∷◌, ◌||◌, filter, find, map, eqb-true, eq-eqb}
 use Rattle.vt_spec.proofs.Common.{Among, IsWorld, Location, Mount, Progress, Task, TaskName, World, among-append_left, among-filter, among-flat_map, among-from_filter, among-map, any_among, any_from_among, common_steps, filesystem_change_of, first_of_list, holds_of, is_among, is_overtaken, is_own_mount, is_stale, list_any, locations_of, members, mount_at, mounts_of, namespace_change_of, or_cases, own_mounts, part_of, used_filesystems}
 use Rattle.vt_laws_members.proofs.judging.JudgedOverlays.{any_same}
-use Rattle.vt_laws_members.proofs.judging.MountPoints.{in_own}
-use Rattle.vt_laws_members.proofs.judging.SeenInPart.{located_used}
-use Rattle.vt_laws_sealed.proofs.part.Kept.{filter_kept}
-use Rattle.vt_laws_sealed.proofs.part.part.PartOfPart.{shown_how, used_directly_used}
-use Rattle.vt_laws_trees.proofs.trees.Lists.{find-filter}
-use Rattle.vt_laws_turns.specs.Holds.Held.{HoldsItsTask, is_seen_by}
+use Rattle.vt_laws_containers.proofs.Common.{HoldsItsTask, filter_kept, find-filter, in_own, is_seen_by, located_used, shown_how, used_directly_used}
 
 -- what is found is the first that passes
 found_first : {A : Type 0} (p : A → Bool) (list : List A) → find p list ≡ first_of_list (filter p list)

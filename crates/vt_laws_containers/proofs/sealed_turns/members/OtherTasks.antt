@@ -1,8 +1,7 @@
 -- Turns of theirs that answer a fork or an exit are of their part, of the set that is left.
-use Rattle.std.proofs.Common.{◌≡◌, refl, sym, ◌∙◌, ℕ, nat_eq, List, Option, Some, None, Ok, Err}
+use Rattle.std.proofs.Common.{inl, inr, ◌≡◌, refl, sym, ◌∙◌, ℕ, nat_eq, List, Option, Some, Ok, Err}
 use Rattle.vt_spec.proofs.Common.{Exit, Fork, ForkWords, Fresh, Judgement, Permit, Task, TaskName, ToFork, World, child_credentials, fork_permit, fork_rules, judge_in, passing, task_called}
-use Rattle.vt_laws_members.specs.Changes.Changes.{EndsAlike, IsCallOfTheirs}
-use Rattle.vt_laws_members.proofs.changes.tasks.Denied.{denials_end_alike, unnamed_ends_alike}
+use Rattle.vt_laws_containers.proofs.Common.{cases_Option, EndsAlike, IsCallOfTheirs, denials_end_alike, unnamed_ends_alike}
 use Rattle.vt_laws_members.proofs.changes.tasks.Forking.{forks_end_alike}
 use Rattle.vt_laws_members.proofs.changes.letting_go.Exiting.{exits_end_alike}
 use Rattle.vt_laws_containers.specs.SealedTurns.MembersTurns.{TheirExitsAreOfTheGrownPart, TheirForksAreOfTheGrownPart}
@@ -21,7 +20,10 @@ granted_fork fresh world task words permit e =
 each_fork_ends_alike : (world : World ℕ) (names : List TaskName) (name : TaskName) (words : Option ForkWords)
     → IsCallOfTheirs world names name (Fork words) → (fresh other : Fresh ℕ)
     → EndsAlike world names name (Fork words) fresh other
-each_fork_ends_alike world names name words it fresh other = by (task_called world name) refl
+each_fork_ends_alike world names name words it fresh other = elim (cases_Option (task_called world name)) [
+  | inl e ↦ unnamed_ends_alike it fresh other e
+  | inr its ↦ judged its.0 its.1 (judge_in nat_eq fresh world its.0 (Fork words)) refl
+]
   where
     judged : (task : Task ℕ) → task_called world name ≡ Some task → (judgement : Judgement ℕ)
         → judge_in nat_eq fresh world task (Fork words) ≡ judgement
@@ -31,11 +33,6 @@ each_fork_ends_alike world names name words it fresh other = by (task_called wor
         (granted_fork fresh world task words permit j)
     judged task e (Err deny) j = denials_end_alike world names name (Fork words) it fresh other
         (cc)
-
-    by : (found : Option (Task ℕ)) → task_called world name ≡ found
-        → EndsAlike world names name (Fork words) fresh other
-    by None e = unnamed_ends_alike it fresh other e
-    by (Some task) e = judged task e (judge_in nat_eq fresh world task (Fork words)) refl
 
 pub their_forks_are_of_the_grown_part : TheirForksAreOfTheGrownPart
 their_forks_are_of_the_grown_part sched names name words fresh turns theirs =

@@ -1,10 +1,7 @@
 -- Turns of outsiders overtake no call of theirs.
 use Rattle.std.proofs.Common.{arith, ◌≡◌, sym, ap, subst, ◌∙◌, ℕ, nat_eq, List, [], ◌∷◌}
 use Rattle.vt_spec.proofs.Common.{Among, Progress, Sched, TaskName, World, among-filter, among-from_filter, among_from_contains, common_steps, contains_from_among, found_among, is_among, is_member_task, is_overtaken, same_name, turn}
-use Rattle.vt_laws_turns.specs.Commits.{Turn, left_by}
-use Rattle.vt_laws_turns.specs.Holds.Held.{AreFitTurns, IsUnderWayOf}
-use Rattle.vt_laws_turns.proofs.holds.Holding.{schedules_hold_what_is_seen}
-use Rattle.vt_laws_worlds.proofs.worlds.CallsKept.{name_found}
+use Rattle.vt_laws_containers.proofs.Common.{AreFitTurns, IsUnderWayOf, Turn, left_by, name_found, schedules_hold_what_is_seen}
 use Rattle.vt_laws_containers.specs.SealedTurns.MembersTurns.{OutsidersOvertakeNoCallOfTheirs, TheirCallsAreOvertakenAlike}
 use Rattle.vt_laws_containers.specs.SealedTurns.OutsidersTurns.{AreOutsidersTurns, their_calls}
 use Rattle.vt_laws_containers.proofs.sealed_turns.members.Numbers.{overtaken_alike}

@@ -1,7 +1,7 @@
 -- The paths of a call of theirs are walked alike in the world and in the part.
 use Rattle.std.proofs.Common.{arith, ◌≡◌, refl, ap, ℕ, nat_eq, List, [], ◌∷◌, ◌++◌, Option, Some, None, Ok, Err, Result, IfOk, option_to_list}
 use Rattle.vt_spec.proofs.Common.{Bind, Call, Chdir, Chmod, Chown, Chroot, Creation, Exclusive, Exec, Here, Lazy, LinkTo, Location, Looks, Ls, Lstat, MakeWhiteout, Mkdir, MountOverlay, MountPlain, MoveMount, NoCreation, Opaque, OpenFile, OrCreate, OverlayWords, PivotRoot, Place, Read, Readlink, Remount, Rename, Rmdir, SetType, Stat, Stop, SymlinkAt, Task, Umount, Unlink, Write, common_steps, destination_walk, directory_walk, file_walk, map_alike, new_leaf_walk, new_walk, object_walk, old_leaf_walk, old_walk, routes, source_walk, symlink_walk, work_walked}
-use Rattle.vt_spec.specs.Machine.Turns.{here_route, layer_routes, open_route, place_route, rename_from_directory}
+use Rattle.vt_laws_containers.proofs.Common.{here_route, layer_routes, open_route, place_route, rename_from_directory}
 use Rattle.vt_laws_sealed.proofs.part.walks.WalksAgree.{Alike}
 use Rattle.vt_laws_members.proofs.judging.WalksLead.{PlaceAt, destination_agrees, directory_agrees, file_agrees, new_agrees, new_leaf_agrees, object_agrees, old_agrees, old_leaf_agrees, rename_new_agrees, same_directory_there, source_agrees, symlink_agrees}
 

@@ -1,21 +1,12 @@
 -- A turn of a task of theirs goes in their part as it goes in the world, as long as it answers nothing.
 use Rattle.std.proofs.Common.{arith, ◌≡◌, refl, sym, ap, subst, ◌∙◌, ◌⊎◌, inl, inr, ⊎_elim, ℕ, nat_eq, Bool, true, false, true≢false, cond, not, List, [], ◌∷◌, ◌++◌, ◌+◌, Option, Some, None, Ok, Err, Result, find, is_some, nat_le, slice_get}
 use Rattle.vt_spec.proofs.Common.{Among, Asks, Call, Calls, Filesystem, Fresh, Item, Progress, Queued, Refused, Route, Sched, Someone, Task, TaskName, Turned, World, among-filter, call_turn, call_turn_of, common_steps, contains_from_among, entry_rules, first_progress, first_turn, first_turn_by, folded, found_among, found_passes, further, is_among, is_failing, is_member_task, is_overtaken, is_removed, item_turn, later_turn, list_any, looks_of, members, most_restarts, next_word, one_further, queue_of, queue_turn, restarted, routes, same_name, same_task_name, task_called, turn, turn_under_way, unless, used_filesystems, without_progress, word_walked_by, words_of}
-use Rattle.vt_laws_worlds.proofs.overlays_stay.weaving.WovenLists.{filters_swapped}
-use Rattle.vt_spec.specs.declared.errors.Deny.{Deny}
-use Rattle.vt_spec.specs.Machine.Turns.{hold_one, went_on}
-use Rattle.vt_laws_members.specs.Judging.{is_theirs}
-use Rattle.vt_laws_members.proofs.judging.AllJudged.{called_alike}
-use Rattle.vt_laws_members.proofs.judging.Grounds.{theirs_from, theirs_test}
-use Rattle.vt_laws_members.proofs.judging.SeenInPart.{directory_theirs, filesystem_alike, members_see_alike}
-use Rattle.vt_laws_sealed.proofs.part.walks.WalksAgree.{Alike, each_from}
-use Rattle.vt_laws_turns.proofs.holds.Holding.{word_seen}
-use Rattle.vt_laws_worlds.proofs.worlds.CallsKept.{name_found}
+use Rattle.vt_laws_containers.proofs.Common.{Deny, called_alike, directory_theirs, each_from, filesystem_alike, filters_swapped, find-filter, hold_one, is_theirs, members_see_alike, name_found, nth_among, theirs_from, theirs_test, went_on, word_seen}
+use Rattle.vt_laws_sealed.proofs.part.walks.WalksAgree.{Alike}
 use Rattle.vt_laws_containers.specs.SealedTurns.MembersTurns.{HasCallsUnderWay, TheirTurnsAnswerAlike, TheirWordsAreOfTheirPart, part_of_sched}
 use Rattle.vt_laws_containers.specs.SealedTurns.OutsidersTurns.{their_calls}
 use Rattle.vt_laws_containers.proofs.sealed_turns.members.Numbers.{filesystem_same, namespace_same, overtaken_alike, seen_used}
 use Rattle.vt_laws_containers.proofs.sealed_turns.members.RoutesAlike.{routes_alike}
-use Rattle.vt_laws_trees.proofs.trees.Lists.{find-filter, nth_among}
 
 module _ (sched : Sched ℕ) (names : List TaskName) (has : HasCallsUnderWay sched) where
   abbrev world : World ℕ

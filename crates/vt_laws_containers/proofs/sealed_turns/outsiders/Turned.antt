@@ -1,15 +1,8 @@
 -- A turn of an outsider changes the world by a call of the outsider, and no queue and no call under way of theirs.
 use Rattle.std.proofs.Common.{◌≡◌, refl, sym, ap, subst, ◌∙◌, ℕ, nat_eq, Bool, true, false, cond, not, List, [], ◌∷◌, Some, map}
 use Rattle.vt_spec.proofs.Common.{Call, Fresh, IsWorld, Progress, Sched, Someone, TaskName, Turned, World, is_among, members, one_further, policy, queue_of, same_name, same_who, shortened, task_called, turn, without_progress}
-use Rattle.vt_laws_sealed.proofs.outsiders.InTurn.{still_called}
-use Rattle.vt_laws_members.proofs.judging.AllJudged.{called_alike}
-use Rattle.vt_laws_worlds.proofs.overlay_permits.worlds.EveryCall.{every_call_keeps_worlds}
-use Rattle.vt_laws_sealed.specs.Outsiders.{LeavesItSealed}
-use Rattle.vt_laws_sealed.proofs.outsiders.EveryPermit.{outsiders_leave_a_sealed_set}
-use Rattle.vt_laws_turns.specs.Commits.{Turn, left_by}
-use Rattle.vt_laws_turns.proofs.TurnShapes.{Shape, turn_shape}
+use Rattle.vt_laws_containers.proofs.Common.{LeavesItSealed, Shape, Turn, called_alike, every_call_keeps_worlds, left_by, outsiders_leave_a_sealed_set, same_whos, shorter, still_called, turn_shape}
 use Rattle.vt_laws_turns.proofs.TurnShapes.Shape.{CallDone, Further, Idle, OtherDone}
-use Rattle.vt_laws_turns.proofs.played.Fronts.{same_whos, shorter}
 use Rattle.vt_laws_turns.proofs.played.Leaving.{Leaves, turn_leaves}
 use Rattle.vt_laws_turns.proofs.played.Leaving.Leaves.{After, Same}
 use Rattle.vt_laws_turns.proofs.restarts.Keeping.{named}

@@ -1,10 +1,7 @@
 -- A script that stacks mounts on a directory of the first tree.
 use Rattle.std.proofs.Common.{◌≡◌, refl, sym, ap, ◌∙◌, ℕ, zero, suc, nat_eq, ◌+◌, ◌≤◌, List, [], ◌∷◌, ◌++◌, None, append_assoc, arith, codes, decimal, append-nil}
 use Rattle.vt_spec.proofs.Common.{Call, Done, Mkdir, MountPlain, One, Two, Version, World, everything, first_task, first_world, granted, lines_of, most_mounts, numbers_for, plain_flags, policy, request_of, text_from, whole}
-use Rattle.std.specs.Fmt.{digits}
-use Rattle.vt_spec.specs.Machine.Run.{machine_text}
-use Rattle.vt_laws_worlds.proofs.opening.OpeningWorld.{opening_is_a_world}
-use Rattle.vt_laws_worlds.proofs.worlds.CallsKept.{Kept, calls_keep_worlds}
+use Rattle.vt_laws_later_calls.proofs.Common.{Kept, calls_keep_worlds, digits, machine_text, opening_is_a_world}
 use Rattle.vt_laws_later_calls.specs.Limits.FullNamespaces.{FillsItsNamespace, FullNamespaceRefuses, LastOfManyMountsIsRefused, numbered, repeated, stacking_script}
 use Rattle.vt_laws_later_calls.proofs.limits.PathWalks.{HasOneWord}
 use Rattle.vt_laws_later_calls.proofs.limits.ScriptLines.{AsksFor, Fills, fills, lines_repeated, more_repeated, numbered_from, numbers_go_on, ok_is_printed, text_goes_on, text_of_refusals}

@@ -1,10 +1,7 @@
 -- A script in which a mount is refused since its copy at a peer has no room.
 use Rattle.std.proofs.Common.{◌≡◌, refl, sym, ap, ◌∙◌, ℕ, zero, suc, nat_eq, ◌+◌, ◌<◌, false, List, [], ◌∷◌, ◌++◌, None, Ok, Err, append_assoc, arith, codes, decimal}
 use Rattle.vt_spec.proofs.Common.{Call, Done, Fork, Mkdir, MountPlain, One, Serves, SetType, TaskName, ToShared, Two, Umount, Unshare, Version, World, denial, denied, everything, first_world, granted, lines_of, most_mounts, numbers_for, plain_flags, policy, reply_line, request_of, text_from, whole}
-use Rattle.std.specs.Fmt.{digits}
-use Rattle.vt_laws_mounts.specs.LettingGo.Ends.{mount_count}
-use Rattle.vt_spec.specs.declared.errors.Rule.TheVariants.{M9}
-use Rattle.vt_spec.specs.Machine.Run.{machine_text}
+use Rattle.vt_laws_later_calls.proofs.Common.{M9, digits, machine_text, mount_count}
 use Rattle.vt_laws_later_calls.specs.Limits.FullNamespaces.{FullReceiverRefuses, numbered, receiver_script, repeated}
 use Rattle.vt_laws_later_calls.proofs.limits.ScriptLines.{AsksFor, Fills, fills, lines_repeated, more_repeated, numbers_go_on, text_goes_on}
 use Rattle.vt_laws_later_calls.proofs.limits.StackGrows.{stack_grows}

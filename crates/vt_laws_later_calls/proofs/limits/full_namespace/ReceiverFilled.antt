@@ -1,9 +1,7 @@
 -- The second task fills its namespace, and unmounts one mount.
 use Rattle.std.proofs.Common.{◌≡◌, refl, ap, subst, ◌∙◌, ℕ, suc, nat_eq, nat_lt, Bool, true, false, ◌&&◌, ◌+◌, ◌<◌, [], ◌∷◌, ◌++◌, Some, Ok, append_assoc, codes}
 use Rattle.vt_spec.proofs.Common.{Done, Filesystem, Fresh, Mount, MountPlain, Serves, Umount, World, denial, denied, holds_of, list_all-append, most_mounts, most_symlinks, plain_flags, policy}
-use Rattle.vt_laws_mounts.specs.LettingGo.Ends.{mount_count}
-use Rattle.vt_spec.specs.declared.errors.Rule.TheVariants.{M9}
-use Rattle.vt_laws_worlds.proofs.worlds.CallsKept.{Kept, calls_keep_worlds}
+use Rattle.vt_laws_later_calls.proofs.Common.{Kept, M9, calls_keep_worlds, mount_count}
 use Rattle.vt_laws_later_calls.proofs.Granted.{called_raised}
 use Rattle.vt_laws_later_calls.specs.Limits.Room.{NeedsRoom, lacks_room}
 use Rattle.vt_laws_later_calls.proofs.limits.AddedMount.{added_filesystem, added_mount}

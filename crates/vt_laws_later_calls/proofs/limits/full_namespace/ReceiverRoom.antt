@@ -1,19 +1,13 @@
 -- Whether a mount in the first namespace has room: it comes to the shared mount, and to its peer in the other
 -- namespace.
-use Rattle.std.proofs.Common.{arith, ◌≡◌, refl, sym, ap, subst, ◌∙◌, true≢false, ℕ, suc, nat_eq, nat_lt, eqb-true, Bool, true, false, cond, not, ◌&&◌, ◌||◌, ◌+◌, ◌*◌, List, [], ◌∷◌, ◌++◌, Option, None, Some, Ok, filter, is_some, length, map, codes, option_to_list}
-use Rattle.vt_spec.proofs.Common.{Among, Directory, Filesystem, IsWorld, Location, Mount, Namespace, Task, World, among-append_right, and_parts, chain_ends, chain_goes_on, child_at, common_steps, filesystem_numbered, groups_up, holds_of, is_among, is_directory_node, is_directory_under, is_removed, is_removed_at, list_all, list_any, looks_of, most_mounts, most_symlinks, mount_numbered, new_mount_rules, node_at, or-false, parts_of, receivers_of, receives, root_attr, root_of, source_of, stands_at, takes_part, task_called, topmost}
-use Rattle.vt_laws_mounts.specs.LettingGo.Ends.{is_in, mount_count}
-use Rattle.vt_laws_mounts.proofs.letting_go.Lists.{any-map, nothing_passes, among_from_list_all, find_none}
-use Rattle.vt_laws_mounts.proofs.mounts.MountsPlaces.{stands_there}
-use Rattle.vt_laws_mounts.proofs.mounts.Receivers.{start_among}
-use Rattle.vt_spec.proofs.Tables.{destination_walk}
-use Rattle.vt_laws_worlds.specs.Worlds.Kept.{IsPlain}
+use Rattle.std.proofs.Common.{inl, inr, arith, ◌≡◌, refl, sym, ap, subst, ◌∙◌, true≢false, ℕ, suc, nat_eq, nat_lt, eqb-true, Bool, true, false, cond, not, ◌&&◌, ◌||◌, ◌+◌, ◌*◌, List, [], ◌∷◌, ◌++◌, Option, None, Some, Ok, filter, is_some, length, map, codes, option_to_list}
+use Rattle.vt_spec.proofs.Common.{cases_Bool, Among, Directory, Filesystem, IsWorld, Location, Mount, Namespace, Task, World, among-append_right, and_parts, chain_ends, chain_goes_on, child_at, common_steps, filesystem_numbered, groups_up, holds_of, is_among, is_directory_node, is_directory_under, is_removed, is_removed_at, list_all, list_any, looks_of, most_mounts, most_symlinks, mount_numbered, new_mount_rules, node_at, or-false, parts_of, receivers_of, receives, root_attr, root_of, source_of, stands_at, takes_part, task_called, topmost}
+use Rattle.vt_laws_later_calls.proofs.Common.{IsPlain, among_from_list_all, any-map, destination_walk, find_none, is_in, mount_count, nothing_passes, plain_numbered, stands_there, start_among}
 use Rattle.vt_laws_worlds.proofs.worlds.Roots.{child_in}
 use Rattle.vt_laws_later_calls.specs.Limits.Room.{how_many_in, lacks_room, none_fails}
 use Rattle.vt_laws_later_calls.proofs.limits.TopmostGrows.{topmost_of_free}
 use Rattle.vt_laws_later_calls.proofs.limits.PathWalks.{HasTwoWords, WordLeads, destination_is_walked, end_of_two, two_words_lead}
 use Rattle.vt_laws_later_calls.proofs.limits.full_namespace.ReceiverWorld.{first_of_two, four_mounts, root_mount, shared_mount}
-use Rattle.vt_laws_trees.proofs.runs.answered.PlainStays.{plain_numbered}
 
 -- the two trees of the world: `/` with `q` and `s`, and that on `/s` with `d`
 pub record TwoTrees (first second : Filesystem ℕ) : Type 0 where
@@ -72,21 +66,19 @@ module _ {first second : Filesystem ℕ} (trees : TwoTrees first second) {world 
   -- what was stacked stands in the other namespace
   rest_stands_apart : (mount : Mount ℕ) → Among mount has.rest → (node : ℕ)
       → stands_at nat_eq (record { mount = 17; node = node }) mount ≡ false
-  rest_stands_apart mount m node = by (stands_at nat_eq (record { mount = 17; node = node }) mount) refl
+  rest_stands_apart mount m node = elim (cases_Bool (stands_at nat_eq (record { mount = 17; node = node }) mount)) [
+    | inl e ↦ absurd (true≢false (sym (child_in world is 1 mount
+        (subst (Among mount) (sym has.mounts) (among-append_right four_mounts has.rest mount m))
+        (record { mount = 17; node = node }) (stands_there (record { mount = 17; node = node }) mount e)
+        (ap (λ (one : Mount ℕ). list_all (nat_eq 1) (option_to_list one.namespace)) shared_mount_is))
+        ∙ elsewhere mount.namespace (and_parts _ _ (among_from_list_all is_other has.rest has.others mount m)).1))
+    | inr e ↦ e
+  ]
     where
       elsewhere : (namespace : Option ℕ) → holds_of (nat_eq 39) namespace ≡ true
           → list_all (nat_eq 1) (option_to_list namespace) ≡ false
       elsewhere None e = cc
       elsewhere (Some number) e = cc (eqb-true 39 number e)
-
-      by : (b : Bool) → stands_at nat_eq (record { mount = 17; node = node }) mount ≡ b
-          → stands_at nat_eq (record { mount = 17; node = node }) mount ≡ false
-      by false e = e
-      by true e = absurd (true≢false (sym (child_in world is 1 mount
-          (subst (Among mount) (sym has.mounts) (among-append_right four_mounts has.rest mount m))
-          (record { mount = 17; node = node }) (stands_there (record { mount = 17; node = node }) mount e)
-          (ap (λ (one : Mount ℕ). list_all (nat_eq 1) (option_to_list one.namespace)) shared_mount_is))
-          ∙ elsewhere mount.namespace (and_parts _ _ (among_from_list_all is_other has.rest has.others mount m)).1))
 
   -- nothing stands on the root of the shared mount
   nothing_on_root : child_at nat_eq world.mounts (record { mount = 17; node = 22 }) ≡ None

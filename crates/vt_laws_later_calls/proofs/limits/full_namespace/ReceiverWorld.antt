@@ -1,14 +1,10 @@
 -- The world in which a namespace is filled that has a receiver of another's shared mount.
 use Rattle.std.proofs.Common.{◌≡◌, refl, ap, ℕ, suc, nat_eq, true, false, List, [], ◌∷◌, None, Some, filter, length, map, arith, codes, unwrap_or}
 use Rattle.vt_spec.proofs.Common.{Call, Directory, Filesystem, Fork, Mkdir, Mount, MountPlain, Namespace, One, Private, SetType, Shared, Task, TaskName, ToShared, Unshare, World, entries_in, entry_named, everything, execute_right, first_of_list, first_task, first_world, holds_of, is_directory_at, is_directory_node, is_directory_under, is_removed, is_removed_at, mount_in, no_filesystem, node_allows, node_at, numbers_for, plain_flags, policy, request_of, rest_of, root_attr, task_called, topmost, whole}
-use Rattle.vt_laws_trees.specs.Trees.Calls.{mounts_overlay}
-use Rattle.vt_laws_trees.specs.Trees.Limits.{names_few_groups}
-use Rattle.vt_laws_worlds.proofs.opening.OpeningWorld.{opening_is_a_world}
-use Rattle.vt_laws_worlds.proofs.worlds.CallsKept.{Kept, calls_keep_worlds}
+use Rattle.vt_laws_later_calls.proofs.Common.{Kept, calls_keep_worlds, mounts_overlay, names_few_groups, opening_is_a_world, plain_numbered}
 use Rattle.vt_laws_later_calls.proofs.limits.ScriptLines.{AsksFor, numbers_go_on}
 use Rattle.vt_laws_later_calls.proofs.limits.StackedMounts.{IsStack}
 use Rattle.vt_laws_later_calls.proofs.limits.Supplies.{HasNumbersUntil, next_numbers_serve, opening_has_first_numbers}
-use Rattle.vt_laws_trees.proofs.runs.answered.PlainStays.{plain_numbered}
 
 -- the world after one line more
 abbrev pub next_world : ℕ → World ℕ → TaskName → Call → World ℕ

@@ -1,10 +1,8 @@
 -- What is attached fills namespaces by its parts in them.
 use Rattle.std.proofs.Common.{◌≡◌, ap, ◌∙◌, ⊎_elim, ℕ, nat_eq, nat_lt, true, false, List, [], ◌∷◌, length, arith, ◌+◌, ◌*◌, ◌-◌}
 use Rattle.vt_spec.proofs.Common.{Among, Copies, Filesystem, Fresh, IsWorld, Location, Mount, MountFlags, World, attached_by, bind_tree, copies_from, evens, has_too_many, list_any, most_mounts, mount_numbered, mounted, new_mount, odds, overlay_filesystem, parts_of, plain_filesystem, tree_among, with_new_filesystem}
-use Rattle.vt_laws_mounts.specs.LettingGo.Ends.{mount_count}
+use Rattle.vt_laws_later_calls.proofs.Common.{found_there, mount_count, trees_have_each_once}
 use Rattle.vt_laws_mounts.proofs.Counting.{added_counted, moved_all}
-use Rattle.vt_laws_mounts.proofs.mounts.MountsFound.{found_there}
-use Rattle.vt_laws_mounts.proofs.mounts.Standing.{trees_have_each_once}
 use Rattle.vt_laws_worlds.proofs.permits.taken.PartsKept.{same_parts}
 use Rattle.vt_laws_later_calls.specs.Limits.Room.{BindsAskForRoom, MovesAskForRoom, NewMountsAskForRoom, OverlaysAskForRoom, how_many_in, lacks_room, tree_of}
 

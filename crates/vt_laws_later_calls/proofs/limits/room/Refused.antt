@@ -1,12 +1,7 @@
 -- An attachment without room is refused by M9, and one with room is granted, where no other rule refuses it.
 use Rattle.std.proofs.Common.{arith, ◌≡◌, refl, ap, subst, ◌∙◌, ℕ, nat_eq, Bool, true, false, [], ◌∷◌, ◌++◌, Some, Result, Ok, Err, length, drop, take}
 use Rattle.vt_spec.proofs.Common.{Bind, Call, Done, Fresh, Here, Judgement, MountPlain, MoveMount, Permit, Rules, Task, TaskName, ToBind, ToMountPlain, ToMove, World, and_then, answer-finished_by, apply, attach_permit, bind_permit, bind_rules, bind_tree, common_steps, denial, judge_in, looks_of, mount_plain_permit, move_permit, move_rules, new_mount_rules, only_looks, overfills, policy, task_called, unless, walk_end}
-use Rattle.vt_spec.specs.declared.errors.Deny.{Deny}
-use Rattle.vt_spec.specs.declared.errors.Rule.TheVariants.{K1, M9}
-use Rattle.vt_spec.proofs.Tables.{destination_walk, source_walk}
-use Rattle.vt_laws_mounts.specs.Mounts.Attaching.{is_mount}
-use Rattle.vt_laws_trees.proofs.trees.TreesWalked.{Ends}
-use Rattle.vt_laws_worlds.proofs.worlds.ReachedPlaces.{HereDirectory, source_walk_end}
+use Rattle.vt_laws_later_calls.proofs.Common.{Deny, Ends, HereDirectory, K1, M9, destination_walk, is_mount, source_walk, source_walk_end}
 use Rattle.vt_laws_later_calls.specs.Limits.Room.{BindNeedsRoom, MoveNeedsRoom, NeedsRoom, NewMountNeedsRoom, lacks_room, lacks_room_for_moved, none_fails, tree_of}
 use Rattle.vt_laws_later_calls.proofs.limits.Outcomes.{policy_by_judgement, refused_call}
 use Rattle.vt_laws_later_calls.proofs.limits.room.Counted.{binds_ask_for_room, moves_ask_for_room, new_mounts_ask_for_room}

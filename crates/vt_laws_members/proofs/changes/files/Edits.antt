@@ -2,12 +2,9 @@
 use Rattle.std.proofs.Common.{arith, ◌≡◌, refl, ℕ, nat_eq, eqb-true, Bool, true, List, [], ◌∷◌, Option, Some, None, Ok, flat_map, length, IfOk, nat_lt}
 use Rattle.vt_spec.proofs.Common.{Change, FileTree, Here, Location, Looks, Node, Permit, Place, SetAttr, SetBytes, SetMark, Task, TaskName, ToChange, World, admin_rules, and_then, attr_at, attr_permit, attr_rules, attr_with_mode, attr_with_owner, changed, changed_node, chmod_permit, chown_permit, common_steps, directory_walk, entries-node_with_attr, entries-node_with_bytes, entries-node_with_mark, entries_in, file_mode, file_walk, file_word_rules, is_among, largest_file, looks_of, make_permit, make_rules, may_chown, named_in, new_file, object_walk, opaque_permit, opaque_rules, owns, part_of, rewrite_rules, targets_in, unless, unnumbered, used_filesystems, walk_end, write_permit, written_permit, ⊤}
 use Rattle.vt_spec.specs.declared.attributes.Attr.{Attr}
-use Rattle.vt_spec.specs.declared.errors.Rule.TheVariants.{E6}
-use Rattle.vt_laws_members.proofs.judging.TheirCalls.{IsMember}
+use Rattle.vt_laws_members.proofs.Common.{E6}
+use Rattle.vt_laws_members.proofs.judging.Common.{FoundAt, HereAt, IsMember, JudgesAlike, PlaceAt, directory_agrees, file_agrees, judges, object_agrees}
 use Rattle.vt_laws_members.specs.Judging.{is_theirs}
-use Rattle.vt_laws_members.proofs.judging.AllJudged.{judges}
-use Rattle.vt_laws_members.proofs.judging.Judged.{JudgesAlike}
-use Rattle.vt_laws_members.proofs.judging.WalksLead.{FoundAt, HereAt, PlaceAt, directory_agrees, file_agrees, object_agrees}
 use Rattle.vt_laws_members.proofs.changes.looks.Granted.{of_rules, of_walk}
 
 -- a change of bytes, attributes or the mark of an inode

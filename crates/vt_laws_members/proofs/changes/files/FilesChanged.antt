@@ -1,7 +1,7 @@
 -- The part of a world in which a filesystem of theirs has another tree is the part with that tree.
-use Rattle.std.proofs.Common.{arith, ◌≡◌, refl, sym, ap, ◌∙◌, inl, inr, ℕ, nat_eq, eqb-true, Bool, true, false, cond, List, [], ◌∷◌, ◌++◌, Option, Some, find, filter, flat_map, map, ◌&&◌, option_map, unwrap_or, filter_map}
+use Rattle.std.proofs.Common.{arith, ◌≡◌, refl, ap, ◌∙◌, inl, inr, ℕ, nat_eq, eqb-true, Bool, true, false, cond, List, [], ◌∷◌, ◌++◌, Option, Some, find, filter, flat_map, map, ◌&&◌, option_map, unwrap_or, filter_map}
 use Rattle.vt_spec.proofs.Common.{Among, Filesystem, Layer, Overlay, TaskName, World, change_layers, common_steps, each_once, filesystem_numbered, is_among, is_under, list_any, no_filesystem, of_overlay, only_among, own_lowers, part_of, part_of_filesystem, part_of_lower, used_directly, used_filesystems, when}
-use Rattle.vt_laws_mounts.specs.LettingGo.TreesOverlays.{with_filesystems}
+use Rattle.vt_laws_members.proofs.Common.{with_filesystems}
 
 -- what is kept and then changed is changed and then kept
 filter_map_changed : {A : Type 0} (f g : A → Option A) (h : A → A) (xs : List A)

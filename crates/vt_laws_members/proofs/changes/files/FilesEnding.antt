@@ -1,17 +1,11 @@
 -- An edit of a file on a plain filesystem ends in the part as in the world.
-use Rattle.std.proofs.Common.{arith, ◌≡◌, refl, sym, ap, subst, ◌∙◌, ℕ, nat_eq, true, false, true≢false, List, [], ◌∷◌, Option, Some, None, Ok, filter, is_some, map, ◌||◌, IfOk}
-use Rattle.vt_spec.proofs.Common.{Among, Call, Change, Done, FileTree, Filesystem, Fresh, Location, Overlay, Task, TaskName, ToChange, World, changed_at, common_steps, filesystem_at, filesystem_changed, finished_by, granted, is_among, is_member_task, is_overlay, judge_in, mount_at, numbers_of_change, numbers_raised, only_looks, part_of, policy, raised_task, settled, task_called, used_filesystems, with_change}
+use Rattle.std.proofs.Common.{arith, ◌≡◌, refl, sym, ap, subst, ◌∙◌, ℕ, nat_eq, true, false, List, [], ◌∷◌, Option, Some, None, Ok, filter, is_some, map, ◌||◌, IfOk}
+use Rattle.vt_spec.proofs.Common.{Among, Call, Change, Done, FileTree, Filesystem, Fresh, Location, Overlay, Task, TaskName, ToChange, World, changed_at, common_steps, filesystem_at, filesystem_changed, finished_by, granted, is_among, is_member_task, is_overlay, judge_in, mount_at, numbers_of_change, numbers_raised, part_of, policy, raised_task, settled, used_filesystems, with_change}
 use Rattle.vt_spec.specs.Language.Changes
-use Rattle.vt_laws_members.proofs.judging.TheirCalls.{IsLastingCall, caller_in, lasting, sealing_of}
-use Rattle.vt_laws_mounts.specs.LettingGo.InUse.{AllInUse}
-use Rattle.vt_laws_mounts.specs.LettingGo.TreesOverlays.{with_filesystems}
-use Rattle.vt_laws_mounts.proofs.letting_go.Lists.{filter-map}
-use Rattle.vt_laws_mounts.proofs.letting_go.sweeps.OfWorlds.{all_in_use}
-use Rattle.vt_laws_sealed.proofs.part.part.PartOfPart.{same_members, same_used}
+use Rattle.vt_laws_members.proofs.judging.Common.{IsLastingCall, caller_in, filesystem_alike, lasting, sealing_of, theirs_from, theirs_used}
+use Rattle.vt_laws_members.proofs.Common.{AllInUse, all_in_use, filter-map, same_members, same_used, with_filesystems}
 use Rattle.vt_laws_members.specs.Judging.{is_theirs}
-use Rattle.vt_laws_members.proofs.judging.Grounds.{theirs_from}
-use Rattle.vt_laws_members.proofs.judging.SeenInPart.{filesystem_alike, theirs_used}
-use Rattle.vt_laws_members.specs.Changes.Changes.{ChmodsEndAlike, ChownsEndAlike, EndAlike, EndsAlike, IsCallOfTheirs, OpaquesEndAlike, WritesEndAlike, grown}
+use Rattle.vt_laws_members.specs.Changes.Changes.{ChmodsEndAlike, ChownsEndAlike, EndsAlike, OpaquesEndAlike, WritesEndAlike}
 use Rattle.vt_laws_members.proofs.changes.files.Edits.{Edits, IsEdit, chmods_edit, chowns_edit, edits_keep, opaques_edit, writes_edit}
 use Rattle.vt_laws_members.proofs.changes.files.FilesInUse.{in_use_changed, tree_changes}
 use Rattle.vt_laws_members.proofs.changes.files.OneFilesystem.{old_used, one_in_part, one_in_world}

@@ -1,12 +1,7 @@
 -- Where a plain tree changes and keeps its names, all stays in use.
-use Rattle.std.proofs.Common.{arith, ◌≡◌, refl, sym, ap, subst, ◌∙◌, ℕ, nat_eq, Bool, true, false, cond, []}
+use Rattle.std.proofs.Common.{arith, ◌≡◌, refl, ℕ, nat_eq, Bool, true, false, cond, []}
 use Rattle.vt_spec.proofs.Common.{FileTree, Filesystem, World, common_steps, filesystem_lives, is_overlay, named_in, replaced_if_numbered, with_files}
-use Rattle.vt_laws_mounts.specs.LettingGo.InUse.{AllInUse, FilesystemsInUse}
-use Rattle.vt_laws_mounts.specs.LettingGo.OneByOne.{AllInUseBut, Losers}
-use Rattle.vt_laws_mounts.specs.LettingGo.TreesOverlays.{ChangesFilesystem, in_use_of, with_filesystems}
-use Rattle.vt_laws_mounts.proofs.letting_go.Lists.{Among, all_from_among, among-from_map, among_from_list_all, is_among_numbers, list_all_from_among, or_left}
-use Rattle.vt_laws_mounts.proofs.letting_go.leaving.TreesWithOverlays.{all_but_changed, lives_alike, unchanged}
-use Rattle.vt_laws_mounts.proofs.letting_go.sweeps.InUse.{filesystems_stay, mounts_stay, no_objects}
+use Rattle.vt_laws_members.proofs.Common.{AllInUse, AllInUseBut, Among, ChangesFilesystem, FilesystemsInUse, Losers, all_but_changed, all_from_among, among-from_map, among_from_list_all, filesystems_stay, in_use_of, is_among_numbers, list_all_from_among, lives_alike, mounts_stay, no_objects, or_left, unchanged, with_filesystems}
 
 -- names and real objects stay
 module _ (world : World ℕ) (in_use : AllInUse world) (change : Filesystem ℕ → Filesystem ℕ)

@@ -1,9 +1,7 @@
 -- Where the tree of a filesystem of theirs changes, and nothing goes: the world that a call leaves, and its part.
-use Rattle.std.proofs.Common.{arith, ◌≡◌, refl, ap, ◌∙◌, ℕ, nat_eq, eqb-true, Bool, true, false, true≢false, List, [], ◌∷◌, filter, map}
+use Rattle.std.proofs.Common.{arith, ◌≡◌, refl, ap, ℕ, nat_eq, eqb-true, Bool, true, false, true≢false, List, [], ◌∷◌, filter, map}
 use Rattle.vt_spec.proofs.Common.{Among, FileTree, Filesystem, Task, TaskName, World, common_steps, is_among, is_member_task, locations_of, map_twice, numbers_raised, part_of, raised, raised_if_changed, raised_task, replaced_if_numbered, settled, used_filesystems, with_files}
-use Rattle.vt_laws_mounts.specs.LettingGo.InUse.{AllInUse}
-use Rattle.vt_laws_mounts.specs.LettingGo.TreesOverlays.{with_filesystems}
-use Rattle.vt_laws_mounts.proofs.letting_go.sweeps.InUse.{nothing_goes}
+use Rattle.vt_laws_members.proofs.Common.{AllInUse, nothing_goes, with_filesystems}
 use Rattle.vt_laws_members.proofs.changes.files.FilesChanged.{part_with_files}
 use Rattle.vt_laws_members.proofs.changes.tasks.RaisedTasks.{tasks_raised}
 use Rattle.vt_laws_members.proofs.changes.tasks.Retasked.{retasked}

@@ -1,8 +1,7 @@
 -- A filesystem that a set uses, by its number: it is one in the world, and the same one in the part.
-use Rattle.std.proofs.Common.{arith, ◌≡◌, refl, sym, ap, ◌∙◌, ⊎_elim, ℕ, nat_eq, eqb-true, true, cond, true≢false, List, [], ◌∷◌, Some, find, unwrap_or}
-use Rattle.vt_spec.proofs.Common.{Among, Filesystem, IsWorld, TaskName, World, among-filter_map, among-from_filter_map, common_steps, filesystem_numbered, is_among, list_any, no_filesystem, own_lowers, part_of, part_of_filesystem, part_of_lower, used_filesystems, when}
-use Rattle.vt_laws_mounts.proofs.letting_go.sweeps.OfWorlds.{found_filesystem}
-use Rattle.vt_laws_sealed.proofs.part.part.PartOfPart.{shown_how}
+use Rattle.std.proofs.Common.{arith, ◌≡◌, refl, sym, ap, ◌∙◌, ⊎_elim, ℕ, nat_eq, eqb-true, true, true≢false, List, [], ◌∷◌, find, unwrap_or}
+use Rattle.vt_spec.proofs.Common.{Among, Filesystem, IsWorld, TaskName, World, among-filter_map, among-from_filter_map, common_steps, filesystem_numbered, is_among, no_filesystem, part_of, part_of_filesystem, used_filesystems}
+use Rattle.vt_laws_members.proofs.Common.{found_filesystem, shown_how}
 
 -- what is found by a number has it
 pub found_numbered : (k : ℕ) (list : List (Filesystem ℕ))

@@ -1,10 +1,8 @@
 -- A write of bytes at an offset of an open file ends in the part as in the world.
 use Rattle.std.proofs.Common.{◌≡◌, refl, sym, ap, subst, ◌∙◌, ℕ, nat_eq, Bool, true, false, cond, find, List, ◌∷◌, Option, Some, None, Ok, IfOk, ok_or, option_to_list, ◌==◌}
-use Rattle.vt_spec.proofs.Common.{Among, Call, Descriptor, Location, Looks, Permit, Pwrite, SetBytes, Task, TaskName, ToChange, ToWritePart, World, and_then, bytes_in, denial, descriptor_numbered, filesystem_numbered, found_among, judge_in, locations, looks_of, members, mount_at, node_at, overwritten, part_of, pwrite_permit, pwrite_rules, unless, ⊤}
-use Rattle.vt_spec.specs.declared.errors.Rule.TheVariants.{S4}
-use Rattle.vt_laws_members.proofs.judging.TheirCalls.{IsMember, caller_in, lasting, sealing_of}
-use Rattle.vt_laws_sealed.proofs.part.part.PartOfPart.{found, located}
-use Rattle.vt_laws_members.proofs.judging.SeenInPart.{located_used}
+use Rattle.vt_spec.proofs.Common.{Among, Call, Descriptor, Location, Looks, Permit, Pwrite, SetBytes, Task, TaskName, ToWritePart, World, and_then, bytes_in, denial, descriptor_numbered, filesystem_numbered, found_among, judge_in, locations, looks_of, members, mount_at, node_at, overwritten, part_of, pwrite_permit, pwrite_rules, unless, ⊤}
+use Rattle.vt_laws_members.proofs.Common.{S4, found, located}
+use Rattle.vt_laws_members.proofs.judging.Common.{IsMember, caller_in, lasting, located_used, sealing_of}
 use Rattle.vt_laws_members.specs.Changes.Changes.{PartWritesEndAlike}
 use Rattle.vt_laws_members.proofs.changes.files.FilesEnding.{edit_ends}
 use Rattle.vt_laws_members.proofs.changes.looks.Granted.{of_rules, opened_theirs}
@@ -49,10 +47,8 @@ part_writes_end_alike world names name descriptor offset byte bytes it task call
     (located_used world names it.is file theirs.0)
     (sym (found world names (mount_at nat_eq world file).filesystem (located_used world names it.is file theirs.0))
     ∙ ap (filesystem_numbered nat_eq part) (sym (located world names file theirs.0)))
-    fresh other (ap (run_by it world fresh task) judged) (ran_there it fresh other task called judged
-    ∙ ap (λ node. run_by it part other task (Ok (ToChange file
-    (SetBytes file.node (overwritten at (byte ∷ bytes) (bytes_in node))))))
-    (sym (open_file (sealing_of it) file theirs.0)))
+    fresh other (ap (run_by it world fresh task) judged) (cc
+    (ran_there it fresh other task called judged, open_file (sealing_of it) file theirs.0))
   where
     call : Call
     call = Pwrite descriptor offset (byte ∷ bytes)

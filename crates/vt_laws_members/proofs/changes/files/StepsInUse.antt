@@ -1,12 +1,7 @@
 -- Where filesystems change and no inode loses its uses, all stays in use.
-use Rattle.std.proofs.Common.{arith, ◌≡◌, sym, ap, subst, ◌∙◌, ℕ, nat_eq, [], All}
-use Rattle.vt_spec.proofs.Common.{Filesystem, World, common_steps, filesystem_lives, without_dead_filesystems}
-use Rattle.vt_laws_mounts.specs.LettingGo.InUse.{AllInUse, FilesystemsInUse}
-use Rattle.vt_laws_mounts.specs.LettingGo.OneByOne.{AllInUseBut, Losers}
-use Rattle.vt_laws_mounts.specs.LettingGo.TreesOverlays.{ChangesFilesystem, in_use_of, with_filesystems, with_lost}
-use Rattle.vt_laws_mounts.proofs.letting_go.Lists.{Among, all_from_among, among-from_map, among_from_list_all, list_all_from_among}
-use Rattle.vt_laws_mounts.proofs.letting_go.leaving.TreesWithOverlays.{all_but_changed, lives_alike}
-use Rattle.vt_laws_mounts.proofs.letting_go.sweeps.InUse.{filesystems_stay, mounts_stay}
+use Rattle.std.proofs.Common.{arith, ◌≡◌, ℕ, nat_eq, []}
+use Rattle.vt_spec.proofs.Common.{Filesystem, World, common_steps, filesystem_lives}
+use Rattle.vt_laws_members.proofs.Common.{AllInUse, AllInUseBut, Among, ChangesFilesystem, FilesystemsInUse, Losers, all_but_changed, all_from_among, among-from_map, among_from_list_all, filesystems_stay, in_use_of, list_all_from_among, lives_alike, mounts_stay, with_filesystems, with_lost}
 
 -- In the world after the change each filesystem has its number, its layers, and uses of its inodes.
 module _ (w : World ℕ) (in_use : AllInUse w) (step : Filesystem ℕ → Filesystem ℕ)

@@ -1,11 +1,8 @@
 -- The caller gets other locations: some that it had, and others where members get.
 use Rattle.std.proofs.Common.{◌≡◌, refl, sym, ap, subst, ◌∙◌, ◌⊎◌, inl, inr, ⊎_elim, ℕ, nat_eq, Bool, true, false, cond, true≢false, List, [], ◌∷◌, Some, Ok, filter, map, not}
-use Rattle.vt_spec.proofs.Common.{Among, Call, Done, Fresh, Location, Task, TaskName, World, among-flat_map, among-from_filter, among-from_flat_map, among-from_map, found_among, is_among, is_member_task, list_any, locations, locations_of, members, name-replaced_if_called, outsiders, part_of, replaced_if_called, roots_and_directories, same_name, same_task_name, task_called}
-use Rattle.vt_laws_members.proofs.judging.TheirCalls.{IsMember, caller_in}
-use Rattle.vt_laws_mounts.proofs.letting_go.Lists.{filter-map}
-use Rattle.vt_laws_sealed.proofs.part.part.PartOfPart.{same_members}
-use Rattle.vt_laws_members.proofs.judging.Grounds.{IsTheirs}
-use Rattle.vt_laws_members.proofs.judging.SeenInPart.{directory_theirs, root_theirs}
+use Rattle.vt_spec.proofs.Common.{Among, Call, Done, Fresh, Location, Task, TaskName, World, among-flat_map, among-from_filter, among-from_flat_map, among-from_map, found_among, is_member_task, list_any, locations, locations_of, members, name-replaced_if_called, outsiders, part_of, replaced_if_called, roots_and_directories, same_name, same_task_name, task_called}
+use Rattle.vt_laws_members.proofs.judging.Common.{IsMember, IsTheirs, caller_in, directory_theirs, root_theirs}
+use Rattle.vt_laws_members.proofs.Common.{filter-map, same_members}
 use Rattle.vt_laws_members.specs.Changes.Changes.{EndsAlike, IsCallOfTheirs, grown}
 use Rattle.vt_laws_members.proofs.changes.looks.Told.{ran}
 use Rattle.vt_laws_members.proofs.changes.tasks.Ending.{with_tasks}

@@ -1,14 +1,8 @@
 -- Where tasks of a set let locations go, the world and the part are ready to be swept.
-use Rattle.std.proofs.Common.{arith, ◌≡◌, refl, sym, ap, subst, ◌∙◌, ◌⊎◌, inl, inr, ⊎_elim, ℕ, nat_eq, Bool, true, true≢false, List, [], Option, Some, None, filter, map, not, ◌||◌, eqb-true}
-use Rattle.vt_spec.proofs.Common.{Among, Location, Mount, MountInvariants, Stands, Task, TaskName, World, all_locations, among-append, among-append_left, among-append_right, among-flat_map, among-from_filter, among-from_flat_map, among-from_map, among-map, among_from_all, any_among, any_from_among, common_steps, found_or_none, holds_of, is_at, is_member_task, list_any, locations, locations_of, members, mount_at, mount_numbered, none_is_some, number-mount_in, or_cases, or_left, or_parts, or_right, outsiders, roots_and_directories, seen_by_descriptor, then_some, used_directly}
-use Rattle.vt_laws_sealed.proofs.part.part.MountsOver.{nowhere_stands, numbered}
-use Rattle.vt_laws_mounts.proofs.mounts.MountsReplaced.{found_itself}
-use Rattle.vt_laws_worlds.proofs.worlds.Reached.{namespace_below}
-use Rattle.vt_laws_sealed.proofs.part.part.PartOfPart.{is_own, keep, located}
-use Rattle.vt_laws_sealed.proofs.part.seals.ByPart.{IsSealed, apart_if_sealed}
-use Rattle.vt_laws_sealed.proofs.outsiders.OtherMounts.{located_there}
-use Rattle.vt_laws_members.proofs.judging.Grounds.{IsTheirs, same_mount}
-use Rattle.vt_laws_members.proofs.judging.SeenInPart.{theirs_directly}
+use Rattle.std.proofs.Common.{arith, ◌≡◌, refl, sym, subst, ◌∙◌, ◌⊎◌, inl, inr, ⊎_elim, ℕ, nat_eq, Bool, true, true≢false, List, [], Option, Some, None, filter, map, not, ◌||◌, eqb-true}
+use Rattle.vt_spec.proofs.Common.{Among, Location, Mount, MountInvariants, Stands, Task, TaskName, World, all_locations, among-append, among-append_left, among-append_right, among-flat_map, among-from_filter, among-from_flat_map, among-from_map, among-map, among_from_all, any_among, any_from_among, common_steps, found_or_none, holds_of, is_at, is_member_task, list_any, locations, locations_of, members, mount_at, mount_numbered, none_is_some, number-mount_in, or_cases, or_left, or_parts, or_right, outsiders, roots_and_directories, then_some, used_directly}
+use Rattle.vt_laws_members.proofs.Common.{cases_Option, IsSealed, apart_if_sealed, found_itself, is_own, keep, located, located_there, namespace_below, nowhere_stands, numbered}
+use Rattle.vt_laws_members.proofs.judging.Common.{IsTheirs, same_mount, theirs_directly}
 use Rattle.vt_laws_members.proofs.changes.letting_go.SeeLess.{SeeLess}
 
 -- a location of all tasks is on a mount that is there
@@ -24,7 +18,20 @@ pub mount_parent : (b : World ℕ) → MountInvariants nat_eq b → (m : Mount �
     → Among m b.mounts → m.mount_point ≡ Some l
     → (n : ℕ) × (m.namespace ≡ Some n) × (k : Mount ℕ) × Among k b.mounts × (l.mount ≡ k.number)
     × (k.namespace ≡ Some n)
-mount_parent b kept m l at point = by m.namespace refl
+mount_parent b kept m l at point = elim (cases_Option m.namespace) [
+  | inl e ↦ absurd (nowhere_stands b [] kept m l at e point)
+  | inr its ↦ let up : (mount_numbered nat_eq b l.mount).namespace ≡ Some its.0 = sym below ∙ its.1 in
+      ⊎_elim (λ found. (
+        its.0,
+        its.1,
+        mount_numbered nat_eq b l.mount,
+        found,
+        sym
+            (number-mount_in b.mounts l.mount),
+        up,
+      ))
+      (λ none. none_is_some its.0 (cc)) (found_or_none b.mounts l.mount)
+]
   where
     below : m.namespace ≡ (mount_numbered nat_eq b l.mount).namespace
     below = cc (
@@ -32,15 +39,6 @@ mount_parent b kept m l at point = by m.namespace refl
       namespace_below b m.number l (among_from_all (λ (y : Mount ℕ). Stands nat_eq b y.number) b.mounts
           kept.standing m at) (cc (found_itself b.mounts kept.one_number m at)),
     )
-
-    by : (o : Option ℕ) → m.namespace ≡ o
-        → (n : ℕ) × (m.namespace ≡ Some n) × (k : Mount ℕ) × Among k b.mounts × (l.mount ≡ k.number)
-        × (k.namespace ≡ Some n)
-    by None e = absurd (nowhere_stands b [] kept m l at e point)
-    by (Some n) e =
-        let up : (mount_numbered nat_eq b l.mount).namespace ≡ Some n = sym below ∙ e in
-        ⊎_elim (λ found. (n, e, mount_numbered nat_eq b l.mount, found, sym (number-mount_in b.mounts l.mount), up))
-        (λ none. none_is_some n (cc)) (found_or_none b.mounts l.mount)
 
 -- The tasks of a set let locations go.
 module _ {world : World ℕ} {names : List TaskName} (sealing : IsSealed world names) (set : List TaskName) where
@@ -116,9 +114,6 @@ module _ {world : World ℕ} {names : List TaskName} (sealing : IsSealed world n
         ⊎_elim (λ was. inr (any_from_among (λ (k : Location ℕ). nat_eq k.mount m.number) (locations old) l.0 was l.2))
         (λ theirs. inl (ground_whole m (ground_is m n l.0.mount (eqb-true l.0.mount m.number l.2) theirs)))
         (it.places l.0 l.1)
-
-    abbrev stub : Mount ℕ → Mount ℕ
-    stub m = seen_by_descriptor m
 
     kept_by : (m : Mount ℕ) → Among m world.mounts
         → then_some (keep world names old m) (keep world names new) ≡ keep world names new m

@@ -70,11 +70,13 @@ module _ (files : FileTree ℕ) (chosen : List ℕ) (top : ℕ) where
           → reaches top (suc n) (named_parent nat_eq files.tree) d ≡ true
       by None e h later = at_head top (named_parent nat_eq files.tree) (suc n) d
           (⊎_elim (λ same. same) (λ none. cc none) (or_cases (nat_eq top d) false h))
-      by (Some b) e h later = ap (λ o. is_among nat_eq top
-          (elim o [ None ↦ d ∷ [] | Some c ↦ d ∷ chain n (named_parent nat_eq files.tree) c ])) (parent_was d b e)
-          ∙ ⊎_elim (or_left (nat_eq top d) (reaches top n (named_parent nat_eq files.tree) b))
-          (λ f. or_right (nat_eq top d) (reaches top n (named_parent nat_eq files.tree) b) (later b f))
-          (or_cases (nat_eq top d) (reaches top n (named_parent nat_eq cut.tree) b) h)
+      by (Some b) e h later = cc (
+        parent_was d b e,
+        ⊎_elim (or_left (nat_eq top d) (reaches top n
+            (named_parent nat_eq files.tree) b)) (λ f. or_right (nat_eq top d) (reaches top n
+            (named_parent nat_eq files.tree) b) (later b f)) (or_cases (nat_eq top d) (reaches top n
+            (named_parent nat_eq cut.tree) b) h),
+      )
 
   directory_was : (d : ℕ) → is_directory_under nat_eq cut top d ≡ true → is_directory_under nat_eq files top d ≡ true
   directory_was d h =

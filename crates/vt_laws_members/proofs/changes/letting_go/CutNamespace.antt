@@ -1,8 +1,7 @@
 -- The mounts of a namespace, by their numbers.
 use Rattle.std.proofs.Common.{◌≡◌, sym, ap, ◌∙◌, ℕ, nat_eq, Bool, List, map}
 use Rattle.vt_spec.proofs.Common.{Among, Mount, World, among-filter, among-from_filter, among-from_map, among-map, among_numbers, holds_of, is_among_numbers, is_going, mount_numbered, mounts_of, same_truth}
-use Rattle.vt_laws_mounts.specs.Mounts.Invariants.{OneNumberEach}
-use Rattle.vt_laws_mounts.proofs.mounts.MountsReplaced.{found_itself}
+use Rattle.vt_laws_members.proofs.Common.{OneNumberEach, found_itself}
 
 -- the mount is in the namespace
 abbrev pub in_space : ℕ → Mount ℕ → Bool

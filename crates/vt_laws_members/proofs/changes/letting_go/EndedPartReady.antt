@@ -1,18 +1,15 @@
 -- So is the part, where they are detached in it, too.
-use Rattle.std.proofs.Common.{arith, ◌≡◌, refl, sym, ap, subst, ◌∙◌, ◌⊎◌, inl, inr, ⊎_elim, ℕ, nat_eq, true, List, Option, Some, None, filter, is_some, eq-eqb}
-use Rattle.vt_spec.proofs.Common.{Among, Location, Mount, Task, TaskName, World, all_locations, among-filter, among-filter_map, among-flat_map, among-from_filter, among-from_filter_map, among-from_flat_map, among-from_map, among-map, any_from_among, common_steps, holds_of, is_at, is_located, is_member_task, list_any, locations, locations_of, members, mount_lives, none_is_some, or_left, or_right, own_lowers, pair-filter, pair-map, part_of, roots_and_directories, used_filesystems, without_dead_mounts}
-use Rattle.vt_laws_mounts.specs.Mounts.Invariants.{OneNumberEach}
-use Rattle.vt_laws_sealed.proofs.part.part.Observed.{lowers_same, used_same}
-use Rattle.vt_laws_sealed.proofs.part.part.PartOfPart.{is_own, keep, kept_how}
-use Rattle.vt_laws_members.proofs.judging.MountPoints.{part_mount}
-use Rattle.vt_laws_members.proofs.judging.MountTrees.{part_one_number}
-use Rattle.vt_laws_members.proofs.changes.letting_go.Changed.{mount_parent}
+use Rattle.std.proofs.Common.{arith, ◌≡◌, refl, sym, ap, ◌∙◌, ◌⊎◌, inl, inr, ⊎_elim, ℕ, nat_eq, true, List, Option, Some, None, filter}
+use Rattle.vt_spec.proofs.Common.{Among, Location, Mount, Task, TaskName, World, among-filter, among-filter_map, among-flat_map, among-from_filter, among-from_filter_map, among-from_flat_map, among-from_map, among-map, common_steps, holds_of, is_at, is_member_task, list_any, locations, locations_of, members, mount_lives, own_lowers, pair-filter, pair-map, part_of, roots_and_directories, used_filesystems, without_dead_mounts}
+use Rattle.vt_laws_members.proofs.Common.{OneNumberEach, is_own, keep, kept_how, lowers_same, used_same}
+use Rattle.vt_laws_members.proofs.judging.Common.{part_mount, part_one_number}
 use Rattle.vt_laws_members.proofs.changes.letting_go.LessSeen.{AreLess, less_lowers, less_used}
 use Rattle.vt_laws_members.proofs.changes.letting_go.NamespaceLess.{Detaches, KeepsShape, LeavesWorlds, ended, ended_less, ended_mount, ended_part, place_shown, placed_so, shape_kept}
 use Rattle.vt_laws_members.proofs.changes.letting_go.PartFiles.{cut_in_part, numbers_in_part, plain_in_part}
 use Rattle.vt_laws_members.proofs.changes.letting_go.Ready.{NoOthers, Ready}
 use Rattle.vt_laws_members.proofs.changes.letting_go.Regrouped.{left_by}
 use Rattle.vt_laws_members.proofs.changes.letting_go.WorldReady.{sees_living}
+use Rattle.vt_laws_members.proofs.changes.letting_go.Living.{located_lives, nowhere_pointed, parent_lives}
 
 module _ {world : World ℕ} {names set : List TaskName} {gone : List ℕ} (it : Detaches world names set gone)
     (leaves : LeavesWorlds it) where
@@ -53,10 +50,6 @@ module _ {world : World ℕ} {names set : List TaskName} {gone : List ℕ} (it :
   was y n =
       among-from_map after part.mounts y (among-from_filter (mount_lives nat_eq after_part) after_part.mounts y n).0
 
-  located_lives : (z : Mount ℕ) (l : Location ℕ) → Among z part.mounts → Among l (all_locations after_part)
-      → l.mount ≡ (after z).number → Among (after z) living.mounts
-  located_lives z l at n e = grind (arith, common_steps, among-filter, among-map, or_right, any_from_among, eq-eqb)
-
   one_living : OneNumberEach living
   one_living = grind (arith, common_steps, pair-filter, pair-map, shape, part_one_number)
 
@@ -72,24 +65,10 @@ module _ {world : World ℕ} {names set : List TaskName} {gone : List ℕ} (it :
       let number : l.mount ≡ (after shown.0).number =
       on.2 ∙ sym (number_kept on.0 shown.0 shown.1) ∙ sym (shape shown.0).number in (
         after shown.0,
-        located_lives shown.0 l there (among-flat_map locations_of it.tasks_too t.0 l
+        located_lives after_part (after shown.0) l (among-map after part.mounts shown.0 there)
+            (among-flat_map locations_of it.tasks_too t.0 l
             (among-from_filter (is_member_task set) it.tasks_too t.0 t.1).0 t.2) number,
         number,
-      )
-
-  parents_so : (y : Mount ℕ) (l : Location ℕ) → Among y living.mounts → y.mount_point ≡ Some l
-      → (n : ℕ) × (y.namespace ≡ Some n) × (u : Mount ℕ) × Among u living.mounts × (l.mount ≡ u.number)
-      × (u.namespace ≡ Some n)
-  parents_so y l n point =
-      let up = mount_parent after_part leaves.kept_there y l
-      (among-from_filter (mount_lives nat_eq after_part) after_part.mounts y n).0 point in (
-        up.0,
-        up.1,
-        up.2,
-        among-filter (mount_lives nat_eq after_part) after_part.mounts up.2 up.3
-            (or_left (is_some up.2.namespace) (is_located nat_eq after_part up.2.number) (ap is_some up.5)),
-        up.4,
-        up.5,
       )
 
   -- a mount of theirs is theirs after, or in no namespace
@@ -121,13 +100,9 @@ module _ {world : World ℕ} {names set : List TaskName} {gone : List ℕ} (it :
 
   stood_so : (y : Mount ℕ) → Among y living.mounts → is_at nat_eq (roots_and_directories new) y ≡ true
       → (is_own world names new y ≡ true) ⊎ (y.mount_point ≡ None)
-  stood_so y n h = by y.mount_point refl
-    where
-      by : (o : Option (Location ℕ)) → y.mount_point ≡ o → (is_own world names new y ≡ true) ⊎ (y.mount_point ≡ None)
-      by None e = inr e
-      by (Some l) e =
-          let up = parents_so y l n e in
-          ⊎_elim inl (λ none. none_is_some up.0 (sym none ∙ up.1)) ((alone y.filesystem).mounts y n refl)
+  stood_so y n h = ⊎_elim inl (λ none. inr (nowhere_pointed after_part leaves.kept_there y
+      (among-from_filter (mount_lives nat_eq after_part) after_part.mounts y n).0 none))
+      ((alone y.filesystem).mounts y n refl)
 
   pub ended_part_ready : Ready living set (used_filesystems nat_eq after_world set) (own_lowers nat_eq after_world set)
   ended_part_ready = record {
@@ -138,7 +113,7 @@ module _ {world : World ℕ} {names set : List TaskName} {gone : List ℕ} (it :
     one = one_living;
     lives = λ y n. (among-from_filter (mount_lives nat_eq after_part) after_part.mounts y n).1;
     located = located_so;
-    parents = parents_so;
+    parents = parent_lives after_part leaves.kept_there;
     stood = stood_so;
     one_filesystem = numbers_in_part world names it.is;
     plain = plain_in_part world names it.is;

@@ -1,10 +1,7 @@
 -- Where mounts of theirs are detached, the change numbers of namespaces are raised alike.
-use Rattle.std.proofs.Common.{arith, ◌≡◌, refl, sym, ap, subst, ◌∙◌, inl, inr, ⊎_elim, ℕ, nat_eq, Bool, true, false, cond, true≢false, List, [], ◌∷◌, Option, Some, None, filter, is_some, map, ◌&&◌, filter_map}
-use Rattle.vt_spec.proofs.Common.{Among, Mount, Namespace, Private, Propagation, Shared, Slave, Task, TaskName, Unbindable, World, after_going, among-filter, among-filter_map, among-from_filter, among-from_map, among-map, any_among, any_from_among, chain, common_steps, cons_option, found_among, groups_up, has_members, heir, holds_of, inherited, is_going, is_located, is_member_of, is_member_task, is_own_mount, length-map, list_any, map_alike, master_above, members, mount_lives, mounts_of, none_is_some, or_left, own_mounts, part_of, raised, raised_namespace, same_Some, same_flags, same_list, same_location, same_mount, same_mounts_in, same_option, same_propagation, same_truth, settled, slave_of_heir, source_of, then_some}
-use Rattle.vt_laws_mounts.proofs.GroupsUp.{source_from_group}
-use Rattle.vt_laws_mounts.proofs.letting_go.Lists.{filter-map}
-use Rattle.vt_laws_sealed.proofs.part.groups.EventsApart.{member_group, none_hears, sides}
-use Rattle.vt_laws_sealed.proofs.part.part.PartOfPart.{is_own, keep, kept_how}
+use Rattle.std.proofs.Common.{arith, ◌≡◌, refl, sym, ap, subst, ◌∙◌, inl, inr, ⊎_elim, ℕ, nat_eq, Bool, true, false, cond, true≢false, List, [], ◌∷◌, Option, Some, None, filter, is_some, map, filter_map}
+use Rattle.vt_spec.proofs.Common.{Among, Mount, Namespace, Private, Propagation, Shared, Slave, Task, TaskName, Unbindable, World, after_going, among-filter, among-filter_map, among-from_filter, among-from_map, among-map, any_among, any_from_among, chain, common_steps, cons_option, found_among, groups_up, has_members, heir, holds_of, inherited, is_going, is_located, is_member_of, is_member_task, is_own_mount, length-map, list_any, map_alike, master_above, members, mount_lives, mounts_of, none_is_some, or_left, own_mounts, part_of, raised, raised_namespace, same_Some, same_list, same_mount, same_mounts_in, same_truth, settled, slave_of_heir, source_of, then_some}
+use Rattle.vt_laws_members.proofs.Common.{filter-map, is_own, keep, kept_how, member_group, none_hears, sides, source_from_group}
 use Rattle.vt_laws_members.proofs.changes.letting_go.Heard.{IsHeard, apart, heard_by_own, master_same, own_in, own_kept, part_source, space_in_part, up_heard}
 use Rattle.vt_laws_members.proofs.changes.letting_go.Leaving.{filter_mid}
 use Rattle.vt_laws_members.proofs.changes.letting_go.NamespaceLess.{Detaches, ended, ended_by, ended_mount, ended_part, entered_was, member_was, placed_so, stub_stays}
@@ -226,10 +223,6 @@ module _ {world : World ℕ} {names set : List TaskName} {gone : List ℕ} (it :
         (cc (from.2, above_after from.0 (mine from.0 from.1 (own_in it.sealing n own from.0 its.0)) its.1))),
   )
     where
-      same_ones : Mount ℕ → Mount ℕ → Bool
-      same_ones x y = nat_eq x.number y.number && same_option (same_location nat_eq) x.mount_point y.mount_point
-          && same_flags x.flags y.flags && same_propagation nat_eq x.propagation y.propagation
-
       compared : (x y : Mount ℕ) → master_above part x ≡ master_above world x → master_above u_part y ≡ master_above u y
           → same_mount nat_eq part u_part x y ≡ same_mount nat_eq world u x y
       compared x y e f = cc

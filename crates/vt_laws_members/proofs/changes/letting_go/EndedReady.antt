@@ -1,18 +1,14 @@
 -- Where mounts of theirs are detached, the world is ready to be swept.
-use Rattle.std.proofs.Common.{arith, ◌≡◌, refl, sym, ap, subst, ◌∙◌, ◌⊎◌, inl, inr, ⊎_elim, ℕ, nat_eq, Bool, true, false, true≢false, List, Option, Some, None, filter, is_some, not, eq-eqb, eqb-true}
-use Rattle.vt_spec.proofs.Common.{Among, Location, Mount, Task, TaskName, World, all_locations, among-filter, among-flat_map, among-from_filter, among-from_flat_map, among-from_map, among-map, among_from_list_all, among_numbers, and_parts, any_among, any_from_among, common_steps, is_at, is_located, is_member_task, is_own_namespace, locations, locations_of, members, mount_at, mount_lives, mount_numbered, no_outsider_on, none_among, not-true, or_cases, or_left, or_right, outsiders, own_lowers, pair-filter, roots_and_directories, used_alone, used_filesystems, wholly_locked, without_dead_mounts}
-use Rattle.vt_laws_sealed.proofs.part.part.MountsOver.{nowhere_stands}
-use Rattle.vt_laws_mounts.specs.Mounts.Invariants.{OneNumberEach}
-use Rattle.vt_laws_mounts.proofs.mounts.MountsReplaced.{found_itself}
-use Rattle.vt_laws_sealed.proofs.part.part.Observed.{lowers_same, used_same}
-use Rattle.vt_laws_sealed.proofs.part.part.PartOfPart.{is_own}
-use Rattle.vt_laws_sealed.proofs.part.seals.ByPart.{used_are_free}
-use Rattle.vt_laws_members.proofs.changes.letting_go.Changed.{mount_under, mount_parent}
+use Rattle.std.proofs.Common.{arith, ◌≡◌, refl, sym, ap, ◌∙◌, ◌⊎◌, inl, inr, ⊎_elim, ℕ, nat_eq, true, true≢false, List, Option, Some, None, filter, not, eq-eqb, eqb-true}
+use Rattle.vt_spec.proofs.Common.{Among, Location, Mount, Task, TaskName, World, all_locations, among-filter, among-flat_map, among-from_filter, among-from_flat_map, among-from_map, among-map, among_numbers, and_parts, any_among, any_from_among, common_steps, is_at, is_member_task, is_own_namespace, locations, locations_of, members, mount_at, mount_lives, no_outsider_on, none_among, or_cases, or_right, outsiders, own_lowers, pair-filter, roots_and_directories, used_alone, used_filesystems, wholly_locked, without_dead_mounts}
+use Rattle.vt_laws_members.proofs.Common.{OneNumberEach, found_itself, is_own, lowers_same, nowhere_stands, used_are_free, used_same}
+use Rattle.vt_laws_members.proofs.changes.letting_go.Changed.{mount_under}
 use Rattle.vt_laws_members.proofs.changes.letting_go.LessSeen.{used_was}
 use Rattle.vt_laws_members.proofs.changes.letting_go.NamespaceLess.{Detaches, KeepsShape, LeavesWorlds, ended, ended_less, ended_mount, one_after, place_shown, placed_so, root_ground, shape_kept}
-use Rattle.vt_laws_members.proofs.changes.letting_go.Ready.{Alone, NoOthers, Ready, layered_overlay}
+use Rattle.vt_laws_members.proofs.changes.letting_go.Ready.{Alone, NoOthers, Ready}
 use Rattle.vt_laws_members.proofs.changes.letting_go.Regrouped.{left_by}
-use Rattle.vt_laws_members.proofs.changes.letting_go.WorldReady.{all_named_there, nobody_on, plain_in, sees_living, whole_cut}
+use Rattle.vt_laws_members.proofs.changes.letting_go.WorldReady.{all_named_there, plain_in, sees_living, whole_cut}
+use Rattle.vt_laws_members.proofs.changes.letting_go.Living.{of_all, overlay_alone, own_locations, parent_lives}
 
 module _ {world : World ℕ} {names set : List TaskName} {gone : List ℕ} (it : Detaches world names set gone)
     (leaves : LeavesWorlds it) where
@@ -39,11 +35,6 @@ module _ {world : World ℕ} {names set : List TaskName} {gone : List ℕ} (it :
       → l.mount ≡ m.number → Among (after m) living.mounts
   located_lives m l at n e =
       grind (arith, common_steps, among-filter, among-map, or_right, any_from_among, eq-eqb, shape_kept, left_by)
-
-  of_all : (l : Location ℕ) → Among l (locations new) → Among l (all_locations after_world)
-  of_all l m =
-      let t = among-from_flat_map locations_of new l m in
-      among-flat_map locations_of it.tasks t.0 l (among-from_filter (is_member_task set) it.tasks t.0 t.1).0 t.2
 
   shape : (m : Mount ℕ) → KeepsShape m (after m)
   shape m = shape_kept it.regroups (left_by world gone) world gone m
@@ -77,74 +68,36 @@ module _ {world : World ℕ} {names set : List TaskName} {gone : List ℕ} (it :
         rw from.2 (by_mount from.0 from.1 (sym (shape from.0).filesystem ∙ ap (λ (q : Mount ℕ). q.filesystem)
         (sym from.2) ∙ e) from.0.namespace refl)
 
-    locations_own : (l : Location ℕ) → Among l (all_locations living) → (mount_at nat_eq living l).filesystem ≡ number
-        → Among l (locations new)
-    locations_own l m e =
-        let t = among-from_flat_map locations_of it.tasks l m in
-        by t.0 t.1 t.2 (is_member_task set t.0) refl
-      where
-        by : (t : Task ℕ) → Among t it.tasks → Among l (locations_of t) → (c : Bool) → is_member_task set t ≡ c
-            → Among l (locations new)
-        by t n at true member =
-            among-flat_map locations_of new t l (among-filter (is_member_task set) it.tasks t n member) at
-        by t n at false other =
-            let out = leaves.others l (among-flat_map locations_of (filter (λ y. not (is_member_task set y)) it.tasks) t
-            l (among-filter (λ y. not (is_member_task set y)) it.tasks t n (cc)) at) in
-            let from = among-from_flat_map locations_of (outsiders world names) l out in
-            let under = mount_under it.sealing l (among-flat_map locations_of world.tasks from.0 l
-            (among-from_filter (λ y. not (is_member_task names y)) world.tasks from.0 from.1).0 from.2) in
-            let alive = located_lives under.0 l under.1 m under.2 in
-            let shows : (mount_at nat_eq living l).filesystem ≡ (mount_at nat_eq world l).filesystem = cc (
-              under.2,
-              (shape under.0).number,
-              found_itself living.mounts one_living (after under.0) alive,
-              (shape under.0).filesystem,
-              found_itself world.mounts it.is.mounts.one_number under.0 under.1,
-            ) in
-            cc (
-              eq-eqb number (mount_at nat_eq world l).filesystem (sym (sym shows ∙ e)),
-              none_among
-                  (λ q. nat_eq number (mount_at nat_eq world q).filesystem) (locations (outsiders world names))
-                  (nobody_on world names number none).1 l out,
-            )
+    shows : (l : Location ℕ) → Among l (all_locations living) → Among l (locations (outsiders world names))
+        → (mount_at nat_eq living l).filesystem ≡ (mount_at nat_eq world l).filesystem
+    shows l m out =
+        let from = among-from_flat_map locations_of (outsiders world names) l out in
+        let under = mount_under it.sealing l (among-flat_map locations_of world.tasks from.0 l
+        (among-from_filter (λ y. not (is_member_task names y)) world.tasks from.0 from.1).0 from.2) in
+        cc (
+          under.2,
+          (shape under.0).number,
+          found_itself living.mounts one_living (after under.0) (located_lives under.0 l under.1 m under.2),
+          (shape under.0).filesystem,
+          found_itself world.mounts it.is.mounts.one_number under.0 under.1,
+        )
 
     pub no_others : NoOthers living set number
-    no_others = record { mounts = mounts_own; locations = locations_own }
+    no_others = record {
+      mounts = mounts_own;
+      locations = own_locations world living names set number none leaves.others shows;
+    }
 
   pub alone : (number : ℕ) → used_alone nat_eq world names number ≡ true → Alone living set number
-  alone number h = grind (
-    arith,
-    common_steps,
-    number,
-    and_parts,
-    no_others,
-    true≢false,
-    not-true,
-    or_cases,
-    among_from_list_all,
-    among-filter,
-    layered_overlay,
-  )
+  alone number h = record {
+    itself = no_others number (and_parts _ _ h).0;
+    overlays = λ merged m has. no_others merged.number (overlay_alone world names number h merged m has);
+  }
 
   located_so : (l : Location ℕ) → Among l (locations new) → (y : Mount ℕ) × Among y living.mounts × (l.mount ≡ y.number)
   located_so l m =
       let on = place_shown it l m in
-      (after on.0, located_lives on.0 l on.1 (of_all l m) on.2, on.2 ∙ sym (shape on.0).number)
-
-  parents_so : (y : Mount ℕ) (l : Location ℕ) → Among y living.mounts → y.mount_point ≡ Some l
-      → (n : ℕ) × (y.namespace ≡ Some n) × (u : Mount ℕ) × Among u living.mounts × (l.mount ≡ u.number)
-      × (u.namespace ≡ Some n)
-  parents_so y l n point =
-      let up = mount_parent after_world leaves.kept y l
-      (among-from_filter (mount_lives nat_eq after_world) after_world.mounts y n).0 point in (
-        up.0,
-        up.1,
-        up.2,
-        among-filter (mount_lives nat_eq after_world) after_world.mounts up.2 up.3
-            (or_left (is_some up.2.namespace) (is_located nat_eq after_world up.2.number) (ap is_some up.5)),
-        up.4,
-        up.5,
-      )
+      (after on.0, located_lives on.0 l on.1 (of_all set it.tasks l m) on.2, on.2 ∙ sym (shape on.0).number)
 
   stood_so : (y : Mount ℕ) → Among y living.mounts → is_at nat_eq (roots_and_directories new) y ≡ true
       → (is_own world names new y ≡ true) ⊎ (y.mount_point ≡ None)
@@ -171,7 +124,7 @@ module _ {world : World ℕ} {names set : List TaskName} {gone : List ℕ} (it :
     one = one_living;
     lives = λ y n. (among-from_filter (mount_lives nat_eq after_world) after_world.mounts y n).1;
     located = located_so;
-    parents = parents_so;
+    parents = parent_lives after_world leaves.kept;
     stood = stood_so;
     one_filesystem = it.is.files.one_filesystem;
     plain = plain_in world names it.is;

@@ -1,13 +1,10 @@
 -- A call by which tasks of a sealed set let locations go ends in the part as in the world.
-use Rattle.std.proofs.Common.{◌≡◌, refl, sym, ap, subst, ◌∙◌, ⊎_elim, ℕ, nat_eq, true, List, [], ◌∷◌, Some, Ok, filter, is_some, map, not, ◌&&◌, ◌||◌}
-use Rattle.vt_spec.proofs.Common.{Among, Answer, Call, Fresh, IsWorld, Mount, Task, TaskName, World, among-from_filter_map, among_from_list_all, and_parts, granted, is_among, is_member_task, is_nowhere_or_attached, is_private, locations_of, members, part_of, policy, raised, raised_task, same_name, settled, task_called}
-use Rattle.vt_laws_members.proofs.judging.TheirCalls.{sealing_of}
-use Rattle.vt_laws_mounts.specs.LettingGo.InUse.{AllInUse}
-use Rattle.vt_laws_mounts.proofs.letting_go.Lists.{filter-map}
-use Rattle.vt_laws_mounts.proofs.letting_go.sweeps.OfWorlds.{all_in_use}
-use Rattle.vt_laws_sealed.proofs.part.part.PartOfPart.{keep, kept_how}
+use Rattle.std.proofs.Common.{◌≡◌, refl, sym, ap, subst, ◌∙◌, ⊎_elim, ℕ, nat_eq, true, List, [], ◌∷◌, Some, Ok, filter, is_some, map, not}
+use Rattle.vt_spec.proofs.Common.{Among, Answer, Call, Fresh, IsWorld, Mount, Task, TaskName, World, among-from_filter_map, among_from_list_all, and_parts, granted, is_member_task, is_nowhere_or_attached, is_private, locations_of, members, part_of, policy, raised, raised_task, settled, task_called}
+use Rattle.vt_laws_members.proofs.judging.Common.{sealing_of}
+use Rattle.vt_laws_members.proofs.Common.{AllInUse, all_in_use, filter-map, keep, kept_how}
 use Rattle.vt_laws_members.proofs.changes.tasks.Rights.{raised_is, sees_alike}
-use Rattle.vt_laws_members.specs.Changes.Changes.{EndAlike, EndsAlike, IsCallOfTheirs, grown}
+use Rattle.vt_laws_members.specs.Changes.Changes.{EndsAlike, IsCallOfTheirs, grown}
 use Rattle.vt_laws_members.proofs.changes.looks.Told.{ended_alike, ran, same_caller}
 use Rattle.vt_laws_members.proofs.changes.part.SettledPart.{part_in_use}
 use Rattle.vt_laws_members.proofs.changes.tasks.Ending.{with_tasks}

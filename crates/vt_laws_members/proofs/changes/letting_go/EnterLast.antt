@@ -1,27 +1,16 @@
 -- Each setns(2) ends in the part as in the world: where the caller was the last task of its namespace, that one ends.
-use Rattle.std.proofs.Common.{◌≡◌, refl, sym, ap, subst, ◌∙◌, ◌⊎◌, ⊎_elim, ℕ, nat_eq, Bool, true, false, true≢false, List, [], Option, Some, None, Ok, Err, filter, map, not, ◌||◌, eq-eqb, eqb-true, IfOk, is_ok, unwrap_or}
-use Rattle.vt_spec.proofs.Common.{Among, Done, Exit, Fresh, Judgement, Mount, MountInvariants, Namespace, Permit, Setns, Task, TaskName, ToEnterNamespace, World, among-filter, among-from_filter, among-from_map, among-map, among_from_list_all, any_among, any_from_among, entered_at, granted, has_tasks, holds_of, is_going, is_member_task, is_own_namespace, judge_in, list_all, list_all_from_among, list_any, members, namespaces_ended, none_among, none_from_among, not-true, numbers_raised, or_left, or_right, part_of, policy, replaced_if_called, same_name, settled, task_called}
-use Rattle.vt_laws_members.proofs.judging.TheirCalls.{a_member, caller_in, sealing_of}
-use Rattle.vt_laws_mounts.proofs.ends.Ending.{ended_namespaces_keep_mounts}
-use Rattle.vt_laws_worlds.proofs.kept.MountsAlike.{same_mounts}
-use Rattle.vt_laws_sealed.proofs.part.part.PartOfPart.{is_own}
-use Rattle.vt_laws_members.specs.Changes.Changes.{EndAlike, EndsAlike, IsCallOfTheirs, grown}
+use Rattle.std.proofs.Common.{◌≡◌, refl, sym, ap, ◌∙◌, ◌⊎◌, ⊎_elim, ℕ, nat_eq, Bool, true, false, List, [], Option, Some, None, Ok, filter, map, not, ◌||◌, eq-eqb, eqb-true, unwrap_or}
+use Rattle.vt_spec.proofs.Common.{Among, Done, Exit, Fresh, Mount, MountInvariants, Namespace, Permit, Setns, Task, TaskName, ToEnterNamespace, World, among-filter, among-from_filter, among-from_map, among-map, among_from_list_all, any_among, any_from_among, entered_at, granted, has_tasks, holds_of, is_going, is_member_task, is_own_namespace, judge_in, list_all, list_all_from_among, list_any, members, namespaces_ended, none_among, none_from_among, not-true, numbers_raised, or_left, or_right, part_of, policy, replaced_if_called, same_name, settled, task_called}
+use Rattle.vt_laws_members.proofs.judging.Common.{caller_in, sealing_of}
+use Rattle.vt_laws_members.proofs.Common.{ended_namespaces_keep_mounts, is_own, name_found, same_mounts}
+use Rattle.vt_laws_members.specs.Changes.Changes.{EndsAlike, IsCallOfTheirs}
 use Rattle.vt_laws_members.specs.Changes.LettingGo.{SetnsEndsAlike}
-use Rattle.vt_laws_members.proofs.changes.looks.Told.{ended_alike, ran, same_caller}
-use Rattle.vt_laws_members.proofs.changes.tasks.ByPermit.{by_known}
-use Rattle.vt_laws_members.proofs.changes.tasks.Denied.{denial_ends_alike, ran_there, run_by, unnamed_ends_alike}
+use Rattle.vt_laws_members.proofs.changes.Common.{Detaches, SetIsLess, by_known, ended, ended_alike, ended_part, flags_same, group_lost, in_same, in_space, numbers_in, own_in, part_mounts, ran, ran_there, run_by, same_caller, space_in_part}
 use Rattle.vt_laws_members.proofs.changes.letting_go.Callers.{all_in_set, of_set, others_left, places_left, replaced_apart, roots_left, same_set}
-use Rattle.vt_laws_members.proofs.changes.letting_go.CutNamespace.{in_same, in_space, numbers_in}
 use Rattle.vt_laws_members.proofs.changes.letting_go.Detached.{detached_parts}
 use Rattle.vt_laws_members.proofs.changes.letting_go.Entering.{Enters, entered, entered_itself, entered_was, entering_alike, enters, exit_it, mine, replaced, root_alike, stands}
 use Rattle.vt_laws_members.proofs.changes.letting_go.ExitLast.{ends_so}
-use Rattle.vt_laws_members.proofs.changes.letting_go.Heard.{own_in, space_in_part}
 use Rattle.vt_laws_members.proofs.changes.letting_go.Leaving.{in_world, part_listed}
-use Rattle.vt_laws_members.proofs.changes.letting_go.NamespaceLess.{Detaches, SetIsLess, ended, ended_part}
-use Rattle.vt_laws_members.proofs.changes.letting_go.PartMounts.{part_mounts}
-use Rattle.vt_laws_members.proofs.changes.letting_go.Regrouped.{flags_same}
-use Rattle.vt_laws_worlds.proofs.worlds.CallsKept.{name_found}
-use Rattle.vt_laws_members.proofs.changes.letting_go.Taken.{group_lost}
 
 module _ {world : World ℕ} {names : List TaskName} {name called_so : TaskName}
     (it : IsCallOfTheirs world names name (Setns called_so)) {task : Task ℕ}

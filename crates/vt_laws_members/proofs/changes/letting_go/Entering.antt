@@ -1,21 +1,12 @@
 -- A setns(2) that ends no namespace ends in the part as in the world.
-use Rattle.std.proofs.Common.{arith, ◌≡◌, refl, sym, ap, ◌∙◌, ⊎_elim, ℕ, nat_eq, Bool, true, false, true≢false, List, [], ◌∷◌, Option, Some, None, Ok, map, not, ◌||◌, eq-eqb, IfOk, is_some, ok_or, option_map, unwrap_or}
-use Rattle.vt_spec.proofs.Common.{Among, Call, Done, Exit, Fresh, Location, Mount, Namespace, Permit, Setns, Task, TaskName, ToEnterNamespace, World, among-from_filter, among-from_map, among-map, among_from_list_all, and_then, any_among, any_from_among, cap_sys_admin, cap_sys_chroot, common_steps, denial, entered_at, found_among, granted, has_tasks, holds_of, is_among, is_own_namespace, judge_in, lacks, list_all_from_among, list_any, members, mounts_of, namespace_root, namespaces_ended, numbers_raised, part_of, replaced_if_called, root_mount, root_of, same_name, same_truth, setns_permit, settled, task_called, topmost, unless}
-use Rattle.vt_spec.specs.declared.errors.Rule.TheVariants.{K1, S2}
-use Rattle.vt_laws_later_calls.proofs.last_use.Groups.{none_lost}
-use Rattle.vt_laws_members.proofs.judging.Grounds.{IsTheirs, theirs_from, theirs_test}
-use Rattle.vt_laws_members.proofs.judging.MountTrees.{own_theirs}
-use Rattle.vt_laws_members.proofs.judging.SeenInPart.{root_theirs}
-use Rattle.vt_laws_members.proofs.judging.TheirCalls.{IsMember, caller_in, member_called, sealing_of}
-use Rattle.vt_laws_sealed.proofs.part.walks.WalksAgree.{own_topmost, same_topmost}
+use Rattle.std.proofs.Common.{arith, ◌≡◌, refl, sym, ap, ◌∙◌, ⊎_elim, ℕ, nat_eq, Bool, true, false, List, [], ◌∷◌, Option, Some, None, Ok, map, not, ◌||◌, eq-eqb, IfOk, is_some, ok_or, option_map, unwrap_or}
+use Rattle.vt_spec.proofs.Common.{Among, Done, Exit, Fresh, Location, Mount, Namespace, Permit, Setns, Task, TaskName, ToEnterNamespace, World, among-from_filter, among-from_map, among-map, among_from_list_all, and_then, any_among, any_from_among, cap_sys_admin, cap_sys_chroot, common_steps, denial, entered_at, found_among, granted, has_tasks, holds_of, is_among, is_own_namespace, judge_in, lacks, list_all_from_among, list_any, members, mounts_of, namespace_root, namespaces_ended, numbers_raised, part_of, replaced_if_called, root_mount, root_of, same_name, same_truth, setns_permit, settled, task_called, topmost, unless}
+use Rattle.vt_laws_members.proofs.Common.{K1, S2, none_lost, own_topmost, same_topmost}
+use Rattle.vt_laws_members.proofs.judging.Common.{IsMember, IsTheirs, caller_in, member_called, own_theirs, root_theirs, sealing_of, theirs_from, theirs_test}
 use Rattle.vt_laws_members.specs.Changes.Changes.{EndsAlike, IsCallOfTheirs}
 use Rattle.vt_laws_members.proofs.changes.letting_go.Callers.{StandsOnTheirs, moved_alike, replaced_how}
-use Rattle.vt_laws_members.proofs.changes.letting_go.Exiting.{in_old, none_ends, part_keeps}
-use Rattle.vt_laws_members.proofs.changes.letting_go.Heard.{own_in, space_in_part}
+use Rattle.vt_laws_members.proofs.changes.Common.{On, alike, in_old, none_ends, of_rules, one, other, own_in, part_keeps, ran_there, run_by, space_in_part}
 use Rattle.vt_laws_members.proofs.changes.letting_go.Leaving.{in_world, its_name, part_listed}
-use Rattle.vt_laws_members.proofs.changes.letting_go.Moving.{On, alike, one, other}
-use Rattle.vt_laws_members.proofs.changes.looks.Granted.{of_rules}
-use Rattle.vt_laws_members.proofs.changes.tasks.Denied.{ran_there, run_by}
 
 -- The permit of setns(2)
 module _ {world : World ℕ} {names : List TaskName} {task : Task ℕ} (member : IsMember world names task) where
@@ -40,11 +31,6 @@ module _ {world : World ℕ} {names : List TaskName} {task : Task ℕ} (member :
       (setns_permit (one member) task called) Enters
   unfolding setns_permit
   enters called theirs = enters_by called theirs (task_called world called) refl
-
--- the task that is found has the name
-abbrev is_exit : Call → Bool
-is_exit Exit = true
-is_exit call = false
 
 module _ {world : World ℕ} {names : List TaskName} {name called_so : TaskName}
     (it : IsCallOfTheirs world names name (Setns called_so)) (task : Task ℕ)

@@ -1,13 +1,9 @@
 -- An exit of the last task of its namespace ends in the part as in the world: the mounts of the namespace are detached.
-use Rattle.std.proofs.Common.{arith, ◌≡◌, refl, sym, ap, subst, ◌∙◌, ℕ, nat_eq, Bool, true, false, true≢false, List, [], Option, Some, None, filter, map, not, ◌||◌, eq-eqb, eqb-true}
+use Rattle.std.proofs.Common.{arith, ◌≡◌, refl, sym, ap, ◌∙◌, ℕ, nat_eq, Bool, true, false, true≢false, List, [], Option, Some, None, filter, map, not, ◌||◌, eq-eqb, eqb-true}
 use Rattle.vt_spec.proofs.Common.{Among, Done, Exit, Fresh, Mount, MountInvariants, Namespace, Task, TaskName, World, after_going, among-filter, among-from_filter, among_from_list_all, any_among, any_from_among, common_steps, granted, has_tasks, holds_of, is_going, is_member_task, is_own_namespace, list_all, list_all_from_among, list_any, lost_a_group, map_twice, members, namespaces_ended, none_among, none_from_among, numbers_raised, or_left, or_right, part_of, policy, regrouped_by, same_name, settled, taken_away, task_called}
-use Rattle.vt_laws_members.proofs.judging.TheirCalls.{sealing_of}
-use Rattle.vt_laws_mounts.specs.LettingGo.Ends.{MountsAreListed}
-use Rattle.vt_laws_mounts.proofs.letting_go.ends.NamespacesEnd.{one_namespace_ends}
-use Rattle.vt_laws_mounts.proofs.ends.Ending.{ended_namespaces_keep_mounts}
-use Rattle.vt_laws_worlds.proofs.kept.MountsAlike.{same_mounts}
-use Rattle.vt_laws_sealed.proofs.part.part.PartOfPart.{is_own}
-use Rattle.vt_laws_members.specs.Changes.Changes.{EndAlike, EndsAlike, IsCallOfTheirs, grown, left}
+use Rattle.vt_laws_members.proofs.judging.Common.{sealing_of}
+use Rattle.vt_laws_members.proofs.Common.{MountsAreListed, ended_namespaces_keep_mounts, is_own, one_namespace_ends, same_mounts}
+use Rattle.vt_laws_members.specs.Changes.Changes.{EndsAlike, IsCallOfTheirs, left}
 use Rattle.vt_laws_members.proofs.changes.looks.Told.{ended_alike, ran, same_caller}
 use Rattle.vt_laws_members.proofs.changes.letting_go.CutNamespace.{in_same, in_space, numbers_in}
 use Rattle.vt_laws_members.proofs.changes.letting_go.Detached.{detached_parts}

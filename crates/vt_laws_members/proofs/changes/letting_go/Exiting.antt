@@ -1,19 +1,8 @@
 -- Each exit ends in the part as in the world.
-use Rattle.std.proofs.Common.{arith, ◌≡◌, refl, sym, ap, subst, ◌∙◌, inl, ⊎_elim, ℕ, nat_eq, Bool, true, false, cond, true≢false, List, [], ◌∷◌, Option, Some, None, filter, not, ◌||◌, eq-eqb, eqb-true}
-use Rattle.vt_spec.proofs.Common.{Among, Done, Exit, Fresh, HasLivingGroups, Location, Mount, Namespace, Propagation, Task, TaskName, World, among-filter, among-filter_map, among-flat_map, among-from_filter, among-from_flat_map, among_from_all, among_from_list_all, any_among, any_from_among, common_steps, granted, has_members, has_tasks, is_lost_group, is_member_of, is_member_task, is_own_mount, is_private, list_all, list_all_from_among, list_any, locations_of, lost_a_group, members, namespaces_ended, none_from_among, none_is_some, not-true, numbers_raised, own_mounts, part_of, same_name, same_truth, settled, source_of, task_called, then_some}
-use Rattle.vt_laws_members.proofs.judging.TheirCalls.{sealing_of}
-use Rattle.vt_laws_mounts.specs.LettingGo.Ends.{MountsAreListed}
-use Rattle.vt_laws_mounts.proofs.letting_go.ends.NamespacesEnd.{no_namespace_ends}
-use Rattle.vt_laws_later_calls.proofs.last_use.Groups.{none_lost}
-use Rattle.vt_laws_sealed.specs.Part.Seals.{IsApart}
-use Rattle.vt_laws_sealed.proofs.part.groups.EventsApart.{Hears, heard_above, start_hears}
-use Rattle.vt_laws_sealed.proofs.part.groups.ReceiversAlike.{Living, own_member}
-use Rattle.vt_laws_sealed.proofs.part.part.PartOfPart.{is_own, keep}
-use Rattle.vt_laws_sealed.proofs.part.seals.ByPart.{apart_if_sealed}
-use Rattle.vt_laws_sealed.proofs.outsiders.OtherMounts.{namespace_outside}
-use Rattle.vt_laws_members.proofs.judging.Grounds.{IsTheirs}
-use Rattle.vt_laws_members.proofs.judging.MountTrees.{own_whole}
-use Rattle.vt_laws_members.proofs.judging.SeenInPart.{directory_theirs, root_theirs}
+use Rattle.std.proofs.Common.{inr, arith, ◌≡◌, refl, sym, ap, ◌∙◌, inl, ⊎_elim, ℕ, nat_eq, Bool, true, false, cond, true≢false, List, [], ◌∷◌, Option, Some, None, filter, not, ◌||◌, eq-eqb, eqb-true}
+use Rattle.vt_spec.proofs.Common.{Among, Done, Exit, Fresh, HasLivingGroups, Mount, Namespace, Propagation, Task, TaskName, World, among-filter, among-filter_map, among-flat_map, among-from_filter, among-from_flat_map, among_from_all, among_from_list_all, any_among, any_from_among, common_steps, granted, has_members, has_tasks, is_lost_group, is_member_of, is_member_task, is_own_mount, is_private, list_all, list_all_from_among, list_any, locations_of, lost_a_group, members, namespaces_ended, none_from_among, none_is_some, not-true, numbers_raised, own_mounts, part_of, same_name, same_truth, settled, source_of, task_called, then_some}
+use Rattle.vt_laws_members.proofs.judging.Common.{directory_theirs, own_whole, root_theirs, sealing_of}
+use Rattle.vt_laws_members.proofs.Common.{cases_Option, Hears, IsApart, Living, MountsAreListed, apart_if_sealed, heard_above, is_own, keep, namespace_outside, no_namespace_ends, none_lost, own_member, start_hears}
 use Rattle.vt_laws_members.specs.Changes.Changes.{EndsAlike, IsCallOfTheirs, left}
 use Rattle.vt_laws_members.specs.Changes.LettingGo.{ExitsEndAlike}
 use Rattle.vt_laws_members.proofs.changes.tasks.Denied.{unnamed_ends_alike}
@@ -180,7 +169,11 @@ module _ {world : World ℕ} {names : List TaskName} {name : TaskName} (it : IsC
       (same_left it task called) (all_left it task called)
 
 pub exits_end_alike : ExitsEndAlike
-exits_end_alike world names name it fresh supply = by (task_called world name) refl
+exits_end_alike world names name it fresh supply = elim (cases_Option (task_called world name)) [
+  | inl e ↦ unnamed_ends_alike it fresh supply e
+  | inr its ↦ last_or_not its.0 its.1 (list_any (λ (t : Task ℕ). nat_eq its.0.namespace t.namespace)
+      (filter (λ (t : Task ℕ). not (same_name name t.name)) world.tasks)) refl
+]
   where
     last_or_not : (task : Task ℕ) → task_called world name ≡ Some task → (b : Bool)
         → list_any (λ (t : Task ℕ). nat_eq task.namespace t.namespace)
@@ -193,8 +186,3 @@ exits_end_alike world names name it fresh supply = by (task_called world name) r
         exit_alike it e other.0 from.0 (sym (eqb-true task.namespace other.0.namespace other.2))
         (not-true (same_name name other.0.name) from.1) fresh supply
     last_or_not task e false h = last_exit_alike it task e h fresh supply
-
-    by : (o : Option (Task ℕ)) → task_called world name ≡ o → EndsAlike world names name Exit fresh supply
-    by None e = unnamed_ends_alike it fresh supply e
-    by (Some task) e = last_or_not task e (list_any (λ (t : Task ℕ). nat_eq task.namespace t.namespace)
-        (filter (λ (t : Task ℕ). not (same_name name t.name)) world.tasks)) refl

@@ -1,14 +1,10 @@
 -- The filesystems that nothing uses are in no part.
 use Rattle.std.proofs.Common.{arith, ◌≡◌, refl, sym, ap, ◌∙◌, inl, inr, ⊎_elim, ℕ, nat_eq, Bool, true, false, cond, true≢false, List, [], ◌∷◌, ◌++◌, Some, None, filter, find, flat_map, ◌&&◌, ◌||◌, eq-eqb, eqb-true, unwrap_or}
 use Rattle.vt_spec.proofs.Common.{Among, FileTree, Filesystem, Layer, TaskName, World, among-append, among-from_filter, among_from_contains, among_numbers, and_from, and_parts, any_among, any_from_among, change_layers, common_steps, false_from_ne_true, filesystem_lives, filesystem_numbered, has_layer_on, is_among, is_mounted, list_any, no_filesystem, only_among, or_cases, or_left, or_right, own_lowers, pair-filter, part_of, used_directly, used_filesystems, when, without_dead_filesystems}
-use Rattle.vt_laws_sealed.proofs.outsiders.FilesystemsSwept.{filter_map_filtered}
-use Rattle.vt_laws_sealed.specs.Part.Parts.{SeesTheSame, shown_of}
-use Rattle.vt_laws_sealed.proofs.part.Kept.{among-from_each_once}
-use Rattle.vt_laws_sealed.proofs.part.part.Observed.{lowers_same, part_same, used_same}
-use Rattle.vt_laws_sealed.proofs.outsiders.SeenLater.{changed_of, lower_of}
+use Rattle.vt_laws_members.proofs.Common.{SeesTheSame, among-from_each_once, changed_of, filter_map_filtered, lower_of, lowers_same, part_same, shown_of, used_same}
 use Rattle.vt_laws_members.proofs.changes.letting_go.CutAgain.{lies_under}
 use Rattle.vt_laws_members.proofs.changes.letting_go.Ready.{Alone, OverlaysMounted, Ready, direct_mounted}
-use Rattle.vt_laws_members.proofs.judging.Locks.{has_layer}
+use Rattle.vt_laws_members.proofs.judging.Common.{has_layer}
 
 -- each world shows what it shows
 pub sees_itself : (a : World ℕ) (set : List TaskName) → SeesTheSame a a set

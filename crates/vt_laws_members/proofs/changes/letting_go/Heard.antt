@@ -1,15 +1,8 @@
 -- The groups that a sealed set hears are in its part, with their masters.
-use Rattle.std.proofs.Common.{arith, ◌≡◌, sym, ap, subst, ◌∙◌, ⊎_elim, ℕ, nat_eq, Bool, true, cond, true≢false, List, Some, None, is_some, length, not, ◌||◌, ◌&&◌, eqb-true}
+use Rattle.std.proofs.Common.{arith, ◌≡◌, sym, ap, subst, ◌∙◌, ⊎_elim, ℕ, nat_eq, Bool, true, true≢false, List, Some, None, is_some, length, not, ◌||◌, ◌&&◌, eqb-true}
 use Rattle.vt_spec.proofs.Common.{Among, HasLivingGroups, Mount, Propagation, Task, TaskName, World, among-filter, among-filter_map, among-from_filter, among-from_filter_map, among_from_all, among_from_list_all, and_parts, any_from_among, common_steps, groups_up, holds_of, is_among_numbers, is_at, is_member_of, is_nowhere_or_attached, is_own_mount, is_private, list_any, members, mounts_of, none_is_some, or_left, own_mounts, part_of, roots_and_directories, source_of}
-use Rattle.vt_laws_mounts.proofs.mounts.Receivers.{along_chain}
-use Rattle.vt_laws_sealed.specs.Part.Seals.{IsApart}
-use Rattle.vt_laws_sealed.proofs.part.Kept.{filter_both}
-use Rattle.vt_laws_sealed.proofs.part.groups.EventsApart.{Hears, heard_above, start_hears}
-use Rattle.vt_laws_sealed.proofs.part.groups.ReceiversAlike.{Living, own_member}
-use Rattle.vt_laws_sealed.proofs.part.part.PartOfPart.{is_own, keep, kept_how, kept_whole}
-use Rattle.vt_laws_sealed.proofs.part.seals.ByPart.{IsSealed, apart_if_sealed}
-use Rattle.vt_laws_members.proofs.judging.MountPoints.{part_mount}
-use Rattle.vt_laws_members.proofs.judging.MountTrees.{own_whole}
+use Rattle.vt_laws_members.proofs.Common.{Hears, IsApart, IsSealed, Living, along_chain, apart_if_sealed, filter_both, heard_above, is_own, keep, kept_how, kept_whole, own_member, start_hears}
+use Rattle.vt_laws_members.proofs.judging.Common.{own_whole, part_mount}
 
 pub private_source : (kind : Propagation ℕ) → is_private kind ≡ true → source_of kind ≡ None
 private_source kind e = grind (arith, common_steps, true≢false)

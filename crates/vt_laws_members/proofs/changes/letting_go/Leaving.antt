@@ -1,10 +1,8 @@
 -- A task of a set exits: the set, the tasks and the namespaces that are left.
-use Rattle.std.proofs.Common.{arith, ◌≡◌, refl, sym, ap, subst, ◌∙◌, ⊎_elim, ℕ, nat_eq, Bool, true, false, true≢false, List, [], ◌∷◌, Option, Some, None, filter, map, not, cond, option_to_list}
-use Rattle.vt_spec.proofs.Common.{Among, Exit, Location, Mount, Namespace, Task, TaskName, World, among-filter, among-flat_map, among-from_filter, among-from_filter_map, among-from_flat_map, among-from_map, among-map, among_from_list_all, among_numbers, and_parts, any_among, any_from_among, common_steps, found_among, found_passes, holds_of, is_among_numbers, is_listed, is_member_task, list_all, list_all_from_among, list_any, locations, locations_of, members, none_is_some, outsiders, part_of, same_name, same_task_name, task_called}
-use Rattle.vt_laws_members.proofs.judging.TheirCalls.{IsMember, caller_in}
-use Rattle.vt_laws_mounts.specs.LettingGo.Ends.{MountsAreListed}
-use Rattle.vt_laws_sealed.proofs.part.part.PartOfPart.{is_own, keep, kept_how}
-use Rattle.vt_laws_members.proofs.judging.MountPoints.{part_mount}
+use Rattle.std.proofs.Common.{arith, ◌≡◌, refl, sym, ap, ◌∙◌, ⊎_elim, ℕ, nat_eq, Bool, true, false, List, [], ◌∷◌, Option, Some, None, filter, map, not, cond, option_to_list}
+use Rattle.vt_spec.proofs.Common.{Among, Exit, Location, Mount, Namespace, Task, TaskName, World, among-filter, among-flat_map, among-from_filter, among-from_filter_map, among-from_flat_map, among-from_map, among-map, among_from_list_all, among_numbers, and_parts, any_among, any_from_among, common_steps, found_among, found_passes, is_among_numbers, is_listed, is_member_task, list_all, list_all_from_among, list_any, locations, locations_of, members, none_is_some, outsiders, part_of, same_name, same_task_name, task_called}
+use Rattle.vt_laws_members.proofs.judging.Common.{IsMember, caller_in, part_mount}
+use Rattle.vt_laws_members.proofs.Common.{MountsAreListed, is_own, keep, kept_how}
 use Rattle.vt_laws_members.specs.Changes.Changes.{IsCallOfTheirs, left}
 use Rattle.vt_laws_members.proofs.changes.tasks.Rights.{only_task}
 

@@ -1,9 +1,7 @@
 -- In worlds with the filesystems of a world and of its part, a set that sees less has one part.
 use Rattle.std.proofs.Common.{arith, ◌≡◌, refl, sym, ap, subst, ◌∙◌, ⊎_elim, ℕ, nat_eq, Bool, true, false, cond, true≢false, List, [], ◌∷◌, ◌++◌, Option, Some, None, filter, flat_map, map, ◌&&◌, filter_map}
 use Rattle.vt_spec.proofs.Common.{Among, FileTree, Filesystem, IsWorld, Layer, Location, Mount, Overlay, Task, TaskName, World, among-append, among-append_left, among-append_right, among-flat_map, among-from_flat_map, among_numbers, and_parts, any_among, any_from_among, change_layers, common_steps, filesystem_numbered, is_among, is_among_numbers, is_member_of, is_under, lies_in_own_lower, list_any, locations, members, mount_in, none_is_some, of_overlay, only_among, own_lowers, own_mounts, part_of, part_of_filesystem, part_of_lower, then_some, used_directly, used_filesystems, when}
-use Rattle.vt_laws_mounts.proofs.letting_go.Lists.{flat_map_alike}
-use Rattle.vt_laws_sealed.proofs.part.Kept.{among-each_once, among-from_each_once, filter_map_same}
-use Rattle.vt_laws_sealed.proofs.part.part.PartOfPart.{found, is_own, same_directly, same_members, same_own, shown_how, used_directly_used}
+use Rattle.vt_laws_members.proofs.Common.{among-each_once, among-from_each_once, filter_map_same, flat_map_alike, found, is_own, same_directly, same_members, same_own, shown_how, used_directly_used}
 use Rattle.vt_laws_members.proofs.changes.part.PartAgain.{found_in_part, in_chosen, itself, listed, tree}
 use Rattle.vt_laws_members.proofs.changes.letting_go.CutAgain.{HasLowers, cut_alike, lies_under}
 

@@ -1,21 +1,14 @@
 -- Calls of close(2), chdir(2) and chroot(2) end in the part as in the world.
-use Rattle.std.proofs.Common.{◌≡◌, refl, sym, ap, subst, ◌∙◌, inl, inr, ⊎_elim, ℕ, nat_eq, true, List, [], ◌∷◌, Option, Some, None, Ok, Err, Result, filter, map, not, IfOk, is_ok, ◌==◌}
-use Rattle.vt_spec.proofs.Common.{Among, Chdir, Chroot, Close, Descriptor, Here, Judgement, Location, Looks, Permit, Task, TaskName, ToClose, ToSetDirectory, ToSetRoot, World, among-from_filter, among-from_map, among-map, and_then, cap_sys_chroot, chdir_permit, chroot_permit, close_permit, descriptor_at, directory_walk, enter_rules, is_among, judge_in, lacks, looks_of, part_of, task_called, unless, used_filesystems}
-use Rattle.vt_spec.specs.declared.errors.Deny.{Deny}
-use Rattle.vt_spec.specs.declared.errors.Rule.TheVariants.{K1}
-use Rattle.vt_laws_members.proofs.judging.TheirCalls.{IsMember, caller_in}
+use Rattle.std.proofs.Common.{◌≡◌, refl, sym, ap, subst, ◌∙◌, inl, inr, ⊎_elim, ℕ, nat_eq, true, List, [], ◌∷◌, Some, Ok, Err, Result, filter, map, not, IfOk, ◌==◌}
+use Rattle.vt_spec.proofs.Common.{Among, Chdir, Chroot, Close, Descriptor, Here, Location, Looks, Permit, Task, TaskName, ToClose, ToSetDirectory, ToSetRoot, World, among-from_filter, among-from_map, among-map, and_then, cap_sys_chroot, chdir_permit, chroot_permit, close_permit, descriptor_at, directory_walk, enter_rules, is_among, judge_in, lacks, looks_of, part_of, task_called, unless, used_filesystems}
+use Rattle.vt_laws_members.proofs.Common.{Deny, K1}
+use Rattle.vt_laws_members.proofs.judging.Common.{HereAt, IsMember, IsTheirs, JudgesAlike, caller_in, directory_agrees, directory_theirs, judges, root_theirs, theirs_from}
 use Rattle.vt_laws_members.specs.Judging.{is_theirs}
-use Rattle.vt_laws_members.proofs.judging.AllJudged.{judges}
-use Rattle.vt_laws_members.proofs.judging.Grounds.{IsTheirs, theirs_from}
-use Rattle.vt_laws_members.proofs.judging.Judged.{JudgesAlike}
-use Rattle.vt_laws_members.proofs.judging.SeenInPart.{directory_theirs, root_theirs}
-use Rattle.vt_laws_members.proofs.judging.WalksLead.{HereAt, directory_agrees}
 use Rattle.vt_laws_members.specs.Changes.Changes.{EndsAlike}
 use Rattle.vt_laws_members.specs.Changes.LettingGo.{ChdirsEndAlike, ChrootsEndAlike, ClosesEndAlike}
 use Rattle.vt_laws_members.proofs.changes.looks.Granted.{of_rules, of_walk}
-use Rattle.vt_laws_members.proofs.changes.looks.Told.{ran}
 use Rattle.vt_laws_members.proofs.changes.tasks.ByPermit.{by_known}
-use Rattle.vt_laws_members.proofs.changes.tasks.Denied.{denial_ends_alike, ran_there, run_by, unnamed_ends_alike}
+use Rattle.vt_laws_members.proofs.changes.tasks.Denied.{ran_there, run_by}
 use Rattle.vt_laws_members.proofs.changes.letting_go.Callers.{moved_alike, spaces_kept}
 
 -- The permit of close(2)

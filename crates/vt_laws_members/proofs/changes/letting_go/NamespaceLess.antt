@@ -1,21 +1,13 @@
 -- Where mounts of theirs are detached, and tasks and namespaces end, the tasks that are left see less.
-use Rattle.std.proofs.Common.{arith, ◌≡◌, refl, sym, ap, subst, ◌∙◌, ◌⊎◌, inl, inr, ⊎_elim, ℕ, nat_eq, Bool, true, false, cond, true≢false, List, [], ◌∷◌, Option, Some, None, filter, is_some, map, not, ◌||◌, ◌&&◌, eq-eqb, eqb-true, option_map, filter_map}
-use Rattle.vt_spec.proofs.Common.{Among, IsWorld, Location, Mount, MountInvariants, Namespace, Task, TaskName, World, after_going, among-append, among-append_left, among-append_right, among-filter, among-flat_map, among-from_filter, among-from_flat_map, among-from_map, among-map, among_from_list_all, and_parts, any_among, any_from_among, common_steps, detached, holds_of, is_at, is_going, is_member_of, is_member_task, is_nowhere_or_attached, is_own_mount, is_private, list_any, locations, locations_of, members, mount_at, mount_numbered, mount_point_left, or_cases, or_left, or_right, outsiders, own_mounts, pair-map, part_of, roots_and_directories, seen_by_descriptor, then_some, used_directly, when}
-use Rattle.vt_laws_mounts.proofs.GroupsUp.{source_from_group}
-use Rattle.vt_laws_sealed.proofs.part.part.MountsOver.{numbered}
-use Rattle.vt_laws_mounts.specs.Mounts.Invariants.{OneNumberEach}
-use Rattle.vt_laws_mounts.proofs.mounts.MountsReplaced.{found_itself}
-use Rattle.vt_laws_sealed.proofs.part.Kept.{filter_map_map, filter_map_same}
-use Rattle.vt_laws_sealed.proofs.part.part.PartOfPart.{is_own, keep, kept_whole}
-use Rattle.vt_laws_members.proofs.judging.Grounds.{IsGround, IsTheirs}
-use Rattle.vt_laws_members.proofs.judging.SeenInPart.{directory_theirs, root_theirs, theirs_directly}
-use Rattle.vt_laws_sealed.proofs.outsiders.SeenLater.{shown_at}
+use Rattle.std.proofs.Common.{arith, ◌≡◌, refl, sym, ap, subst, ◌∙◌, ◌⊎◌, inl, inr, ⊎_elim, ℕ, nat_eq, Bool, true, false, cond, true≢false, List, [], ◌∷◌, Option, Some, None, filter, is_some, map, not, ◌||◌, eq-eqb, eqb-true, option_map, filter_map}
+use Rattle.vt_spec.proofs.Common.{cases_Bool, Among, IsWorld, Location, Mount, MountInvariants, Namespace, Task, TaskName, World, after_going, among-append, among-append_left, among-append_right, among-filter, among-flat_map, among-from_filter, among-from_flat_map, among-from_map, among-map, among_from_list_all, and_parts, any_among, any_from_among, common_steps, detached, holds_of, is_at, is_going, is_member_of, is_member_task, is_nowhere_or_attached, is_own_mount, is_private, list_any, locations, locations_of, members, mount_at, mount_numbered, mount_point_left, or_cases, or_left, or_right, outsiders, own_mounts, pair-map, part_of, roots_and_directories, seen_by_descriptor, then_some, used_directly, when}
+use Rattle.vt_laws_members.proofs.Common.{OneNumberEach, filter_map_map, filter_map_same, found_itself, is_own, keep, kept_whole, member_group, numbered, shown_at, source_from_group}
+use Rattle.vt_laws_members.proofs.judging.Common.{IsGround, IsTheirs, directory_theirs, root_theirs, theirs_directly}
 use Rattle.vt_laws_members.proofs.changes.letting_go.Changed.{mount_under}
 use Rattle.vt_laws_members.proofs.changes.letting_go.Heard.{heard_by_own}
 use Rattle.vt_laws_members.proofs.changes.letting_go.Leaving.{filter_mid}
 use Rattle.vt_laws_members.proofs.changes.letting_go.LessSeen.{AreLess, filter_map_then}
 use Rattle.vt_laws_members.proofs.changes.letting_go.Regrouped.{TheirsGo, left_by, master_after, master_alike, mount_alike, regrouped_mount}
-use Rattle.vt_laws_sealed.proofs.part.groups.EventsApart.{member_group}
 
 -- what a mount keeps
 pub record KeepsShape (m y : Mount ℕ) : Type 0 where
@@ -255,13 +247,11 @@ module _ {world : World ℕ} {names set : List TaskName} {gone : List ℕ} (it :
 
   stub_whole : (m : Mount ℕ) → Among m world.mounts → (owns old m || stands old m) ≡ false
       → keep world names new (after_part (seen_by_descriptor m)) ≡ when (at new m) (seen_by_descriptor m)
-  stub_whole m n e = ap (keep world names new) (stub_stays it.regroups t_part part gone m) ∙ by (stands new m) refl
-    where
-      by : (q : Bool) → stands new m ≡ q
-          → cond (stands new m) (Some (seen_by_descriptor m)) (when (at new m) (seen_by_descriptor m))
-          ≡ when (at new m) (seen_by_descriptor m)
-      by true f = absurd (true≢false (sym (stands_was m n f) ∙ e))
-      by false f = ap (λ c. cond c (Some (seen_by_descriptor m)) (when (at new m) (seen_by_descriptor m))) f
+  stub_whole m n e = ap (keep world names new) (stub_stays it.regroups t_part part gone m) ∙ (elim (cases_Bool
+      (stands new m)) [
+        | inl f ↦ absurd (true≢false (sym (stands_was m n f) ∙ e))
+        | inr f ↦ ap (λ c. cond c (Some (seen_by_descriptor m)) (when (at new m) (seen_by_descriptor m))) f
+      ])
 
   no_point : (o : Option (Location ℕ)) → not (is_some o) ≡ true → o ≡ None
   no_point None e = refl

@@ -1,7 +1,7 @@
 -- Filesystems of a part: their numbers, layers and cuts.
-use Rattle.std.proofs.Common.{arith, ◌≡◌, refl, subst, ⊎_elim, ℕ, nat_eq, true, false, List, Option, Some, None, filter}
+use Rattle.std.proofs.Common.{arith, ◌≡◌, refl, ⊎_elim, ℕ, nat_eq, true, false, List, Option, Some, None, filter}
 use Rattle.vt_spec.proofs.Common.{Among, Filesystem, IsWorld, Layer, TaskName, World, among-from_filter_map, any_pair, common_steps, has_layer_on, is_among, lies_in_own_lower, list_any, own_lowers, part_of, part_of_filesystem, used_filesystems}
-use Rattle.vt_laws_sealed.proofs.part.part.PartOfPart.{shown_how}
+use Rattle.vt_laws_members.proofs.Common.{shown_how}
 use Rattle.vt_laws_members.proofs.changes.letting_go.LessSeen.{AreLess, has_lowers}
 use Rattle.vt_laws_members.proofs.changes.letting_go.Ready.{IsCut, numbers_kept}
 use Rattle.vt_laws_members.proofs.changes.letting_go.WorldReady.{plain_in, whole_cut}

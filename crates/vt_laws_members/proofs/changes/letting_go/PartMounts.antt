@@ -1,12 +1,9 @@
 -- The part of a sealed set has the invariants of mounts.
 use Rattle.std.proofs.Common.{◌≡◌, refl, sym, ap, subst, ◌∙◌, ⊎_elim, ℕ, nat_eq, true, false, List, [], ◌∷◌, Option, Some, None, is_some, ◌&&◌, filter_map}
 use Rattle.vt_spec.proofs.Common.{HasLivingGroups, Lives, Location, Mount, MountInvariants, TaskName, World, all_from_among, among-from_filter_map, among_from_list_all, any_from_among, any_pair, cons_option, has_master, has_members, has_no_master, is_member_of, is_nowhere_or_attached, list_all_from_among, list_any, members, none_among, none_from_among, or_from, or_parts, part_of, same_location, same_option, share_a_mount_point}
-use Rattle.vt_laws_sealed.proofs.part.groups.EventsApart.{Hears}
-use Rattle.vt_laws_sealed.proofs.part.groups.ReceiversAlike.{Living, own_member}
-use Rattle.vt_laws_sealed.proofs.part.part.PartOfPart.{keep, kept_how}
-use Rattle.vt_laws_members.proofs.judging.MountTrees.{part_one_number, part_stands}
+use Rattle.vt_laws_members.proofs.Common.{Hears, IsSealed, Living, keep, kept_how, own_member}
+use Rattle.vt_laws_members.proofs.judging.Common.{part_one_number, part_stands}
 use Rattle.vt_laws_members.proofs.changes.letting_go.Heard.{above_heard, apart, heard_by_own, master_same, own_in_part, part_source}
-use Rattle.vt_laws_sealed.proofs.part.seals.ByPart.{IsSealed}
 
 module _ (world : World ℕ) (names : List TaskName) where
   abbrev kept : Mount ℕ → Option (Mount ℕ)

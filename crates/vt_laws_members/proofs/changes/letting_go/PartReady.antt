@@ -1,20 +1,15 @@
 -- So is the part, where the tasks let go in it what they let go in the world.
-use Rattle.std.proofs.Common.{arith, ◌≡◌, refl, sym, ap, subst, ◌∙◌, ◌⊎◌, inl, inr, ⊎_elim, ℕ, nat_eq, true, List, Option, Some, None, filter, is_some, eq-eqb}
-use Rattle.vt_spec.proofs.Common.{Among, Location, Mount, Task, TaskName, World, all_locations, among-filter, among-filter_map, among-flat_map, among-from_filter, among-from_filter_map, among-from_flat_map, any_from_among, common_steps, holds_of, is_at, is_located, is_member_task, list_any, locations, locations_of, members, mount_lives, none_is_some, or_left, or_right, own_lowers, pair-filter, part_of, roots_and_directories, used_filesystems, without_dead_mounts}
-use Rattle.vt_laws_sealed.proofs.part.part.MountsOver.{nowhere_stands}
-use Rattle.vt_laws_mounts.specs.Mounts.Invariants.{OneNumberEach}
-use Rattle.vt_laws_sealed.proofs.part.part.Observed.{lowers_same, used_same}
-use Rattle.vt_laws_sealed.proofs.part.part.PartOfPart.{is_own, keep, kept_how, kept_whole}
-use Rattle.vt_laws_sealed.proofs.outsiders.SeenLater.{shown_at}
-use Rattle.vt_laws_members.proofs.judging.Grounds.{IsTheirs}
-use Rattle.vt_laws_members.proofs.judging.MountPoints.{part_mount}
-use Rattle.vt_laws_members.proofs.judging.MountTrees.{part_one_number}
+use Rattle.std.proofs.Common.{◌≡◌, sym, ap, subst, ◌∙◌, ◌⊎◌, inl, inr, ⊎_elim, ℕ, nat_eq, true, List, Option, Some, None, filter, is_some, eq-eqb}
+use Rattle.vt_spec.proofs.Common.{Among, Location, Mount, Task, TaskName, World, among-filter, among-filter_map, among-flat_map, among-from_filter, among-from_filter_map, among-from_flat_map, any_from_among, is_at, is_located, is_member_task, locations, locations_of, members, mount_lives, none_is_some, or_left, own_lowers, pair-filter, part_of, roots_and_directories, used_filesystems, without_dead_mounts}
+use Rattle.vt_laws_members.proofs.Common.{cases_Option, OneNumberEach, is_own, keep, kept_how, kept_whole, lowers_same, nowhere_stands, shown_at, used_same}
+use Rattle.vt_laws_members.proofs.judging.Common.{IsTheirs, part_mount, part_one_number}
 use Rattle.vt_laws_members.proofs.changes.letting_go.Changed.{Retasks, ground_is, ground_whole, mount_parent, owned_same, placed_on, sees_less}
 use Rattle.vt_laws_members.proofs.changes.letting_go.Ready.{NoOthers, Ready}
 use Rattle.vt_laws_members.proofs.changes.letting_go.LessSeen.{AreLess, less_lowers, less_used}
 use Rattle.vt_laws_members.proofs.changes.letting_go.PartFiles.{cut_in_part, numbers_in_part, plain_in_part}
 use Rattle.vt_laws_members.proofs.changes.letting_go.SeeLess.{SeeLess, now_less}
 use Rattle.vt_laws_members.proofs.changes.letting_go.WorldReady.{sees_living}
+use Rattle.vt_laws_members.proofs.changes.letting_go.Living.{located_lives}
 
 module _ {world : World ℕ} {names set : List TaskName} (left : Retasks world names set)
     (change change_too : ℕ) where
@@ -55,10 +50,6 @@ module _ {world : World ℕ} {names set : List TaskName} (left : Retasks world n
   attached_lives y n at e = among-filter (mount_lives nat_eq later_part) part.mounts y at
       (or_left (is_some y.namespace) (is_located nat_eq later_part y.number) (cc))
 
-  located_lives : (y : Mount ℕ) (l : Location ℕ) → Among y part.mounts → Among l (all_locations later_part)
-      → l.mount ≡ y.number → Among y living.mounts
-  located_lives y l at n e = grind (arith, common_steps, among-filter, or_right, any_from_among, eq-eqb)
-
   -- a location of the set is on a mount of the part
   located_so : (l : Location ℕ) → Among l (locations (filter (is_member_task set) left.tasks_too))
       → (y : Mount ℕ) × Among y living.mounts × (l.mount ≡ y.number)
@@ -70,7 +61,7 @@ module _ {world : World ℕ} {names set : List TaskName} (left : Retasks world n
       let t = among-from_flat_map locations_of (filter (is_member_task set) left.tasks_too) l m in
       let number : l.mount ≡ shows.0.number = on.2 ∙ sym (number_kept on.0 shows.0 shows.1) in (
         shows.0,
-        located_lives shows.0 l there_too (among-flat_map locations_of left.tasks_too t.0 l
+        located_lives later_part shows.0 l there_too (among-flat_map locations_of left.tasks_too t.0 l
             (among-from_filter (is_member_task set) left.tasks_too t.0 t.1).0 t.2) number,
         number,
       )
@@ -117,13 +108,10 @@ module _ {world : World ℕ} {names set : List TaskName} (left : Retasks world n
   stood_there : (y : Mount ℕ) → Among y living.mounts
       → is_at nat_eq (roots_and_directories (filter (is_member_task set) left.tasks_too)) y ≡ true
       → (is_own world names (filter (is_member_task set) left.tasks_too) y ≡ true) ⊎ (y.mount_point ≡ None)
-  stood_there y n h = by y.mount_point refl
-    where
-      by : (o : Option (Location ℕ)) → y.mount_point ≡ o
-          → (is_own world names (filter (is_member_task set) left.tasks_too) y ≡ true) ⊎ (y.mount_point ≡ None)
-      by None e = inr e
-      by (Some l) e =
-          let from = was y n in inl (owned_now y (whole_point from.0 y l from.1 from.2 e).1)
+  stood_there y n h = elim (cases_Option y.mount_point) [
+    | inl e ↦ inr e
+    | inr its ↦ let from = was y n in inl (owned_now y (whole_point from.0 y its.0 from.1 from.2 its.1).1)
+  ]
 
   -- all is theirs
   pub no_others_there : (number : ℕ) → NoOthers living set number

@@ -1,7 +1,7 @@
 -- Where tasks change alone and the rest is swept, change numbers of tasks and of the world are raised, and no others.
 use Rattle.std.proofs.Common.{arith, ◌≡◌, refl, ◌∙◌, ℕ, nat_eq, Bool, true, false, true≢false, List, [], Option, Some, None, is_some, map}
 use Rattle.vt_spec.proofs.Common.{Among, Mount, Namespace, Propagation, Task, TaskName, World, among-filter, any_among, any_from_among, common_steps, group_of, has_members, holds_of, is_located, is_private, map_same, mount_lives, mounts_of, numbers_raised, or_left, raised, raised_if_changed, raised_namespace, raised_task, same_list, same_mount, same_mounts_in, settled}
-use Rattle.vt_laws_mounts.specs.LettingGo.InUse.{AllInUse}
+use Rattle.vt_laws_members.proofs.Common.{AllInUse}
 use Rattle.vt_laws_members.proofs.changes.letting_go.SeeLess.{filter_less}
 use Rattle.vt_laws_members.proofs.changes.tasks.RaisedTasks.{all_themselves}
 

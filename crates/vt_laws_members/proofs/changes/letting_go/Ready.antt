@@ -1,10 +1,7 @@
 -- Worlds of which a set of tasks sees the sweep by its part alone.
-use Rattle.std.proofs.Common.{arith, ◌≡◌, refl, sym, ap, subst, ◌∙◌, ◌⊎◌, ⊎_elim, ℕ, nat_eq, true, false, List, [], ◌∷◌, Option, Some, None, is_some, map, ◌||◌, eq-eqb, eqb-true, filter_map}
-use Rattle.vt_spec.proofs.Common.{Among, FileTree, Filesystem, Layer, Location, Mount, Task, TaskName, World, all_locations, among-append, among-append_left, among-append_right, among-filter, among-from_filter, among-from_filter_map, among-from_map, among-map, any_among, any_from_among, any_pair, common_steps, cons_option, has_layer_on, is_among, is_at, is_located, is_mounted, is_overlay, is_own_mount, list_any, locations, members, mount_at, mount_lives, mount_numbered, named_in, none_among, none_from_among, only_among, or_from, or_left, or_parts, own_lowers, own_mounts, part_of, roots_and_directories, used_directly, used_filesystems}
-use Rattle.vt_laws_mounts.specs.Mounts.Invariants.{OneNumberEach}
-use Rattle.vt_laws_mounts.proofs.mounts.MountsReplaced.{found_itself}
-use Rattle.vt_laws_sealed.proofs.part.part.PartOfPart.{is_own, keep, kept_how, kept_whole}
-use Rattle.vt_laws_sealed.proofs.outsiders.SeenLater.{shown_at}
+use Rattle.std.proofs.Common.{arith, ◌≡◌, refl, sym, subst, ◌⊎◌, ⊎_elim, ℕ, nat_eq, true, false, List, [], ◌∷◌, Option, Some, None, map, eq-eqb, eqb-true, filter_map}
+use Rattle.vt_spec.proofs.Common.{Among, FileTree, Filesystem, Layer, Location, Mount, Task, TaskName, World, all_locations, among-append, among-append_left, among-append_right, among-filter, among-from_filter, among-from_filter_map, among-from_map, among-map, any_among, any_from_among, any_pair, common_steps, cons_option, has_layer_on, is_among, is_at, is_mounted, is_overlay, is_own_mount, list_any, locations, members, mount_at, mount_lives, named_in, none_among, none_from_among, only_among, or_from, or_left, or_parts, own_lowers, own_mounts, part_of, roots_and_directories, used_directly, used_filesystems}
+use Rattle.vt_laws_members.proofs.Common.{OneNumberEach, found_itself, is_own, keep, kept_how, kept_whole, shown_at}
 use Rattle.vt_laws_members.proofs.changes.letting_go.CutAgain.{HasLowers}
 
 -- a filesystem with a layer is an overlay

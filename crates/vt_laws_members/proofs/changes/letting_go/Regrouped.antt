@@ -1,15 +1,9 @@
 -- Where mounts of a sealed set are detached, groups and masters are left in the part as in the world.
-use Rattle.std.proofs.Common.{arith, ◌≡◌, refl, sym, ap, ◌∙◌, inl, inr, ⊎_elim, ℕ, nat_eq, Bool, true, false, cond, true≢false, List, [], ◌∷◌, Option, Some, None, find, is_some, map, not, ◌||◌, ◌&&◌, option_map}
-use Rattle.vt_spec.proofs.Common.{Among, HasLivingGroups, Location, Mount, Private, Propagation, Shared, Slave, TaskName, Unbindable, World, after_going, among-filter, among-from_filter, among-from_map, among-map, among_from_all, among_from_list_all, and_parts, any_among, any_from_among, common_steps, detached, false_from_ne_true, groups_up, has_members, heir, holds_of, inherited, inheriting, is_going, is_lost_group, is_member_of, is_nowhere_or_attached, is_own_mount, is_own_namespace, is_private, length-map, list_any, lost_a_group, members, mount_numbered, mount_point_left, mount_point_of_parent, none_is_some, other_mounts, own_mounts, part_of, regrouped_by, same_truth, shares_no_events, source_of, then_some}
-use Rattle.vt_laws_mounts.proofs.GroupsUp.{source_from_group}
-use Rattle.vt_laws_sealed.proofs.part.part.MountsOver.{numbered}
-use Rattle.vt_laws_sealed.proofs.part.groups.EventsApart.{member_group, members_of, none_hears, sides, start_hears}
-use Rattle.vt_laws_sealed.proofs.part.groups.ReceiversAlike.{OtherLives, none_other, other_above, same_up}
-use Rattle.vt_laws_sealed.proofs.part.part.PartOfPart.{is_own}
-use Rattle.vt_laws_members.proofs.judging.Grounds.{IsTheirs, parent_theirs, same_mount, up_alike}
-use Rattle.vt_laws_members.proofs.judging.MountTrees.{own_theirs}
+use Rattle.std.proofs.Common.{arith, ◌≡◌, refl, sym, ap, ◌∙◌, inl, inr, ⊎_elim, ℕ, nat_eq, Bool, true, false, cond, true≢false, List, [], ◌∷◌, Option, Some, None, find, is_some, map, not, ◌||◌, ◌&&◌}
+use Rattle.vt_spec.proofs.Common.{cases_Bool, Among, HasLivingGroups, Location, Mount, Private, Propagation, Shared, Slave, TaskName, Unbindable, World, after_going, among-filter, among-from_filter, among-from_map, among-map, among_from_all, among_from_list_all, and_parts, any_among, any_from_among, common_steps, detached, false_from_ne_true, groups_up, has_members, heir, holds_of, inherited, inheriting, is_going, is_lost_group, is_member_of, is_nowhere_or_attached, is_own_mount, is_own_namespace, is_private, length-map, list_any, lost_a_group, members, mount_numbered, mount_point_left, mount_point_of_parent, none_is_some, other_mounts, own_mounts, part_of, regrouped_by, same_truth, shares_no_events, source_of, then_some}
+use Rattle.vt_laws_members.proofs.Common.{cases_Option, IsSealed, OtherLives, is_own, member_group, members_of, none_hears, none_other, numbered, other_above, same_up, sides, source_from_group, start_hears}
+use Rattle.vt_laws_members.proofs.judging.Common.{IsTheirs, own_theirs, parent_theirs, same_mount, up_alike}
 use Rattle.vt_laws_members.proofs.changes.letting_go.Heard.{IsHeard, above_heard, apart, heard_by_own, master_same, own_in_part, part_source, private_source, up_heard}
-use Rattle.vt_laws_sealed.proofs.part.seals.ByPart.{IsSealed}
 
 -- a search by tests that agree
 pub find_alike : (p q : ℕ → Bool) (xs : List ℕ) → ((x : ℕ) → Among x xs → p x ≡ q x) → find p xs ≡ find q xs
@@ -202,18 +196,15 @@ module _ {world : World ℕ} {names : List TaskName} {gone : List ℕ} (go : The
           cc (unlost_none left m (private_source m.propagation (and_parts (not (is_some m.mount_point))
           (is_private m.propagation) (sym (ap (λ o. is_some o || (not (is_some m.mount_point) && is_private
           m.propagation)) e) ∙ among_from_list_all is_nowhere_or_attached world.mounts go.is.mounts.nowhere m n)).1))
-      forward m n same lost (Some j) e = which (is_own_namespace nat_eq world names j) refl
-        where
-          which : (b : Bool) → is_own_namespace nat_eq world names j ≡ b
-              → list_any (lost_a_group nat_eq left_part) left_part.mounts ≡ true
-          which true own =
-              let mine = among-filter (is_own_mount nat_eq world names) world.mounts m n (cc) in
-              any_from_among (lost_a_group nat_eq left_part) left_part.mounts (cut_there m)
-              (among-map cut_there part.mounts m (own_in_part go.sealing m mine))
-              (stays_lost left_part part m same (sym (lost_same m mine) ∙ lost))
-          which false other = cc (other_stays m (among-filter (λ (x : Mount ℕ). holds_of
-              (λ i. not (is_own_namespace nat_eq world names i)) x.namespace) world.mounts m n
-              (ap (holds_of (λ i. not (is_own_namespace nat_eq world names i))) e ∙ ap not other)) n)
+      forward m n same lost (Some j) e = elim (cases_Bool (is_own_namespace nat_eq world names j)) [
+        | inl own ↦ let mine = among-filter (is_own_mount nat_eq world names) world.mounts m n (cc) in
+            any_from_among (lost_a_group nat_eq left_part) left_part.mounts (cut_there m)
+            (among-map cut_there part.mounts m (own_in_part go.sealing m mine))
+            (stays_lost left_part part m same (sym (lost_same m mine) ∙ lost))
+        | inr other ↦ cc (other_stays m (among-filter (λ (x : Mount ℕ). holds_of
+            (λ i. not (is_own_namespace nat_eq world names i)) x.namespace) world.mounts m n
+            (ap (holds_of (λ i. not (is_own_namespace nat_eq world names i))) e ∙ ap not other)) n)
+      ]
 
       back : (y : Mount ℕ) → Among y part.mounts → goes y ≡ false → lost_a_group nat_eq left_part y ≡ true
           → (o : Option ℕ) → source_of y.propagation ≡ o → list_any (lost_a_group nat_eq left) left.mounts ≡ true
@@ -247,20 +238,16 @@ module _ {world : World ℕ} {names : List TaskName} {gone : List ℕ} (go : The
       alike a own = cc (same_mount world names go.is.mounts a.mount own)
 
   cut_alike : (m : Mount ℕ) → Among m owns → cut_there m ≡ cut m
-  cut_alike m n = by m.mount_point refl
+  cut_alike m n = elim (cases_Option m.mount_point) [
+    | inl e ↦ cc
+    | inr its ↦ let own = among-from_filter (is_own_mount nat_eq world names) world.mounts m n in
+        let under = parent_theirs world names go.is.mounts m.number its.0 (own_theirs world names go.is m own.0 own.1)
+        (cc (numbered world names go.is.mounts m own.0)) in
+        cc (left_alike its.0 under)
+  ]
     where
       moved : Option (Location ℕ) → Mount ℕ
       moved o = cond (goes m) (detached m) (record m { mount_point = o })
-
-      by : (o : Option (Location ℕ)) → m.mount_point ≡ o
-          → moved (option_map (mount_point_left nat_eq part gone) m.mount_point)
-          ≡ moved (option_map (mount_point_left nat_eq world gone) m.mount_point)
-      by None e = cc
-      by (Some l) e =
-          let own = among-from_filter (is_own_mount nat_eq world names) world.mounts m n in
-          let under = parent_theirs world names go.is.mounts m.number l (own_theirs world names go.is m own.0 own.1)
-          (cc (numbered world names go.is.mounts m own.0)) in
-          cc (left_alike l under)
 
   -- a mount of theirs after
   pub mount_alike : (b : Bool) (m : Mount ℕ) → Among m owns

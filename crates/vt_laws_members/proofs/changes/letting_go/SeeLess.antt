@@ -1,8 +1,7 @@
 -- A set of tasks that sees less of a world has the part of its part.
-use Rattle.std.proofs.Common.{arith, ◌≡◌, refl, ap, ◌∙◌, ℕ, nat_eq, Bool, true, true≢false, List, [], ◌∷◌, Option, Some, None, filter, filter_map}
+use Rattle.std.proofs.Common.{arith, ◌≡◌, refl, ℕ, nat_eq, Bool, true, true≢false, List, [], ◌∷◌, Option, Some, None, filter, filter_map}
 use Rattle.vt_spec.proofs.Common.{Among, IsWorld, Location, Mount, Namespace, Task, TaskName, World, among-filter, among-from_filter, any_among, any_from_among, common_steps, holds_of, is_member_of, is_member_task, list_any, locations, members, mount_at, own_mounts, part_of, then_some, used_directly}
-use Rattle.vt_laws_sealed.proofs.part.Kept.{filter_map_same}
-use Rattle.vt_laws_sealed.proofs.part.part.PartOfPart.{is_own, keep}
+use Rattle.vt_laws_members.proofs.Common.{filter_map_same, is_own, keep}
 use Rattle.vt_laws_members.proofs.changes.letting_go.LessSeen.{AreLess, filter_map_then, one_part}
 
 -- a filter by less

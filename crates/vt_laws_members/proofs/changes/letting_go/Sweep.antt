@@ -1,8 +1,7 @@
 -- What nothing uses goes, and what a set of tasks sees of that is made from its part alone.
-use Rattle.std.proofs.Common.{arith, ◌≡◌, refl, sym, ap, subst, ℕ, nat_eq, Bool, false, cond, List, None, is_some, not}
+use Rattle.std.proofs.Common.{arith, ◌≡◌, refl, sym, subst, ℕ, nat_eq, Bool, false, cond, List, None, not}
 use Rattle.vt_spec.proofs.Common.{Filesystem, Layer, TaskName, World, among-from_filter, any_among, any_from_among, common_steps, has_members, is_member_of, is_overlay, list_any, own_mounts, part_of, settled, used_filesystems, without_dead_filesystems, without_dead_groups, without_dead_in, without_dead_inodes, without_dead_mounts}
-use Rattle.vt_laws_mounts.specs.Mounts.Invariants.{OneNumberEach}
-use Rattle.vt_laws_sealed.proofs.part.part.DeadMounts.{dead_mounts_are_in_no_part}
+use Rattle.vt_laws_members.proofs.Common.{OneNumberEach, dead_mounts_are_in_no_part}
 use Rattle.vt_laws_members.proofs.changes.letting_go.Gone.{living_mounted, living_part, living_ready}
 use Rattle.vt_laws_members.proofs.changes.letting_go.Ready.{OverlaysMounted, Ready, part_numbers}
 use Rattle.vt_laws_members.proofs.changes.letting_go.SweptPart.{part_of_swept, swept_mounted, swept_part, swept_ready, used_swept}

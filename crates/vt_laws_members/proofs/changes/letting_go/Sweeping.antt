@@ -1,14 +1,11 @@
 -- The sweep of a part is the part of the sweep, where the tasks of a sealed set use no more than before.
-use Rattle.std.proofs.Common.{sym, subst, inl, ⊎_elim, ℕ, nat_eq, List, [], ◌∷◌, filter, not}
+use Rattle.std.proofs.Common.{sym, inl, ⊎_elim, ℕ, nat_eq, List, [], ◌∷◌, filter, not}
 use Rattle.vt_spec.proofs.Common.{Among, Location, Task, TaskName, World, among-from_filter, among-from_flat_map, among_from_contains, contains_from_among, is_member_task, locations, members, outsiders, part_of, roots_and_directories}
-use Rattle.vt_laws_sealed.proofs.part.Kept.{filter_again}
-use Rattle.vt_laws_members.proofs.judging.Grounds.{IsTheirs}
-use Rattle.vt_laws_members.proofs.judging.SeenInPart.{directory_theirs, root_theirs}
+use Rattle.vt_laws_members.proofs.Common.{IsSealed, filter_again, sealed_by}
+use Rattle.vt_laws_members.proofs.judging.Common.{IsTheirs, directory_theirs, root_theirs}
 use Rattle.vt_laws_members.specs.Changes.LettingGo.{LessIsSeenAlike, SweepsAlike, UsesNoMore}
-use Rattle.vt_laws_members.proofs.changes.letting_go.Changed.{LetsGo, Retasks, sees_less}
-use Rattle.vt_laws_members.proofs.changes.letting_go.SeeLess.{part_of_less}
+use Rattle.vt_laws_members.proofs.changes.Common.{LetsGo, Retasks, part_of_less, sees_less}
 use Rattle.vt_laws_members.proofs.changes.letting_go.SweptAlike.{swept_alike}
-use Rattle.vt_laws_sealed.proofs.part.seals.ByPart.{IsSealed, sealed_by}
 
 module _ {world : World ℕ} {names : List TaskName} (set : List TaskName) (sealing : IsSealed world names)
     (tasks : List (Task ℕ))

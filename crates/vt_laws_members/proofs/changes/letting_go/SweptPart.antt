@@ -1,13 +1,8 @@
 -- The part of a world whose unused inodes go is made from the part alone.
 use Rattle.std.proofs.Common.{arith, ◌≡◌, refl, sym, ap, subst, ◌∙◌, ◌⊎◌, inl, inr, ⊎_elim, ℕ, nat_eq, Bool, true, false, cond, List, [], ◌∷◌, ◌++◌, Option, Some, None, filter, find, map, option_map, unwrap_or, filter_map}
 use Rattle.vt_spec.proofs.Common.{Among, FileTree, Filesystem, Layer, Overlay, TaskName, World, among-from_map, among-map, any_pair, change_layers, common_steps, each_once, filesystem_numbered, has_layer_on, is_among, is_among_numbers, list_all, list_all_from_among, list_any, named_in, no_filesystem, number-only_used, of_overlay, only_among, only_used, only_used_by, only_used_of, own_lowers, pair-map, part_of, part_of_filesystem, used_directly, used_filesystems, used_in, when, without_dead_in}
-use Rattle.vt_laws_mounts.proofs.letting_go.Lists.{flat_map_alike}
-use Rattle.vt_laws_mounts.proofs.letting_go.sweeps.OfWorlds.{found_filesystem}
-use Rattle.vt_laws_mounts.specs.Mounts.Invariants.{OneNumberEach}
-use Rattle.vt_laws_sealed.proofs.part.Kept.{filter_map_map, filter_map_same}
-use Rattle.vt_laws_sealed.proofs.part.part.PartOfPart.{same_used}
+use Rattle.vt_laws_members.proofs.Common.{OneNumberEach, filter_map_map, filter_map_same, flat_map_alike, found_filesystem, lower_of, same_used}
 use Rattle.vt_laws_sealed.proofs.outsiders.InodesSwept.{cut_layers, cut_overlay}
-use Rattle.vt_laws_sealed.proofs.outsiders.SeenLater.{lower_of}
 use Rattle.vt_laws_members.proofs.changes.letting_go.CutAgain.{cut_still, cut_to, lies_under, named_there}
 use Rattle.vt_laws_members.proofs.changes.letting_go.Gone.{sees_itself}
 use Rattle.vt_laws_members.proofs.changes.letting_go.Ready.{AllNamed, Alone, IsCut, OverlaysMounted, Ready}
@@ -98,9 +93,6 @@ module _ {a : World ℕ} {set : List TaskName} {used_now : List ℕ} {lowers : L
       → g (filesystem_numbered nat_eq swept n) ≡ g (filesystem_numbered nat_eq a n)
   numbered_kept {A} g same n = search a.filesystems
     where
-      pick : Bool → Filesystem ℕ → Option (Filesystem ℕ) → A
-      pick b x o = g (unwrap_or (cond b (Some x) o) (no_filesystem n))
-
       search : (list : List (Filesystem ℕ))
           → g (unwrap_or (find (λ (f : Filesystem ℕ). nat_eq n f.number) (map sweep list)) (no_filesystem n))
           ≡ g (unwrap_or (find (λ (f : Filesystem ℕ). nat_eq n f.number) list) (no_filesystem n))

@@ -1,7 +1,7 @@
 -- Where mounts of theirs go, in the world and in the part, the part is what is left of the part.
-use Rattle.std.proofs.Common.{◌≡◌, refl, sym, ap, subst, ◌∙◌, ℕ, nat_eq, Bool, true, List, [], ◌∷◌, filter, map}
+use Rattle.std.proofs.Common.{◌≡◌, refl, sym, ap, ◌∙◌, ℕ, nat_eq, Bool, true, List, [], ◌∷◌, filter, map}
 use Rattle.vt_spec.proofs.Common.{MountInvariants, Namespace, TaskName, World, after_going, among-from_filter, is_member_task, list_any, lost_a_group, map_twice, numbers_raised, part_of, regrouped_by, settled, taken_away}
-use Rattle.vt_laws_sealed.proofs.part.part.PartOfPart.{same_members}
+use Rattle.vt_laws_members.proofs.Common.{same_members}
 use Rattle.vt_laws_members.proofs.changes.letting_go.Detached.{detached_parts}
 use Rattle.vt_laws_members.proofs.changes.letting_go.NamespaceLess.{Detaches, LeavesWorlds, ended, ended_part, less_of_fewer}
 use Rattle.vt_laws_members.proofs.changes.letting_go.Regrouped.{TheirsGo, flags_same, left_by, regroup_is, regrouped_mount, regrouped_so}

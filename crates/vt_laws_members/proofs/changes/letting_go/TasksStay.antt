@@ -1,11 +1,9 @@
 -- Tasks that stay are left to their set, in the world and in the part.
 use Rattle.std.proofs.Common.{refl, sym, subst, inl, ⊎_elim, ℕ, nat_eq, List, [], ◌∷◌}
 use Rattle.vt_spec.proofs.Common.{Location, Task, TaskName, World, among-from_filter, among-from_flat_map, is_member_task, members, part_of}
-use Rattle.vt_laws_sealed.proofs.part.part.PartOfPart.{same_members}
-use Rattle.vt_laws_members.proofs.judging.Grounds.{IsTheirs}
-use Rattle.vt_laws_members.proofs.judging.SeenInPart.{directory_theirs, root_theirs}
+use Rattle.vt_laws_members.proofs.Common.{IsSealed, same_members}
+use Rattle.vt_laws_members.proofs.judging.Common.{IsTheirs, directory_theirs, root_theirs}
 use Rattle.vt_laws_members.proofs.changes.letting_go.Changed.{Retasks}
-use Rattle.vt_laws_sealed.proofs.part.seals.ByPart.{IsSealed}
 
 module _ {world : World ℕ} {names : List TaskName} (sealing : IsSealed world names) where
   abbrev pub tasks_stay : Retasks world names names

@@ -1,25 +1,20 @@
 -- Each umount(2) ends in the part as in the world.
-use Rattle.std.proofs.Common.{arith, ◌≡◌, refl, sym, ap, subst, ◌∙◌, ⊎_elim, ℕ, nat_eq, true, false, true≢false, List, [], ◌∷◌, Option, Some, None, Ok, Err, is_some, IfOk, is_ok}
-use Rattle.vt_spec.proofs.Common.{Among, Call, Done, Fresh, Judgement, Location, Mount, MountInvariants, Outcome, Permit, Rules, Task, TaskName, ToUnmount, Umount, World, admin_rules, among-from_filter_map, among_numbers, common_steps, directory_walk, going, granted, has_child, judge_in, members, mount_at, mount_numbered, none_among, none_from_among, not-false, numbers_raised, or_parts, part_of, policy, settled, stands_on, taken_away, task_called, umount_permit, umount_rules, unless, unmounted, ⊤}
+use Rattle.std.proofs.Common.{arith, ◌≡◌, refl, sym, ap, ◌∙◌, ⊎_elim, ℕ, nat_eq, true, false, true≢false, List, [], ◌∷◌, Option, Some, None, Ok, is_some, IfOk}
+use Rattle.vt_spec.proofs.Common.{Among, Call, Done, Fresh, Judgement, Location, Mount, MountInvariants, Outcome, Permit, Rules, Task, TaskName, ToUnmount, World, admin_rules, among-from_filter_map, among_numbers, common_steps, directory_walk, going, granted, has_child, members, mount_at, mount_numbered, none_among, none_from_among, not-false, numbers_raised, or_parts, part_of, policy, settled, stands_on, taken_away, task_called, umount_permit, umount_rules, unless, unmounted, ⊤}
 use Rattle.vt_laws_members.proofs.detached.lazily.GoingAlike.{going_alike, going_own}
-use Rattle.vt_laws_members.proofs.judging.TheirCalls.{IsMember, caller_in, sealing_of}
-use Rattle.vt_laws_sealed.proofs.part.part.MountsOver.{nowhere_stands, numbered}
-use Rattle.vt_laws_mounts.proofs.ends.Ending.{unmount_keeps_mounts}
-use Rattle.vt_laws_sealed.proofs.part.part.PartOfPart.{is_own, keep, kept_how}
+use Rattle.vt_laws_members.proofs.judging.Common.{IsMember, IsTheirs, caller_in, no_events, same_mount, sealing_of, theirs_from}
+use Rattle.vt_laws_members.proofs.Common.{IsSealed, is_own, keep, kept_how, nowhere_stands, numbered, unmount_keeps_mounts}
 use Rattle.vt_laws_members.specs.Judging.{is_theirs}
-use Rattle.vt_laws_members.proofs.judging.Busy.{no_events}
-use Rattle.vt_laws_members.proofs.judging.Grounds.{IsTheirs, same_mount, theirs_from}
-use Rattle.vt_laws_members.specs.Changes.Changes.{EndAlike, EndsAlike, IsCallOfTheirs, grown}
+use Rattle.vt_laws_members.specs.Changes.Changes.{EndsAlike, IsCallOfTheirs, grown}
 use Rattle.vt_laws_members.specs.Changes.LettingGo.{UmountsEndAlike}
 use Rattle.vt_laws_members.proofs.changes.looks.Granted.{of_rules, of_walk}
 use Rattle.vt_laws_members.proofs.changes.looks.Told.{ended_alike, ran, same_caller}
 use Rattle.vt_laws_members.proofs.changes.tasks.ByPermit.{by_known}
-use Rattle.vt_laws_members.proofs.changes.tasks.Denied.{denial_ends_alike, ran_there, run_by, unnamed_ends_alike}
+use Rattle.vt_laws_members.proofs.changes.tasks.Denied.{ran_there, run_by}
 use Rattle.vt_laws_members.proofs.changes.letting_go.Moving.{StandsHere, at_directory, one}
 use Rattle.vt_laws_members.proofs.changes.letting_go.PartMounts.{part_mounts}
 use Rattle.vt_laws_members.proofs.changes.letting_go.Taken.{taken_parts}
 use Rattle.vt_laws_members.proofs.changes.letting_go.Regrouped.{TheirsGo}
-use Rattle.vt_laws_sealed.proofs.part.seals.ByPart.{IsSealed}
 
 -- What is granted has passed all rules.
 abbrev pub Passed : Rules → Type 0

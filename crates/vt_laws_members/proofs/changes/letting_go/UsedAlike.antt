@@ -1,13 +1,10 @@
 -- The inodes in use of a filesystem that a set of tasks uses alone are those in use in the part.
 use Rattle.std.proofs.Common.{arith, ◌≡◌, sym, ap, subst, ◌∙◌, inl, inr, ⊎_elim, ℕ, nat_eq, Bool, true, cond, List, [], ◌++◌, Option, Some, None, filter, flat_map, map, eq-eqb, eqb-true, filter_map}
-use Rattle.vt_spec.proofs.Common.{Among, Filesystem, Layer, Location, Mount, Overlay, Task, TaskName, World, all_locations, among-append, among-append_left, among-append_right, among-filter, among-filter_map, among-flat_map, among-from_filter, among-from_filter_map, among-from_flat_map, among-from_map, among-map, among_numbers, any_among, common_steps, has_layer_on, holds_of, is_among, is_among_numbers, is_at, is_member_task, layers_in, layers_of, list_any, located_in, locations_of, members, mount_at, named_in, none_is_some, objects_of_overlay, of_overlay, or_left, overlay_or, own_lowers, part_of, part_of_filesystem, part_of_lower, root_of, roots_and_directories, same_Some, same_truth, upper_object, used_filesystems, used_in, when}
-use Rattle.vt_laws_mounts.specs.Mounts.Invariants.{OneNumberEach}
-use Rattle.vt_laws_mounts.proofs.mounts.MountsReplaced.{found_itself}
-use Rattle.vt_laws_sealed.proofs.part.part.PartOfPart.{is_own, keep, kept_how, kept_whole, located, shown_how, used_directly_used}
-use Rattle.vt_laws_sealed.proofs.outsiders.SeenLater.{lower_of}
+use Rattle.vt_spec.proofs.Common.{Among, Filesystem, Layer, Location, Mount, Overlay, Task, TaskName, World, all_locations, among-append, among-append_left, among-append_right, among-filter, among-filter_map, among-flat_map, among-from_filter, among-from_filter_map, among-from_flat_map, among-from_map, among-map, among_numbers, any_among, common_steps, has_layer_on, holds_of, is_among, is_among_numbers, is_at, is_member_task, layers_in, layers_of, list_any, located_in, locations_of, members, mount_at, named_in, none_is_some, objects_of_overlay, of_overlay, or_left, overlay_or, own_lowers, part_of, part_of_filesystem, root_of, roots_and_directories, same_Some, same_truth, upper_object, used_filesystems, used_in}
+use Rattle.vt_laws_members.proofs.Common.{OneNumberEach, found_itself, is_own, keep, kept_how, kept_whole, located, lower_of, shown_how, used_directly_used}
 use Rattle.vt_laws_members.proofs.changes.letting_go.Gone.{sees_itself}
 use Rattle.vt_laws_members.proofs.changes.letting_go.Ready.{Alone, OverlaysMounted, Ready, layered_overlay, mount_is, overlay_used, seen_alone}
-use Rattle.vt_laws_members.proofs.judging.Locks.{has_layer}
+use Rattle.vt_laws_members.proofs.judging.Common.{has_layer}
 
 -- a location of a task, the root of a mount, or a mount point
 pub data IsPlace (b : World ℕ) (l : Location ℕ) : Type 0 where

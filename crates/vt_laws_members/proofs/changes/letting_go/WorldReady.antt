@@ -1,30 +1,13 @@
 -- A world in which tasks of a sealed set let locations go is ready to be swept.
-use Rattle.std.proofs.Common.{arith, ◌≡◌, refl, sym, ap, subst, ◌∙◌, ◌⊎◌, inl, inr, ⊎_elim, ℕ, nat_eq, Bool, true, false, true≢false, List, [], Option, Some, None, filter, is_some, not, eq-eqb, eqb-true}
-use Rattle.vt_spec.proofs.Common.{Among, Filesystem, IsTree, IsWorld, Layer, ListsNumbers, Location, Mount, Overlay, Task, TaskName, World, all_locations, among-filter, among-flat_map, among-from_filter, among-from_flat_map, among_from_all, among_from_list_all, among_numbers, and_parts, any_among, any_from_among, common_steps, filesystem_numbered, has_layer_on, holds_of, is_among_numbers, is_located, is_member_task, is_overlay, is_own_namespace, layers_of, list_any, locations, locations_of, members, mount_at, mount_lives, mount_numbered, no_outsider_on, none_among, none_from_not_some, not-true, or_cases, or_left, or_right, other_mounts, outsiders, overlay_or, own_lowers, pair-filter, used_alone, used_filesystems, wholly_locked, without_dead_mounts}
-use Rattle.vt_laws_mounts.proofs.letting_go.sweeps.OfWorlds.{found_filesystem}
-use Rattle.vt_laws_mounts.proofs.mounts.MountsReplaced.{found_itself}
-use Rattle.vt_laws_sealed.specs.Part.Parts.{SeesTheSame}
-use Rattle.vt_laws_sealed.proofs.part.part.DeadMounts.{mounts_kept}
-use Rattle.vt_laws_sealed.proofs.part.part.PartOfPart.{is_own}
-use Rattle.vt_laws_sealed.proofs.part.part.Observed.{lowers_same, used_same}
-use Rattle.vt_laws_sealed.proofs.part.seals.ByPart.{IsSealed, layer_plain, used_are_free}
+use Rattle.std.proofs.Common.{arith, ◌≡◌, refl, sym, ap, subst, ◌∙◌, ◌⊎◌, inl, inr, ⊎_elim, ℕ, nat_eq, true, false, true≢false, List, [], Option, Some, None, is_some, not, eq-eqb, eqb-true}
+use Rattle.vt_spec.proofs.Common.{cases_Bool, Among, Filesystem, IsTree, IsWorld, Layer, ListsNumbers, Location, Mount, Overlay, Task, TaskName, World, all_locations, among-filter, among-flat_map, among-from_filter, among-from_flat_map, among_from_all, among_from_list_all, among_numbers, and_parts, any_among, common_steps, filesystem_numbered, has_layer_on, holds_of, is_among_numbers, is_located, is_member_task, is_overlay, is_own_namespace, layers_of, list_any, locations, locations_of, members, mount_at, mount_lives, no_outsider_on, none_among, none_from_not_some, or_cases, or_left, other_mounts, outsiders, overlay_or, own_lowers, pair-filter, used_alone, used_filesystems, wholly_locked, without_dead_mounts}
+use Rattle.vt_laws_members.proofs.Common.{cases_Option, IsSealed, SeesTheSame, among-flat_map_filter, found_filesystem, found_itself, is_own, layer_plain, lowers_same, mounts_kept, used_are_free, used_same}
 use Rattle.vt_laws_members.proofs.changes.letting_go.Changed.{LetsGo, mount_under, owned_same, mount_parent, placed_on, sees_less, stood_so}
 use Rattle.vt_laws_members.proofs.changes.letting_go.CutAgain.{uncut}
-use Rattle.vt_laws_members.proofs.changes.letting_go.Ready.{AllNamed, Alone, IsCut, NoOthers, Ready, layered_overlay}
+use Rattle.vt_laws_members.proofs.changes.letting_go.Ready.{AllNamed, Alone, IsCut, NoOthers, Ready}
 use Rattle.vt_laws_members.proofs.changes.letting_go.LessSeen.{used_was}
 use Rattle.vt_laws_members.proofs.changes.letting_go.SeeLess.{now_less}
-use Rattle.vt_laws_trees.proofs.trees.Lists.{among-flat_map_filter}
-
--- where others have no foothold
-pub nobody_on : (world : World ℕ) (names : List TaskName) (number : ℕ) → no_outsider_on nat_eq world names number ≡ true
-    → (list_any (λ (m : Mount ℕ). nat_eq number m.filesystem) (other_mounts nat_eq world names) ≡ false)
-    × (list_any (λ l. nat_eq number (mount_at nat_eq world l).filesystem) (locations (outsiders world names)) ≡ false)
-nobody_on world names number none =
-    let both = and_parts
-    (not (list_any (λ (m : Mount ℕ). nat_eq number m.filesystem) (other_mounts nat_eq world names)))
-    (not (list_any (λ l. nat_eq number (mount_at nat_eq world l).filesystem) (locations (outsiders world names))))
-    none in
-    (not-true _ both.0, not-true _ both.1)
+use Rattle.vt_laws_members.proofs.changes.letting_go.Living.{located_lives, nobody_on, overlay_alone, own_locations}
 
 -- without dead mounts the set sees what it saw
 pub sees_living : (b : World ℕ) (set : List TaskName) → SeesTheSame b (without_dead_mounts nat_eq b) set
@@ -96,10 +79,6 @@ module _ {world : World ℕ} {names : List TaskName} (sealing : IsSealed world n
   attached_lives m n at e = among-filter (mount_lives nat_eq later) world.mounts m at
       (or_left (is_some m.namespace) (is_located nat_eq later m.number) (cc))
 
-  located_lives : (m : Mount ℕ) (l : Location ℕ) → Among m world.mounts → Among l (all_locations later)
-      → l.mount ≡ m.number → Among m living.mounts
-  located_lives m l at n e = grind (arith, common_steps, among-filter, or_right, any_from_among, eq-eqb)
-
   of_all : (l : Location ℕ) → Among l (locations new) → Among l (all_locations later)
   of_all = among-flat_map_filter locations_of (is_member_task set) tasks
 
@@ -107,69 +86,44 @@ module _ {world : World ℕ} {names : List TaskName} (sealing : IsSealed world n
   module _ (number : ℕ) (none : no_outsider_on nat_eq world names number ≡ true) where
     mounts_own : (m : Mount ℕ) → Among m living.mounts → m.filesystem ≡ number
         → (is_own world names new m ≡ true) ⊎ (m.namespace ≡ None)
-    mounts_own m n e = by m.namespace refl
-      where
-        by : (o : Option ℕ) → m.namespace ≡ o → (is_own world names new m ≡ true) ⊎ (m.namespace ≡ None)
-        by None f = inr f
-        by (Some k) f = which (is_own_namespace nat_eq world names k) refl
-          where
-            which : (b : Bool) → is_own_namespace nat_eq world names k ≡ b
-                → (is_own world names new m ≡ true) ⊎ (m.namespace ≡ None)
-            which true own = inl (cc (owned_same sealing set tasks change it m))
-            which false other = absurd (true≢false (sym (eq-eqb number m.filesystem (sym e))
-                ∙ none_among (λ (y : Mount ℕ). nat_eq number y.filesystem) (other_mounts nat_eq world names)
-                (nobody_on world names number none).0 m
-                (among-filter (λ (y : Mount ℕ). holds_of (λ i. not (is_own_namespace nat_eq world names i)) y.namespace)
-                world.mounts m (there m n)
-                (ap (holds_of (λ i. not (is_own_namespace nat_eq world names i))) f ∙ ap not other))))
+    mounts_own m n e = elim (cases_Option m.namespace) [
+      | inl f ↦ inr f
+      | inr its ↦ elim (cases_Bool (is_own_namespace nat_eq world names its.0)) [
+        | inl own ↦ inl (cc (owned_same sealing set tasks change it m))
+        | inr other ↦ absurd (true≢false (sym (eq-eqb number m.filesystem (sym e))
+            ∙ none_among (λ (y : Mount ℕ). nat_eq number y.filesystem) (other_mounts nat_eq world names)
+            (nobody_on world names number none).0 m
+            (among-filter (λ (y : Mount ℕ). holds_of (λ i. not (is_own_namespace nat_eq world names i)) y.namespace)
+            world.mounts m (there m n)
+            (ap (holds_of (λ i. not (is_own_namespace nat_eq world names i))) its.1 ∙ ap not other))))
+      ]
+    ]
 
-    locations_own : (l : Location ℕ) → Among l (all_locations living) → (mount_at nat_eq living l).filesystem ≡ number
-        → Among l (locations new)
-    locations_own l m e =
-        let t = among-from_flat_map locations_of tasks l m in
-        by t.0 t.1 t.2 (is_member_task set t.0) refl
-      where
-        by : (t : Task ℕ) → Among t tasks → Among l (locations_of t) → (b : Bool) → is_member_task set t ≡ b
-            → Among l (locations new)
-        by t n at true member =
-            among-flat_map locations_of new t l (among-filter (is_member_task set) tasks t n member) at
-        by t n at false other =
-            let out = it.others l (among-flat_map locations_of (filter (λ y. not (is_member_task set y)) tasks) t l
-            (among-filter (λ y. not (is_member_task set y)) tasks t n (cc)) at) in
-            let from = among-from_flat_map locations_of (outsiders world names) l out in
-            let under = mount_under sealing l (among-flat_map locations_of world.tasks from.0 l
-            (among-from_filter (λ y. not (is_member_task names y)) world.tasks from.0 from.1).0 from.2) in
-            let alive = located_lives under.0 l under.1 m under.2 in
-            let same : mount_at nat_eq living l ≡ mount_at nat_eq world l = cc (
-              under.2,
-              found_itself living.mounts (pair-filter (λ (p q : Mount ℕ). nat_eq p.number q.number)
-                  (mount_lives nat_eq later) world.mounts sealing.is.mounts.one_number) under.0 alive,
-              found_itself
-                  world.mounts sealing.is.mounts.one_number under.0 under.1,
-            ) in
-            cc (
-              eq-eqb number (mount_at nat_eq world l).filesystem (sym (ap (λ (k : Mount ℕ). k.filesystem) (sym same) ∙
-                  e)),
-              none_among (λ k. nat_eq number (mount_at nat_eq world k).filesystem)
-                  (locations (outsiders world names)) (nobody_on world names number none).1 l out,
-            )
+    shows : (l : Location ℕ) → Among l (all_locations living) → Among l (locations (outsiders world names))
+        → (mount_at nat_eq living l).filesystem ≡ (mount_at nat_eq world l).filesystem
+    shows l m out =
+        let from = among-from_flat_map locations_of (outsiders world names) l out in
+        let under = mount_under sealing l (among-flat_map locations_of world.tasks from.0 l
+        (among-from_filter (λ y. not (is_member_task names y)) world.tasks from.0 from.1).0 from.2) in
+        cc (
+          under.2,
+          found_itself living.mounts (pair-filter (λ (p q : Mount ℕ). nat_eq p.number q.number)
+              (mount_lives nat_eq later) world.mounts sealing.is.mounts.one_number) under.0
+              (located_lives later under.0 l under.1 m under.2),
+          found_itself world.mounts sealing.is.mounts.one_number under.0 under.1,
+        )
 
     pub no_others : NoOthers living set number
-    no_others = record { mounts = mounts_own; locations = locations_own }
+    no_others = record {
+      mounts = mounts_own;
+      locations = own_locations world living names set number none it.others shows;
+    }
 
   pub alone : (number : ℕ) → used_alone nat_eq world names number ≡ true → Alone living set number
-  alone number h = grind (
-    arith,
-    common_steps,
-    and_parts,
-    no_others,
-    layered_overlay,
-    true≢false,
-    not-true,
-    or_cases,
-    among_from_list_all,
-    among-filter,
-  )
+  alone number h = record {
+    itself = no_others number (and_parts _ _ h).0;
+    overlays = λ merged m has. no_others merged.number (overlay_alone world names number h merged m has);
+  }
 
   pub world_ready : Ready living set (used_filesystems nat_eq later set) (own_lowers nat_eq later set)
   world_ready = record {
@@ -179,7 +133,7 @@ module _ {world : World ℕ} {names : List TaskName} (sealing : IsSealed world n
         sealing.is.mounts.one_number;
     lives = λ m n. (among-from_filter (mount_lives nat_eq later) world.mounts m n).1;
     located = λ l m. let on = placed_on sealing set tasks change it l m in
-        (on.0, located_lives on.0 l on.1 (of_all l m) on.2, on.2);
+        (on.0, located_lives later on.0 l on.1 (of_all l m) on.2, on.2);
     parents = λ m l n point. let up = mount_parent world sealing.is.mounts m l (there m n) point in
         (up.0, up.1, up.2, attached_lives up.2 up.0 up.3 up.5, up.4, up.5);
     stood = λ m n h. stood_so sealing set tasks change it m (there m n) h;

@@ -1,13 +1,10 @@
 -- What a call of theirs that only looks is granted: to look at what is on mounts of theirs, or at an open file.
 use Rattle.std.proofs.Common.{◌≡◌, refl, sym, inr, ℕ, nat_eq, Bool, true, false, cond, find, true≢false, List, [], ◌∷◌, Option, Some, None, Ok, Err, Result, IfOk, ok_or, option_to_list, ◌==◌}
 use Rattle.vt_spec.proofs.Common.{Allowed, Among, Bind, Call, Chdir, Chmod, Chown, Chroot, Close, Descriptor, Drop, Exec, Exit, Fork, Here, Judgement, Lazy, LinkTo, ListMounts, Location, Looks, Ls, Lstat, MakeWhiteout, Mkdir, MountOverlay, MountPlain, MoveMount, Opaque, OpenFile, Permit, PivotRoot, Pread, Pwrite, Read, Readlink, Remount, Rename, Rmdir, Rules, SetType, Setns, Stat, Stop, SymlinkAt, Task, TaskName, ToList, ToListMounts, ToRead, ToReadPart, ToStat, Umask, Umount, Unlink, Unshare, World, Write, among-flat_map, among-map, and_then, denial, descriptor_numbered, directory_walk, exec_permit, exec_rules, found_among, is_among, judge, list_permit, list_rules, locations, locations_of, looks_of, lstat_permit, members, object_walk, only_looks, part_of, pread_permit, read_permit, read_rules, readlink_permit, readlink_rules, stat_permit, symlink_walk, unless, used_filesystems, walk_end, ⊤}
-use Rattle.vt_spec.specs.declared.errors.Rule.TheVariants.{S4}
-use Rattle.vt_laws_members.proofs.judging.TheirCalls.{IsMember}
+use Rattle.vt_laws_members.proofs.Common.{S4}
+use Rattle.vt_laws_members.proofs.judging.Common.{HereAt, IsMember, JudgesAlike, directory_agrees, judges, object_agrees, symlink_agrees}
 use Rattle.vt_laws_members.specs.Changes.Changes.{left}
 use Rattle.vt_laws_members.specs.Judging.{is_theirs}
-use Rattle.vt_laws_members.proofs.judging.AllJudged.{judges}
-use Rattle.vt_laws_members.proofs.judging.Judged.{JudgesAlike}
-use Rattle.vt_laws_members.proofs.judging.WalksLead.{HereAt, directory_agrees, object_agrees, symlink_agrees}
 
 -- what is granted after a walk, and after rules
 pub of_walk : {A : Type 0} (Q : A → Type 0) (P : Permit ℕ → Type 0) (w : Result A (Stop ℕ)) (f : A → Judgement ℕ)
@@ -36,9 +33,6 @@ module _ {world : World ℕ} {names : List TaskName} {task : Task ℕ} (member :
 
   abbrev other : Looks ℕ
   other = looks_of nat_eq (part_of nat_eq world names)
-
-  abbrev On : ℕ → Type 0
-  On number = is_theirs world names number ≡ true
 
   abbrev Looked : Permit ℕ → Type 0
   Looked = IsLook (is_theirs world names) (locations (members world names))

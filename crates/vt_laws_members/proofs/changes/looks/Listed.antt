@@ -1,17 +1,9 @@
 -- The list of mounts of a namespace of theirs is the same in the part.
-use Rattle.std.proofs.Common.{arith, ◌≡◌, refl, sym, ap, subst, ◌∙◌, ⊎_elim, ℕ, nat_eq, Bool, true, List, ◌∷◌, Option, Some, None, map, eq-eqb, option_and_then, option_map, option_to_list}
-use Rattle.vt_spec.proofs.Common.{Among, IsWorld, Location, Mount, Private, Propagation, Shared, Slave, Spot, Task, TaskName, Unbindable, World, among-filter, among-from_filter, any_from_among, common_steps, each_once, files_at, filesystem_numbered, filesystems_seen, groups_in_type, groups_seen, groups_shown, holds_of, is_among, is_overlay, map_alike, members, mount_at, mount_line, mount_lines, mount_point_spot, mounts_of, number_among, part_of, path_down, spot_of, type_line, used_filesystems}
-use Rattle.vt_laws_sealed.proofs.part.part.MountsOver.{numbered}
-use Rattle.vt_laws_mounts.specs.Mounts.Attaching.{is_mount}
-use Rattle.vt_laws_mounts.proofs.letting_go.Lists.{flat_map_alike}
+use Rattle.std.proofs.Common.{arith, ◌≡◌, refl, sym, ap, subst, ◌∙◌, ⊎_elim, ℕ, nat_eq, Bool, true, List, Option, Some, None, map, eq-eqb, option_and_then, option_map}
+use Rattle.vt_spec.proofs.Common.{Among, IsWorld, Location, Mount, Private, Propagation, Shared, Slave, Spot, Task, TaskName, Unbindable, World, among-filter, among-from_filter, any_from_among, common_steps, files_at, filesystem_numbered, filesystems_seen, groups_in_type, groups_seen, groups_shown, holds_of, is_overlay, map_alike, members, mount_at, mount_line, mount_lines, mount_point_spot, mounts_of, number_among, part_of, path_down, spot_of, type_line}
+use Rattle.vt_laws_members.proofs.Common.{filter_kept, flat_map_alike, found, is_mount, is_one_of, is_own, keep, kept_how, numbered}
 use Rattle.vt_laws_mounts.proofs.mounts.MountPointSpots.{numbered_found, spot_on}
-use Rattle.vt_laws_mounts.proofs.mounts.MountsNumbered.{is_one_of}
-use Rattle.vt_laws_sealed.proofs.part.Kept.{filter_kept}
-use Rattle.vt_laws_sealed.proofs.part.part.PartOfPart.{found, is_own, keep, kept_how}
-use Rattle.vt_laws_members.proofs.judging.Grounds.{IsTheirs, parent_theirs, same_found}
-use Rattle.vt_laws_members.proofs.judging.MountPoints.{in_own}
-use Rattle.vt_laws_members.proofs.judging.MountTrees.{own_theirs, own_whole}
-use Rattle.vt_laws_members.proofs.judging.SeenInPart.{filesystem_alike, mount_alike, theirs_used}
+use Rattle.vt_laws_members.proofs.judging.Common.{IsTheirs, filesystem_alike, in_own, mount_alike, own_theirs, own_whole, parent_theirs, same_found, theirs_used}
 
 module _ (world : World ℕ) (names : List TaskName) (is : IsWorld nat_eq world) (task : Task ℕ)
     (member : Among task (members world names)) where

@@ -1,18 +1,13 @@
 -- Calls of theirs that only look are answered in the part as in the world.
-use Rattle.std.proofs.Common.{arith, ◌≡◌, refl, sym, ap, subst, ◌∙◌, ℕ, nat_eq, true, List, Option, Some, None, Ok, Err, not, drop, ◌||◌, IfOk, is_ok, ok_or, take}
-use Rattle.vt_spec.proofs.Common.{Allowed, Among, Bytes, Call, Fresh, Judgement, Location, MountList, Names, Outcome, Permit, Task, TaskName, ToList, ToListMounts, ToRead, ToReadPart, ToStat, Told, World, after, apply, bytes_in, call_outcome, common_steps, contains_from_among, denial, filesystems_changed_by, finished, finished_by, is_among, judge_in, locations, members, mount_at, names_in, node_at, overfills, part_of, policy, same_name, stat_line, task_called}
-use Rattle.vt_spec.specs.declared.errors.Rule.TheVariants.{S2}
-use Rattle.vt_laws_members.proofs.judging.TheirCalls.{a_member, caller_in, sealing_of}
-use Rattle.vt_laws_sealed.proofs.part.part.PartOfPart.{found, located}
+use Rattle.std.proofs.Common.{inl, inr, arith, ◌≡◌, refl, sym, subst, ℕ, nat_eq, true, List, Option, Some, None, Ok, Err, IfOk, ok_or}
+use Rattle.vt_spec.proofs.Common.{Allowed, Among, Call, Fresh, Judgement, Location, Outcome, Permit, Task, TaskName, ToList, ToListMounts, ToRead, ToReadPart, ToStat, World, after, apply, call_outcome, common_steps, contains_from_among, denial, filesystems_changed_by, finished, is_among, judge_in, locations, members, mount_at, node_at, overfills, part_of, policy, same_name, task_called}
+use Rattle.vt_laws_members.proofs.Common.{cases_Option, IsSealed, S2, found, located}
+use Rattle.vt_laws_members.proofs.judging.Common.{a_member, called_alike, caller_in, located_used, members_are_judged_by_their_part, sealing_of, walks}
 use Rattle.vt_laws_members.specs.Judging.{is_theirs}
-use Rattle.vt_laws_members.proofs.judging.AllJudged.{called_alike, walks}
-use Rattle.vt_laws_members.proofs.judging.ByPart.{members_are_judged_by_their_part}
-use Rattle.vt_laws_members.proofs.judging.SeenInPart.{located_used}
 use Rattle.vt_laws_members.specs.Changes.Changes.{EndAlike, LooksEndAlike, grown, left}
 use Rattle.vt_laws_members.proofs.changes.looks.Granted.{IsLook, looked}
 use Rattle.vt_laws_members.proofs.changes.looks.Listed.{lines_alike}
 use Rattle.vt_laws_members.proofs.changes.part.PartAgain.{part_again}
-use Rattle.vt_laws_sealed.proofs.part.seals.ByPart.{IsSealed}
 
 module _ {world : World ℕ} {names : List TaskName} (sealing : IsSealed world names) where
   abbrev part : World ℕ
@@ -78,7 +73,23 @@ ended_alike names name call {one = one} {second = second} is is_too alike =
     rw is_too (subst (λ o. EndAlike (grown names name call o.answer) o second) (sym is) alike)
 
 pub looks_end_alike : LooksEndAlike
-looks_end_alike world names name call it looks fresh other = by (task_called world name) refl
+looks_end_alike world names name call it looks fresh other = elim (cases_Option (task_called world name)) [
+  | inl e ↦ also None e (record { answer = refl; part = sym (part_again world names it.is) })
+  | inr its ↦ let member = caller_in it its.1 in
+      let granted = looked member
+      (overfills nat_eq fresh world its.0) names name call looks in
+      let judged : judge_in nat_eq fresh world its.0 call ≡ judge_in nat_eq other part its.0 call =
+      members_are_judged_by_their_part world names its.0 call (record {
+        is = it.is;
+        sealed_off = it.sealed_off;
+        member = contains_from_among (members world names) its.0 member.among;
+        among_them = it.among_them;
+      }) fresh other in
+      also (Some its.0) its.1 (ended_alike names name call (looking world fresh its.0)
+      (cc (looking part other its.0))
+      (looks_by (sealing_of it) its.0 member.among fresh other name call granted.1
+      (judge_in nat_eq fresh world its.0 call) granted.0))
+]
   where
     part : World ℕ
     part = part_of nat_eq world names
@@ -92,23 +103,3 @@ looks_end_alike world names name call it looks fresh other = by (task_called wor
     looking : (w : World ℕ) (fr : Fresh ℕ) (task : Task ℕ)
         → ran name call w fr (Some task) ≡ call_outcome nat_eq fr w task call
     looking w fr task = cc
-
-    by : (found : Option (Task ℕ)) → task_called world name ≡ found
-        → EndAlike (grown names name call (policy nat_eq fresh world name call).answer)
-        (policy nat_eq fresh world name call) (policy nat_eq other part name call)
-    by None e = also None e (record { answer = refl; part = sym (part_again world names it.is) })
-    by (Some task) e =
-        let member = caller_in it e in
-        let granted = looked member
-        (overfills nat_eq fresh world task) names name call looks in
-        let judged : judge_in nat_eq fresh world task call ≡ judge_in nat_eq other part task call =
-        members_are_judged_by_their_part world names task call (record {
-          is = it.is;
-          sealed_off = it.sealed_off;
-          member = contains_from_among (members world names) task member.among;
-          among_them = it.among_them;
-        }) fresh other in
-        also (Some task) e (ended_alike names name call (looking world fresh task)
-        (cc (looking part other task))
-        (looks_by (sealing_of it) task member.among fresh other name call granted.1
-        (judge_in nat_eq fresh world task call) granted.0))

@@ -1,13 +1,11 @@
 -- Where a mount of theirs has other flags, and nothing goes: the world that a call leaves, and its part.
-use Rattle.std.proofs.Common.{◌≡◌, sym, ap, subst, ◌∙◌, ℕ, nat_eq, Bool, true, false, cond, List, [], map}
+use Rattle.std.proofs.Common.{◌≡◌, sym, ap, ◌∙◌, ℕ, nat_eq, Bool, true, false, cond, List, [], map}
 use Rattle.vt_spec.proofs.Common.{Among, Mount, MountFlags, Task, TaskName, World, among-filter, among-from_map, is_own_mount, master_above, members, numbers_raised, own_mounts, part_of, replaced_if_same, with_mounts}
 use Rattle.vt_laws_sealed.proofs.part.part.FlagsInPart.{part_with_flags}
-use Rattle.vt_laws_sealed.proofs.part.part.PartOfPart.{is_own, same_members}
+use Rattle.vt_laws_members.proofs.Common.{IsSealed, is_own, same_members}
 use Rattle.vt_laws_members.proofs.attached.RaisedAlike.{above_in_part, parts_left}
-use Rattle.vt_laws_members.proofs.changes.letting_go.Heard.{own_in_part}
-use Rattle.vt_laws_members.proofs.changes.letting_go.PartMounts.{part_mounts}
+use Rattle.vt_laws_members.proofs.changes.Common.{own_in_part, part_mounts}
 use Rattle.vt_laws_members.proofs.changes.part.PartAgain.{part_again}
-use Rattle.vt_laws_sealed.proofs.part.seals.ByPart.{IsSealed}
 
 module _ {world : World ℕ} {names : List TaskName} (sealing : IsSealed world names) (old : Mount ℕ)
     (there : Among old world.mounts)

@@ -1,24 +1,13 @@
 -- Each mount(2) with MS_REMOUNT and MS_BIND ends in the part as in the world.
-use Rattle.std.proofs.Common.{◌≡◌, refl, sym, ap, subst, ◌∙◌, ℕ, nat_eq, Bool, true, false, List, [], Option, Some, None, Ok, Err, not, IfOk, is_ok}
-use Rattle.vt_spec.proofs.Common.{Among, Done, Fresh, Judgement, Location, Mount, MountFlags, Permit, Remount, Task, TaskName, ToSetFlags, World, admin_rules, directory_walk, granted, holds_of, judge_in, members, mount_at, mount_numbered, numbers_raised, part_of, policy, remount_permit, remount_rules, task_called, unless, with_mount, with_mounts}
-use Rattle.vt_laws_members.proofs.judging.TheirCalls.{IsMember, caller_in, sealing_of}
-use Rattle.vt_laws_mounts.proofs.letting_go.leaving.UsesKept.{set_flags_keep_all}
-use Rattle.vt_laws_mounts.proofs.letting_go.sweeps.OfWorlds.{all_in_use}
-use Rattle.vt_laws_sealed.proofs.part.part.PartOfPart.{is_own}
+use Rattle.std.proofs.Common.{◌≡◌, refl, sym, ap, ◌∙◌, ℕ, nat_eq, Bool, true, false, List, [], Some, Ok, not, IfOk}
+use Rattle.vt_spec.proofs.Common.{Among, Done, Fresh, Location, Mount, MountFlags, Permit, Remount, Task, TaskName, ToSetFlags, World, admin_rules, directory_walk, granted, holds_of, judge_in, members, mount_at, mount_numbered, numbers_raised, part_of, policy, remount_permit, remount_rules, task_called, unless, with_mount, with_mounts}
+use Rattle.vt_laws_members.proofs.judging.Common.{IsMember, IsTheirs, caller_in, in_own, its_mount, same_mount, sealing_of, theirs_from}
+use Rattle.vt_laws_members.proofs.Common.{all_in_use, is_own, set_flags_keep_all}
 use Rattle.vt_laws_members.specs.Judging.{is_theirs}
-use Rattle.vt_laws_members.proofs.judging.Grounds.{IsTheirs, its_mount, same_mount, theirs_from}
-use Rattle.vt_laws_members.proofs.judging.MountPoints.{in_own}
-use Rattle.vt_laws_members.specs.Changes.Changes.{EndAlike, EndsAlike, IsCallOfTheirs, grown}
+use Rattle.vt_laws_members.specs.Changes.Changes.{EndsAlike, IsCallOfTheirs}
 use Rattle.vt_laws_members.specs.Changes.MountChanges.{RemountsEndAlike}
-use Rattle.vt_laws_members.proofs.changes.looks.Granted.{of_rules, of_walk}
-use Rattle.vt_laws_members.proofs.changes.looks.Told.{ended_alike, ran, same_caller}
-use Rattle.vt_laws_members.proofs.changes.tasks.ByPermit.{by_known}
-use Rattle.vt_laws_members.proofs.changes.tasks.Denied.{denial_ends_alike, ran_there, run_by, unnamed_ends_alike}
-use Rattle.vt_laws_members.proofs.changes.letting_go.Moving.{StandsHere, at_directory, one}
-use Rattle.vt_laws_members.proofs.changes.letting_go.PartMounts.{part_mounts}
-use Rattle.vt_laws_members.proofs.changes.letting_go.Umounting.{of_passed}
+use Rattle.vt_laws_members.proofs.changes.Common.{StandsHere, at_directory, by_known, ended_alike, of_passed, of_rules, of_walk, one, part_in_use, part_mounts, ran, ran_there, run_by, same_caller}
 use Rattle.vt_laws_members.proofs.changes.mounts.FlagsLeft.{flags_left, later, later_part}
-use Rattle.vt_laws_members.proofs.changes.part.SettledPart.{part_in_use}
 
 -- What a granted remount sets
 module _ {world : World ℕ} {names : List TaskName} {task : Task ℕ} (member : IsMember world names task)

@@ -5,21 +5,9 @@ use Rattle.vt_laws_trees.specs.Trees.{IsProper}
 use Rattle.vt_laws_trees.proofs.trees.ChangesKeepTrees.{changes_keep_numbers, changes_keep_trees}
 use Rattle.vt_laws_trees.proofs.trees.TreesOfWorlds.{numbered_all, numbered_anyhow}
 use Rattle.vt_laws_mounts.specs.LettingGo.FileChanges.{MayChange, names_lost}
-use Rattle.vt_laws_mounts.specs.LettingGo.InUse.{IsListedTree}
-use Rattle.vt_laws_mounts.specs.LettingGo.OneByOne.{Inode, is_inode_among}
-use Rattle.vt_laws_mounts.specs.LettingGo.TreeChanges.{ChangesTree}
-use Rattle.vt_laws_mounts.specs.LettingGo.TreesOverlays.{ChangesFilesystem}
-use Rattle.vt_laws_mounts.proofs.letting_go.Lists.{among-map, among_from_list_all, any_from_among, list_all_from_among, or_left, or_right}
+use Rattle.vt_laws_members.proofs.Common.{AsksWell, AsksWellIf, ChangesFilesystem, ChangesTree, Inode, IsListedTree, SparesLocked, SparesLockedIf, all_locked, among-map, among_from_list_all, any_from_among, is_inode_among, list_all_from_among, name_found, no_objects, or_left, or_right, permits_ask_well, permits_spare_what_is_locked, used_are_free}
 use Rattle.vt_laws_mounts.proofs.letting_go.leaving.NamesKept.{changes_keep_names}
-use Rattle.vt_laws_mounts.proofs.letting_go.sweeps.InUse.{no_objects}
-use Rattle.vt_laws_worlds.proofs.worlds.CallsKept.{name_found}
-use Rattle.vt_laws_worlds.specs.OverlayPermits.Asked.{AsksWell, AsksWellIf}
-use Rattle.vt_laws_worlds.specs.OverlayPermits.Unlocked.{SparesLocked, SparesLockedIf}
-use Rattle.vt_laws_worlds.proofs.overlay_permits.asked.Asked.{permits_ask_well}
 use Rattle.vt_laws_worlds.proofs.overlay_permits.asked.AskedOverlays.{permits_ask_properly}
-use Rattle.vt_laws_worlds.proofs.overlay_permits.asked.Unlocked.{permits_spare_what_is_locked}
-use Rattle.vt_laws_sealed.proofs.part.locks.LockedTrees.{all_locked}
-use Rattle.vt_laws_sealed.proofs.part.seals.ByPart.{used_are_free}
 use Rattle.vt_laws_sealed.proofs.outsiders.FilesChanged.{IsCopy, written_not_spared, written_there, written_to}
 use Rattle.vt_laws_members.proofs.changes.names.GrantedNames.{Names, NamingCall}
 

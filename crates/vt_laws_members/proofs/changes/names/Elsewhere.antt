@@ -1,15 +1,24 @@
 -- On filesystems that a set uses alone, only mounts of its own namespaces stand on directories.
-use Rattle.std.proofs.Common.{arith, ◌≡◌, refl, sym, ap, ◌∙◌, ⊎_elim, ℕ, nat_eq, eqb-true, eq-eqb, Bool, true, false, true≢false, List, Option, Some, None, not, ◌&&◌}
-use Rattle.vt_spec.proofs.Common.{Among, IsWorld, Location, Mount, Stands, TaskName, World, among-filter, among-from_filter, among_from_all, and_parts, any_among, any_from_among, common_steps, filesystem_at, found_or_none, holds_of, is_own_namespace, is_point, list_any, mount_at, mount_numbered, mounts_on, no_outsider_on, none_is_some, not-true, other_mounts, points_of, used_alone}
-use Rattle.vt_laws_mounts.proofs.mounts.MountsReplaced.{found_itself}
-use Rattle.vt_laws_worlds.proofs.worlds.Reached.{namespace_below}
+use Rattle.std.proofs.Common.{inl, inr, arith, ◌≡◌, refl, sym, ap, ◌∙◌, ⊎_elim, ℕ, nat_eq, eqb-true, eq-eqb, true, false, true≢false, List, Option, Some, None, not, ◌&&◌}
+use Rattle.vt_spec.proofs.Common.{cases_Bool, Among, IsWorld, Location, Mount, Stands, TaskName, World, among-filter, among-from_filter, among_from_all, and_parts, any_among, any_from_among, common_steps, filesystem_at, found_or_none, holds_of, is_own_namespace, is_point, list_any, mount_at, mount_numbered, mounts_on, no_outsider_on, none_is_some, not-true, other_mounts, points_of, used_alone}
+use Rattle.vt_laws_members.proofs.Common.{found_itself, namespace_below}
 
 module _ (world : World ℕ) (names : List TaskName) (is : IsWorld nat_eq world) where
   -- a mount on a filesystem that they use alone is of a namespace of theirs
   own_there : (number : ℕ) → used_alone nat_eq world names number ≡ true → (mount : Mount ℕ) → Among mount world.mounts
       → (point : Location ℕ) → mount.mount_point ≡ Some point → (mount_at nat_eq world point).filesystem ≡ number
       → (n : ℕ) → mount.namespace ≡ Some n → is_own_namespace nat_eq world names n ≡ true
-  own_there number alone mount m point stands shows n placed = by (is_own_namespace nat_eq world names n) refl
+  own_there number alone mount m point stands shows n placed = elim (cases_Bool
+      (is_own_namespace nat_eq world names n)) [
+        | inl own ↦ own
+        | inr other ↦ absurd (true≢false
+            (sym (any_from_among (λ (y : Mount ℕ). nat_eq number y.filesystem) (other_mounts nat_eq world names)
+            (mount_at nat_eq world point)
+            (among-filter (λ (y : Mount ℕ). holds_of (λ k. not (is_own_namespace nat_eq world names k)) y.namespace)
+            world.mounts (mount_at nat_eq world point) above_there
+            (ap (holds_of (λ k. not (is_own_namespace nat_eq world names k))) above_placed ∙ ap not other))
+            (eq-eqb number (mount_at nat_eq world point).filesystem (sym shows))) ∙ nobody))
+      ]
     where
       itself : mount_numbered nat_eq world mount.number ≡ mount
       itself = found_itself world.mounts is.mounts.one_number mount m
@@ -28,16 +37,6 @@ module _ (world : World ℕ) (names : List TaskName) (is : IsWorld nat_eq world)
       nobody : list_any (λ (y : Mount ℕ). nat_eq number y.filesystem) (other_mounts nat_eq world names) ≡ false
       nobody = not-true _ (and_parts (not (list_any (λ (y : Mount ℕ). nat_eq number y.filesystem)
           (other_mounts nat_eq world names))) _ (and_parts (no_outsider_on nat_eq world names number) _ alone).0).0
-
-      by : (b : Bool) → is_own_namespace nat_eq world names n ≡ b → is_own_namespace nat_eq world names n ≡ true
-      by true own = own
-      by false other = absurd (true≢false
-          (sym (any_from_among (λ (y : Mount ℕ). nat_eq number y.filesystem) (other_mounts nat_eq world names)
-          (mount_at nat_eq world point)
-          (among-filter (λ (y : Mount ℕ). holds_of (λ k. not (is_own_namespace nat_eq world names k)) y.namespace)
-          world.mounts (mount_at nat_eq world point) above_there
-          (ap (holds_of (λ k. not (is_own_namespace nat_eq world names k))) above_placed ∙ ap not other))
-          (eq-eqb number (mount_at nat_eq world point).filesystem (sym shows))) ∙ nobody))
 
   -- of a plain filesystem the points of a directory are its own
   pub plain_points : (directory : Location ℕ) → (filesystem_at nat_eq world directory).overlay ≡ None

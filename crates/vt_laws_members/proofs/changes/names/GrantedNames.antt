@@ -1,17 +1,10 @@
 -- Where a granted call of theirs makes, gives or takes a name: in a directory on a mount of theirs.
 use Rattle.std.proofs.Common.{◌≡◌, subst, ℕ, nat_eq, Bool, true, false, ◌∷◌, [], List, Option, Some, Ok, Result, IfOk}
 use Rattle.vt_spec.proofs.Common.{AddName, Call, Change, CopyUp, Fresh, Location, Looks, Make, Move, Permit, Place, Remove, SetAttr, SetBytes, SetMark, Stop, Task, TaskName, World, is_among, is_copied_up, judge_in, looks_of, none_is_some, overfills, part_of, same_Some, used_filesystems, when, ⊤, Serves, task_called}
-use Rattle.vt_laws_members.proofs.judging.TheirCalls.{IsMember, caller_in}
-use Rattle.vt_laws_rules.specs.Granted.{IsGranted}
-use Rattle.vt_laws_rules.specs.Granted.IsGranted.{changes_mark, changes_mode, changes_owner, creates, creates_exclusively, makes_directory, makes_hard_link, makes_symlink, makes_whiteout, opens, opens_existing, overwrites_file, removes_directory, renames, unlinks, writes_new_file, writes_part}
-use Rattle.vt_laws_rules.proofs.given.Inversion.{calls_are_granted}
+use Rattle.vt_laws_members.proofs.judging.Common.{IsMember, IsTheirs, JudgesAlike, PlaceAt, caller_in, file_agrees, judges, new_agrees, new_leaf_agrees, old_agrees, old_leaf_agrees, theirs_from}
+use Rattle.vt_laws_members.proofs.Common.{IsGranted, calls_are_granted, change_asked, changes_mark, changes_mode, changes_owner, creates, creates_exclusively, makes_directory, makes_hard_link, makes_symlink, makes_whiteout, opens, opens_existing, overwrites_file, removes_directory, renames, unlinks, writes_new_file, writes_part}
 use Rattle.vt_laws_trees.specs.Calls.Inodes.{written_if_some}
-use Rattle.vt_laws_worlds.specs.OverlayPermits.Asked.{change_asked}
 use Rattle.vt_laws_members.specs.Judging.{is_theirs}
-use Rattle.vt_laws_members.proofs.judging.AllJudged.{judges}
-use Rattle.vt_laws_members.proofs.judging.Judged.{JudgesAlike}
-use Rattle.vt_laws_members.proofs.judging.WalksLead.{PlaceAt, file_agrees, new_agrees, new_leaf_agrees, old_agrees, old_leaf_agrees}
-use Rattle.vt_laws_members.proofs.judging.Grounds.{IsTheirs, theirs_from}
 use Rattle.vt_laws_members.specs.Changes.Changes.{IsCallOfTheirs}
 
 -- a change by which a name comes or goes

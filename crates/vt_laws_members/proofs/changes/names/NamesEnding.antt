@@ -1,10 +1,8 @@
 -- Calls of theirs by which a name comes or goes on a plain filesystem end in the part as in the world.
-use Rattle.std.proofs.Common.{◌≡◌, refl, sym, ap, subst, ◌∙◌, ℕ, suc, nat_eq, eqb-true, arith, true, false, List, [], ◌∷◌, Ok, ◌+◌, ◌≤◌}
+use Rattle.std.proofs.Common.{◌≡◌, refl, sym, subst, ◌∙◌, ℕ, suc, nat_eq, eqb-true, arith, true, false, List, [], ◌∷◌, Ok, ◌+◌, ◌≤◌}
 use Rattle.vt_spec.proofs.Common.{AddName, Call, Change, Done, Filesystem, Fresh, LinkTo, Location, Make, MakeWhiteout, Mkdir, Permit, Remove, Serves, SymlinkAt, TaskName, ToChange, ToMake, Unlink, World, Write, changed, common_steps, evens, filesystem_at, is_among, is_overlay, judge_in, linking, looks_of, mount_at, numbers_in_use, object_there, odds, only_looks, overfills, part_of, removing, used_alone, used_filesystems, ⊤, changed_at, finished, granted, with_change, Task}
-use Rattle.vt_laws_rules.specs.Granted.{IsGranted}
-use Rattle.vt_laws_rules.specs.Granted.IsGranted.{makes_hard_link, unlinks}
-use Rattle.vt_laws_rules.proofs.given.Inversion.{calls_are_granted}
-use Rattle.vt_laws_members.proofs.judging.SeenInPart.{filesystem_alike, theirs_used}
+use Rattle.vt_laws_members.proofs.Common.{IsGranted, calls_are_granted, makes_hard_link, unlinks}
+use Rattle.vt_laws_members.proofs.judging.Common.{filesystem_alike, theirs_used}
 use Rattle.vt_laws_members.specs.Changes.Changes.{EndsAlike, grown}
 use Rattle.vt_laws_members.specs.Changes.NameChanges.{LinksEndAlike, MkdirsEndAlike, NewFilesEndAlike, PlainMakingEndsAlike, SymlinksEndAlike, UnlinksEndAlike, WhiteoutsEndAlike}
 use Rattle.vt_laws_members.proofs.changes.names.AskedNames.{old_alone}

@@ -1,24 +1,13 @@
 -- An open of theirs that makes the file, on a plain filesystem, ends in the part as in the world.
-use Rattle.std.proofs.Common.{◌≡◌, refl, sym, ap, subst, ◌∙◌, ℕ, nat_eq, eqb-true, Bool, true, false, true≢false, List, [], ◌∷◌, option_to_list}
+use Rattle.std.proofs.Common.{◌≡◌, refl, sym, ap, subst, ◌∙◌, ℕ, nat_eq, eqb-true, Bool, true, false, List, [], ◌∷◌, option_to_list}
 use Rattle.vt_spec.proofs.Common.{Access, Among, Call, Change, Creation, FileTree, Filesystem, Fresh, Location, Make, OpenFile, Opened, Task, TaskName, ToOpenNew, World, changed, changed_at, evens, filesystem_at, filesystem_changed, finished, free_number, granted, is_among, is_overlay, mount_at, numbers_of_change, numbers_raised, odds, opened, part_of, settled, used_filesystems, with_change, with_descriptor, with_task}
-use Rattle.vt_laws_members.proofs.judging.TheirCalls.{sealing_of}
-use Rattle.vt_laws_mounts.specs.LettingGo.InUse.{AllInUse}
-use Rattle.vt_laws_mounts.specs.LettingGo.TreeChanges.{ChangesTree}
-use Rattle.vt_laws_mounts.proofs.letting_go.sweeps.OfWorlds.{all_in_use}
-use Rattle.vt_laws_sealed.proofs.part.part.PartOfPart.{same_used}
-use Rattle.vt_laws_members.proofs.judging.Grounds.{IsTheirs}
-use Rattle.vt_laws_members.proofs.judging.SeenInPart.{filesystem_alike, theirs_used}
+use Rattle.vt_laws_members.proofs.judging.Common.{IsTheirs, filesystem_alike, sealing_of, theirs_used}
+use Rattle.vt_laws_members.proofs.Common.{AllInUse, ChangesTree, all_in_use, same_used}
 use Rattle.vt_laws_members.specs.Changes.NameChanges.{NewOpensEndAlike}
-use Rattle.vt_laws_members.proofs.changes.files.FilesChanged.{part_with_files}
-use Rattle.vt_laws_members.proofs.changes.files.FilesEnding.{no_overlay}
+use Rattle.vt_laws_members.proofs.changes.Common.{NamingCall, both, both_kept, both_numbered, both_overlaid, naming_of, naming_theirs, no_overlay, old_used, one_in_part, one_in_world, part_in_use, part_with_files, ran_there, run_by, swap}
 use Rattle.vt_laws_members.proofs.changes.files.FilesInUse.{in_use_changed}
-use Rattle.vt_laws_members.proofs.changes.files.FilesRaised.{both, both_kept, both_numbered, both_overlaid, swap}
-use Rattle.vt_laws_members.proofs.changes.files.OneFilesystem.{old_used, one_in_part, one_in_world}
 use Rattle.vt_laws_members.proofs.changes.names.AskedNames.{changes_so, proper, tree_changes}
-use Rattle.vt_laws_members.proofs.changes.names.GrantedNames.{NamingCall, naming_of, naming_theirs}
 use Rattle.vt_laws_members.proofs.changes.names.Swept.{swap_changes}
-use Rattle.vt_laws_members.proofs.changes.part.SettledPart.{part_in_use}
-use Rattle.vt_laws_members.proofs.changes.tasks.Denied.{ran_there, run_by}
 use Rattle.vt_laws_members.proofs.changes.tasks.OpenedFiles.{MovesIn, opened_ends, opened_with}
 
 -- so ends a granted open that gives a plain filesystem another tree

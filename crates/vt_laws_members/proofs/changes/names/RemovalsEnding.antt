@@ -1,25 +1,18 @@
 -- A call of theirs that removes a directory, or that renames, ends in the part as in the world, if no mount of another
 -- namespace of theirs is on what goes.
-use Rattle.std.proofs.Common.{arith, ◌≡◌, refl, sym, ap, subst, ◌∙◌, ℕ, nat_eq, eqb-true, true, false, List, Option, Some, None, Ok, IfOk, option_map, option_to_list}
+use Rattle.std.proofs.Common.{arith, ◌≡◌, refl, sym, subst, ◌∙◌, ℕ, nat_eq, eqb-true, true, false, List, Option, Some, None, Ok, IfOk, option_map, option_to_list}
 use Rattle.vt_spec.proofs.Common.{Call, Done, Fresh, Location, Looks, Move, Permit, Place, Remove, Rename, Rmdir, Serves, Task, TaskName, ToRemoveDirectory, ToRename, World, common_steps, entry_at, files_at, filesystem_at, holds_of, is_among, is_directory_there, is_locked_at, is_mount_point_anywhere, is_mount_point_in, is_overlay, judge_in, list_any, looks_of, name_of, none_is_some, object_there, only_looks, or_parts, overfills, part_of, same_Some, special_word, task_called, used_filesystems}
-use Rattle.vt_laws_members.proofs.judging.TheirCalls.{IsMember, caller_in}
-use Rattle.vt_laws_rules.specs.Granted.{IsGranted}
-use Rattle.vt_laws_rules.specs.Granted.IsGranted.{removes_directory, renames}
+use Rattle.vt_laws_members.proofs.judging.Common.{IsMember, JudgesAlike, PlaceAt, caller_in, judges, old_agrees, rename_new_agrees}
+use Rattle.vt_laws_members.proofs.Common.{IsGranted, all_permits_fit, calls_are_granted, name_found, removes_directory, renames}
 use Rattle.vt_laws_trees.proofs.trees.PlacesReached.{old_is, rename_new_is}
 use Rattle.vt_laws_trees.proofs.trees.TreesWalked.{not-false, place_named}
 use Rattle.vt_laws_worlds.proofs.permits.sees.SeesNames.{old_mount}
 use Rattle.vt_laws_members.specs.Judging.{is_theirs}
-use Rattle.vt_laws_members.proofs.judging.AllJudged.{judges}
-use Rattle.vt_laws_members.proofs.judging.Judged.{JudgesAlike}
-use Rattle.vt_laws_members.proofs.judging.WalksLead.{PlaceAt, old_agrees, rename_new_agrees}
 use Rattle.vt_laws_members.specs.Changes.Changes.{EndsAlike, IsCallOfTheirs, grown}
 use Rattle.vt_laws_members.proofs.changes.names.NamesEnding.{naming_ends, unused_numbers, unused_serve}
 use Rattle.vt_laws_members.proofs.changes.names.GrantedNames.{NamingCall, naming_of}
 use Rattle.vt_laws_worlds.specs.Worlds.Permits.{IsReached, NamesWhatIsThere}
-use Rattle.vt_laws_worlds.proofs.worlds.CallsKept.{name_found}
-use Rattle.vt_laws_worlds.proofs.worlds.FitPermitsNamed.{all_permits_fit}
 use Rattle.vt_laws_trees.specs.Trees.Calls.{mounts_overlay}
-use Rattle.vt_laws_rules.proofs.given.Inversion.{calls_are_granted}
 
 -- What goes is on the mount of the directory, which is theirs, not locked, and no mount of the caller's namespace is on
 -- it.

@@ -1,10 +1,8 @@
 -- A world in which one plain tree changed: its other filesystems are as they were.
-use Rattle.std.proofs.Common.{◌≡◌, refl, sym, subst, ℕ, nat_eq, Bool, true, false, cond, List}
+use Rattle.std.proofs.Common.{◌≡◌, refl, ℕ, nat_eq, Bool, true, false, cond, List}
 use Rattle.vt_spec.proofs.Common.{Among, FileTree, Filesystem, World, with_files}
-use Rattle.vt_laws_mounts.specs.LettingGo.OneByOne.{Inode}
-use Rattle.vt_laws_mounts.specs.LettingGo.TreesOverlays.{ChangesFilesystem}
-use Rattle.vt_laws_mounts.proofs.letting_go.leaving.TreesWithOverlays.{unchanged}
-use Rattle.vt_laws_members.proofs.changes.files.FilesRaised.{swap}
+use Rattle.vt_laws_members.proofs.Common.{ChangesFilesystem, Inode, unchanged}
+use Rattle.vt_laws_members.proofs.changes.Common.{swap}
 
 pub swap_changes : (w : World ℕ) (old : Filesystem ℕ) (files : FileTree ℕ) (lost : List Inode)
     → ((after : World ℕ) → ChangesFilesystem after lost old (with_files old files))

@@ -2,8 +2,8 @@
 use Rattle.std.proofs.Common.{◌≡◌, ap, ◌∙◌, ⊎_elim, ℕ, nat_eq, false, true, List, [], ◌∷◌, Some, Ok, ◌||◌}
 use Rattle.vt_spec.proofs.Common.{Call, Change, Done, FileTree, Filesystem, Fresh, Location, Outcome, Task, TaskName, World, changed_at, filesystem_at, filesystem_changed, finished, finished_by, granted, is_among, is_overlay, mount_at, numbers_of_change, numbers_raised, only_looks, part_of, settled, task_called, used_alone, used_filesystems, with_change}
 use Rattle.vt_spec.specs.Language.Changes
-use Rattle.vt_laws_members.proofs.judging.TheirCalls.{sealing_of}
-use Rattle.vt_laws_mounts.specs.LettingGo.TreesOverlays.{with_filesystems}
+use Rattle.vt_laws_members.proofs.judging.Common.{sealing_of}
+use Rattle.vt_laws_members.proofs.Common.{with_filesystems}
 use Rattle.vt_laws_members.specs.Changes.Changes.{EndsAlike, IsCallOfTheirs, grown}
 use Rattle.vt_laws_members.proofs.changes.files.FilesEnding.{no_overlay}
 use Rattle.vt_laws_members.proofs.changes.files.FilesRaised.{swap}

@@ -1,14 +1,9 @@
 -- A call of theirs that edits a file through an overlay with an upper layer ends in the part as in the world.
-use Rattle.std.proofs.Common.{arith, ◌≡◌, refl, sym, ap, subst, ◌∙◌, ℕ, nat_eq, false, List, [], ◌∷◌, Some, Ok, filter, map}
-use Rattle.vt_spec.proofs.Common.{Among, Call, Done, Filesystem, Task, TaskName, World, changed_at, common_steps, finished, granted, is_among, is_member_task, locations_of, map_twice, numbers_raised, only_looks, part_of, policy, raised, raised_if_changed, raised_task, same_name, task_called, used_filesystems, with_change}
-use Rattle.vt_laws_members.proofs.judging.TheirCalls.{IsLastingCall, sealing_of}
-use Rattle.vt_laws_mounts.specs.LettingGo.InUse.{AllInUse}
-use Rattle.vt_laws_mounts.specs.LettingGo.TreesOverlays.{ChangesFilesystem, with_filesystems}
-use Rattle.vt_laws_mounts.proofs.letting_go.Lists.{filter-map}
-use Rattle.vt_laws_mounts.proofs.letting_go.sweeps.InUse.{nothing_goes}
-use Rattle.vt_laws_mounts.proofs.letting_go.sweeps.OfWorlds.{all_in_use}
-use Rattle.vt_laws_sealed.proofs.part.part.PartOfPart.{same_members, same_used}
-use Rattle.vt_laws_members.specs.Changes.Changes.{EndAlike, EndsAlike, IsCallOfTheirs, grown}
+use Rattle.std.proofs.Common.{arith, ◌≡◌, refl, sym, ap, ◌∙◌, ℕ, nat_eq, false, List, [], ◌∷◌, Some, filter, map}
+use Rattle.vt_spec.proofs.Common.{Among, Call, Done, Filesystem, Task, TaskName, World, changed_at, common_steps, finished, granted, is_among, is_member_task, locations_of, map_twice, numbers_raised, part_of, policy, raised, raised_if_changed, raised_task, used_filesystems, with_change}
+use Rattle.vt_laws_members.proofs.judging.Common.{IsLastingCall, sealing_of}
+use Rattle.vt_laws_members.proofs.Common.{AllInUse, ChangesFilesystem, all_in_use, filter-map, nothing_goes, same_members, same_used, with_filesystems}
+use Rattle.vt_laws_members.specs.Changes.Changes.{EndsAlike}
 use Rattle.vt_laws_members.proofs.changes.files.StepsInUse.{in_use_stepped}
 use Rattle.vt_laws_members.proofs.changes.looks.Told.{ended_alike, ran, same_caller}
 use Rattle.vt_laws_members.proofs.changes.overlays.Copying.{AreOnes, Copies, OverlayChange, both_numbers, changes_in_part, changes_in_world, kept_on, moved_on, numbers_in_part, numbers_in_world, ones_in_part, ones_in_world, part_moved, step, stepped_in_part, stepped_in_world}

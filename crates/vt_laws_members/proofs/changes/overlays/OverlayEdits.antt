@@ -1,17 +1,10 @@
 -- Calls of theirs that edit a file through an overlay: write(2), chmod(2), chown(2), pwrite(2).
-use Rattle.std.proofs.Common.{arith, ◌≡◌, refl, sym, ap, subst, ◌∙◌, ℕ, nat_eq, true, false, true≢false, List, ◌∷◌, Option, Some, None, Ok, is_some, IfOk}
+use Rattle.std.proofs.Common.{inl, inr, arith, ◌≡◌, refl, sym, ap, subst, ◌∙◌, ℕ, nat_eq, true, false, true≢false, List, ◌∷◌, Option, Some, None, Ok, is_some, IfOk}
 use Rattle.vt_spec.proofs.Common.{AddName, Among, Call, Change, CopyUp, Done, Filesystem, Fresh, Layer, Location, Make, Move, Overlay, Pwrite, Remove, Serves, SetAttr, SetBytes, SetMark, Task, TaskName, ToChange, ToWritePart, World, among-append_right, among-map, bytes_in, changed_at, common_steps, filesystem_at, filesystem_numbered, finished, granted, is_overlay, judge_in, locations, members, mount_at, node_at, only_looks, overwritten, part_of, task_called, used_directly, with_change}
-use Rattle.vt_laws_members.proofs.judging.TheirCalls.{IsLastingCall, caller_in, lasting, sealing_of}
-use Rattle.vt_laws_worlds.proofs.worlds.CallsKept.{name_found}
-use Rattle.vt_laws_worlds.specs.OverlayPermits.Asked.{AsksWell}
-use Rattle.vt_laws_worlds.proofs.overlay_permits.asked.Asked.{permits_ask_well}
-use Rattle.vt_laws_worlds.proofs.overlay_permits.changed.ChangedOverlays.{permits_can_change}
-use Rattle.vt_laws_worlds.specs.OverlaysLetGo.OverlayChanges.{CanChange}
-use Rattle.vt_laws_sealed.proofs.part.part.PartOfPart.{found, located}
+use Rattle.vt_laws_members.proofs.judging.Common.{IsLastingCall, IsTheirs, caller_in, filesystem_alike, lasting, located_used, sealing_of, theirs_directly, theirs_from}
+use Rattle.vt_laws_members.proofs.Common.{cases_Option, AsksWell, CanChange, found, located, name_found, permits_ask_well, permits_can_change}
 use Rattle.vt_laws_members.specs.Judging.{is_theirs}
-use Rattle.vt_laws_members.proofs.judging.Grounds.{IsTheirs, theirs_from}
-use Rattle.vt_laws_members.proofs.judging.SeenInPart.{filesystem_alike, located_used, theirs_directly}
-use Rattle.vt_laws_members.specs.Changes.Changes.{EndsAlike, IsCallOfTheirs, grown}
+use Rattle.vt_laws_members.specs.Changes.Changes.{EndsAlike}
 use Rattle.vt_laws_members.specs.Changes.OverlayEdits.{OverlayChmodsEndAlike, OverlayChownsEndAlike, OverlayPartWritesEndAlike, OverlayWritesEndAlike}
 use Rattle.vt_laws_members.proofs.changes.files.Edits.{Edits, IsEdit, chmods_edit, chowns_edit, writes_edit}
 use Rattle.vt_laws_members.proofs.changes.files.PartWritten.{Writes, writes_theirs}
@@ -50,7 +43,10 @@ module _ {world : World ℕ} {names : List TaskName} {name : TaskName} {call : C
       (granted Done (with_change nat_eq fresh world location change)) → ran name call part fresh (Some task)
       ≡ finished nat_eq part name call (changed_at nat_eq part location)
       (granted Done (with_change nat_eq fresh part location change)) → EndsAlike world names name call fresh fresh
-  through_ends one two = by merged.overlay refl
+  through_ends one two = elim (cases_Option merged.overlay) [
+    | inl none ↦ absurd (true≢false (sym is ∙ ap is_some none))
+    | inr its ↦ layered its.0 its.1 its.0.upper refl
+  ]
     where
       layered : (overlay : Overlay ℕ) → merged.overlay ≡ Some overlay → (o : Option (Layer ℕ)) → overlay.upper ≡ o
           → EndsAlike world names name call fresh fresh
@@ -71,10 +67,6 @@ module _ {world : World ℕ} {names : List TaskName} {name : TaskName} {call : C
             direct = direct;
             alike = alike;
           }) copies one two
-
-      by : (o : Option (Overlay ℕ)) → merged.overlay ≡ o → EndsAlike world names name call fresh fresh
-      by None none = absurd (true≢false (sym is ∙ ap is_some none))
-      by (Some overlay) overlaid = layered overlay overlaid overlay.upper refl
 
 -- an edit that may be made through an overlay sets no mark
 edits_copy : (world : World ℕ) (location : Location ℕ) (change : Change ℕ) → IsEdit change

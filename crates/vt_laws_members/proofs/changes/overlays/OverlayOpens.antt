@@ -1,26 +1,13 @@
 -- An open of theirs that copies the file up ends in the part as in the world.
-use Rattle.std.proofs.Common.{◌≡◌, refl, sym, ap, subst, ◌∙◌, ℕ, nat_eq, Bool, true, false, true≢false, List, Option, Some, None, Ok, is_some, not, ◌&&◌, IfOk}
-use Rattle.vt_spec.proofs.Common.{Access, Among, Call, CopyUp, Creation, Filesystem, Fresh, Layer, Location, OpenFile, Opened, Outcome, Overlay, Permit, Task, TaskName, ToOpen, World, and_parts, changed_at, changed_if, filesystem_at, finished, free_number, granted, has_no_upper, is_among, is_copied_up, judge_in, lies_only_in_lowers, looks_of, mount_at, numbers_raised, opened, opens_for_writing, overfills, overlay_or, part_of, settled, task_called, used_directly, when, with_change, with_copy, with_descriptor, with_task}
-use Rattle.vt_laws_members.proofs.judging.TheirCalls.{caller_in, sealing_of}
-use Rattle.vt_laws_rules.specs.Granted.{IsGranted}
-use Rattle.vt_laws_rules.specs.Granted.IsGranted.{opens, opens_existing}
-use Rattle.vt_laws_rules.proofs.given.Inversion.{calls_are_granted}
-use Rattle.vt_laws_mounts.specs.LettingGo.TreesOverlays.{with_filesystems}
-use Rattle.vt_laws_mounts.proofs.letting_go.sweeps.OfWorlds.{all_in_use}
-use Rattle.vt_laws_worlds.proofs.worlds.CallsKept.{name_found}
-use Rattle.vt_laws_worlds.specs.OverlayPermits.Asked.{change_asked}
-use Rattle.vt_laws_worlds.proofs.overlay_permits.changed.ChangedOverlays.{permits_can_change}
-use Rattle.vt_laws_worlds.specs.OverlaysLetGo.OverlayChanges.{CanChange}
-use Rattle.vt_laws_sealed.proofs.part.part.PartOfPart.{same_used}
+use Rattle.std.proofs.Common.{inl, inr, ◌≡◌, refl, sym, ap, subst, ◌∙◌, ℕ, nat_eq, Bool, true, false, true≢false, List, Option, Some, None, Ok, is_some, not, ◌&&◌, IfOk}
+use Rattle.vt_spec.proofs.Common.{Access, Among, Call, CopyUp, Creation, Filesystem, Fresh, Layer, Location, OpenFile, Opened, Outcome, Overlay, Permit, Task, TaskName, ToOpen, World, and_parts, changed_at, changed_if, filesystem_at, finished, free_number, granted, has_no_upper, is_copied_up, judge_in, lies_only_in_lowers, looks_of, mount_at, numbers_raised, opened, opens_for_writing, overfills, overlay_or, part_of, settled, task_called, used_directly, with_change, with_copy, with_descriptor, with_task}
+use Rattle.vt_laws_members.proofs.judging.Common.{IsTheirs, caller_in, filesystem_alike, sealing_of, theirs_directly, theirs_from}
+use Rattle.vt_laws_members.proofs.Common.{cases_Option, CanChange, IsGranted, all_in_use, calls_are_granted, change_asked, name_found, opens, opens_existing, permits_can_change, same_used, with_filesystems}
 use Rattle.vt_laws_members.specs.Judging.{is_theirs}
-use Rattle.vt_laws_members.proofs.judging.Grounds.{IsTheirs, theirs_from}
-use Rattle.vt_laws_members.proofs.judging.SeenInPart.{filesystem_alike, theirs_directly}
 use Rattle.vt_laws_members.specs.Changes.Changes.{EndsAlike, IsCallOfTheirs}
 use Rattle.vt_laws_members.specs.Changes.OverlayEdits.{OverlayOpensEndAlike}
 use Rattle.vt_laws_members.proofs.changes.files.StepsInUse.{in_use_stepped}
-use Rattle.vt_laws_members.proofs.changes.overlays.Copying.{OverlayChange, both_numbers, changes_in_part, changes_in_world, kept_on, numbers_in_part, numbers_in_world, ones_in_part, ones_in_world, part_moved, step, stepped_in_part, stepped_in_world}
-use Rattle.vt_laws_members.proofs.changes.part.SettledPart.{part_in_use}
-use Rattle.vt_laws_members.proofs.changes.tasks.Denied.{ran_there, run_by}
+use Rattle.vt_laws_members.proofs.changes.Common.{OverlayChange, both_numbers, changes_in_part, changes_in_world, kept_on, numbers_in_part, numbers_in_world, ones_in_part, ones_in_world, part_in_use, part_moved, ran_there, run_by, step, stepped_in_part, stepped_in_world}
 use Rattle.vt_laws_members.proofs.changes.tasks.OpenedFiles.{opened_ends, opened_with}
 use Rattle.vt_laws_members.proofs.changes.tasks.Opening.{OpensOn, opens_theirs}
 
@@ -114,7 +101,11 @@ module _ {world : World ℕ} {names : List TaskName} {name : TaskName} {path : L
 
 pub overlay_opens_end_alike : OverlayOpensEndAlike
 overlay_opens_end_alike world names name path access how it task called fresh serves file wanted given copied =
-    by (filesystem_at nat_eq world file).overlay refl
+    elim (cases_Option (filesystem_at nat_eq world file).overlay) [
+      | inl none ↦ absurd (true≢false (sym parts.1
+          ∙ ap (overlay_or false (λ overlay. lies_only_in_lowers overlay file.node)) none))
+      | inr its ↦ layered its.0 its.1 its.0.upper refl
+    ]
   where
     call : Call
     call = OpenFile path access how
@@ -149,9 +140,3 @@ overlay_opens_end_alike world names name path access how it task called fresh se
         open_through_ends it called ground copied given
         (permits_can_change world fresh task call (ToOpen file wanted) file (CopyUp file.node) overlay upper it.is
         serves itself given asks overlaid has)
-
-    by : (o : Option (Overlay ℕ)) → (filesystem_at nat_eq world file).overlay ≡ o
-        → EndsAlike world names name call fresh fresh
-    by None none = absurd (true≢false (sym parts.1
-        ∙ ap (overlay_or false (λ overlay. lies_only_in_lowers overlay file.node)) none))
-    by (Some overlay) overlaid = layered overlay overlaid overlay.upper refl

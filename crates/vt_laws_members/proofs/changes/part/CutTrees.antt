@@ -1,9 +1,8 @@
 -- What lies under a directory of a tree lies there, too, in the tree of what lies under it and under others.
-use Rattle.std.proofs.Common.{◌≡◌, refl, sym, ap, subst, ◌∙◌, ⊎_elim, ℕ, zero, suc, nat_eq, Bool, true, false, cond, true≢false, List, [], ◌∷◌, Option, Some, None, is_some, length, not, ◌&&◌, ◌||◌, ◌≤◌, arith}
-use Rattle.vt_spec.proofs.Common.{Among, FileTree, IsDirectory, IsTree, ListsNumbers, Node, among-filter, among-flat_map, among_numbers, and_from, and_parts, any_among, any_from_among, chain, common_steps, directory_used, entry_from, has_entry_to, is_among, is_directory_node, is_directory_under, is_file_under, is_under, length-filter_both, named_in, named_parent, none_is_some, only_among, or_cases, or_left, or_right, parent_in, same_Some, targets_in, when}
+use Rattle.std.proofs.Common.{◌≡◌, refl, ◌∙◌, ⊎_elim, ℕ, zero, suc, nat_eq, Bool, true, false, cond, List, [], ◌∷◌, Option, Some, None, is_some, length, not, ◌&&◌, ◌≤◌, arith}
+use Rattle.vt_spec.proofs.Common.{Among, FileTree, IsDirectory, IsTree, ListsNumbers, among-filter, among-flat_map, among_numbers, and_from, and_parts, any_among, any_from_among, chain, common_steps, directory_used, entry_from, has_entry_to, is_among, is_directory_node, is_directory_under, is_file_under, is_under, length-filter_both, named_in, named_parent, none_is_some, only_among, or_cases, or_left, or_right, parent_in, same_Some, targets_in, when}
 use Rattle.vt_laws_trees.proofs.layers.layers.UpperLine.{has_entries}
-use Rattle.vt_laws_mounts.proofs.letting_go.Chains.{Way, chains_alike}
-use Rattle.vt_laws_mounts.proofs.letting_go.Chains.Way.{ends, goes_on}
+use Rattle.vt_laws_members.proofs.Common.{Way, chains_alike, ends, goes_on}
 
 -- Chains that reach a number
 module _ (top : ℕ) where

@@ -1,9 +1,7 @@
 -- The part of the part is the part, with the trees that it has by lower layers alone.
 use Rattle.std.proofs.Common.{arith, ◌≡◌, refl, sym, ap, subst, ◌∙◌, inl, inr, ⊎_elim, ℕ, nat_eq, Bool, true, false, cond, true≢false, List, [], ◌∷◌, Option, Some, None, filter, find, is_some, eq-eqb, eqb-true, unwrap_or, filter_map}
-use Rattle.vt_spec.proofs.Common.{Among, FileTree, Filesystem, IsTree, IsWorld, Layer, ListsNumbers, Mount, Namespace, Node, Task, TaskName, World, among-filter, among-from_filter, among_from_all, among_numbers, and_from, and_parts, any_among, any_from_among, common_steps, cons_option, filesystem_numbered, is_among, is_among_numbers, is_at, is_under, lies_in_layer, lies_in_own_lower, list_any, locations, members, no_filesystem, only_among, own_lowers, part_of, part_of_filesystem, part_of_lower, part_of_master, part_of_mount, seen_by_descriptor, used_filesystems, when}
-use Rattle.vt_laws_mounts.proofs.letting_go.sweeps.OfWorlds.{found_filesystem}
-use Rattle.vt_laws_sealed.proofs.part.Kept.{filter_again, kept_again}
-use Rattle.vt_laws_sealed.proofs.part.part.PartOfPart.{keep, kept_how, same_lowers, same_members, same_own, same_used, shown_how}
+use Rattle.vt_spec.proofs.Common.{cases_Bool, Among, FileTree, Filesystem, IsTree, IsWorld, Layer, ListsNumbers, Mount, Namespace, Node, Task, TaskName, World, among-filter, among-from_filter, among_from_all, among_numbers, and_from, and_parts, any_among, any_from_among, common_steps, cons_option, filesystem_numbered, is_among, is_among_numbers, is_at, is_under, lies_in_layer, lies_in_own_lower, list_any, locations, members, no_filesystem, only_among, own_lowers, part_of, part_of_filesystem, part_of_lower, part_of_master, part_of_mount, seen_by_descriptor, used_filesystems, when}
+use Rattle.vt_laws_members.proofs.Common.{filter_again, found_filesystem, keep, kept_again, kept_how, same_lowers, same_members, same_own, same_used, shown_how}
 use Rattle.vt_laws_members.specs.Changes.Parts.{PartOfAPart}
 use Rattle.vt_laws_members.proofs.changes.part.CutTrees.{under_in_cut}
 
@@ -73,28 +71,25 @@ module _ (world : World ℕ) (names : List TaskName) (is : IsWorld nat_eq world)
       search : (list : List (Filesystem ℕ)) → ((z : Filesystem ℕ) → Among z list → Among z world.filesystems)
           → Among x list → find (λ (f : Filesystem ℕ). nat_eq x.number f.number) (filter_map shown list) ≡ Some y
       search [] all there = absurd there
-      search (z ∷ rest) all there = by (nat_eq x.number z.number) refl (search rest (λ w n. all w (inr n)))
+      search (z ∷ rest) all there = elim (cases_Bool (nat_eq x.number z.number)) [
+        | inl h ↦ ap (λ o. find (λ (f : Filesystem ℕ). nat_eq x.number f.number) (cons_option o
+            (filter_map shown rest)))
+            (ap shown (itself z (all z (inl refl)) h) ∙ e)
+            ∙ ap (λ b. cond b (Some y) (find (λ (f : Filesystem ℕ). nat_eq x.number f.number)
+            (filter_map shown rest))) (ap (nat_eq x.number) (shown_number x y e) ∙ eq-eqb x.number x.number refl)
+        | inr h ↦ cc (
+          skip (shown z) refl h,
+          (search rest (λ w n. all w (inr n))) (⊎_elim (λ same. absurd (true≢false (sym (eq-eqb x.number z.number
+              (ap (λ (f : Filesystem ℕ).
+              f.number) same)) ∙ h))) (λ n. n) there),
+        )
+      ]
         where
           skip : (o : Option (Filesystem ℕ)) → shown z ≡ o → nat_eq x.number z.number ≡ false
               → find (λ (f : Filesystem ℕ). nat_eq x.number f.number) (cons_option o (filter_map shown rest))
               ≡ find (λ (f : Filesystem ℕ). nat_eq x.number f.number) (filter_map shown rest)
           skip None f h = refl
           skip (Some w) f h = cc (shown_number z w f)
-
-          by : (b : Bool) → nat_eq x.number z.number ≡ b → (Among x rest
-              → find (λ (f : Filesystem ℕ). nat_eq x.number f.number) (filter_map shown rest) ≡ Some y)
-              → find (λ (f : Filesystem ℕ). nat_eq x.number f.number) (cons_option (shown z) (filter_map shown rest))
-              ≡ Some y
-          by true h later =
-              ap (λ o. find (λ (f : Filesystem ℕ). nat_eq x.number f.number) (cons_option o (filter_map shown rest)))
-              (ap shown (itself z (all z (inl refl)) h) ∙ e)
-              ∙ ap (λ b. cond b (Some y) (find (λ (f : Filesystem ℕ). nat_eq x.number f.number)
-              (filter_map shown rest))) (ap (nat_eq x.number) (shown_number x y e) ∙ eq-eqb x.number x.number refl)
-          by false h later = cc (
-            skip (shown z) refl h,
-            later (⊎_elim (λ same. absurd (true≢false (sym (eq-eqb x.number z.number (ap (λ (f : Filesystem ℕ).
-                f.number) same)) ∙ h))) (λ n. n) there),
-          )
 
   -- a tree that the part has by lower layers alone
   module _ (x : Filesystem ℕ) (m : Among x world.filesystems) (unused : is_among nat_eq x.number used ≡ false)

@@ -1,21 +1,12 @@
 -- Nothing of the part of a sealed set is unused in it.
-use Rattle.std.proofs.Common.{◌≡◌, refl, sym, ap, subst, ◌∙◌, inr, ⊎_elim, ℕ, nat_eq, Bool, true, false, cond, true≢false, List, [], ◌∷◌, ◌++◌, Option, None, filter, flat_map, length, ◌≤◌, arith, eqb-true, filter_map}
+use Rattle.std.proofs.Common.{◌≡◌, refl, sym, ap, subst, ◌∙◌, inr, ⊎_elim, ℕ, nat_eq, Bool, true, false, cond, List, [], ◌∷◌, ◌++◌, Option, None, filter, flat_map, length, ◌≤◌, arith, eqb-true, filter_map}
 use Rattle.vt_spec.proofs.Common.{Among, Filesystem, Layer, TaskName, World, all_from_among, among-append_left, among-filter, among-filter_map, among-flat_map, among-from_filter, among-from_filter_map, among-map, among_from_contains, among_numbers, and_parts, any_among, any_from_among, common_steps, filesystem_lives, filesystem_numbered, has_members, is_among, is_among_numbers, is_member_of, is_own_mount, is_under, layers_in, layers_of, lies_in_layer, lies_in_own_lower, list_all, list_all_from_among, list_any, located_in, map_same, members, mount_lives, named_in, objects_of_overlay, of_overlay, only_used, only_used_of, own_lowers, own_mounts, part_of, part_of_filesystem, part_of_lower, part_of_mount, settled, used_directly, used_filesystems, used_in, without_dead_filesystems, without_dead_groups, without_dead_in, without_dead_mounts}
-use Rattle.vt_laws_mounts.specs.LettingGo.InUse.{AllInUse, is_inode_used}
-use Rattle.vt_laws_sealed.specs.Part.Parts.{SeesTheSame, shown_of}
-use Rattle.vt_laws_sealed.specs.Part.Seals.{IsApart}
-use Rattle.vt_laws_sealed.proofs.part.Kept.{length-filter_map}
-use Rattle.vt_laws_sealed.proofs.part.part.DeadMounts.{dead_mounts_are_in_no_part}
-use Rattle.vt_laws_sealed.proofs.part.part.PartOfPart.{found, keep, same_lowers, same_members, same_used, shown_how, used_directly_used}
-use Rattle.vt_laws_sealed.proofs.part.seals.ByPart.{IsSealed, apart_if_sealed, sealed_by}
-use Rattle.vt_laws_sealed.proofs.outsiders.FilesystemsSwept.{filesystems_swept}
+use Rattle.vt_laws_members.proofs.Common.{AllInUse, IsApart, IsSealed, SeesTheSame, apart_if_sealed, dead_mounts_are_in_no_part, filesystems_swept, found, is_inode_used, keep, length-filter_le, length-filter_map, lower_of, same_lowers, same_members, same_used, sealed_by, shown_how, shown_of, used_directly_used, used_later}
 use Rattle.vt_laws_sealed.proofs.outsiders.InodesUsed.{in_first, in_third, used_whole}
-use Rattle.vt_laws_sealed.proofs.outsiders.SeenLater.{lower_of, used_later}
-use Rattle.vt_laws_members.proofs.judging.MountTrees.{own_whole, part_one_number}
+use Rattle.vt_laws_members.proofs.judging.Common.{own_whole, part_one_number}
 use Rattle.vt_laws_members.specs.Changes.Parts.{PartIsSettled}
 use Rattle.vt_laws_members.proofs.changes.part.CutTrees.{named_in_cut}
 use Rattle.vt_laws_members.proofs.changes.part.PartAgain.{in_chosen, itself, listed, part_again, same_mounts, same_namespaces, same_shown, tree}
-use Rattle.vt_laws_trees.proofs.trees.Lists.{length-filter_le}
 
 keeps_all : {A : Type 0} (p : A → Bool) (xs : List A) → length xs ≤ length (filter p xs) → filter p xs ≡ xs
 keeps_all p [] l = refl

@@ -1,16 +1,20 @@
 -- A call of theirs that ends in the part as in the world if it is granted does so if it is refused.
-use Rattle.std.proofs.Common.{◌≡◌, refl, ap, subst, ◌∙◌, ℕ, nat_eq, true, false, [], List, Option, Some, None, Ok, Err, ◌||◌, is_ok, IfOk}
+use Rattle.std.proofs.Common.{inl, inr, ◌≡◌, refl, ap, subst, ◌∙◌, ℕ, nat_eq, true, false, [], List, Some, Ok, Err, ◌||◌, is_ok, IfOk}
 use Rattle.vt_spec.proofs.Common.{Call, Fresh, Judgement, Permit, Task, TaskName, World, denied, finished_by, judge_in, only_looks, task_called}
 use Rattle.vt_laws_members.specs.Changes.Changes.{EndsAlike, IsCallOfTheirs}
 use Rattle.vt_laws_members.proofs.changes.looks.Told.{ran}
 use Rattle.vt_laws_members.proofs.changes.tasks.Denied.{denial_ends_alike, run_by, unnamed_ends_alike}
+use Rattle.vt_laws_members.proofs.Common.{cases_Option}
 
 module _ {world : World ℕ} {names : List TaskName} {name : TaskName} {call : Call}
     (it : IsCallOfTheirs world names name call) (fresh other : Fresh ℕ) (looks : only_looks call ≡ false) where
   pub by_permit : ((task : Task ℕ) → task_called world name ≡ Some task → (permit : Permit ℕ)
       → judge_in nat_eq fresh world task call ≡ Ok permit → EndsAlike world names name call fresh other)
       → EndsAlike world names name call fresh other
-  by_permit granted_so = by (task_called world name) refl
+  by_permit granted_so = elim (cases_Option (task_called world name)) [
+    | inl none ↦ unnamed_ends_alike it fresh other none
+    | inr its ↦ judged_by its.0 its.1 (judge_in nat_eq fresh world its.0 call) refl
+  ]
     where
       judged_by : (task : Task ℕ) → task_called world name ≡ Some task → (j : Judgement ℕ)
           → judge_in nat_eq fresh world task call ≡ j → EndsAlike world names name call fresh other
@@ -19,10 +23,6 @@ module _ {world : World ℕ} {names : List TaskName} {name : TaskName} {call : C
           (ap (λ o. is_ok (ran name call world fresh o).answer) called
           ∙ ap (λ j. is_ok (run_by it world fresh task j).answer) judged
           ∙ ap (λ b. is_ok (finished_by nat_eq (b || true) world name [] (denied world deny)).answer) looks)
-
-      by : (o : Option (Task ℕ)) → task_called world name ≡ o → EndsAlike world names name call fresh other
-      by None none = unnamed_ends_alike it fresh other none
-      by (Some task) called = judged_by task called (judge_in nat_eq fresh world task call) refl
 
   -- the same, with what is known of each permit
   pub by_known : (Known : (task : Task ℕ) → task_called world name ≡ Some task → Permit ℕ → Type 0)

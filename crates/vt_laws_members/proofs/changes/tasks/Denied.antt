@@ -1,9 +1,8 @@
 -- A call of theirs that is refused leaves their part, and is refused alike.
-use Rattle.std.proofs.Common.{arith, ◌≡◌, refl, sym, ap, subst, ◌∙◌, ℕ, nat_eq, Bool, true, false, true≢false, not, List, Option, Some, None, Ok, Err, ◌||◌, is_ok}
+use Rattle.std.proofs.Common.{inl, inr, arith, ◌≡◌, refl, sym, ap, ◌∙◌, ℕ, nat_eq, Bool, true, false, true≢false, not, List, Option, Some, None, Ok, Err, ◌||◌, is_ok}
 use Rattle.vt_spec.proofs.Common.{Call, Fresh, Judgement, Outcome, Permit, Task, TaskName, World, after, apply, common_steps, contains_from_among, denied, filesystems_changed_by, finished, finished_by, judge_in, members, only_looks, part_of, policy, task_called}
-use Rattle.vt_spec.specs.declared.errors.Deny.{Deny}
-use Rattle.vt_laws_members.proofs.judging.ByPart.{members_are_judged_by_their_part}
-use Rattle.vt_laws_members.proofs.judging.TheirCalls.{caller_in, sealing_of}
+use Rattle.vt_laws_members.proofs.Common.{cases_Option, Deny}
+use Rattle.vt_laws_members.proofs.judging.Common.{caller_in, members_are_judged_by_their_part, sealing_of}
 use Rattle.vt_laws_members.specs.Changes.Changes.{DenialsEndAlike, EndAlike, EndsAlike, IsCallOfTheirs, grown}
 use Rattle.vt_laws_members.proofs.changes.looks.Told.{ended_alike, ran, same_caller}
 use Rattle.vt_laws_members.proofs.changes.part.PartAgain.{part_again}
@@ -65,7 +64,10 @@ module _ {world : World ℕ} {names : List TaskName} {name : TaskName} {call : C
 
   pub denial_ends_alike : is_ok (policy nat_eq fresh world name call).answer ≡ false
       → EndsAlike world names name call fresh other
-  denial_ends_alike refused = by (task_called world name) refl
+  denial_ends_alike refused = elim (cases_Option (task_called world name)) [
+    | inl e ↦ unnamed_ends_alike e
+    | inr its ↦ judged its.0 its.1 (judge_in nat_eq fresh world its.0 call) refl
+  ]
     where
       judged : (task : Task ℕ) → task_called world name ≡ Some task → (j : Judgement ℕ)
           → judge_in nat_eq fresh world task call ≡ j → EndsAlike world names name call fresh other
@@ -77,10 +79,6 @@ module _ {world : World ℕ} {names : List TaskName} {name : TaskName} {call : C
           (ended_alike names name call (ap (run_by it world fresh task) same ∙ refused_by world fresh task deny)
           (ap (run_by it part other task) (sym (same_judgement task e) ∙ same) ∙ refused_by part other task deny)
           (record { answer = refl; part = sym (part_again world names it.is) }))
-
-      by : (o : Option (Task ℕ)) → task_called world name ≡ o → EndsAlike world names name call fresh other
-      by None e = unnamed_ends_alike e
-      by (Some task) e = judged task e (judge_in nat_eq fresh world task call) refl
 
 pub denials_end_alike : DenialsEndAlike
 denials_end_alike world names name call it fresh other refused =

@@ -1,11 +1,9 @@
 -- A call that changes tasks alone, and lets nothing go, ends in the part as in the world.
-use Rattle.std.proofs.Common.{◌≡◌, refl, sym, ap, subst, ◌∙◌, ℕ, nat_eq, List, [], Some, Ok, filter, flat_map, map}
+use Rattle.std.proofs.Common.{◌≡◌, refl, sym, ap, ◌∙◌, ℕ, nat_eq, List, [], Some, Ok, filter, flat_map, map}
 use Rattle.vt_spec.proofs.Common.{Among, Answer, Call, Fresh, Location, Outcome, Task, TaskName, World, all_locations, granted, is_member_task, locations_of, numbers_raised, part_of, policy, raised, raised_task, settled, task_called}
-use Rattle.vt_laws_members.proofs.judging.TheirCalls.{sealing_of}
-use Rattle.vt_laws_mounts.specs.LettingGo.InUse.{AllInUse}
-use Rattle.vt_laws_mounts.proofs.letting_go.sweeps.InUse.{nothing_goes}
-use Rattle.vt_laws_mounts.proofs.letting_go.sweeps.OfWorlds.{all_in_use}
-use Rattle.vt_laws_members.specs.Changes.Changes.{EndAlike, EndsAlike, IsCallOfTheirs, grown}
+use Rattle.vt_laws_members.proofs.judging.Common.{sealing_of}
+use Rattle.vt_laws_members.proofs.Common.{AllInUse, all_in_use, nothing_goes}
+use Rattle.vt_laws_members.specs.Changes.Changes.{EndsAlike, IsCallOfTheirs, grown}
 use Rattle.vt_laws_members.proofs.changes.looks.Told.{ended_alike, ran, same_caller}
 use Rattle.vt_laws_members.proofs.changes.part.PartAgain.{part_again}
 use Rattle.vt_laws_members.proofs.changes.part.SettledPart.{part_in_use}

@@ -1,13 +1,11 @@
 -- A fork ends in the part as in the world, of the set with the child.
-use Rattle.std.proofs.Common.{◌≡◌, refl, sym, ap, subst, ◌∙◌, inl, inr, ℕ, nat_eq, Bool, true, false, cond, true≢false, List, [], ◌∷◌, ◌++◌, Some, filter, map, ◌||◌, ◌+◌, arith}
+use Rattle.std.proofs.Common.{◌≡◌, refl, sym, ap, subst, ◌∙◌, inl, inr, ℕ, nat_eq, Bool, true, false, cond, List, [], ◌∷◌, ◌++◌, Some, filter, map, ◌||◌, ◌+◌, arith}
 use Rattle.vt_spec.proofs.Common.{Among, Child, Credentials, Fork, IsWorld, Location, Mount, Task, TaskName, World, among-append_left, among-flat_map, among-from_filter, among-from_flat_map, among-map, any_from_among, child_name, child_of, common_steps, contains_from_among, false_from_ne_true, found_among, holds_of, is_among, is_member_task, list_any, locations, locations_of, members, mount_at, name-replaced_if_called, part_of, raised, raised_task, replaced_if_called, roots_and_directories, same_name, same_name_itself, same_task_name, seen_by_descriptor, task_called, used_directly, when}
-use Rattle.vt_laws_members.proofs.judging.TheirCalls.{IsMember, caller_in}
-use Rattle.vt_laws_sealed.proofs.part.part.PartOfPart.{is_own, keep, same_members}
+use Rattle.vt_laws_members.proofs.judging.Common.{IsMember, caller_in}
+use Rattle.vt_laws_members.proofs.Common.{is_own, keep, same_members}
 use Rattle.vt_laws_members.specs.Changes.Changes.{ForksEndAlike}
-use Rattle.vt_laws_members.proofs.changes.tasks.Denied.{ran_there, run_by}
+use Rattle.vt_laws_members.proofs.changes.Common.{SeeAlike, any_both, any_mapped, any_of_each, only_task, raised_is, ran_there, run_by}
 use Rattle.vt_laws_members.proofs.changes.tasks.Ending.{LeavesTasks, tasks_end_alike}
-use Rattle.vt_laws_members.proofs.changes.tasks.Retasked.{SeeAlike, any_both, any_of_each}
-use Rattle.vt_laws_members.proofs.changes.tasks.Rights.{any_mapped, only_task, raised_is}
 
 or_none : (b : Bool) → (b || (false || false)) ≡ b
 or_none true = refl

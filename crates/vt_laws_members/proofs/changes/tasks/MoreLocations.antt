@@ -1,7 +1,7 @@
 -- Where all is in use, it stays in use if tasks use more locations.
-use Rattle.std.proofs.Common.{◌≡◌, sym, subst, inl, inr, ⊎_elim, ℕ, nat_eq, Bool, true, List, ◌++◌, filter, flat_map, is_some, map, filter_map}
+use Rattle.std.proofs.Common.{◌≡◌, inl, inr, ⊎_elim, ℕ, nat_eq, Bool, true, List, ◌++◌, filter, flat_map, is_some, map, filter_map}
 use Rattle.vt_spec.proofs.Common.{Among, Filesystem, Location, Mount, Task, World, all_from_among, all_locations, among-append, among-append_left, among-append_right, among-filter, among-from_filter, among-from_map, among-map, among_from_all, among_from_list_all, among_numbers, any_among, any_from_among, is_among_numbers, is_located, layers_in, list_all, list_all_from_among, located_in, locations_of, mount_at, mount_lives, named_in, objects_of_overlay, or_cases, or_left, or_right, root_of, used_in}
-use Rattle.vt_laws_mounts.specs.LettingGo.InUse.{AllInUse, is_inode_used}
+use Rattle.vt_laws_members.proofs.Common.{AllInUse, is_inode_used}
 
 module _ (world : World ℕ) (tasks : List (Task ℕ)) (change : ℕ) (is : AllInUse world)
     (more : (location : Location ℕ) → Among location (all_locations world)

@@ -1,22 +1,15 @@
 -- An open of theirs by which filesystems change, and nothing goes, ends in the part as in the world.
-use Rattle.std.proofs.Common.{◌≡◌, refl, sym, ap, subst, ◌∙◌, ℕ, nat_eq, true, List, Some, filter, map, ◌||◌}
+use Rattle.std.proofs.Common.{◌≡◌, refl, sym, ap, ◌∙◌, ℕ, nat_eq, true, List, Some, filter, map, ◌||◌}
 use Rattle.vt_spec.proofs.Common.{Access, Among, Call, Creation, Filesystem, Fresh, Location, Mount, OpenFile, Opened, Outcome, Task, TaskName, World, among-from_filter, free_number, granted, is_among, is_at, is_member_task, map_twice, members, mount_at, numbers_raised, part_of, policy, raised, raised_if_changed, raised_task, replaced_if_called, roots_and_directories, same_name, settled, task_called, used_directly, with_descriptor, with_task}
-use Rattle.vt_laws_members.proofs.judging.TheirCalls.{sealing_of}
-use Rattle.vt_laws_mounts.specs.LettingGo.InUse.{AllInUse}
-use Rattle.vt_laws_mounts.specs.LettingGo.TreesOverlays.{with_filesystems}
-use Rattle.vt_laws_mounts.proofs.letting_go.Lists.{filter-map}
-use Rattle.vt_laws_mounts.proofs.letting_go.sweeps.InUse.{nothing_goes}
-use Rattle.vt_laws_sealed.proofs.part.part.PartOfPart.{is_own, same_members}
-use Rattle.vt_laws_members.proofs.judging.Grounds.{IsTheirs}
-use Rattle.vt_laws_members.proofs.judging.SeenInPart.{theirs_directly}
-use Rattle.vt_laws_members.specs.Changes.Changes.{EndAlike, EndsAlike, IsCallOfTheirs, grown}
-use Rattle.vt_laws_members.proofs.changes.looks.Told.{ended_alike, ran, same_caller}
+use Rattle.vt_laws_members.proofs.judging.Common.{IsTheirs, sealing_of, theirs_directly}
+use Rattle.vt_laws_members.proofs.Common.{AllInUse, filter-map, is_own, nothing_goes, same_members, with_filesystems}
+use Rattle.vt_laws_members.specs.Changes.Changes.{EndsAlike, IsCallOfTheirs}
+use Rattle.vt_laws_members.proofs.changes.Common.{ended_alike, ran, retasked, same_caller}
 use Rattle.vt_laws_members.proofs.changes.part.PartAgain.{part_again}
 use Rattle.vt_laws_members.proofs.changes.tasks.Ending.{LeavesTasks}
 use Rattle.vt_laws_members.proofs.changes.tasks.MoreLocations.{in_use_later}
 use Rattle.vt_laws_members.proofs.changes.tasks.Opening.{both_named, leaves}
 use Rattle.vt_laws_members.proofs.changes.tasks.RaisedTasks.{tasks_raised}
-use Rattle.vt_laws_members.proofs.changes.tasks.Retasked.{retasked}
 use Rattle.vt_laws_members.proofs.changes.tasks.WholeMounts.{used_in_part, whole_in_part, whole_in_world}
 
 -- the outcome of an open after which filesystems are these

@@ -1,22 +1,13 @@
 -- An open of a file that is there, and is not copied up, ends in the part as in the world.
-use Rattle.std.proofs.Common.{arith, ◌≡◌, refl, sym, ap, subst, ◌∙◌, ◌⊎◌, inl, inr, ⊎_elim, ℕ, nat_eq, Bool, true, false, cond, true≢false, List, [], ◌∷◌, ◌++◌, Option, Some, None, Ok, filter, map, ◌||◌, IfOk}
+use Rattle.std.proofs.Common.{arith, ◌≡◌, refl, sym, ap, subst, ◌∙◌, ◌⊎◌, inl, inr, ⊎_elim, ℕ, nat_eq, Bool, true, false, cond, List, [], ◌∷◌, ◌++◌, Option, Some, None, Ok, filter, map, ◌||◌, IfOk}
 use Rattle.vt_spec.proofs.Common.{Access, Among, Creation, Descriptor, Exclusive, Fresh, Here, IsWorld, Location, Looks, Mount, NoCreation, OpenFile, Opened, OrCreate, Outcome, Permit, Place, Task, TaskName, ToOpen, World, among-append, among-append_left, among-append_right, among-flat_map, among-from_filter, among-from_flat_map, among-from_map, among-map, any_among, any_from_among, changed_if, common_steps, create_file_permit, descriptor_rules, exclusive_word_rules, file_walk, file_word_rules, finished, found_among, free_number, holds_of, inserted, is_among, is_at, is_copied_up, is_member_task, list_any, locations, locations_of, looks_of, make_rules, map_twice, members, mount_at, name-replaced_if_called, new_file, new_walk, object_walk, open_by_permit, open_file_permit, open_new_permit, open_permit, open_rules, opened, opened_or_created_permit, opens_for_reading, opens_for_writing, part_of, raised, raised_task, replaced_if_called, roots_and_directories, same_name, same_task_name, same_truth, seen_by_descriptor, task_called, unless, unnumbered, used_directly, used_filesystems, when, with_copy, with_descriptor, ⊤}
-use Rattle.vt_laws_members.proofs.judging.TheirCalls.{IsMember, caller_in}
-use Rattle.vt_laws_mounts.proofs.letting_go.Lists.{filter-map}
-use Rattle.vt_laws_sealed.proofs.part.part.PartOfPart.{is_own, keep, same_members}
+use Rattle.vt_laws_members.proofs.judging.Common.{FoundAt, HereAt, IsMember, IsTheirs, JudgesAlike, PlaceAt, caller_in, file_agrees, filesystem_alike, judges, new_agrees, object_agrees, theirs_directly, theirs_from}
+use Rattle.vt_laws_members.proofs.Common.{filter-map, is_own, keep, same_members}
 use Rattle.vt_laws_members.specs.Judging.{is_theirs}
-use Rattle.vt_laws_members.proofs.judging.AllJudged.{judges}
-use Rattle.vt_laws_members.proofs.judging.Grounds.{IsTheirs, theirs_from}
-use Rattle.vt_laws_members.proofs.judging.Judged.{JudgesAlike}
-use Rattle.vt_laws_members.proofs.judging.SeenInPart.{filesystem_alike, theirs_directly}
-use Rattle.vt_laws_members.proofs.judging.WalksLead.{FoundAt, HereAt, PlaceAt, file_agrees, new_agrees, object_agrees}
 use Rattle.vt_laws_members.specs.Changes.Changes.{OpensEndAlike}
-use Rattle.vt_laws_members.proofs.changes.looks.Granted.{of_rules, of_walk}
-use Rattle.vt_laws_members.proofs.changes.tasks.Denied.{ran_there, run_by}
+use Rattle.vt_laws_members.proofs.changes.Common.{SeeAlike, members_changed, of_rules, of_walk, only_task, own_alike, raised_is, ran_there, roots_alike, run_by}
 use Rattle.vt_laws_members.proofs.changes.tasks.Ending.{LeavesTasks, tasks_end_alike}
-use Rattle.vt_laws_members.proofs.changes.tasks.Retasked.{SeeAlike}
 use Rattle.vt_laws_members.proofs.changes.tasks.WholeMounts.{used_in_part, whole_in_part, whole_in_world}
-use Rattle.vt_laws_members.proofs.changes.tasks.Rights.{members_changed, only_task, own_alike, raised_is, roots_alike}
 
 -- What is opened is on a mount of theirs
 abbrev pub OpensOn : (own : ℕ → Bool) → Permit ℕ → Type 0

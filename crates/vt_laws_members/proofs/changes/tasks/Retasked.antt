@@ -1,8 +1,7 @@
 -- The part of a world in which tasks change alone, and the tasks of a set see what they saw.
-use Rattle.std.proofs.Common.{arith, ◌≡◌, refl, sym, ap, ◌∙◌, ℕ, nat_eq, Bool, cond, List, [], ◌∷◌, ◌++◌, Some, None, filter, flat_map, ◌||◌}
-use Rattle.vt_spec.proofs.Common.{Among, Filesystem, Layer, Mount, Namespace, Overlay, Task, TaskName, World, any_among, any_from_among, change_layers, common_steps, each_once, filesystem_numbered, holds_of, is_among, is_member_of, lies_in_layer, list_any, members, of_overlay, only_among, own_lowers, own_mounts, part_of, part_of_filesystem, same_truth, used_directly, used_filesystems, when}
-use Rattle.vt_laws_sealed.proofs.part.Kept.{among-each_once, among-from_each_once, filter_map_same}
-use Rattle.vt_laws_sealed.proofs.part.part.PartOfPart.{keep}
+use Rattle.std.proofs.Common.{arith, ◌≡◌, refl, sym, ◌∙◌, ℕ, nat_eq, Bool, cond, List, [], ◌∷◌, ◌++◌, Some, None, filter, flat_map, ◌||◌}
+use Rattle.vt_spec.proofs.Common.{Among, Filesystem, Layer, Mount, Namespace, Task, TaskName, World, any_among, any_from_among, change_layers, common_steps, each_once, filesystem_numbered, holds_of, is_among, is_member_of, lies_in_layer, list_any, members, only_among, own_lowers, own_mounts, part_of, part_of_filesystem, same_truth, used_directly, used_filesystems, when}
+use Rattle.vt_laws_members.proofs.Common.{among-each_once, among-from_each_once, filter_map_same, keep}
 
 any_once : (p : ℕ → Bool) (xs : List ℕ) → list_any p (each_once nat_eq xs) ≡ list_any p xs
 any_once p xs =
@@ -47,9 +46,6 @@ module _ (world : World ℕ) (names set : List TaskName) (tasks : List (Task ℕ
             ≡ (list_any (nat_eq n) direct
             || list_any (λ k. list_any (nat_eq n) (change_layers (filesystem_numbered nat_eq world k))) direct)
         spread direct = grind (arith, common_steps, any_once, any_both, any_of_each)
-
-    abbrev lowers_at : ℕ → List (Layer ℕ)
-    lowers_at k = of_overlay [] (λ (overlay : Overlay ℕ). overlay.lowers) (filesystem_numbered nat_eq world k)
 
     lowers_same : (p : Layer ℕ → Bool)
         → list_any p (own_lowers nat_eq later set) ≡ list_any p (own_lowers nat_eq world names)

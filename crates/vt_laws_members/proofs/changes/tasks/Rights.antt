@@ -1,9 +1,8 @@
 -- Calls that change a task's rights alone end in the part as in the world.
-use Rattle.std.proofs.Common.{◌≡◌, refl, sym, ap, subst, ◌∙◌, inl, inr, ⊎_elim, ℕ, nat_eq, Bool, true, false, cond, true≢false, List, [], ◌∷◌, ◌++◌, Option, Some, None, Ok, filter, map, ◌||◌, arith}
-use Rattle.vt_spec.proofs.Common.{Among, Answer, Call, Done, Drop, Fresh, Location, Mount, Pwrite, Rename, Task, TaskName, Umask, World, among-from_filter, any_pair, common_steps, found_among, holds_of, is_among, is_at, is_member_task, list_any, locations, locations_of, map_same, map_twice, members, mount_at, name-replaced_if_called, none_among, or_parts, part_of, raised, raised_task, replaced_if_called, roots_and_directories, same_name, same_name_itself, same_task_name, seen_by_descriptor, task_called, when, with_dropped}
+use Rattle.std.proofs.Common.{◌≡◌, refl, sym, ap, subst, ◌∙◌, inl, inr, ⊎_elim, ℕ, nat_eq, Bool, true, false, cond, true≢false, List, [], ◌∷◌, ◌++◌, Some, Ok, filter, map, ◌||◌, arith}
+use Rattle.vt_spec.proofs.Common.{Among, Answer, Call, Done, Fresh, Location, Mount, Pwrite, Rename, Task, TaskName, World, among-from_filter, any_pair, common_steps, found_among, holds_of, is_among, is_at, is_member_task, list_any, locations, locations_of, map_same, map_twice, members, mount_at, name-replaced_if_called, none_among, or_parts, part_of, raised, raised_task, replaced_if_called, roots_and_directories, same_name, same_name_itself, same_task_name, seen_by_descriptor, task_called, when, with_dropped}
 use Rattle.vt_spec.specs.Machine.Tasks.{capabilities_of, permission_bits}
-use Rattle.vt_laws_mounts.proofs.letting_go.Lists.{filter-map, flat_map-step}
-use Rattle.vt_laws_sealed.proofs.part.part.PartOfPart.{same_members}
+use Rattle.vt_laws_members.proofs.Common.{cases_Option, filter-map, flat_map-step, same_members}
 use Rattle.vt_laws_members.specs.Changes.Changes.{DropsEndAlike, EmptyWritesEndAlike, EndsAlike, IsCallOfTheirs, RenamesOfOneEndAlike, UmasksEndAlike, grown}
 use Rattle.vt_laws_members.proofs.changes.looks.Told.{ran}
 use Rattle.vt_laws_members.proofs.changes.tasks.Denied.{ran_there, run_by, unnamed_ends_alike}
@@ -151,21 +150,19 @@ module _ {world : World ℕ} {names : List TaskName} {name : TaskName} {call : C
       )
 
 pub umasks_end_alike : UmasksEndAlike
-umasks_end_alike world names name mode it fresh other = by (task_called world name) refl
-  where
-    by : (o : Option (Task ℕ)) → task_called world name ≡ o → EndsAlike world names name (Umask mode) fresh other
-    by None e = unnamed_ends_alike it fresh other e
-    by (Some task) e = rights_end it e (record task { umask = permission_bits mode }) refl refl refl refl Done
-        fresh other refl refl refl
+umasks_end_alike world names name mode it fresh other = elim (cases_Option (task_called world name)) [
+  | inl e ↦ unnamed_ends_alike it fresh other e
+  | inr its ↦ rights_end it its.1 (record its.0 { umask = permission_bits mode }) refl refl refl refl Done
+      fresh other refl refl refl
+]
 
 pub drops_end_alike : DropsEndAlike
-drops_end_alike world names name which it fresh other = by (task_called world name) refl
-  where
-    by : (o : Option (Task ℕ)) → task_called world name ≡ o → EndsAlike world names name (Drop which) fresh other
-    by None e = unnamed_ends_alike it fresh other e
-    by (Some task) e = rights_end it e (record task
-        { credentials = with_dropped task.credentials (capabilities_of which task.credentials) }) refl refl refl refl
-        Done fresh other refl refl refl
+drops_end_alike world names name which it fresh other = elim (cases_Option (task_called world name)) [
+  | inl e ↦ unnamed_ends_alike it fresh other e
+  | inr its ↦ rights_end it its.1 (record its.0
+      { credentials = with_dropped its.0.credentials (capabilities_of which its.0.credentials) }) refl refl refl refl
+      Done fresh other refl refl refl
+]
 
 -- Calls that are granted and change nothing
 itself_again : (task : Task ℕ) (tasks : List (Task ℕ)) → ((t : Task ℕ) → Among t tasks → t.name ≡ task.name → t ≡ task)

@@ -1,10 +1,8 @@
 -- A mount of theirs is whole in the part.
 use Rattle.std.proofs.Common.{arith, ◌≡◌, sym, ap, subst, ◌∙◌, ⊎_elim, ℕ, nat_eq, eqb-true, true, List, Some, ◌||◌}
 use Rattle.vt_spec.proofs.Common.{Among, IsWorld, Location, Mount, TaskName, World, among-from_filter_map, common_steps, is_at, members, mount_at, or_left, or_right, part_of, roots_and_directories, same_Some, used_directly}
-use Rattle.vt_laws_sealed.proofs.part.part.MountsOver.{numbered}
-use Rattle.vt_laws_sealed.proofs.part.part.PartOfPart.{is_own, keep, kept_how, kept_whole, same_directly, same_members}
-use Rattle.vt_laws_members.proofs.judging.Grounds.{IsTheirs, same_mount}
-use Rattle.vt_laws_members.proofs.judging.SeenInPart.{theirs_directly}
+use Rattle.vt_laws_members.proofs.Common.{is_own, keep, kept_how, kept_whole, numbered, same_directly, same_members}
+use Rattle.vt_laws_members.proofs.judging.Common.{IsTheirs, same_mount, theirs_directly}
 
 module _ (world : World ℕ) (names : List TaskName) (is : IsWorld nat_eq world) (file : Location ℕ)
     (ground : IsTheirs world names is.mounts file.mount) where

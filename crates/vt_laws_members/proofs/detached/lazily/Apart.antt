@@ -1,17 +1,10 @@
 -- Where mounts of a sealed set are detached, its mounts share no events with others, neither in the world nor in
 -- the part.
-use Rattle.std.proofs.Common.{arith, ◌≡◌, refl, sym, ap, ◌∙◌, ⊎_elim, ℕ, nat_eq, eq-eqb, Bool, true, false, cond, true≢false, List, Option, Some, None, length, not}
+use Rattle.std.proofs.Common.{arith, ◌≡◌, refl, ap, ◌∙◌, ⊎_elim, ℕ, nat_eq, eq-eqb, Bool, true, false, cond, List, Option, Some, None, length, not}
 use Rattle.vt_spec.proofs.Common.{Among, HasLivingGroups, Mount, Private, Propagation, Shared, Slave, Task, TaskName, Unbindable, World, among-filter, among-from_filter, among-from_filter_map, among-from_map, among_from_all, common_steps, false_from_ne_true, filter_none, found_among, group_of, groups_up, has_members, heir, holds_of, inherited, is_among_numbers, is_going, is_member_of, is_own_mount, is_own_namespace, list_all, list_all_from_among, list_any, master_of, members, none_from_among, none_is_some, or_from, other_mounts, own_mounts, part_of, receives_events_of, share_events, shares_no_events, slave_of_heir, source_of}
-use Rattle.vt_laws_mounts.proofs.GroupsUp.{source_from_group}
-use Rattle.vt_laws_mounts.proofs.mounts.Receivers.{along_chain}
-use Rattle.vt_laws_sealed.proofs.part.groups.EventsApart.{member_group, none_hears, start_hears}
-use Rattle.vt_laws_sealed.proofs.part.groups.ReceiversAlike.{OtherLives, none_other, other_above}
-use Rattle.vt_laws_sealed.proofs.part.part.PartOfPart.{keep, same_members}
-use Rattle.vt_laws_members.proofs.judging.MountPoints.{part_mount}
-use Rattle.vt_laws_members.proofs.changes.letting_go.Heard.{IsHeard, above_heard, apart, heard_by_own}
-use Rattle.vt_laws_members.proofs.changes.letting_go.NamespaceLess.{ended, ended_by, ended_mount, ended_part, member_was, placed_so}
-use Rattle.vt_laws_members.proofs.changes.letting_go.Regrouped.{TheirsGo, left_by, master_after}
-use Rattle.vt_laws_members.proofs.changes.letting_go.Taken.{all_stay}
+use Rattle.vt_laws_members.proofs.Common.{OtherLives, along_chain, keep, member_group, none_hears, none_other, other_above, same_members, source_from_group, start_hears}
+use Rattle.vt_laws_members.proofs.judging.Common.{part_mount}
+use Rattle.vt_laws_members.proofs.changes.Common.{IsHeard, TheirsGo, above_heard, all_stay, apart, ended, ended_by, ended_mount, ended_part, heard_by_own, left_by, master_after, member_was, placed_so}
 
 module _ {world : World ℕ} {names : List TaskName} {gone : List ℕ} (go : TheirsGo world names gone)
     (b : Bool) where

@@ -1,5 +1,5 @@
 -- Worlds that differ in the masters of groups without members have the same invariants of mounts, and the same goes.
-use Rattle.std.proofs.Common.{arith, ◌≡◌, refl, sym, ap, ◌∙◌, ℕ, zero, suc, nat_eq, Bool, true, false, cond, Option, Some, None, length}
+use Rattle.std.proofs.Common.{arith, ◌≡◌, refl, sym, ◌∙◌, ℕ, zero, suc, nat_eq, Bool, true, false, Option, Some, None, length}
 use Rattle.vt_spec.proofs.Common.{Among, HasLivingGroups, Lives, Location, Mount, MountInvariants, World, all_from_among, among_from_all, chain, chain_ends, chain_goes_on, common_steps, filter_alike, going, going_at, going_from, groups_up, has_master, has_members, has_no_master, holds_of, is_among, is_shared, mount_at, receivers_of, receives, source_of, stands_alike, without_dead_groups}
 
 module _ (w : World ℕ) where

@@ -1,29 +1,14 @@
 -- Each umount(2) with MNT_DETACH ends in the part as in the world.
-use Rattle.std.proofs.Common.{◌≡◌, refl, sym, ap, subst, ◌∙◌, ⊎_elim, ℕ, nat_eq, eq-eqb, true, true≢false, List, [], Option, Some, None, Ok, Err, is_ok}
-use Rattle.vt_spec.proofs.Common.{Among, Call, Done, Fresh, Judgement, Lazy, Mount, MountInvariants, Outcome, Permit, Task, TaskName, ToUnmountLazily, World, folded, found_or_none, granted, holds_of, judge_in, lazily_unmounted, looks_of, members, mount_numbered, none_is_some, numbers_raised, overfills, part_of, policy, settled, taken_away, task_called, unmounted_if_there}
-use Rattle.vt_laws_members.proofs.judging.TheirCalls.{caller_in, sealing_of}
-use Rattle.vt_laws_rules.specs.Granted.{IsGranted}
-use Rattle.vt_laws_rules.specs.Granted.IsGranted.{unmounts_lazily}
-use Rattle.vt_laws_rules.proofs.given.Inversion.{calls_are_granted}
+use Rattle.std.proofs.Common.{◌≡◌, refl, ap, ◌∙◌, ⊎_elim, ℕ, nat_eq, eq-eqb, true, List, [], Some, Ok}
+use Rattle.vt_spec.proofs.Common.{Among, Call, Done, Fresh, Lazy, Mount, MountInvariants, Outcome, Permit, Task, TaskName, ToUnmountLazily, World, folded, found_or_none, granted, judge_in, lazily_unmounted, looks_of, members, mount_numbered, none_is_some, numbers_raised, overfills, part_of, policy, settled, taken_away, task_called, unmounted_if_there}
+use Rattle.vt_laws_members.proofs.judging.Common.{caller_in, in_own, sealing_of}
+use Rattle.vt_laws_members.proofs.Common.{IsGranted, IsSealed, all_permits_fit, begun, calls_are_granted, is_own, name_found, taken_in_turn, unmounts_lazily}
 use Rattle.vt_laws_mounts.proofs.letting_go.SweptBetween.{settled_without_groups}
-use Rattle.vt_laws_mounts.proofs.ends.EndingLazy.{IsUnderWay, begun}
-use Rattle.vt_laws_mounts.proofs.ends.EndingOrder.{taken_in_turn}
-use Rattle.vt_laws_sealed.proofs.part.seals.ByPart.{IsSealed}
-use Rattle.vt_laws_worlds.proofs.worlds.CallsKept.{name_found}
-use Rattle.vt_laws_worlds.proofs.worlds.FitPermitsNamed.{all_permits_fit}
-use Rattle.vt_laws_sealed.proofs.part.part.PartOfPart.{is_own}
-use Rattle.vt_laws_members.proofs.judging.MountPoints.{in_own}
-use Rattle.vt_laws_members.specs.Changes.Changes.{EndAlike, EndsAlike, IsCallOfTheirs, grown}
-use Rattle.vt_laws_members.proofs.changes.letting_go.PartMounts.{part_mounts}
-use Rattle.vt_laws_members.proofs.changes.letting_go.Taken.{taken_parts}
-use Rattle.vt_laws_members.proofs.changes.looks.Told.{ended_alike, ran, same_caller}
-use Rattle.vt_laws_members.proofs.changes.names.NamesEnding.{unused_numbers, unused_serve}
-use Rattle.vt_laws_members.proofs.changes.tasks.ByPermit.{by_permit}
-use Rattle.vt_laws_members.proofs.changes.tasks.Denied.{denial_ends_alike, ran_there, run_by, unnamed_ends_alike}
+use Rattle.vt_laws_members.specs.Changes.Changes.{EndsAlike, IsCallOfTheirs}
+use Rattle.vt_laws_members.proofs.changes.Common.{TheirsGo, by_permit, ended_alike, part_mounts, ran, ran_there, run_by, same_caller, taken_parts, unused_numbers, unused_serve}
 use Rattle.vt_laws_members.specs.Detached.Lazily.{LazyUmountsDetachAlike}
 use Rattle.vt_laws_members.proofs.detached.lazily.Order.{same_turns, turns_own}
 use Rattle.vt_laws_members.proofs.detached.lazily.Turns.{SameButGroups, TookAway, events_alike, kept_but_groups, took, took_none}
-use Rattle.vt_laws_members.proofs.changes.letting_go.Regrouped.{TheirsGo}
 
 -- worlds that differ in dead groups are swept to one
 settled_but_groups : (one other : World ℕ) → SameButGroups one other → settled nat_eq one ≡ settled nat_eq other
@@ -66,13 +51,17 @@ module _ {world : World ℕ} {names : List TaskName} (sealing : IsSealed world n
   pub lazy_parts : part_of nat_eq (numbers_raised nat_eq world name [] (settled nat_eq
       (lazily_unmounted nat_eq world number))) names
       ≡ part_of nat_eq (numbers_raised nat_eq part name [] (settled nat_eq (lazily_unmounted nat_eq part number))) names
-  lazy_parts = ap (λ w. part_of nat_eq (numbers_raised nat_eq world name [] w) names)
-      (settled_but_groups (lazily_unmounted nat_eq world number) (taken_away nat_eq world gone) same_here)
-      ∙ taken_parts all_gone.1 (kept_but_groups (lazily_unmounted nat_eq world number) (taken_away nat_eq world gone)
-      same_here all_gone.2.kept) (kept_but_groups left_there (taken_away nat_eq part gone) same_there all_gone.3.kept)
-      name ∙ sym (ap (λ w. part_of nat_eq (numbers_raised nat_eq part name [] w) names)
-      (ap (λ list. settled nat_eq (folded (unmounted_if_there nat_eq) part list)) same
-      ∙ settled_but_groups left_there (taken_away nat_eq part gone) same_there))
+  lazy_parts = cc (
+    settled_but_groups (lazily_unmounted nat_eq world number)
+        (taken_away nat_eq world gone) same_here,
+    taken_parts all_gone.1 (kept_but_groups
+        (lazily_unmounted nat_eq world number) (taken_away nat_eq world gone) same_here all_gone.2.kept)
+        (kept_but_groups left_there
+        (taken_away nat_eq part gone) same_there all_gone.3.kept) name,
+    same,
+    settled_but_groups left_there
+        (taken_away nat_eq part gone) same_there,
+  )
 
 -- a granted call detaches a mount
 detaches : (world : World ℕ) (fresh : Fresh ℕ) (task : Task ℕ) (path : List ℕ) (asked : Call) (permit : Permit ℕ)

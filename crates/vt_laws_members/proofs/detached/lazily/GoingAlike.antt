@@ -1,14 +1,9 @@
 -- What an unmount event of a mount of theirs detaches is theirs, and the same in the part, as soon as mounts have their
 -- invariants and share no events with others.
-use Rattle.std.proofs.Common.{arith, ◌≡◌, refl, sym, ap, subst, ◌∙◌, ⊎_elim, inl, ℕ, nat_eq, Bool, true, false, true≢false, not, List, [], ◌∷◌, Option, Some, None, map, option_map, unwrap_or, filter_map}
-use Rattle.vt_spec.proofs.Common.{Among, Location, Mount, MountInvariants, Task, TaskName, World, among-filter, among-from_filter, among-from_filter_map, among-from_map, among_from_list_all, and_parts, child_at, children, common_steps, contains_from_among, found_among, found_passes, goes_at, going, going_at, going_from, group_of, groups_up, holds_of, is_among, is_at, is_own_mount, is_own_namespace, is_shared, may_go, members, mount_at, mount_numbered, none_is_some, or_left, other_mounts, own_mounts, part_of, receivers, receivers_of, receives, roots_and_directories, same_Some, shares_no_events, source_of, stands_at, stands_on, then_some, when}
-use Rattle.vt_laws_mounts.proofs.mounts.MountsPlaces.{stands_there}
-use Rattle.vt_laws_worlds.proofs.worlds.Reached.{namespace_below}
+use Rattle.std.proofs.Common.{inr, arith, ◌≡◌, refl, sym, ap, subst, ◌∙◌, ⊎_elim, inl, ℕ, nat_eq, Bool, true, false, true≢false, not, List, [], ◌∷◌, Option, Some, None, map, option_map, unwrap_or, filter_map}
+use Rattle.vt_spec.proofs.Common.{cases_Bool, Among, Location, Mount, MountInvariants, Task, TaskName, World, among-filter, among-from_filter, among-from_filter_map, among-from_map, among_from_list_all, and_parts, child_at, children, common_steps, contains_from_among, found_among, found_passes, goes_at, going, going_at, going_from, group_of, holds_of, is_at, is_own_mount, is_own_namespace, is_shared, may_go, members, mount_at, mount_numbered, none_is_some, or_left, other_mounts, own_mounts, part_of, receivers, receivers_of, receives, roots_and_directories, same_Some, shares_no_events, source_of, stands_at, stands_on, then_some, when}
+use Rattle.vt_laws_members.proofs.Common.{filter_both, filter_map_same, is_own, keep, kept_how, kept_whole, namespace_below, no_event_of_theirs_reaches_others, numbered, same_child, stands_there, their_groups_receive_alike}
 use Rattle.vt_laws_sealed.specs.Part.Groups.{SharesNoEvents}
-use Rattle.vt_laws_sealed.proofs.part.Kept.{filter_both, filter_map_same}
-use Rattle.vt_laws_sealed.proofs.part.groups.ReceiversAlike.{no_event_of_theirs_reaches_others, their_groups_receive_alike}
-use Rattle.vt_laws_sealed.proofs.part.part.MountsOver.{same_child, numbered}
-use Rattle.vt_laws_sealed.proofs.part.part.PartOfPart.{is_own, keep, kept_how, kept_whole}
 use Rattle.vt_laws_members.proofs.judging.Grounds.{IsTheirs, child_theirs, its_mount, own_by, parent_theirs, same_mount, stands_itself, theirs_whole}
 use Rattle.vt_laws_members.proofs.judging.MountTrees.{stands_where}
 
@@ -66,16 +61,15 @@ module _ (world : World ℕ) (names : List TaskName) (invariants : MountInvarian
       side : Among receiver world.mounts → (group : ℕ) → group_of mount.propagation ≡ Some group
           → receives nat_eq world group receiver ≡ true → (o : Option ℕ) → receiver.namespace ≡ o → owns receiver ≡ true
       side there group e hears None f = cc (alone_source world receiver invariants there f)
-      side there group e hears (Some n) f = which (is_own_namespace nat_eq world names n) refl
-        where
-          which : (b : Bool) → is_own_namespace nat_eq world names n ≡ b → owns receiver ≡ true
-          which true its = cc
-          which false other =
-              absurd (true≢false (sym hears ∙ no_event_of_theirs_reaches_others world names mount receiver group apart
-              (contains_from_among (own_mounts nat_eq world names) mount (among-filter (is_own_mount nat_eq world names)
-              world.mounts mount m own)) (contains_from_among (other_mounts nat_eq world names) receiver
-              (among-filter (λ (x : Mount ℕ). holds_of (λ k. not (is_own_namespace nat_eq world names k)) x.namespace)
-              world.mounts receiver there (cc))) e))
+      side there group e hears (Some n) f = elim (cases_Bool (is_own_namespace nat_eq world names n)) [
+        | inl its ↦ cc
+        | inr other ↦ absurd (true≢false
+            (sym hears ∙ no_event_of_theirs_reaches_others world names mount receiver group apart
+            (contains_from_among (own_mounts nat_eq world names) mount (among-filter (is_own_mount nat_eq world names)
+            world.mounts mount m own)) (contains_from_among (other_mounts nat_eq world names) receiver
+            (among-filter (λ (x : Mount ℕ). holds_of (λ k. not (is_own_namespace nat_eq world names k)) x.namespace)
+            world.mounts receiver there (cc))) e))
+      ]
 
       by : (o : Option ℕ) → group_of mount.propagation ≡ o
           → Among receiver (unwrap_or (option_map (receivers nat_eq world) o) [])

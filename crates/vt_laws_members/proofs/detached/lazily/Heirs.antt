@@ -1,11 +1,7 @@
 -- The heir of a group, one step up the masters at a time, and where groups that live come to an end.
-use Rattle.std.proofs.Common.{◌≡◌, refl, sym, ap, ◌∙◌, true, false, zero, suc, Bool, None, Option, Some, arith, cond, find, is_some, length, not, true≢false, ℕ, nat_eq, ◌≤◌, ◌||◌}
-use Rattle.vt_spec.proofs.Common.{Among, HasLivingGroups, Lives, Mount, World, among_from_all, any_among, chain, chain_ends, chain_goes_on, common_steps, find-chain_start, has_master, has_members, has_no_master, heir, is_lost_group, is_member_of, last_of_chain, last_or, list_any, lost_a_group, none_among, none_from_among, not-false, not-true, or_parts, regrouped, regrouped_by, source_of, then_some}
-use Rattle.vt_laws_mounts.specs.Mounts.Receivers.{AllGroupsLive}
-use Rattle.vt_laws_mounts.proofs.GroupsKept.{member_shared}
-use Rattle.vt_laws_mounts.proofs.GroupsLiving.{tested_live}
-use Rattle.vt_laws_mounts.proofs.GroupsUp.{live_members}
-use Rattle.vt_laws_mounts.proofs.mounts.Receivers.{groups_live_at}
+use Rattle.std.proofs.Common.{inl, inr, ◌≡◌, refl, ap, ◌∙◌, true, false, zero, suc, Bool, None, Option, Some, arith, find, is_some, length, not, ℕ, nat_eq, ◌≤◌, ◌||◌}
+use Rattle.vt_spec.proofs.Common.{Among, HasLivingGroups, Lives, Mount, World, among_from_all, any_among, chain, chain_ends, chain_goes_on, common_steps, find-chain_start, has_master, has_members, has_no_master, heir, is_lost_group, is_member_of, last_of_chain, last_or, list_any, lost_a_group, none_among, none_from_among, not-false, not-true, or_parts, regrouped, regrouped_by, source_of}
+use Rattle.vt_laws_members.proofs.Common.{cases_Option, AllGroupsLive, groups_live_at, live_members, member_shared, tested_live}
 
 -- where a chain of so many steps ends
 module _ {A : Type 0} (next : A → Option A) where
@@ -115,18 +111,16 @@ module _ (world : World ℕ) where
 -- where all groups live, nothing is lost
 module _ (world : World ℕ) (live : AllGroupsLive world) where
   unlost : (mount : Mount ℕ) → Among mount world.mounts → lost_a_group nat_eq world mount ≡ false
-  unlost mount m = by (source_of mount.propagation) refl
+  unlost mount m = elim (cases_Option (source_of mount.propagation)) [
+    | inl e ↦ cc
+    | inr its ↦ cc (above its.0 (among_from_all (HasLivingGroups nat_eq world) world.mounts live mount m its.0 its.1))
+  ]
     where
       above : (group : ℕ) → Lives (members world) world.master group
           → (not (members world group) || is_lost_group nat_eq world (world.master group)) ≡ false
       above group (has_no_master it has e) = (λ i. not (has i) || is_lost_group nat_eq world (e i))
       above group (has_master it next has e later) = (λ i. not (has i) || is_lost_group nat_eq world (e i))
           ∙ ap not (live_members world.master (members world) next later)
-
-      by : (o : Option ℕ) → source_of mount.propagation ≡ o → lost_a_group nat_eq world mount ≡ false
-      by None e = cc
-      by (Some group) e =
-          cc (above group (among_from_all (HasLivingGroups nat_eq world) world.mounts live mount m group e))
 
   pub nothing_lost : list_any (lost_a_group nat_eq world) world.mounts ≡ false
   nothing_lost = none_from_among (lost_a_group nat_eq world) world.mounts unlost

@@ -1,16 +1,9 @@
 -- The events of a lazy unmount of a mount of theirs are the same in the part, in the same order.
-use Rattle.std.proofs.Common.{◌≡◌, refl, sym, ap, subst, ◌∙◌, inl, inr, ⊎_elim, ℕ, zero, suc, nat_eq, arith, true, List, [], ◌∷◌, Option, Some, None, length, ◌≤◌, if◌then◌else◌, nat_lt}
+use Rattle.std.proofs.Common.{◌≡◌, refl, sym, ap, subst, ◌∙◌, inl, inr, ⊎_elim, ℕ, zero, suc, nat_eq, arith, true, List, [], ◌∷◌, Some, None, length, ◌≤◌, if◌then◌else◌, nat_lt}
 use Rattle.vt_spec.proofs.Common.{Among, Location, Mount, MountInvariants, Task, TaskName, World, among-from_filter, among-from_flat_map, chain_ends, children, common_steps, depth_of, folded, insert_deepest, members, mount_numbered, mount_tree, number-mount_in, part_of, stands_on, tree_from}
-use Rattle.vt_laws_sealed.proofs.part.part.MountsOver.{numbered}
-use Rattle.vt_laws_mounts.specs.Mounts.Invariants.{OneNumberEach}
-use Rattle.vt_laws_mounts.specs.Mounts.Standing.{AllStand}
-use Rattle.vt_laws_mounts.proofs.ends.EndingOrder.{among_inserted, from_tree, taken_in_turn}
-use Rattle.vt_laws_mounts.proofs.mounts.Standing.{depth_by_rank, rank, rank_child}
-use Rattle.vt_laws_sealed.proofs.part.part.PartOfPart.{is_own}
-use Rattle.vt_laws_members.proofs.judging.Grounds.{IsTheirs, parent_theirs, same_mount}
-use Rattle.vt_laws_members.proofs.judging.MountTrees.{child_own, own_theirs, tree_alike}
-use Rattle.vt_laws_members.proofs.changes.letting_go.PartMounts.{part_mounts}
-use Rattle.vt_laws_sealed.proofs.part.seals.ByPart.{IsSealed}
+use Rattle.vt_laws_members.proofs.Common.{cases_Option, AllStand, IsSealed, OneNumberEach, among_inserted, depth_by_rank, from_tree, is_own, numbered, rank, rank_child, taken_in_turn}
+use Rattle.vt_laws_members.proofs.judging.Common.{IsTheirs, child_own, own_theirs, parent_theirs, same_mount, tree_alike}
+use Rattle.vt_laws_members.proofs.changes.Common.{part_mounts}
 
 -- a mount without a mount point has no ancestors
 depth_of_root : (w : World ℕ) (mount : Mount ℕ) → mount.mount_point ≡ None → depth_of nat_eq w mount ≡ 1
@@ -48,31 +41,26 @@ module _ {world : World ℕ} {names : List TaskName} (sealing : IsSealed world n
       on)) ∙ sym (depth_of_root world (mount_numbered nat_eq world k) e)
 
   deep_alike : (n k : ℕ) → On k → deep k ≤ n → DeepAlike k
-  deep_alike zero k on l = by (mount_numbered nat_eq world k).mount_point refl
-    where
-      by : (o : Option (Location ℕ)) → (mount_numbered nat_eq world k).mount_point ≡ o → DeepAlike k
-      by None e = root_alike k on e
-      by (Some place) e =
-          let child : deep k ≡ suc (deep place.mount) =
-          rank_child world sealing.is.mounts.one_number sealing.is.mounts.standing k place e in
-          absurd (omega (arith, child, l))
-  deep_alike (suc n) k on l = by (mount_numbered nat_eq world k).mount_point refl (deep_alike n)
-    where
-      by : (o : Option (Location ℕ)) → (mount_numbered nat_eq world k).mount_point ≡ o
-          → ((j : ℕ) → On j → deep j ≤ n → DeepAlike j) → DeepAlike k
-      by None e later = root_alike k on e
-      by (Some place) e later =
-          let child : deep k ≡ suc (deep place.mount) = rank_child world sealing.is.mounts.one_number
-          sealing.is.mounts.standing k place e in
-          let less : deep place.mount ≤ n = omega (arith, child, l) in
-          cc (
-            depth_of_child part in_part.one_number in_part.standing k place
-                (ap (λ (m : Mount ℕ). m.mount_point) (same_mount world names sealing.is.mounts k on) ∙ e),
-            later place.mount
-                (parent_theirs world names sealing.is.mounts k place on e) less,
-            depth_of_child world
-                sealing.is.mounts.one_number sealing.is.mounts.standing k place e,
-          )
+  deep_alike zero k on l = elim (cases_Option (mount_numbered nat_eq world k).mount_point) [
+    | inl e ↦ root_alike k on e
+    | inr its ↦ let child : deep k ≡ suc (deep its.0.mount) =
+        rank_child world sealing.is.mounts.one_number sealing.is.mounts.standing k its.0 its.1 in
+        absurd (omega (arith, child, l))
+  ]
+  deep_alike (suc n) k on l = elim (cases_Option (mount_numbered nat_eq world k).mount_point) [
+    | inl e ↦ root_alike k on e
+    | inr its ↦ let child : deep k ≡ suc (deep its.0.mount) = rank_child world sealing.is.mounts.one_number
+        sealing.is.mounts.standing k its.0 its.1 in
+        let less : deep its.0.mount ≤ n = omega (arith, child, l) in
+        cc (
+          depth_of_child part in_part.one_number in_part.standing k its.0
+              (ap (λ (m : Mount ℕ). m.mount_point) (same_mount world names sealing.is.mounts k on) ∙ its.1),
+          (deep_alike n) its.0.mount
+              (parent_theirs world names sealing.is.mounts k its.0 on its.1) less,
+          depth_of_child world
+              sealing.is.mounts.one_number sealing.is.mounts.standing k its.0 its.1,
+        )
+  ]
 
   -- a mount of theirs is as deep in the part
   abbrev SameDepth : Mount ℕ → Type 0

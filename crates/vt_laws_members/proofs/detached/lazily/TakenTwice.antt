@@ -1,17 +1,10 @@
 -- Mounts that are detached in two parts, one after the other: but for groups without members the world is the one from
 -- which all of them are detached at once.
-use Rattle.std.proofs.Common.{◌≡◌, refl, sym, ap, subst, ◌∙◌, ℕ, zero, suc, arith, nat_eq, Bool, true, false, true≢false, ◌||◌, List, [], ◌∷◌, ◌++◌, map, length, Option, None, Some, option_map, ◌≤◌, if◌then◌else◌}
-use Rattle.vt_spec.proofs.Common.{Among, HasLivingGroups, Lives, Location, Mount, MountInvariants, Private, Propagation, Shared, Slave, Unbindable, World, after_going, among-from_map, among-map, among_from_all, common_steps, detached, group_of, has_master, has_members, has_no_master, heir, holds_of, inherited, inheriting, is_going, is_member_of, length-map, list_any-append, map_alike, map_twice, mount_at, mount_point_left, mount_point_of_parent, none_among, none_from_among, slave_of_heir, source_of, taken_away, without_dead_groups}
-use Rattle.vt_laws_mounts.specs.Mounts.Invariants.{OneNumberEach}
-use Rattle.vt_laws_mounts.specs.Mounts.Standing.{AllStand}
-use Rattle.vt_laws_mounts.proofs.GroupsKept.{taking_away_keeps_groups}
-use Rattle.vt_laws_mounts.proofs.GroupsLiving.{all_live, tested_live}
-use Rattle.vt_laws_mounts.proofs.GroupsUp.{live_members}
+use Rattle.std.proofs.Common.{inl, inr, ◌≡◌, refl, sym, ap, subst, ◌∙◌, ℕ, zero, suc, arith, nat_eq, Bool, true, false, ◌||◌, List, [], ◌∷◌, ◌++◌, map, length, Option, None, Some, option_map, ◌≤◌, if◌then◌else◌}
+use Rattle.vt_spec.proofs.Common.{cases_Bool, Among, HasLivingGroups, Lives, Location, Mount, MountInvariants, Private, Propagation, Shared, Slave, Unbindable, World, after_going, among-from_map, among-map, among_from_all, common_steps, detached, group_of, has_master, has_members, has_no_master, heir, holds_of, inherited, inheriting, is_going, is_member_of, length-map, list_any-append, map_alike, map_twice, mount_at, mount_point_left, mount_point_of_parent, none_among, none_from_among, slave_of_heir, source_of, taken_away, without_dead_groups}
+use Rattle.vt_laws_members.proofs.Common.{cases_Option, AllGroupsLive, AllStand, OneNumberEach, all_live, group-inherited, live_members, members-regrouped, mounts-regrouped, rank, rank_bounded, rank_child, taking_away_keeps_groups, tested_live}
 use Rattle.vt_laws_mounts.proofs.mounts.MountsFound.{number-mount_in}
-use Rattle.vt_laws_mounts.proofs.mounts.Standing.{rank, rank_bounded, rank_child}
 use Rattle.vt_laws_mounts.proofs.ends.Unmounting.{all_but_mounts, middle, number-after_going, numbers_taken, root_stays, staying_is_placed, taken}
-use Rattle.vt_laws_mounts.proofs.Groups.{group-inherited, mounts-regrouped, members-regrouped}
-use Rattle.vt_laws_mounts.specs.Mounts.Receivers.{AllGroupsLive}
 use Rattle.vt_laws_members.proofs.detached.lazily.Heirs.{Ends, end-here, end-more, end_of, group_lives, heir_above, heir_itself, living_ends, master_inherited}
 
 -- a mount that goes, or falls
@@ -110,35 +103,29 @@ module _ (world : World ℕ) (first second : List ℕ) where
 
     fall_alike : (n a b c : ℕ) (place : Location ℕ) → rank_at place ≤ n → rank_at place ≤ a → rank_at place ≤ b
         → rank_at place ≤ c → FallAlike a b c place
-    fall_alike zero a b c place few more more_then more_at_once = by (down place) refl
-      where
-        by : (o : Option (Location ℕ)) → down place ≡ o → FallAlike a b c place
-        by None e = fall_from_root a b c place e
-        by (Some below) e =
-            let child : rank_at place ≡ suc (rank_at below) = rank_child world one all place.mount below e in
-            absurd (omega (arith, child, few))
-    fall_alike (suc n) a b c place few more more_then more_at_once = by (down place) refl (fall_alike n)
-      where
-        by : (o : Option (Location ℕ)) → down place ≡ o
-            → ((a b c : ℕ) (below : Location ℕ) → rank_at below ≤ n → rank_at below ≤ a → rank_at below ≤ b
-            → rank_at below ≤ c → FallAlike a b c below) → FallAlike a b c place
-        by None e later = fall_from_root a b c place e
-        by (Some below) e later =
-            let child : rank_at place ≡ suc (rank_at below) = rank_child world one all place.mount below e in
-            let x = one_less a (rank_at below) (omega (arith, child, more)) in
-            let y = one_less b (rank_at below) (omega (arith, child, more_then)) in
-            let z = one_less c (rank_at below) (omega (arith, child, more_at_once)) in
-            let u : a ≡ suc x.0 = x.1 in
-            let v : b ≡ suc y.0 = y.1 in
-            let w : c ≡ suc z.0 = z.1 in
-            let few_below : rank_at below ≤ n = omega (arith, child, few) in
-            let in_first : rank_at below ≤ x.0 = omega (arith, child, more, u) in
-            let in_second : rank_at below ≤ y.0 = omega (arith, child, more_then, v) in
-            let in_all : rank_at below ≤ z.0 = omega (arith, child, more_at_once, w) in
-            rw u (subst (λ k. FallAlike (suc x.0) k c place) (sym v) (subst (λ k. FallAlike (suc x.0) (suc y.0) k place)
-            (sym w) (fall_further x.0 y.0 z.0 place below e (later x.0 (suc y.0) z.0 below few_below in_first
-            (omega (arith, in_second)) in_all) (later (length world.mounts) y.0 z.0 below few_below
-            (rank_bounded world one all below.mount) in_second in_all))))
+    fall_alike zero a b c place few more more_then more_at_once = elim (cases_Option (down place)) [
+      | inl e ↦ fall_from_root a b c place e
+      | inr its ↦ let child : rank_at place ≡ suc (rank_at its.0) = rank_child world one all place.mount its.0 its.1 in
+          absurd (omega (arith, child, few))
+    ]
+    fall_alike (suc n) a b c place few more more_then more_at_once = elim (cases_Option (down place)) [
+      | inl e ↦ fall_from_root a b c place e
+      | inr its ↦ let child : rank_at place ≡ suc (rank_at its.0) = rank_child world one all place.mount its.0 its.1 in
+          let x = one_less a (rank_at its.0) (omega (arith, child, more)) in
+          let y = one_less b (rank_at its.0) (omega (arith, child, more_then)) in
+          let z = one_less c (rank_at its.0) (omega (arith, child, more_at_once)) in
+          let u : a ≡ suc x.0 = x.1 in
+          let v : b ≡ suc y.0 = y.1 in
+          let w : c ≡ suc z.0 = z.1 in
+          let few_below : rank_at its.0 ≤ n = omega (arith, child, few) in
+          let in_first : rank_at its.0 ≤ x.0 = omega (arith, child, more, u) in
+          let in_second : rank_at its.0 ≤ y.0 = omega (arith, child, more_then, v) in
+          let in_all : rank_at its.0 ≤ z.0 = omega (arith, child, more_at_once, w) in
+          rw u (subst (λ k. FallAlike (suc x.0) k c place) (sym v) (subst (λ k. FallAlike (suc x.0) (suc y.0) k place)
+          (sym w) (fall_further x.0 y.0 z.0 place its.0 its.1 ((fall_alike n) x.0 (suc y.0) z.0 its.0 few_below in_first
+          (omega (arith, in_second)) in_all) ((fall_alike n) (length world.mounts) y.0 z.0 its.0 few_below
+          (rank_bounded world one all its.0.mount) in_second in_all))))
+    ]
 
     abbrev points_alike : Option (Location ℕ) → Type 0
     points_alike o =
@@ -200,7 +187,10 @@ module _ (world : World ℕ) (first second : List ℕ) where
   -- who is a member at the end is one after the first part
   members_before : (group : ℕ) → has_members nat_eq at_once.mounts group ≡ true
       → has_members nat_eq firstly.mounts group ≡ true
-  members_before group has = by (has_members nat_eq firstly.mounts group) refl
+  members_before group has = elim (cases_Bool (has_members nat_eq firstly.mounts group)) [
+    | inl e ↦ e
+    | inr e ↦ cc (none e)
+  ]
     where
       still : (one other : Bool) (mount : Mount ℕ)
           → holds_of (nat_eq group) (group_if one (mount_point_left nat_eq world first) mount) ≡ false
@@ -221,10 +211,6 @@ module _ (world : World ℕ) (first second : List ℕ) where
                 (after_going nat_eq world first mount) (among-map (after_going nat_eq world first) world.mounts mount
                 from.1)),
           ))
-
-      by : (b : Bool) → has_members nat_eq firstly.mounts group ≡ b → has_members nat_eq firstly.mounts group ≡ true
-      by true e = e
-      by false e = cc (none e)
 
   module _ (live : AllGroupsLive world) where
     live_left : AllGroupsLive left
@@ -333,11 +319,12 @@ module _ (world : World ℕ) (first second : List ℕ) where
       mounts_then,
       map_twice (inheriting nat_eq secondly) twice world.mounts,
       map_alike (λ mount. inheriting nat_eq secondly (twice mount)) (λ mount. inheriting nat_eq at_once
-          (after_going nat_eq world (first ++ second) mount)) world.mounts (λ mount m. ap (λ b. inheriting nat_eq
-          secondly (gone_if b (mount_point_left nat_eq left second) (inheriting nat_eq firstly (after_going nat_eq
-          world first mount)))) (twice_goes mount) ∙ mount_alike (is_going nat_eq first mount.number) (is_going
-          nat_eq second mount.number) mount m ∙ ap (λ b. inheriting nat_eq at_once (gone_if b (mount_point_left
-          nat_eq world (first ++ second)) mount)) (sym (goes_at_once mount.number))),
+          (after_going nat_eq world (first ++ second) mount)) world.mounts (λ mount m. cc (
+            twice_goes mount,
+            mount_alike (is_going nat_eq first mount.number)
+                (is_going nat_eq second mount.number) mount m,
+            goes_at_once mount.number,
+          )),
       map_twice (inheriting nat_eq at_once) (after_going nat_eq world (first ++ second)) world.mounts,
       mounts-regrouped at_once,
     )

@@ -1,23 +1,13 @@
 -- The events of a lazy unmount of a mount of theirs detach the same mounts in the part, and all of them are theirs.
-use Rattle.std.proofs.Common.{◌≡◌, refl, sym, ap, subst, ◌∙◌, ⊎_elim, inl, inr, ℕ, nat_eq, Bool, true, false, cond, true≢false, List, [], ◌∷◌, ◌++◌, is_some, append-nil, append_assoc}
-use Rattle.vt_spec.proofs.Common.{Among, Mount, MountInvariants, Task, TaskName, World, among-filter, among-from_map, among-map, among_numbers, folded, going, holds_of, is_going, is_own_mount, list_any, list_any-append, members, mount_numbered, or_cases, own_mounts, part_of, regrouped_by, taken_away, unmounted_if_there, without_dead_groups}
-use Rattle.vt_laws_sealed.proofs.part.part.MountsOver.{numbered}
-use Rattle.vt_laws_mounts.proofs.letting_go.ends.NamespacesEnd.{nothing_taken}
-use Rattle.vt_laws_mounts.proofs.ends.EndingLazy.{IsUnderWay, next}
-use Rattle.vt_laws_mounts.proofs.mounts.MountsReplaced.{found_itself}
-use Rattle.vt_laws_sealed.proofs.part.part.PartOfPart.{is_own, same_members}
-use Rattle.vt_laws_members.proofs.changes.letting_go.Heard.{own_in_part}
-use Rattle.vt_laws_members.proofs.changes.letting_go.LessSeen.{one_part}
-use Rattle.vt_laws_members.proofs.changes.letting_go.NamespaceLess.{ended_less, ended_mount, own_before, placed_so, shape_kept}
-use Rattle.vt_laws_members.proofs.changes.letting_go.PartMounts.{part_mounts}
-use Rattle.vt_laws_members.proofs.changes.letting_go.Regrouped.{TheirsGo, left_by, mount_alike}
-use Rattle.vt_laws_members.proofs.changes.letting_go.Taken.{all_stay, group_lost, part_after, part_taken, world_after, world_taken}
+use Rattle.std.proofs.Common.{◌≡◌, refl, sym, ap, subst, ◌∙◌, ⊎_elim, inl, inr, ℕ, nat_eq, Bool, true, false, cond, List, [], ◌∷◌, ◌++◌, is_some, append-nil, append_assoc}
+use Rattle.vt_spec.proofs.Common.{Among, Mount, MountInvariants, Task, TaskName, World, among-filter, among-from_map, among-map, among_numbers, folded, going, is_going, is_own_mount, list_any-append, members, mount_numbered, or_cases, own_mounts, part_of, taken_away, unmounted_if_there, without_dead_groups}
+use Rattle.vt_laws_members.proofs.Common.{IsSealed, IsUnderWay, found_itself, is_own, next, nothing_taken, numbered, same_members}
+use Rattle.vt_laws_members.proofs.changes.Common.{TheirsGo, all_stay, ended_less, ended_mount, group_lost, left_by, mount_alike, one_part, own_before, own_in_part, part_after, part_mounts, part_taken, placed_so, shape_kept, world_after, world_taken}
 use Rattle.vt_laws_members.proofs.detached.lazily.Apart.{apart_here, apart_there}
 use Rattle.vt_laws_members.proofs.detached.lazily.Cleared.{cleared_keeps, going_same, keeps_before}
 use Rattle.vt_laws_members.proofs.detached.lazily.GoingAlike.{going_alike, going_own}
 use Rattle.vt_laws_members.proofs.detached.lazily.Heirs.{nothing_lost}
 use Rattle.vt_laws_members.proofs.detached.lazily.TakenTwice.{taken_twice}
-use Rattle.vt_laws_sealed.proofs.part.seals.ByPart.{IsSealed}
 
 -- where nothing goes, nothing changes
 none_gone : (w : World ℕ) → MountInvariants nat_eq w → taken_away nat_eq w [] ≡ w

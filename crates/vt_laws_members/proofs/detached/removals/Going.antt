@@ -1,17 +1,9 @@
 -- What stands on a directory of theirs goes with it: the same mounts in the world and in the part, all of them theirs.
-use Rattle.std.proofs.Common.{arith, ◌≡◌, refl, sym, ap, subst, ◌∙◌, ⊎_elim, inl, ℕ, nat_eq, eq-eqb, Bool, true, false, true≢false, List, Option, Some, None, filter, flat_map, length, map, ◌&&◌}
+use Rattle.std.proofs.Common.{inr, arith, ◌≡◌, refl, sym, ap, subst, ◌∙◌, ⊎_elim, inl, ℕ, nat_eq, eq-eqb, Bool, true, false, true≢false, List, Some, filter, flat_map, length, map, ◌&&◌}
 use Rattle.vt_spec.proofs.Common.{Among, IsWorld, Location, Mount, Task, TaskName, World, among-filter, among-from_filter, among-from_flat_map, among-from_map, among_numbers, any_among, any_from_among, common_steps, holds_of, is_going, is_mount_point_in, is_own_namespace, is_point, list_any, looks_of, members, mount_at, mount_numbered, mount_tree, mounts_on, none_is_some, part_of, points_of}
-use Rattle.vt_laws_sealed.proofs.part.part.MountsOver.{nowhere_stands, numbered}
-use Rattle.vt_laws_mounts.proofs.letting_go.Lists.{flat_map_alike}
-use Rattle.vt_laws_mounts.proofs.mounts.Standing.{LiesIn, lies_in_tree, stand}
+use Rattle.vt_laws_members.proofs.Common.{cases_Option, LiesIn, filter_both, flat_map_alike, is_own, keep, kept_how, lies_in_tree, namespace_below, nowhere_stands, numbered, stand}
 use Rattle.vt_laws_mounts.proofs.mounts.Standing.LiesIn.{itself, under}
-use Rattle.vt_laws_worlds.proofs.worlds.Reached.{namespace_below}
-use Rattle.vt_laws_sealed.proofs.part.Kept.{filter_both}
-use Rattle.vt_laws_sealed.proofs.part.part.PartOfPart.{is_own, keep, kept_how}
-use Rattle.vt_laws_members.proofs.judging.Grounds.{own_by, parent_theirs, same_mount}
-use Rattle.vt_laws_members.proofs.judging.MountPoints.{part_mount}
-use Rattle.vt_laws_members.proofs.judging.MountTrees.{own_theirs, own_whole, tree_alike}
-use Rattle.vt_laws_members.proofs.judging.SeenInPart.{OnTheirs, filesystem_alike}
+use Rattle.vt_laws_members.proofs.judging.Common.{OnTheirs, filesystem_alike, own_by, own_theirs, own_whole, parent_theirs, part_mount, same_mount, tree_alike}
 
 -- the mount stands on one of these points
 abbrev stands : World ℕ → List (ℕ × ℕ) → Mount ℕ → Bool
@@ -43,22 +35,19 @@ module _ (world : World ℕ) (names : List TaskName) (is : IsWorld nat_eq world)
   -- a mount of theirs stands on the same points in the part
   stands_alike : (mount : Mount ℕ) → Among mount world.mounts → owns mount ≡ true → (points : List (ℕ × ℕ))
       → stands part points mount ≡ stands world points mount
-  stands_alike mount m own points = by mount.mount_point refl
+  stands_alike mount m own points = elim (cases_Option mount.mount_point) [
+    | inl e ↦ ap (λ o. list_any (λ (point : ℕ × ℕ). holds_of (here part point) o) points) e
+        ∙ sym (ap (λ o. list_any (λ (point : ℕ × ℕ). holds_of (here world point) o) points) e)
+    | inr its ↦ ap (λ o. list_any (λ (point : ℕ × ℕ). holds_of (here part point) o) points) its.1
+        ∙ ap (λ (x : Mount ℕ). list_any (λ (point : ℕ × ℕ). nat_eq its.0.node point.1
+        && nat_eq x.filesystem point.0) points) (same_mount world names is.mounts its.0.mount
+        (parent_theirs world names is.mounts mount.number its.0 (mount, m, refl, inl own)
+        (ap (λ (x : Mount ℕ). x.mount_point) (numbered world names is.mounts mount m) ∙ its.1)))
+        ∙ sym (ap (λ o. list_any (λ (point : ℕ × ℕ). holds_of (here world point) o) points) its.1)
+  ]
     where
       here : World ℕ → (ℕ × ℕ) → Location ℕ → Bool
       here w point l = nat_eq l.node point.1 && nat_eq (mount_at nat_eq w l).filesystem point.0
-
-      by : (o : Option (Location ℕ)) → mount.mount_point ≡ o
-          → list_any (λ (point : ℕ × ℕ). holds_of (here part point) mount.mount_point) points
-          ≡ list_any (λ (point : ℕ × ℕ). holds_of (here world point) mount.mount_point) points
-      by None e = ap (λ o. list_any (λ (point : ℕ × ℕ). holds_of (here part point) o) points) e
-          ∙ sym (ap (λ o. list_any (λ (point : ℕ × ℕ). holds_of (here world point) o) points) e)
-      by (Some l) e = ap (λ o. list_any (λ (point : ℕ × ℕ). holds_of (here part point) o) points) e
-          ∙ ap (λ (x : Mount ℕ). list_any (λ (point : ℕ × ℕ). nat_eq l.node point.1
-          && nat_eq x.filesystem point.0) points) (same_mount world names is.mounts l.mount
-          (parent_theirs world names is.mounts mount.number l (mount, m, refl, inl own)
-          (ap (λ (x : Mount ℕ). x.mount_point) (numbered world names is.mounts mount m) ∙ e)))
-          ∙ sym (ap (λ o. list_any (λ (point : ℕ × ℕ). holds_of (here world point) o) points) e)
 
   -- A directory of theirs on which only mounts of their namespaces stand
   module _ (gone : Location ℕ) (on : OnTheirs world names is gone)
@@ -71,13 +60,11 @@ module _ (world : World ℕ) (names : List TaskName) (is : IsWorld nat_eq world)
     tops = mounts_on nat_eq world gone
 
     top_own : (mount : Mount ℕ) → Among mount world.mounts → stands world points mount ≡ true → owns mount ≡ true
-    top_own mount m h = by mount.namespace refl
-      where
-        by : (o : Option ℕ) → mount.namespace ≡ o → owns mount ≡ true
-        by None e =
-            let l = has_point world points mount h in
-            absurd (nowhere_stands world names is.mounts mount l.0 m e l.1)
-        by (Some n) e = cc (own_here mount (among-filter (stands world points) world.mounts mount m h) n e)
+    top_own mount m h = elim (cases_Option mount.namespace) [
+      | inl e ↦ let l = has_point world points mount h in
+          absurd (nowhere_stands world names is.mounts mount l.0 m e l.1)
+      | inr its ↦ cc (own_here mount (among-filter (stands world points) world.mounts mount m h) its.0 its.1)
+    ]
 
     same_points : points_of nat_eq part gone ≡ points
     same_points = cc (filesystem_alike world names is gone on)

@@ -1,30 +1,16 @@
 -- A call of theirs that removes or replaces a directory, with the mounts on it, ends in the part as in the world.
-use Rattle.std.proofs.Common.{◌≡◌, refl, sym, ap, subst, ◌∙◌, ℕ, nat_eq, eqb-true, true, false, true≢false, List, [], ◌∷◌, Option, Some, None, Ok, ◌||◌, option_to_list}
-use Rattle.vt_spec.proofs.Common.{Among, Call, Change, Done, FileTree, Filesystem, Fresh, Location, Mount, MountInvariants, Outcome, Rename, TaskName, ToRename, World, and_parts, changed_at, filesystem_at, filesystem_changed, filesystem_numbered, finished, finished_by, granted, holds_of, is_going, is_overlay, is_own_namespace, judge_in, list_all, members, mount_at, mount_numbered, mounts_on, numbers_of_change, numbers_raised, only_looks, part_of, policy, settled, taken_away, used_alone, with_change, without_mounts_on}
+use Rattle.std.proofs.Common.{inl, inr, ◌≡◌, refl, sym, ap, ◌∙◌, ℕ, nat_eq, eqb-true, true, false, true≢false, List, [], ◌∷◌, Option, Some, None, Ok, ◌||◌, option_to_list}
+use Rattle.vt_spec.proofs.Common.{Among, Call, Change, Done, FileTree, Filesystem, Fresh, Location, Mount, MountInvariants, Outcome, Rename, TaskName, ToRename, World, and_parts, changed_at, filesystem_at, filesystem_changed, finished, finished_by, granted, holds_of, is_going, is_overlay, is_own_namespace, judge_in, list_all, members, mount_at, mounts_on, numbers_of_change, numbers_raised, only_looks, part_of, policy, settled, taken_away, used_alone, with_change, without_mounts_on}
 use Rattle.vt_spec.specs.Language.Changes
-use Rattle.vt_laws_members.proofs.judging.TheirCalls.{sealing_of}
-use Rattle.vt_laws_mounts.specs.LettingGo.TreesOverlays.{with_filesystems}
-use Rattle.vt_laws_mounts.proofs.ends.Ending.{points_keep_mounts}
-use Rattle.vt_laws_sealed.proofs.part.part.PartOfPart.{is_own}
-use Rattle.vt_laws_members.specs.Judging.{is_theirs}
-use Rattle.vt_laws_members.proofs.judging.Grounds.{IsTheirs, its_mount, theirs_from}
-use Rattle.vt_laws_members.proofs.judging.SeenInPart.{theirs_used}
-use Rattle.vt_laws_members.specs.Changes.Changes.{EndAlike, EndsAlike, grown}
-use Rattle.vt_laws_members.proofs.changes.files.FilesEnding.{no_overlay}
-use Rattle.vt_laws_members.proofs.changes.files.FilesRaised.{swap}
-use Rattle.vt_laws_members.proofs.changes.files.OneFilesystem.{found_numbered}
-use Rattle.vt_laws_members.proofs.changes.letting_go.PartMounts.{part_mounts}
-use Rattle.vt_laws_members.proofs.changes.letting_go.Taken.{part_after, part_taken, world_after, world_taken}
-use Rattle.vt_laws_members.proofs.changes.looks.Told.{ended_alike, ran, same_caller}
-use Rattle.vt_laws_members.proofs.changes.names.Elsewhere.{own_here, plain_points}
-use Rattle.vt_laws_members.proofs.changes.names.NamesEnding.{alike, naming_alone, unused_numbers, unused_serve}
-use Rattle.vt_laws_members.proofs.changes.names.RemovalsEnding.{RemovingCall, removing_directory, renames_end_alike, replacing}
-use Rattle.vt_laws_members.proofs.changes.tasks.Denied.{ran_there, run_by}
+use Rattle.vt_laws_members.proofs.judging.Common.{IsTheirs, its_mount, sealing_of, theirs_from, theirs_used}
+use Rattle.vt_laws_members.proofs.Common.{cases_Option, is_own, points_keep_mounts, with_filesystems}
+use Rattle.vt_laws_members.specs.Changes.Changes.{EndsAlike}
+use Rattle.vt_laws_members.proofs.changes.Common.{RemovingCall, TheirsGo, ended_alike, found_numbered, naming_alone, no_overlay, own_here, part_after, part_mounts, part_taken, plain_points, ran, ran_there, removing_directory, renames_end_alike, replacing, run_by, same_caller, swap, unused_numbers, unused_serve, world_after, world_taken}
+use Rattle.vt_laws_members.proofs.changes.names.NamesEnding.{alike}
 use Rattle.vt_laws_members.specs.Detached.Removals.{RemovalsEndAlike, ReplacementsEndAlike}
 use Rattle.vt_laws_members.proofs.detached.removals.Going.{caller_stays, going_with, own_go, same_going}
 use Rattle.vt_laws_members.proofs.detached.removals.StillUsed.{seen_here, seen_there, still_used}
 use Rattle.vt_laws_members.proofs.detached.removals.TreeParts.{changed_parts}
-use Rattle.vt_laws_members.proofs.changes.letting_go.Regrouped.{TheirsGo}
 
 -- the outcome of a call that changes a plain tree, where something else changed before
 abbrev left_with : World ℕ → World ℕ → TaskName → Filesystem ℕ → FileTree ℕ → Outcome ℕ
@@ -104,17 +90,14 @@ module _ {world : World ℕ} {names : List TaskName} {name : TaskName} {call : C
 
   -- the mount of the directory is in the caller's namespace, and stays
   directory_stays : is_own world names (members world names) on.0 ≡ true → is_going nat_eq list on.0.number ≡ false
-  directory_stays its = by on.0.namespace refl
-    where
-      by : (o : Option ℕ) → on.0.namespace ≡ o → is_going nat_eq list on.0.number ≡ false
-      by None e = absurd (true≢false (sym its ∙ ap (holds_of (is_own_namespace nat_eq world names)) e))
-      by (Some n) e =
-          let seen : list_all (nat_eq it.task.namespace) (option_to_list (Some n)) ≡ true =
-          ap (λ o. list_all (nat_eq it.task.namespace) (option_to_list o))
-          (sym (ap (λ (m : Mount ℕ). m.namespace) (its_mount world names it.is.mounts it.location.mount on) ∙ e))
-          ∙ it.reached.seen in
-          caller_stays world names it.is it.gone on_gone only_own it.task it.free.bare on.0 on.1
-          (e ∙ ap Some (sym (eqb-true it.task.namespace n (and_parts (nat_eq it.task.namespace n) true seen).0)))
+  directory_stays its = elim (cases_Option on.0.namespace) [
+    | inl e ↦ absurd (true≢false (sym its ∙ ap (holds_of (is_own_namespace nat_eq world names)) e))
+    | inr its ↦ let seen : list_all (nat_eq it.task.namespace) (option_to_list (Some its.0)) ≡ true =
+        cc (its_mount world names it.is.mounts it.location.mount on, its.1, it.reached.seen) in
+        caller_stays world names it.is it.gone on_gone only_own it.task it.free.bare on.0 on.1
+        (its.1 ∙ ap Some (sym (eqb-true it.task.namespace its.0 (and_parts
+        (nat_eq it.task.namespace its.0) true seen).0)))
+  ]
 
   run_here : run_by it.it world fresh it.task (Ok it.permit)
       ≡ left_with world here name old files
@@ -124,10 +107,13 @@ module _ {world : World ℕ} {names : List TaskName} {name : TaskName} {call : C
 
   run_there : run_by it.it part other it.task (Ok it.permit)
       ≡ left_with part there name old files
-  run_there = runs part other ∙ ap (λ w. finished nat_eq part name call (changed_at nat_eq w it.location)
-      (granted Done (with_change nat_eq other w it.location it.change))) (sym same_list ∙ part_taken go)
-      ∙ changes_tree part there name call other it.location it.change old it.looks
-      (seen_there go it.location ∙ alike it.naming) plain
+  run_there = cc (
+    runs part other,
+    same_list,
+    part_taken go,
+    changes_tree part there name call other it.location
+        it.change old it.looks (seen_there go it.location ∙ alike it.naming) plain,
+  )
 
   pub removal_ends : EndsAlike world names name call fresh other
   removal_ends =

@@ -1,11 +1,9 @@
 -- Where mounts of theirs go, but not the one of a location, its filesystem is used still, and it is seen as it was.
-use Rattle.std.proofs.Common.{arith, ◌≡◌, refl, sym, ap, subst, ◌∙◌, inl, inr, ⊎_elim, ℕ, nat_eq, eqb-true, Bool, true, false, true≢false, List, [], ◌∷◌, find, map, unwrap_or}
-use Rattle.vt_spec.proofs.Common.{Among, Location, Mount, Task, TaskName, World, among-append_left, among-append_right, among-filter, among-flat_map, among-from_flat_map, among-map, any_among, common_steps, filesystem_at, filesystem_numbered, holds_of, is_among, is_going, is_own_mount, list_any, locations, locations_of, members, mount_at, mount_numbered, no_mount, own_mounts, part_of, roots_and_directories, used_directly, used_filesystems}
-use Rattle.vt_laws_sealed.proofs.part.part.PartOfPart.{is_own, used_directly_used}
-use Rattle.vt_laws_members.proofs.judging.Grounds.{IsTheirs, its_mount}
-use Rattle.vt_laws_members.proofs.changes.letting_go.NamespaceLess.{ended_mount, filesystem_after, placed_so, shape_kept}
-use Rattle.vt_laws_members.proofs.changes.letting_go.Regrouped.{TheirsGo, left_by}
-use Rattle.vt_laws_members.proofs.changes.letting_go.Taken.{all_stay, group_lost, part_after, world_after}
+use Rattle.std.proofs.Common.{arith, ◌≡◌, refl, ap, subst, ◌∙◌, inl, inr, ⊎_elim, ℕ, nat_eq, eqb-true, Bool, true, false, List, [], ◌∷◌, find, map, unwrap_or}
+use Rattle.vt_spec.proofs.Common.{Among, Location, Mount, Task, TaskName, World, among-append_left, among-append_right, among-filter, among-flat_map, among-from_flat_map, among-map, any_among, common_steps, filesystem_at, filesystem_numbered, is_among, is_going, is_own_mount, locations, locations_of, members, mount_at, no_mount, own_mounts, part_of, roots_and_directories, used_directly, used_filesystems}
+use Rattle.vt_laws_members.proofs.Common.{is_own, used_directly_used}
+use Rattle.vt_laws_members.proofs.judging.Common.{IsTheirs, its_mount}
+use Rattle.vt_laws_members.proofs.changes.Common.{TheirsGo, all_stay, ended_mount, filesystem_after, group_lost, left_by, part_after, placed_so, shape_kept, world_after}
 
 -- mounts that keep their numbers and filesystems, by their numbers
 mapped_filesystem : (f : Mount ℕ → Mount ℕ) → ((m : Mount ℕ) → (f m).number ≡ m.number)

@@ -1,14 +1,11 @@
 -- Where mounts of theirs go, and one plain tree that they use alone is another one, the part is what is left of the
 -- part.
-use Rattle.std.proofs.Common.{◌≡◌, ap, ◌∙◌, ⊎_elim, ℕ, nat_eq, true, List, [], ◌∷◌}
+use Rattle.std.proofs.Common.{◌≡◌, ⊎_elim, ℕ, nat_eq, true, List, [], ◌∷◌}
 use Rattle.vt_spec.proofs.Common.{FileTree, Filesystem, Location, MountInvariants, TaskName, World, filesystem_at, is_among, mount_at, numbers_raised, part_of, settled, taken_away, used_alone, used_filesystems}
-use Rattle.vt_laws_mounts.specs.LettingGo.TreesOverlays.{with_filesystems}
-use Rattle.vt_laws_members.proofs.changes.files.FilesRaised.{swap}
-use Rattle.vt_laws_members.proofs.changes.files.OneFilesystem.{old_number, one_in_part, one_in_world}
-use Rattle.vt_laws_members.proofs.changes.letting_go.Taken.{part_after, world_after}
+use Rattle.vt_laws_members.proofs.Common.{with_filesystems}
+use Rattle.vt_laws_members.proofs.changes.Common.{TheirsGo, old_number, one_in_part, one_in_world, part_after, swap, world_after}
 use Rattle.vt_laws_members.proofs.detached.removals.WithTree.{changes_theirs}
 use Rattle.vt_laws_members.proofs.overlay_names.names.Detaching.{alone_here, alone_there, detached_and_changed}
-use Rattle.vt_laws_members.proofs.changes.letting_go.Regrouped.{TheirsGo}
 
 module _ {world : World ℕ} {names : List TaskName} {gone : List ℕ} (go : TheirsGo world names gone)
     (kept_world : MountInvariants nat_eq (taken_away nat_eq world gone))

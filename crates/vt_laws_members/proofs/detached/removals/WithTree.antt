@@ -1,6 +1,6 @@
 -- A filesystem that a sealed set uses alone gets another tree: its layers stay, and the others are as they were.
-use Rattle.std.proofs.Common.{arith, ◌≡◌, refl, sym, ap, subst, ◌∙◌, ◌⊎◌, inl, inr, ℕ, nat_eq, eqb-true, Bool, true, false, cond, true≢false, List, [], ◌++◌, map, is_some, option_to_list}
-use Rattle.vt_spec.proofs.Common.{Among, FileTree, Filesystem, Layer, Overlay, TaskName, World, common_steps, false_from_ne_true, is_among, layers_of, overlay_or, with_files}
+use Rattle.std.proofs.Common.{arith, ◌≡◌, refl, ap, ◌⊎◌, inl, inr, ℕ, nat_eq, eqb-true, Bool, true, false, true≢false, List, is_some}
+use Rattle.vt_spec.proofs.Common.{Among, FileTree, Filesystem, TaskName, World, common_steps, false_from_ne_true, is_among}
 use Rattle.vt_laws_members.proofs.changes.files.FilesRaised.{swap}
 use Rattle.vt_laws_members.proofs.changes.letting_go.Ready.{Alone}
 use Rattle.vt_laws_members.proofs.overlay_names.names.SteppedReady.{ChangesTheirs}

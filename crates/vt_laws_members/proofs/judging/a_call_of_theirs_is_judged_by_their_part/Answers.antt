@@ -1,6 +1,4 @@
-use Rattle.vt_laws_members.proofs.judging.AllJudged.{members_are_judged_alike}
-use Rattle.vt_laws_members.proofs.judging.ByPart.{members_are_judged_by_their_part}
-use Rattle.vt_laws_members.proofs.judging.SeenInPart.{members_see_alike}
+use Rattle.vt_laws_members.proofs.judging.Common.{members_are_judged_alike, members_are_judged_by_their_part, members_see_alike}
 use Rattle.vt_laws_members.proofs.judging.a_call_of_theirs_is_judged_by_their_part.Goals as goal
 
 pub returns-clause-seen : goal.returns-clause-seen

@@ -1,23 +1,17 @@
 -- Each call of theirs on files, granted or refused, ends in the part as in the world.
-use Rattle.std.proofs.Common.{◌≡◌, refl, ap, ◌∙◌, ℕ, nat_eq, Bool, true, false, List, [], ◌∷◌, Some, Ok}
+use Rattle.std.proofs.Common.{◌≡◌, refl, ℕ, nat_eq, Bool, true, false, List, [], ◌∷◌, Some, Ok}
 use Rattle.vt_spec.proofs.Common.{Allowed, Call, Chmod, Chown, Fork, Fresh, LinkTo, Mkdir, OpenFile, Permit, Pwrite, Rename, Rmdir, Serves, SymlinkAt, Task, TaskName, ToChange, ToFork, ToMake, ToOpen, ToOpenNew, ToRemoveDirectory, ToRename, ToWritePart, Unlink, World, Write, filesystem_at, is_copied_up, is_overlay, judge_in, looks_of, only_looks, overfills, task_called, ⊤}
-use Rattle.vt_laws_rules.specs.Granted.{IsGranted}
-use Rattle.vt_laws_rules.specs.Granted.IsGranted.{writes_part}
-use Rattle.vt_laws_rules.proofs.given.Inversion.{calls_are_granted}
+use Rattle.vt_laws_members.proofs.Common.{IsGranted, calls_are_granted, writes_part}
 use Rattle.vt_laws_members.specs.Changes.Changes.{EndsAlike, IsCallOfTheirs, PlainChangeEndsAlike}
 use Rattle.vt_laws_members.specs.Changes.NameChanges.{PlainMakingEndsAlike}
 use Rattle.vt_laws_members.specs.Changes.OverlayEdits.{OverlayChangeEndsAlike}
-use Rattle.vt_laws_members.proofs.changes.files.FilesEnding.{chmods_end_alike, chowns_end_alike, writes_end_alike}
+use Rattle.vt_laws_members.proofs.changes.Common.{by_permit, chmods_end_alike, chowns_end_alike, empty_writes_end_alike, links_end_alike, mkdirs_end_alike, new_files_end_alike, overlay_chmods_end_alike, overlay_chowns_end_alike, overlay_part_writes_end_alike, overlay_writes_end_alike, symlinks_end_alike, unlinks_end_alike, writes_end_alike}
 use Rattle.vt_laws_members.proofs.changes.files.PartWritten.{part_writes_end_alike}
-use Rattle.vt_laws_members.proofs.changes.names.NamesEnding.{links_end_alike, mkdirs_end_alike, new_files_end_alike, symlinks_end_alike, unlinks_end_alike}
 use Rattle.vt_laws_members.proofs.changes.names.NewOpensEnding.{new_opens_end_alike}
-use Rattle.vt_laws_members.proofs.changes.overlays.OverlayEdits.{overlay_chmods_end_alike, overlay_chowns_end_alike, overlay_part_writes_end_alike, overlay_writes_end_alike}
 use Rattle.vt_laws_members.proofs.changes.overlays.OverlayOpens.{overlay_opens_end_alike}
 use Rattle.vt_laws_members.proofs.changes.tasks.Opening.{opens_end_alike}
-use Rattle.vt_laws_members.proofs.changes.tasks.Rights.{empty_writes_end_alike}
 use Rattle.vt_laws_members.specs.OverlayNames.EachCalls.{EachChmodEndsAlike, EachChownEndsAlike, EachLinkEndsAlike, EachMkdirEndsAlike, EachOpenEndsAlike, EachPartWriteEndsAlike, EachSymlinkEndsAlike, EachUnlinkEndsAlike, EachWriteEndsAlike}
 use Rattle.vt_laws_members.specs.OverlayNames.OverlayNames.{OverlayMakingEndsAlike}
-use Rattle.vt_laws_members.proofs.changes.tasks.ByPermit.{by_permit}
 use Rattle.vt_laws_members.proofs.overlay_names.names.OverlayEnding.{overlay_links_end_alike, overlay_mkdirs_end_alike, overlay_new_files_end_alike, overlay_symlinks_end_alike, overlay_unlinks_end_alike}
 use Rattle.vt_laws_members.proofs.overlay_names.names.OverlayNewOpens.{overlay_new_opens_end_alike}
 

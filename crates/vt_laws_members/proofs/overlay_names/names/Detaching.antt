@@ -1,23 +1,14 @@
 -- Where mounts of theirs go, and filesystems change that a sealed set uses alone, the part is what is left of the part.
 use Rattle.std.proofs.Common.{◌≡◌, sym, ap, ◌∙◌, ℕ, nat_eq, Bool, true, List, filter, map}
 use Rattle.vt_spec.proofs.Common.{Among, Filesystem, Layer, MountInvariants, Namespace, Task, TaskName, World, is_among, list_any, numbers_raised, own_lowers, part_of, raised_if_changed, raised_namespace, raised_task, settled, taken_away, used_alone, used_filesystems, without_dead_mounts}
-use Rattle.vt_laws_mounts.specs.LettingGo.TreesOverlays.{with_filesystems}
-use Rattle.vt_laws_sealed.proofs.part.part.PartOfPart.{same_members}
-use Rattle.vt_laws_members.proofs.changes.files.FilesChanged.{part_with_layers}
+use Rattle.vt_laws_members.proofs.Common.{same_members, with_filesystems}
+use Rattle.vt_laws_members.proofs.changes.Common.{Alone, AreLess, Detaches, LeavesWorlds, NoOthers, Ready, TheirsGo, all_stay, ended_less, group_lost, less_used, one_part, part_after, part_of_settled, part_with_layers, raised_alike, raised_members, swept_of, world_after, worlds_left}
 use Rattle.vt_laws_members.proofs.changes.letting_go.EndedPartReady as InPart
 use Rattle.vt_laws_members.proofs.changes.letting_go.EndedPartReady.{ended_part_ready}
-use Rattle.vt_laws_members.proofs.changes.letting_go.EndedRaised.{raised_alike}
 use Rattle.vt_laws_members.proofs.changes.letting_go.EndedReady as InWorld
 use Rattle.vt_laws_members.proofs.changes.letting_go.EndedReady.{ended_ready}
-use Rattle.vt_laws_members.proofs.changes.letting_go.Ends.{raised_members}
-use Rattle.vt_laws_members.proofs.changes.letting_go.LessSeen.{AreLess, less_used, one_part}
-use Rattle.vt_laws_members.proofs.changes.letting_go.NamespaceLess.{Detaches, LeavesWorlds, ended_less}
-use Rattle.vt_laws_members.proofs.changes.letting_go.Ready.{Alone, NoOthers, Ready}
-use Rattle.vt_laws_members.proofs.changes.letting_go.Sweep.{part_of_settled, swept_of}
-use Rattle.vt_laws_members.proofs.changes.letting_go.Taken.{all_stay, group_lost, part_after, world_after, worlds_left}
 use Rattle.vt_laws_members.proofs.overlay_names.names.Raising.{raised_part}
 use Rattle.vt_laws_members.proofs.overlay_names.names.SteppedReady.{ChangesTheirs, stepped_ready}
-use Rattle.vt_laws_members.proofs.changes.letting_go.Regrouped.{TheirsGo}
 
 module _ {world : World ℕ} {names : List TaskName} {gone : List ℕ} (go : TheirsGo world names gone)
     (kept_world : MountInvariants nat_eq (taken_away nat_eq world gone))

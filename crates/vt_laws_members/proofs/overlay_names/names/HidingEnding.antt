@@ -1,18 +1,10 @@
 -- Calls of theirs that set the opaque mark or make a whiteout end in the part as in the world.
-use Rattle.std.proofs.Common.{◌≡◌, refl, sym, ap, ◌∙◌, ℕ, nat_eq, Bool, true, false, true≢false, List, Some, Ok}
+use Rattle.std.proofs.Common.{◌≡◌, refl, sym, ap, ◌∙◌, ℕ, nat_eq, Bool, true, false, List, Some, Ok}
 use Rattle.vt_spec.proofs.Common.{Call, Change, Fresh, Location, MakeWhiteout, Node, Opaque, Permit, SetMark, Task, ToChange, ToMake, World, filesystem_at, is_kind, is_overlay, judge_in, kind_of, looks_of, overfills, task_called, ⊤}
-use Rattle.vt_spec.specs.declared.attributes.Kind.TheVariants.{White}
-use Rattle.vt_laws_rules.specs.Granted.{IsGranted}
-use Rattle.vt_laws_rules.specs.Granted.IsGranted.{changes_mark, makes_whiteout}
-use Rattle.vt_laws_rules.proofs.given.Inversion.{calls_are_granted}
-use Rattle.vt_laws_worlds.proofs.worlds.CallsKept.{name_found}
-use Rattle.vt_laws_worlds.specs.OverlayPermits.Asked.{AsksWell}
-use Rattle.vt_laws_worlds.proofs.overlay_permits.asked.Asked.{permits_ask_well}
+use Rattle.vt_laws_members.proofs.Common.{AsksWell, IsGranted, White, calls_are_granted, changes_mark, makes_whiteout, name_found, permits_ask_well}
 use Rattle.vt_laws_members.specs.Changes.Changes.{EndsAlike}
-use Rattle.vt_laws_members.proofs.changes.files.FilesEnding.{opaques_end_alike}
-use Rattle.vt_laws_members.proofs.changes.names.NamesEnding.{unused_numbers, unused_serve, whiteouts_end_alike}
+use Rattle.vt_laws_members.proofs.changes.Common.{by_permit, opaques_end_alike, unused_numbers, unused_serve, whiteouts_end_alike}
 use Rattle.vt_laws_members.specs.OverlayNames.OverlayNames.{AllOpaquesEndAlike, AllWhiteoutsEndAlike}
-use Rattle.vt_laws_members.proofs.changes.tasks.ByPermit.{by_permit}
 
 -- the permit of setxattr(2) of the mark
 abbrev Marks : Permit ℕ → Type 0

@@ -1,9 +1,8 @@
 -- A change through an overlay makes the same in the part: lower layers of theirs show there what they show in the
 -- world.
 use Rattle.std.proofs.Common.{◌≡◌, refl, sym, ap, ◌∙◌, ℕ, suc, nat_eq, arith, Bool, true, false, cond, List, [], ◌∷◌, ◌++◌, Option, Some, None, map, not, option_and_then, ◌+◌, slice_get}
-use Rattle.vt_spec.proofs.Common.{AddName, Change, CopyUp, FileTree, Fresh, Make, Merge, Move, OpenLayer, Remove, SetAttr, SetBytes, SetMark, Stack, Upper, changed, common_steps, content_with_parent, copied_up, cuts, entries_in, entry_at, entry_named, evens, hides, hides_directory, holds_of, is_directory_node, is_directory_shown, is_kind_in, led, led-append, list_any, merge_changed, name_left, node_led, none_is_some, odds, path_to, prefixes, same_Some, shown_from, shown_in_lowers_at, shown_over, then_some, upper_directory_named, upper_of, view_of, when, with_inode, with_mark, with_moved, with_name, with_real, without_contents, without_last, ⊤}
-use Rattle.vt_spec.specs.declared.attributes.Kind.TheVariants.{White}
-use Rattle.vt_spec.specs.Machine.Views.{Shown}
+use Rattle.vt_spec.proofs.Common.{AddName, Change, CopyUp, FileTree, Fresh, Make, Merge, Move, OpenLayer, Remove, SetAttr, SetBytes, SetMark, Stack, Upper, changed, common_steps, content_with_parent, copied_up, cuts, entry_at, evens, hides, hides_directory, holds_of, is_directory_node, is_directory_shown, is_kind_in, led, led-append, list_any, merge_changed, name_left, node_led, none_is_some, odds, path_to, prefixes, same_Some, shown_from, shown_in_lowers_at, shown_over, upper_directory_named, upper_of, view_of, when, with_inode, with_mark, with_moved, with_name, with_real, without_contents, without_last, ⊤}
+use Rattle.vt_laws_members.proofs.Common.{Shown, White}
 
 -- two layers have the same inode at each path
 abbrev pub ViewsAlike : OpenLayer ℕ → OpenLayer ℕ → Type 0
@@ -153,10 +152,7 @@ module _ (one other : Stack ℕ) (directory_same : one.directory ≡ other.direc
             (upper_of copied directory) name (odds fresh 0)) (odds fresh 0);
       }
   made_same fresh merge (AddName directory name object) = refl
-  made_same fresh merge (Remove directory name object) = ap (λ u. record copied {
-    files = changed nat_eq copied.files (Remove directory name object);
-    upper = without_contents nat_eq u (upper_directory_named copied directory name);
-  }) (left_same (odds fresh) copied copied.upper directory name)
+  made_same fresh merge (Remove directory name object) = cc (left_same (odds fresh) copied copied.upper directory name)
     where
       copied : Merge ℕ
       copied = copied_up nat_eq (evens fresh) merge directory

@@ -1,25 +1,12 @@
 -- Calls of theirs that make, give and take names through overlays end in the part as in the world.
-use Rattle.std.proofs.Common.{◌≡◌, refl, sym, ap, subst, ◌∙◌, ℕ, nat_eq, true, false, true≢false, List, Option, Some, None, Ok, is_some, ◌||◌}
-use Rattle.vt_spec.proofs.Common.{Among, Call, Change, Done, Filesystem, Fresh, Layer, LinkTo, Location, Make, Mkdir, Overlay, Permit, Serves, SymlinkAt, Task, TaskName, ToChange, ToMake, Unlink, World, Write, changed_at, evens, filesystem_at, finished, finished_by, granted, is_overlay, judge_in, linking, looks_of, mount_at, numbers_raised, object_there, only_looks, overfills, part_of, removing, settled, task_called, used_directly, with_change}
-use Rattle.vt_laws_members.proofs.judging.TheirCalls.{sealing_of}
-use Rattle.vt_laws_rules.specs.Granted.{IsGranted}
-use Rattle.vt_laws_rules.specs.Granted.IsGranted.{makes_hard_link, unlinks}
-use Rattle.vt_laws_rules.proofs.given.Inversion.{calls_are_granted}
-use Rattle.vt_laws_mounts.specs.LettingGo.TreesOverlays.{with_filesystems}
-use Rattle.vt_laws_worlds.proofs.worlds.CallsKept.{name_found}
-use Rattle.vt_laws_worlds.specs.OverlayPermits.Changed.{numbers_left}
-use Rattle.vt_laws_worlds.proofs.overlay_permits.changed.ChangedOverlays.{permits_can_change}
-use Rattle.vt_laws_members.proofs.judging.SeenInPart.{filesystem_alike, theirs_directly}
+use Rattle.std.proofs.Common.{inl, inr, ◌≡◌, refl, sym, ap, subst, ◌∙◌, ℕ, nat_eq, true, false, true≢false, List, Option, Some, None, Ok, is_some}
+use Rattle.vt_spec.proofs.Common.{Among, Call, Change, Done, Filesystem, Fresh, Layer, LinkTo, Location, Make, Mkdir, Overlay, Permit, Serves, SymlinkAt, Task, TaskName, ToChange, ToMake, Unlink, World, Write, changed_at, evens, filesystem_at, finished, granted, is_overlay, judge_in, linking, looks_of, mount_at, numbers_raised, object_there, only_looks, overfills, part_of, removing, settled, task_called, used_directly, with_change}
+use Rattle.vt_laws_members.proofs.judging.Common.{filesystem_alike, sealing_of, theirs_directly}
+use Rattle.vt_laws_members.proofs.Common.{cases_Option, IsGranted, calls_are_granted, makes_hard_link, name_found, numbers_left, permits_can_change, unlinks, with_filesystems}
 use Rattle.vt_laws_members.specs.Changes.Changes.{EndsAlike, IsCallOfTheirs, grown}
-use Rattle.vt_laws_members.proofs.changes.looks.Told.{ran}
-use Rattle.vt_laws_members.proofs.changes.names.GrantedNames.{Names, NamingCall, naming_of, naming_theirs}
-use Rattle.vt_laws_members.proofs.changes.overlays.OverlayEdits.{unwritten_run}
-use Rattle.vt_laws_members.proofs.changes.tasks.Denied.{ran_there, run_by}
-use Rattle.vt_laws_members.proofs.changes.tasks.Rights.{idle_end_alike}
+use Rattle.vt_laws_members.proofs.changes.Common.{Names, NamingCall, OverlayChange, idle_end_alike, naming_of, naming_theirs, ran, ran_there, run_by, tasks_stay, unwritten_run}
 use Rattle.vt_laws_members.specs.OverlayNames.OverlayNames.{OverlayLinksEndAlike, OverlayMakingEndsAlike, OverlayMkdirsEndAlike, OverlayNewFilesEndAlike, OverlaySymlinksEndAlike, OverlayUnlinksEndAlike}
 use Rattle.vt_laws_members.proofs.overlay_names.names.OverlayNaming.{changed_ends, changed_in_part, changed_in_world, listed_in_part, listed_in_world}
-use Rattle.vt_laws_members.proofs.changes.overlays.Copying.{OverlayChange}
-use Rattle.vt_laws_members.proofs.changes.letting_go.TasksStay.{tasks_stay}
 
 -- so ends a granted change of filesystems, before which mounts may go
 pub stepped_run : (before w : World ℕ) (name : TaskName) (call : Call) (supply : Fresh ℕ) (location : Location ℕ)
@@ -72,7 +59,10 @@ module _ {world : World ℕ} {names : List TaskName} {name : TaskName} {call : C
 
   pub naming_through_ends : only_looks call ≡ false → grown names name call (Ok Done) ≡ names
       → is_overlay merged ≡ true → Runs world → Runs part → EndsAlike world names name call naming.fresh naming.fresh
-  naming_through_ends looks stays is runs runs_too = by merged.overlay refl
+  naming_through_ends looks stays is runs runs_too = elim (cases_Option merged.overlay) [
+    | inl none ↦ absurd (true≢false (sym is ∙ ap is_some none))
+    | inr its ↦ layered its.0 its.1 its.0.upper refl
+  ]
     where
       one : ran name call world naming.fresh (Some naming.task)
           ≡ finished nat_eq world name call (changed_at nat_eq world naming.location)
@@ -97,10 +87,6 @@ module _ {world : World ℕ} {names : List TaskName} {name : TaskName} {call : C
           (changed_in_world naming.it copied) (listed_in_world naming.it copied))
           (two ∙ stepped_run part part name call supply naming.location naming.change _ _ looks
           (changed_in_part naming.it copied) (listed_in_part naming.it copied))
-
-      by : (o : Option (Overlay ℕ)) → merged.overlay ≡ o → EndsAlike world names name call naming.fresh naming.fresh
-      by None none = absurd (true≢false (sym is ∙ ap is_some none))
-      by (Some overlay) overlaid = layered overlay overlaid overlay.upper refl
 
 -- calls that make an inode
 pub overlay_makings_end : (world : World ℕ) (names : List TaskName) (name : TaskName) (call : Call)

@@ -1,24 +1,13 @@
 -- A granted call of theirs by which a name comes or goes through an overlay ends in the part as in the world.
-use Rattle.std.proofs.Common.{arith, ◌≡◌, refl, sym, ap, subst, ◌∙◌, ◌⊎◌, inl, inr, ⊎_elim, ℕ, nat_eq, eqb-true, Bool, true, false, true≢false, List, [], ◌∷◌, ◌++◌, Option, Some, Ok, is_some, map, option_to_list}
-use Rattle.vt_spec.proofs.Common.{Among, Answer, Call, Filesystem, Fresh, Layer, Overlay, Real, Task, TaskName, World, among-append_left, among-append_right, among-flat_map, among-from_filter, among_numbers, changed_at, common_steps, filesystem_numbered, granted, is_among, is_overlay, layers_of, mount_at, numbers_raised, of_overlay, open_layer, or_cases, overlay_or, part_of, settled, stack_of, task_called, used_alone, used_directly, used_filesystems, wholly_locked, with_change}
-use Rattle.vt_laws_members.proofs.judging.TheirCalls.{sealing_of}
-use Rattle.vt_laws_mounts.specs.LettingGo.TreesOverlays.{with_filesystems}
-use Rattle.vt_laws_sealed.proofs.part.part.PartOfPart.{used_directly_used}
-use Rattle.vt_laws_sealed.proofs.part.seals.ByPart.{IsSealed, layer_directory, layer_plain, used_are_free}
+use Rattle.std.proofs.Common.{arith, ◌≡◌, refl, sym, ap, ◌∙◌, ◌⊎◌, inl, inr, ⊎_elim, ℕ, nat_eq, eqb-true, Bool, true, false, true≢false, List, [], ◌∷◌, ◌++◌, Option, Some, Ok, map, option_to_list}
+use Rattle.vt_spec.proofs.Common.{Among, Answer, Call, Filesystem, Fresh, Layer, Overlay, Real, Task, TaskName, World, among-append_left, among-append_right, among-flat_map, among-from_filter, among_numbers, changed_at, common_steps, filesystem_numbered, granted, is_among, is_overlay, layers_of, mount_at, numbers_raised, of_overlay, open_layer, or_cases, part_of, settled, stack_of, task_called, used_alone, used_directly, used_filesystems, wholly_locked, with_change}
+use Rattle.vt_laws_members.proofs.judging.Common.{lower_view, overlay_there, sealing_of, whole_how}
+use Rattle.vt_laws_members.proofs.Common.{IsSealed, layer_directory, layer_plain, used_are_free, used_directly_used, with_filesystems}
 use Rattle.vt_laws_members.proofs.judging.Anywhere.{not_whole}
-use Rattle.vt_laws_members.proofs.judging.Locks.{whole_how}
-use Rattle.vt_laws_members.proofs.judging.LowersSeen.{lower_view, overlay_there}
 use Rattle.vt_laws_members.specs.Changes.Changes.{EndsAlike, IsCallOfTheirs, grown}
-use Rattle.vt_laws_members.proofs.changes.files.FilesChanged.{lowers_in}
-use Rattle.vt_laws_members.proofs.changes.files.OneFilesystem.{found_numbered, one_in_part, one_in_world}
-use Rattle.vt_laws_members.proofs.changes.letting_go.Changed.{Retasks}
-use Rattle.vt_laws_members.proofs.changes.letting_go.PartReady.{no_others_there}
-use Rattle.vt_laws_members.proofs.changes.letting_go.Ready.{Alone}
-use Rattle.vt_laws_members.proofs.changes.letting_go.WorldReady.{alone}
-use Rattle.vt_laws_members.proofs.changes.looks.Told.{ran}
-use Rattle.vt_laws_members.proofs.changes.overlays.Copying.{OverlayChange, both_numbers, layer_found, made_of, numbers_in_part, numbers_in_world, overlays_stay, step, step_kept, step_numbered, stepped_if_made, stepped_in_world, upper_in_use}
+use Rattle.vt_laws_members.proofs.changes.Common.{Alone, OverlayChange, Retasks, alone, both_numbers, found_numbered, layer_found, lowers_in, made_of, no_others_there, numbers_in_part, numbers_in_world, one_in_part, one_in_world, overlays_stay, ran, step, step_kept, step_numbered, stepped_if_made, stepped_in_world, upper_in_use}
 use Rattle.vt_laws_members.proofs.overlay_names.names.LayersAlike.{AllAlike, ViewsAlike, made_same}
-use Rattle.vt_laws_members.proofs.overlay_names.names.SteppedAlike.{living, living_part, stepped_ends}
+use Rattle.vt_laws_members.proofs.overlay_names.names.SteppedAlike.{living_part, stepped_ends}
 use Rattle.vt_laws_members.proofs.overlay_names.names.SteppedReady.{ChangesTheirs}
 
 overlay_test : (x : Filesystem ℕ) → is_overlay x ≡ of_overlay false (λ (o : Overlay ℕ). true) x

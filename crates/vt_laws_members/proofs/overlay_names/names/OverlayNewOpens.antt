@@ -1,22 +1,13 @@
 -- An open of theirs that makes the file through an overlay ends in the part as in the world.
-use Rattle.std.proofs.Common.{arith, ◌≡◌, refl, sym, ap, subst, ◌∙◌, inl, inr, ⊎_elim, ℕ, nat_eq, false, cond, true≢false, List, [], ◌∷◌, Option, Some, None, is_some, map, not}
-use Rattle.vt_spec.proofs.Common.{Access, Among, Call, Change, Creation, Descriptor, Filesystem, Fresh, Layer, Location, Make, OpenFile, Opened, Overlay, Task, TaskName, ToOpenNew, World, among-append_right, among-flat_map, among-from_map, among-map, changed_at, common_steps, evens, filesystem_at, finished, free_number, granted, inserted, list_any, locations, locations_of, members, mount_at, numbers_raised, odds, opened, overlay_or, own_mounts, part_of, replaced_if_called, same_name_itself, settled, task_called, used_directly, with_change, with_descriptor, with_task}
-use Rattle.vt_laws_members.proofs.judging.TheirCalls.{IsMember, caller_in, sealing_of}
-use Rattle.vt_laws_mounts.specs.LettingGo.TreesOverlays.{with_filesystems}
-use Rattle.vt_laws_worlds.proofs.worlds.CallsKept.{name_found}
-use Rattle.vt_laws_worlds.specs.OverlayPermits.Unlocked.{SparesLocked}
-use Rattle.vt_laws_worlds.proofs.overlay_permits.asked.Unlocked.{permits_spare_what_is_locked}
-use Rattle.vt_laws_worlds.proofs.overlay_permits.changed.ChangedOverlays.{permits_can_change}
-use Rattle.vt_laws_members.proofs.judging.Grounds.{IsTheirs}
-use Rattle.vt_laws_members.proofs.judging.SeenInPart.{directory_theirs, filesystem_alike, root_theirs, theirs_directly}
+use Rattle.std.proofs.Common.{arith, ◌≡◌, refl, sym, ap, subst, ◌∙◌, inl, inr, ⊎_elim, ℕ, nat_eq, false, true≢false, List, [], ◌∷◌, Option, Some, None, is_some, map, not}
+use Rattle.vt_spec.proofs.Common.{Access, Among, Call, Change, Creation, Descriptor, Filesystem, Fresh, Layer, Location, Make, OpenFile, Opened, Overlay, Task, TaskName, ToOpenNew, World, among-append_right, among-flat_map, among-from_map, among-map, changed_at, common_steps, evens, filesystem_at, finished, free_number, granted, inserted, locations, locations_of, members, mount_at, numbers_raised, odds, opened, overlay_or, own_mounts, part_of, replaced_if_called, same_name_itself, settled, task_called, used_directly, with_change, with_descriptor}
+use Rattle.vt_laws_members.proofs.judging.Common.{IsMember, IsTheirs, caller_in, directory_theirs, filesystem_alike, root_theirs, sealing_of, theirs_directly}
+use Rattle.vt_laws_members.proofs.Common.{cases_Option, SparesLocked, name_found, permits_can_change, permits_spare_what_is_locked, with_filesystems}
 use Rattle.vt_laws_members.specs.Changes.Changes.{EndsAlike, IsCallOfTheirs}
 use Rattle.vt_laws_members.proofs.changes.letting_go.Callers.{StandsOnTheirs, all_in_set, of_set, others_left, places_left, roots_left, same_set, spaces_kept}
-use Rattle.vt_laws_members.proofs.changes.letting_go.Changed.{LetsGo, Retasks}
-use Rattle.vt_laws_members.proofs.changes.names.GrantedNames.{naming_of, naming_theirs}
-use Rattle.vt_laws_members.proofs.changes.tasks.Denied.{ran_there, run_by}
+use Rattle.vt_laws_members.proofs.changes.Common.{LetsGo, OverlayChange, Retasks, naming_of, naming_theirs, ran_there, run_by}
 use Rattle.vt_laws_members.specs.OverlayNames.OverlayNames.{OverlayNewOpensEndAlike}
 use Rattle.vt_laws_members.proofs.overlay_names.names.OverlayNaming.{changed_ends, changed_in_part, changed_in_world, listed_in_part, listed_in_world}
-use Rattle.vt_laws_members.proofs.changes.overlays.Copying.{OverlayChange}
 use Rattle.vt_laws_trees.proofs.calls.tasks.TasksOwn.{among-inserted}
 
 -- a new descriptor is one of the task's
@@ -95,7 +86,10 @@ opened_run w name path access how supply location change task file wanted step n
 
 pub overlay_new_opens_end_alike : OverlayNewOpensEndAlike
 overlay_new_opens_end_alike world names name path access how it task found fresh serves directory entry node wanted
-    judged is = by merged.overlay refl
+    judged is = elim (cases_Option merged.overlay) [
+      | inl none ↦ absurd (true≢false (sym is ∙ ap is_some none))
+      | inr its ↦ layered its.0 its.1 its.0.upper refl
+    ]
   where
     call : Call
     call = OpenFile path access how
@@ -161,7 +155,3 @@ overlay_new_opens_end_alike world names name path access how it task found fresh
         (changed_in_world it copied) (listed_in_world it copied))
         (ran_there it fresh fresh task found judged ∙ opened_run part name path access how (odds fresh) directory change
         task file wanted _ _ (changed_in_part it copied) (listed_in_part it copied))
-
-    by : (o : Option (Overlay ℕ)) → merged.overlay ≡ o → EndsAlike world names name call fresh fresh
-    by None none = absurd (true≢false (sym is ∙ ap is_some none))
-    by (Some overlay) overlaid = layered overlay overlaid overlay.upper refl

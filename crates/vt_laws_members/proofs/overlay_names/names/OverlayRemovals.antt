@@ -1,35 +1,17 @@
 -- A call of theirs that removes a directory, or that renames, through an overlay ends in the part as in the world, with
 -- the mounts on what goes.
-use Rattle.std.proofs.Common.{arith, ◌≡◌, refl, sym, ap, subst, ◌∙◌, ⊎_elim, ℕ, nat_eq, eqb-true, true, false, true≢false, List, [], Option, Some, None, Ok, is_some, option_map, option_to_list}
-use Rattle.vt_spec.proofs.Common.{Among, Call, Change, Done, Filesystem, Fresh, Layer, Location, Mount, MountInvariants, Move, Overlay, Rename, TaskName, ToRename, World, and_parts, changed_at, common_steps, filesystem_at, filesystem_numbered, finished, granted, holds_of, is_among, is_going, is_overlay, is_own_namespace, judge_in, list_all, members, mount_at, mount_numbered, mounts_on, numbers_raised, only_looks, overlay_or, part_of, points_of, settled, taken_away, task_called, then_some, upper_object, upper_points, used_alone, used_directly, used_filesystems, with_change, without_mounts_on}
-use Rattle.vt_laws_members.proofs.judging.TheirCalls.{sealing_of}
-use Rattle.vt_laws_mounts.proofs.ends.Ending.{points_keep_mounts}
-use Rattle.vt_laws_mounts.specs.LettingGo.TreesOverlays.{with_filesystems}
-use Rattle.vt_laws_sealed.proofs.part.seals.ByPart.{IsSealed}
-use Rattle.vt_laws_worlds.proofs.worlds.CallsKept.{name_found}
-use Rattle.vt_laws_worlds.specs.OverlayPermits.Changed.{numbers_left}
-use Rattle.vt_laws_worlds.proofs.overlay_permits.changed.ChangedOverlays.{permits_can_change}
-use Rattle.vt_laws_sealed.proofs.part.part.PartOfPart.{is_own, used_directly_used}
-use Rattle.vt_laws_members.specs.Judging.{is_theirs}
-use Rattle.vt_laws_members.proofs.judging.Grounds.{IsTheirs, its_mount, theirs_from}
-use Rattle.vt_laws_members.proofs.judging.SeenInPart.{filesystem_alike, theirs_directly}
-use Rattle.vt_laws_members.specs.Changes.Changes.{EndAlike, EndsAlike, grown}
-use Rattle.vt_laws_members.proofs.changes.files.OneFilesystem.{found_numbered, one_in_part, one_in_world}
-use Rattle.vt_laws_members.proofs.changes.letting_go.PartMounts.{part_mounts}
-use Rattle.vt_laws_members.proofs.changes.letting_go.Taken.{part_after, part_taken, taken_parts, world_after, world_taken}
-use Rattle.vt_laws_members.proofs.changes.looks.Told.{ended_alike, ran}
-use Rattle.vt_laws_members.proofs.changes.names.Elsewhere.{own_here}
-use Rattle.vt_laws_members.proofs.changes.names.RemovalsEnding.{RemovingCall, removing_directory, replacing}
-use Rattle.vt_laws_members.proofs.changes.overlays.Copying.{OverlayChange, layer_found, numbers_if_seen, stepped_if_made, upper_in_use}
-use Rattle.vt_laws_members.proofs.changes.tasks.Denied.{by_runs, ran_there, run_by}
+use Rattle.std.proofs.Common.{inl, inr, arith, ◌≡◌, refl, sym, ap, subst, ◌∙◌, ⊎_elim, ℕ, nat_eq, eqb-true, true, false, true≢false, List, [], Option, Some, None, Ok, is_some, option_map, option_to_list}
+use Rattle.vt_spec.proofs.Common.{Among, Call, Change, Done, Filesystem, Fresh, Layer, Location, Mount, MountInvariants, Move, Overlay, Rename, TaskName, ToRename, World, and_parts, changed_at, common_steps, filesystem_at, filesystem_numbered, finished, granted, holds_of, is_among, is_going, is_overlay, is_own_namespace, judge_in, list_all, members, mount_at, mounts_on, numbers_raised, only_looks, overlay_or, part_of, points_of, settled, taken_away, then_some, upper_object, upper_points, used_alone, used_directly, used_filesystems, with_change, without_mounts_on}
+use Rattle.vt_laws_members.proofs.judging.Common.{IsTheirs, filesystem_alike, its_mount, sealing_of, theirs_directly, theirs_from}
+use Rattle.vt_laws_members.proofs.Common.{cases_Option, IsSealed, is_own, name_found, numbers_left, permits_can_change, points_keep_mounts, used_directly_used, with_filesystems}
+use Rattle.vt_laws_members.specs.Changes.Changes.{EndsAlike}
+use Rattle.vt_laws_members.proofs.changes.Common.{OverlayChange, RemovingCall, TheirsGo, by_runs, ended_alike, found_numbered, layer_found, naming_of, numbers_if_seen, one_in_part, one_in_world, own_here, part_after, part_mounts, part_taken, ran_there, removing_directory, replacing, run_by, stepped_if_made, taken_parts, upper_in_use, world_after, world_taken}
 use Rattle.vt_laws_members.proofs.detached.removals.Going.{caller_stays, going_with, own_go, same_going}
 use Rattle.vt_laws_members.proofs.detached.removals.StillUsed.{seen_here, seen_there, still_direct}
 use Rattle.vt_laws_members.specs.OverlayNames.OverlayNames.{OverlayRenamesEndAlike, OverlayRmdirsEndAlike}
-use Rattle.vt_laws_members.proofs.overlay_names.names.Detaching.{alone_here, alone_there, detached_and_changed, living, living_part}
+use Rattle.vt_laws_members.proofs.overlay_names.names.Detaching.{alone_here, alone_there, detached_and_changed}
 use Rattle.vt_laws_members.proofs.overlay_names.names.OverlayEnding.{naming_through_ends, stepped_run}
 use Rattle.vt_laws_members.proofs.overlay_names.names.OverlayNaming.{made_in_part, merged_alone, moved, numbers, one_alone, theirs, two_alone, upper_alone}
-use Rattle.vt_laws_members.proofs.changes.letting_go.Regrouped.{TheirsGo}
-use Rattle.vt_laws_members.proofs.changes.names.GrantedNames.{naming_of}
 
 -- without an upper layer nothing is changed, after mounts may have gone
 unwritten_after : (before w : World ℕ) (name : TaskName) (call : Call) (supply : Fresh ℕ) (location : Location ℕ)
@@ -136,17 +118,14 @@ module _ {world : World ℕ} {names : List TaskName} {name : TaskName} {call : C
 
     -- the mount of the directory is in the caller's namespace, and stays
     directory_stays : is_own world names (members world names) on.0 ≡ true → is_going nat_eq list on.0.number ≡ false
-    directory_stays its = by on.0.namespace refl
-      where
-        by : (o : Option ℕ) → on.0.namespace ≡ o → is_going nat_eq list on.0.number ≡ false
-        by None e = absurd (true≢false (sym its ∙ ap (holds_of (is_own_namespace nat_eq world names)) e))
-        by (Some n) e =
-            let seen : list_all (nat_eq it.task.namespace) (option_to_list (Some n)) ≡ true =
-            ap (λ o. list_all (nat_eq it.task.namespace) (option_to_list o))
-            (sym (ap (λ (m : Mount ℕ). m.namespace) (its_mount world names it.is.mounts it.location.mount on) ∙ e))
-            ∙ it.reached.seen in
-            caller_stays world names it.is it.gone on_gone only_own it.task it.free.bare on.0 on.1
-            (e ∙ ap Some (sym (eqb-true it.task.namespace n (and_parts (nat_eq it.task.namespace n) true seen).0)))
+    directory_stays its = elim (cases_Option on.0.namespace) [
+      | inl e ↦ absurd (true≢false (sym its ∙ ap (holds_of (is_own_namespace nat_eq world names)) e))
+      | inr its ↦ let seen : list_all (nat_eq it.task.namespace) (option_to_list (Some its.0)) ≡ true =
+          cc (its_mount world names it.is.mounts it.location.mount on, its.1, it.reached.seen) in
+          caller_stays world names it.is it.gone on_gone only_own it.task it.free.bare on.0 on.1
+          (its.1 ∙ ap Some (sym (eqb-true it.task.namespace its.0 (and_parts
+          (nat_eq it.task.namespace its.0) true seen).0)))
+    ]
 
     -- so both runs go on with what is left
     run_here : run_by it.it world it.fresh it.task (Ok it.permit)
@@ -246,11 +225,10 @@ module _ {world : World ℕ} {names : List TaskName} {name : TaskName} {call : C
         both_used n m = ⊎_elim (λ e. cc one_used) (λ rest. ⊎_elim (λ e. cc two_used) (λ none. absurd none) rest) m
 
   pub removal_through_ends : EndsAlike world names name call it.fresh it.fresh
-  removal_through_ends = by merged.overlay refl
-    where
-      by : (o : Option (Overlay ℕ)) → merged.overlay ≡ o → EndsAlike world names name call it.fresh it.fresh
-      by None none = absurd (true≢false (sym is ∙ ap is_some none))
-      by (Some overlay) overlaid = layered overlay overlaid overlay.upper refl
+  removal_through_ends = elim (cases_Option merged.overlay) [
+    | inl none ↦ absurd (true≢false (sym is ∙ ap is_some none))
+    | inr its ↦ layered its.0 its.1 its.0.upper refl
+  ]
 
 pub overlay_rmdirs_end_alike : OverlayRmdirsEndAlike
 overlay_rmdirs_end_alike world names name path it task found fresh serves parent entry directory judged is =

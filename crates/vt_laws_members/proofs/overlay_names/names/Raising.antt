@@ -1,7 +1,7 @@
 -- Where the change numbers of filesystems of a set are raised last, the part has them raised.
 use Rattle.std.proofs.Common.{arith, ◌≡◌, refl, sym, ap, ◌∙◌, ℕ, nat_eq, eqb-true, Bool, true, false, cond, true≢false, List, filter, map}
 use Rattle.vt_spec.proofs.Common.{Among, Filesystem, Layer, Namespace, TaskName, World, any_among, change_layers, common_steps, is_among, is_member_task, is_own_namespace, list_any, numbers_raised, part_of, raised, raised_if_changed, raised_namespace, raised_task, settled, used_filesystems, without_dead_mounts}
-use Rattle.vt_laws_mounts.specs.LettingGo.TreesOverlays.{with_filesystems}
+use Rattle.vt_laws_members.proofs.Common.{with_filesystems}
 use Rattle.vt_laws_members.proofs.changes.files.FilesChanged.{lowers_in, part_with_layers}
 use Rattle.vt_laws_members.proofs.changes.letting_go.Ends.{raised_sees}
 use Rattle.vt_laws_members.proofs.changes.letting_go.Ready.{Ready}

@@ -1,9 +1,7 @@
 -- Where filesystems change that a sealed set uses alone, the world and the part leave it one part.
 use Rattle.std.proofs.Common.{arith, ◌≡◌, sym, ap, ◌∙◌, ℕ, nat_eq, true, List, Some, Ok, filter, map}
 use Rattle.vt_spec.proofs.Common.{Among, Answer, Call, Filesystem, Fresh, Layer, Namespace, Task, TaskName, World, common_steps, granted, is_among, is_member_task, is_own_namespace, numbers_raised, own_lowers, part_of, raised_if_changed, raised_task, settled, task_called, used_filesystems, without_dead_mounts}
-use Rattle.vt_laws_mounts.specs.LettingGo.InUse.{AllInUse}
-use Rattle.vt_laws_mounts.specs.LettingGo.TreesOverlays.{with_filesystems}
-use Rattle.vt_laws_mounts.proofs.letting_go.sweeps.OfWorlds.{all_in_use}
+use Rattle.vt_laws_members.proofs.Common.{AllInUse, all_in_use, with_filesystems}
 use Rattle.vt_laws_members.specs.Changes.Changes.{EndsAlike, IsCallOfTheirs, grown}
 use Rattle.vt_laws_members.proofs.changes.files.FilesChanged.{part_with_layers}
 use Rattle.vt_laws_members.proofs.changes.letting_go.Changed.{Retasks, sees_less}

@@ -1,9 +1,8 @@
 -- A world of which a set sees the sweep by its part alone is still one after filesystems that the set uses alone
 -- change.
-use Rattle.std.proofs.Common.{arith, ◌≡◌, sym, ap, subst, ◌∙◌, ◌⊎◌, inl, inr, ⊎_elim, ℕ, nat_eq, true, false, List, [], None, is_some}
+use Rattle.std.proofs.Common.{arith, ◌≡◌, sym, ap, subst, ◌∙◌, ◌⊎◌, inl, inr, ⊎_elim, ℕ, nat_eq, true, false, List, [], None}
 use Rattle.vt_spec.proofs.Common.{Among, Filesystem, Layer, TaskName, World, among-from_map, change_layers, common_steps, has_layer_on, is_among, is_overlay, layers_of, list_any, none_from_not_some, of_overlay, pair-map}
-use Rattle.vt_laws_mounts.specs.LettingGo.TreesOverlays.{with_filesystems}
-use Rattle.vt_laws_mounts.proofs.letting_go.sweeps.InUse.{layers_on}
+use Rattle.vt_laws_members.proofs.Common.{layers_on, with_filesystems}
 use Rattle.vt_laws_members.proofs.changes.files.FilesChanged.{lowers_in, lowers_later, used_later}
 use Rattle.vt_laws_members.proofs.changes.letting_go.Ready.{AllNamed, Alone, IsCut, NoOthers, Ready}
 

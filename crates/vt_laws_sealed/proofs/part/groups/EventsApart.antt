@@ -1,7 +1,7 @@
 -- Events of groups of others reach no mount of a sealed set.
 use Rattle.std.proofs.Common.{◌≡◌, refl, sym, subst, ◌∙◌, ◌⊎◌, inr, ⊎_elim, ℕ, nat_eq, true, true≢false, List, Option, Some, None, length, eq-eqb, arith}
 use Rattle.vt_spec.proofs.Common.{Among, HasLivingGroups, Lives, Mount, MountInvariants, Propagation, TaskName, World, among-filter, among-from_filter, among_from_all, among_from_contains, among_from_list_all, and_parts, any_among, common_steps, false_from_ne_true, group_of, groups_up, has_master, has_members, has_no_master, holds_of, is_among, is_member_of, is_own_mount, master_of, none_is_some, not-true, or_left, or_right, other_mounts, own_mounts, receives, receives_events_of, same_Some, shares_no_events, source_of}
-use Rattle.vt_laws_mounts.proofs.mounts.Receivers.{along_chain}
+use Rattle.vt_laws_sealed.proofs.Common.{along_chain}
 use Rattle.vt_laws_sealed.specs.Part.Groups.{NoEventOfOthersReachesThem}
 
 pub member_group : (g : ℕ) (mount : Mount ℕ) → is_member_of nat_eq g mount ≡ true → group_of mount.propagation ≡ Some g

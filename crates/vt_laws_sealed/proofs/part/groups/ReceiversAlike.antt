@@ -2,9 +2,7 @@
 use Rattle.std.proofs.Common.{◌≡◌, refl, sym, ap, ◌∙◌, ◌⊎◌, inl, inr, ⊎_elim, ℕ, nat_eq, true, false, cond, true≢false, List, [], ◌∷◌, Option, Some, None, filter, length, map, not, ◌||◌, ◌≤◌, arith, unwrap_or, filter_map}
 use Rattle.vt_spec.proofs.Common.{Among, HasLivingGroups, Lives, Mount, MountInvariants, Task, TaskName, World, among-filter, among-from_filter, among-map, among_from_all, among_from_contains, among_from_list_all, and_parts, any_among, any_from_among, common_steps, false_from_ne_true, group_of, groups_up, has_master, has_members, has_no_master, holds_of, is_among, is_at, is_member_of, is_own_mount, is_own_namespace, locations, master_of, members, none_is_some, not-true, or_left, or_right, other_mounts, own_mounts, part_of, receivers, receives, roots_and_directories, seen_by_descriptor, shares_no_events, source_of, when}
 use Rattle.vt_laws_mounts.proofs.GroupsUp.{source_from_group}
-use Rattle.vt_laws_mounts.proofs.mounts.Receivers.{along_chain}
-use Rattle.vt_laws_mounts.proofs.letting_go.Chains.{Way, chains_alike}
-use Rattle.vt_laws_mounts.proofs.letting_go.Chains.Way.{ends, goes_on}
+use Rattle.vt_laws_sealed.proofs.Common.{Way, along_chain, chains_alike, ends, goes_on}
 use Rattle.vt_laws_sealed.proofs.part.Kept.{filter_both, length-filter_map}
 use Rattle.vt_laws_sealed.proofs.part.groups.EventsApart.{Hears, above_lives, heard_above, master_by, member_group, members_of, none_hears, sides, start_hears}
 use Rattle.vt_laws_sealed.specs.Part.Groups.{NoEventOfTheirsReachesOthers, TheirGroupsReceiveAlike}

@@ -1,9 +1,7 @@
 -- What is wholly locked is locked, and an outsider changes no file of a sealed set.
 use Rattle.std.proofs.Common.{arith, ◌≡◌, refl, sym, ap, subst, ◌∙◌, ⊎_elim, ℕ, zero, suc, nat_eq, true, false, true≢false, List, [], ◌∷◌, ◌++◌, Some, None, is_some, ◌||◌, ◌&&◌, eqb-true}
 use Rattle.vt_spec.proofs.Common.{Among, Change, FileTree, Filesystem, Fresh, IsTree, Layer, ListsNumbers, Location, TaskName, World, all_named, among-append_right, among-flat_map, among-from_flat_map, among_from_list_all, among_numbers, and_from, and_parts, and_true_left, any_among, any_from_among, changed, common_steps, entry_from, false_from_ne_true, filesystem_at, filesystem_changed, filesystem_numbered, is_among, is_among_numbers, is_locked, is_locked_at, is_lower_root, is_under, layers_of, led-append, lies_in_layer, lies_or_counts_under, list_all, list_any, live_layers, mount_at, named_in, no_outsider_on, node_at, of_overlay, or_cases, or_left, overlays, own_lowers, part_of, sealed, targets_in, used_alone, used_filesystems, wholly_locked, with_change, with_files}
-use Rattle.vt_laws_trees.proofs.layers.layers.LowersWorld.{number_of_filesystem}
-use Rattle.vt_laws_trees.proofs.layers.layers.UpperLine.{ReachedIn, is_reached_in}
-use Rattle.vt_laws_trees.proofs.overlays.whole.ApartPaths.{Led, led_on, led_under}
+use Rattle.vt_laws_sealed.proofs.Common.{Led, ReachedIn, is_reached_in, led_on, led_under, number_of_filesystem}
 use Rattle.vt_laws_sealed.specs.Part.Locked.{OthersChangeWhatIsNotUsed, OthersChangesLeaveThePart, WhollyLockedIsLocked}
 use Rattle.vt_laws_sealed.proofs.part.part.UnusedFilesystems.{unused_filesystems_may_change}
 

@@ -1,8 +1,7 @@
 -- Flags of a mount of theirs that are set in the world are set in the part.
 use Rattle.std.proofs.Common.{◌≡◌, refl, sym, ap, ◌∙◌, ◌⊎◌, inl, inr, ⊎_elim, ℕ, nat_eq, Bool, true, false, cond, List, [], ◌∷◌, ◌++◌, Option, Some, None, flat_map, map, filter, ◌||◌, eq-eqb, eqb-true, arith, option_map, filter_map}
-use Rattle.vt_spec.proofs.Common.{Among, Filesystem, Layer, Location, Mount, MountFlags, Overlay, Task, TaskName, World, among-from_filter, among_from_contains, change_layers, common_steps, cons_option, each_once, filesystem_numbered, is_among, is_at, is_member_of, lies_in_layer, list_any, locations, map_alike, members, mount_at, mount_in, of_overlay, only_among, own_mounts, part_of, part_of_filesystem, part_of_master, replaced_if_same, roots_and_directories, seen_by_descriptor, used_directly, when, with_mount, with_mounts}
-use Rattle.vt_laws_mounts.specs.Mounts.Invariants.{OneNumberEach}
-use Rattle.vt_laws_mounts.proofs.mounts.MountsReplaced.{found_itself}
+use Rattle.vt_spec.proofs.Common.{cases_Bool, Among, Filesystem, Layer, Location, Mount, MountFlags, Overlay, Task, TaskName, World, among-from_filter, among_from_contains, change_layers, common_steps, cons_option, each_once, filesystem_numbered, is_among, is_at, is_member_of, lies_in_layer, list_any, locations, map_alike, members, mount_at, mount_in, of_overlay, only_among, own_mounts, part_of, part_of_filesystem, part_of_master, replaced_if_same, roots_and_directories, seen_by_descriptor, used_directly, when, with_mount, with_mounts}
+use Rattle.vt_laws_sealed.proofs.Common.{OneNumberEach, found_itself}
 use Rattle.vt_laws_sealed.specs.Part.Parts.{OnlyTheirFlagsChangeThePart}
 use Rattle.vt_laws_sealed.proofs.part.part.PartOfPart.{is_own, keep, kept_how}
 
@@ -55,16 +54,13 @@ module _ (world : World ℕ) (names : List TaskName) (one : OneNumberEach world)
   own_set : (list : List (Mount ℕ)) → ((x : Mount ℕ) → Among x list → Among x world.mounts)
       → filter owns (map set list) ≡ map set (filter owns list)
   own_set [] h = refl
-  own_set (x ∷ rest) h = by (owns x) refl (own_set rest (λ y m. h y (inr m)))
+  own_set (x ∷ rest) h = elim (cases_Bool (owns x)) [
+    | inl e ↦ cc (same, e, (own_set rest (λ y m. h y (inr m))))
+    | inr e ↦ cc (same, e, (own_set rest (λ y m. h y (inr m))))
+  ]
     where
       same : owns (set x) ≡ owns x
       same = ⊎_elim (λ t. ap owns t.1 ∙ ap owns (sym t.0)) (λ t. ap owns (apart x t)) (which x (h x (inl refl)))
-
-      by : (b : Bool) → owns x ≡ b → filter owns (map set rest) ≡ map set (filter owns rest)
-          → cond (owns (set x)) (set x ∷ filter owns (map set rest)) (filter owns (map set rest))
-          ≡ map set (cond (owns x) (x ∷ filter owns rest) (filter owns rest))
-      by true e later = cc (same, e, later)
-      by false e later = cc (same, e, later)
 
   pub own_later : own_mounts nat_eq later names ≡ map set (own_mounts nat_eq world names)
   own_later = own_set world.mounts (λ x m. m)

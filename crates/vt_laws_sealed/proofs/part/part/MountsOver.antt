@@ -1,12 +1,8 @@
 -- The mounts over a location on a mount of the part are those in the world.
 use Rattle.std.proofs.Common.{◌≡◌, refl, sym, ap, subst, ◌∙◌, ◌⊎◌, inl, inr, ⊎_elim, ℕ, zero, suc, nat_eq, Bool, true, false, cond, true≢false, List, [], ◌∷◌, Option, Some, None, map, find, length, ◌||◌, ◌≤◌, arith, option_map, filter_map}
 use Rattle.vt_spec.proofs.Common.{Among, Location, Mount, MountInvariants, Stands, Task, TaskName, World, among-filter_map, among-map, among_from_all, among_from_contains, among_from_list_all, and_parts, chain, chain_goes_on, child_at, common_steps, cons_option, found_among, found_passes, holds_of, is_at, last_of_chain, last_or, length-map, list_any, locations, members, mount_numbered, mounts_over, or_left, or_right, part_of, root_of, roots_and_directories, seen_by_descriptor, stands_at, when}
-use Rattle.vt_laws_mounts.proofs.mounts.MountsPlaces.{stands_there}
-use Rattle.vt_laws_mounts.proofs.mounts.MountsReplaced.{found_itself}
+use Rattle.vt_laws_sealed.proofs.Common.{Way, chains_alike, ends, found_itself, goes_on, namespace_below, stands_there}
 use Rattle.vt_laws_mounts.proofs.namespaces.Topmost.{topmost_is_free}
-use Rattle.vt_laws_mounts.proofs.letting_go.Chains.{Way, chains_alike}
-use Rattle.vt_laws_mounts.proofs.letting_go.Chains.Way.{ends, goes_on}
-use Rattle.vt_laws_worlds.proofs.worlds.Reached.{namespace_below}
 use Rattle.vt_laws_sealed.specs.Part.Parts.{MountsOverAreThoseOfThePart}
 use Rattle.vt_laws_sealed.proofs.part.Kept.{length-filter_map}
 use Rattle.vt_laws_sealed.proofs.part.part.PartOfPart.{is_own, keep, kept_how, kept_whole}

@@ -1,7 +1,7 @@
 -- Worlds in which a set of tasks sees the same have one part for it.
 use Rattle.std.proofs.Common.{◌≡◌, sym, ap, ◌∙◌, ℕ, nat_eq, List, [], ◌++◌, flat_map, filter, arith, filter_map}
 use Rattle.vt_spec.proofs.Common.{Mount, Overlay, Task, TaskName, World, change_layers, common_steps, contains_from_among, each_once, filesystem_numbered, members, of_overlay, own_lowers, own_mounts, part_of, part_of_master, used_directly, used_filesystems}
-use Rattle.vt_laws_mounts.proofs.letting_go.Lists.{flat_map_alike}
+use Rattle.vt_laws_sealed.proofs.Common.{flat_map_alike}
 use Rattle.vt_laws_sealed.specs.Part.Parts.{PartIsByObservations, SeesTheSame, shown_of}
 use Rattle.vt_laws_sealed.proofs.part.part.PartOfPart.{is_own, same_directly, same_members, same_own}
 

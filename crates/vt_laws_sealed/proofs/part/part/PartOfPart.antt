@@ -1,7 +1,7 @@
 -- The part of a part is the part.
-use Rattle.std.proofs.Common.{◌≡◌, refl, sym, ap, ◌∙◌, ◌⊎◌, ⊎_elim, ℕ, nat_eq, Bool, true, false, cond, true≢false, List, [], ◌∷◌, Option, Some, None, filter, find, ◌||◌, arith, unwrap_or, filter_map}
-use Rattle.vt_spec.proofs.Common.{Among, Filesystem, Location, Mount, Namespace, Task, TaskName, World, among-append_left, any_from_among, common_steps, cons_option, filesystem_numbered, holds_of, is_among, is_among_numbers, is_at, is_member_task, list_any, locations, map_alike, members, mount_at, no_filesystem, no_mount, none_is_some, own_lowers, own_mounts, part_of, part_of_filesystem, part_of_lower, part_of_master, part_of_mount, roots_and_directories, same_Some, seen_by_descriptor, used_directly, used_filesystems, when}
-use Rattle.vt_laws_mounts.proofs.letting_go.Lists.{flat_map_alike}
+use Rattle.std.proofs.Common.{inl, inr, ◌≡◌, refl, sym, ap, ◌∙◌, ◌⊎◌, ⊎_elim, ℕ, nat_eq, Bool, true, false, cond, true≢false, List, [], ◌∷◌, Option, Some, None, filter, find, ◌||◌, arith, unwrap_or, filter_map}
+use Rattle.vt_spec.proofs.Common.{cases_Bool, Among, Filesystem, Location, Mount, Namespace, Task, TaskName, World, among-append_left, any_from_among, common_steps, cons_option, filesystem_numbered, holds_of, is_among, is_among_numbers, is_at, is_member_task, list_any, locations, map_alike, members, mount_at, no_filesystem, no_mount, none_is_some, own_lowers, own_mounts, part_of, part_of_filesystem, part_of_lower, part_of_master, part_of_mount, roots_and_directories, same_Some, seen_by_descriptor, used_directly, used_filesystems, when}
+use Rattle.vt_laws_sealed.proofs.Common.{flat_map_alike}
 use Rattle.vt_laws_sealed.specs.Part.Parts.{PartOfThePartIsThePart}
 use Rattle.vt_laws_sealed.proofs.part.Kept.{among-each_once, filter_again, filter_kept, find_kept, kept_again}
 
@@ -58,17 +58,15 @@ module _ (world : World ℕ) (names : List TaskName) where
   kept_at : (number : ℕ) → ((x : Mount ℕ) → nat_eq number x.number ≡ true → is_at nat_eq (locations theirs) x ≡ true)
       → (x : Mount ℕ) → nat_eq number x.number ≡ true
       → (y : Mount ℕ) × (keep theirs x ≡ Some y) × (nat_eq number y.number ≡ true)
-  kept_at number at x e = by (is_own theirs x || is_at nat_eq (roots_and_directories theirs) x) refl
-    where
-      by : (b : Bool) → (is_own theirs x || is_at nat_eq (roots_and_directories theirs) x) ≡ b
-          → (y : Mount ℕ) × (keep theirs x ≡ Some y) × (nat_eq number y.number ≡ true)
-      by true f = (x, ap (λ b. cond b (Some x) (when (is_at nat_eq (locations theirs) x) (seen_by_descriptor x))) f, e)
-      by false f = (
-        seen_by_descriptor x,
-        ap (λ b. cond b (Some x) (when (is_at nat_eq (locations theirs) x) (seen_by_descriptor x))) f
-            ∙ ap (λ b. when b (seen_by_descriptor x)) (at x e),
-        e,
-      )
+  kept_at number at x e = elim (cases_Bool (is_own theirs x || is_at nat_eq (roots_and_directories theirs) x)) [
+    | inl f ↦ (x, ap (λ b. cond b (Some x) (when (is_at nat_eq (locations theirs) x) (seen_by_descriptor x))) f, e)
+    | inr f ↦ (
+      seen_by_descriptor x,
+      ap (λ b. cond b (Some x) (when (is_at nat_eq (locations theirs) x) (seen_by_descriptor x))) f
+          ∙ ap (λ b. when b (seen_by_descriptor x)) (at x e),
+      e,
+    )
+  ]
 
   same_number : (x y : Mount ℕ) → keep theirs x ≡ Some y → y.number ≡ x.number
   same_number x y e =

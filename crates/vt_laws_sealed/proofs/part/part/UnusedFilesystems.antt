@@ -4,7 +4,7 @@ use Rattle.vt_spec.proofs.Common.{Among, Filesystem, Layer, TaskName, World, amo
 use Rattle.vt_laws_sealed.specs.Part.Parts.{SeesTheSame, UnusedFilesystemsMayChange, shown_of}
 use Rattle.vt_laws_sealed.proofs.part.Kept.{among-each_once, filter_map_map, filter_map_same}
 use Rattle.vt_laws_sealed.proofs.part.part.Observed.{part_same}
-use Rattle.vt_laws_trees.proofs.layers.layers.LowersWorld.{filesystem_elsewhere}
+use Rattle.vt_laws_sealed.proofs.Common.{filesystem_elsewhere}
 
 module _ (world : World ℕ) (names : List TaskName) (new : Filesystem ℕ)
     (unused : is_among nat_eq new.number (used_filesystems nat_eq world names) ≡ false)

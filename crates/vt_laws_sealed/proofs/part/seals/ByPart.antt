@@ -1,8 +1,7 @@
 -- The part and the footholds of others decide whether a set of tasks is sealed off.
 use Rattle.std.proofs.Common.{◌≡◌, refl, sym, ap, subst, ◌∙◌, ◌⊎◌, inl, inr, ⊎_elim, ℕ, nat_eq, Bool, true, false, cond, true≢false, List, [], ◌∷◌, Option, Some, None, map, find, not, ◌||◌, ◌&&◌, eq-eqb, eqb-true, arith, unwrap_or}
 use Rattle.vt_spec.proofs.Common.{Among, Filesystem, IsWorld, Layer, Location, Mount, Overlay, Task, TaskName, World, all_locations, all_named, among-append_left, among-append_right, among-filter, among-filter_map, among-flat_map, among-from_filter, among-from_filter_map, among-from_flat_map, among-map, among_from_contains, among_from_list_all, among_numbers, and_from, and_parts, any_among, any_from_among, common_steps, contains_from_among, filesystem_lives, filesystem_numbered, found_among, has_layer_on, is_among, is_among_numbers, is_directory_node, is_located, is_lower_root, is_member_task, is_mounted, is_overlay, is_own_namespace, layers_of, list_all, list_all_from_among, list_any, locations, locations_of, members, mount_at, mount_lives, mount_numbered, no_filesystem, no_outsider_on, not-true, of_overlay, or_cases, or_left, or_right, other_mounts, outsiders, overlay_or, overlays, own_lowers, own_mounts, part_of, part_of_filesystem, part_of_lower, same_truth, sealed, used_alone, used_directly, used_filesystems, when, wholly_locked}
-use Rattle.vt_laws_mounts.proofs.mounts.MountsReplaced.{found_itself}
-use Rattle.vt_laws_mounts.proofs.letting_go.sweeps.OfWorlds.{all_in_use, found_filesystem}
+use Rattle.vt_laws_sealed.proofs.Common.{all_in_use, found_filesystem, found_itself}
 use Rattle.vt_laws_sealed.specs.Part.Seals.{FewerFootholdsSealToo, IsApart, SealedIsByPartAndFootholds, TheirOverlaysAreInThePart, is_locked_whole, is_sealed_by}
 use Rattle.vt_laws_sealed.proofs.part.part.PartOfPart.{found, same_used, shown_how, used_directly_used}
 

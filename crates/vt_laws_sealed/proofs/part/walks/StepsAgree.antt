@@ -1,10 +1,7 @@
 -- A step is the same in two worlds that show the same where it meets filesystems.
 use Rattle.std.proofs.Common.{arith, append-nil, ◌≡◌, refl, sym, ap, subst, inl, inr, ℕ, nat_eq, Bool, true, false, cond, List, [], ◌∷◌, ◌++◌, Option, Ok, Err, Result, flat_map, ◌&&◌, ◌||◌, IfOk, ok_or, option_map, option_to_list}
 use Rattle.vt_spec.proofs.Common.{Among, Dot, DotDot, LastWord, Location, Looks, Mount, Named, NoWord, Task, among-append_left, among-append_right, among-map, among_from_contains, and_from, common_steps, contains_from_among, denial, entered_upward, entries_in, entry_named, filesystems_of, hops, last_or, map-append, met_by, parent_in, same_location, stepped, unless, up_from}
-use Rattle.vt_spec.specs.declared.errors.Deny.{Deny}
-use Rattle.vt_spec.specs.declared.errors.Rule.TheVariants.{W6, W8}
-use Rattle.vt_spec.specs.Machine.Looks.{mount_at, topmost}
-use Rattle.vt_spec.specs.Machine.Walking.{is_lost, is_top, parent_location}
+use Rattle.vt_laws_sealed.proofs.Common.{Deny, W6, W8, is_lost, is_top, mount_at, parent_location, topmost}
 use Rattle.vt_laws_sealed.proofs.part.walks.WalksAgree.{Agree, Each, each_from, last_each}
 use Rattle.vt_laws_sealed.specs.Part.Walks.{ShowAlikeWhereSeen, StepsAgree}
 

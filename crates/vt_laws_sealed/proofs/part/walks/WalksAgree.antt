@@ -1,11 +1,8 @@
 -- Two worlds that show the same through some mounts are walked alike from them.
 use Rattle.std.proofs.Common.{◌≡◌, refl, sym, ap, subst, ◌∙◌, inl, inr, ⊎_elim, ℕ, zero, suc, nat_eq, Bool, true, false, cond, List, [], ◌∷◌, ◌++◌, Option, Some, None, Ok, Err, Result, map, flat_map, not, ◌||◌, reverse, arith, IfOk, ok_or, option_map, option_to_list}
 use Rattle.vt_spec.proofs.Common.{Among, Dot, DotDot, Follow, Here, LastWord, Location, Looks, Mount, Named, NoWord, Rules, Stop, Task, among-append, and_then, common_steps, contains_from_among, denial, ends_in_slash, entered_upward, entries_in, entry_location, entry_named, filesystems_of, follow_rules, hops, if_symlink, is_directory_node, last_or, last_word, met_by, parent_in, same_location, search_rules, slash_rules, start_of, stepped, steps_with, stopped_by, symlink_start, symlink_text, symlink_walked, then_walk, unless, up_from, walk_unless, word_walked, words, words_walked}
-use Rattle.vt_spec.specs.declared.errors.Deny.{Deny}
-use Rattle.vt_spec.specs.declared.errors.Rule.TheVariants.{W3, W6, W8}
-use Rattle.vt_spec.specs.Machine.Looks.{mount_at, topmost}
+use Rattle.vt_laws_sealed.proofs.Common.{Deny, W3, W6, W8, is_lost, is_top, mount_at, parent_location, topmost}
 use Rattle.vt_laws_sealed.specs.Part.Walks.{AreOn, ShowAlike, TextsAgree, WordsAgree}
-use Rattle.vt_spec.specs.Machine.Walking.{is_lost, is_top, parent_location}
 
 -- two results are one, and what is in it is so
 abbrev pub Agree : {A E : Type 0} → (A → Type 0) → Result A E → Result A E → Type 0

@@ -1,25 +1,8 @@
 -- No call gives a detached mount other flags, a mount point or a namespace.
-use Rattle.std.proofs.Common.{◌≡◌, refl, sym, ap, subst, ◌∙◌, ⊎_elim, ℕ, suc, nat_eq, Bool, true, false, true≢false, List, [], ◌∷◌, ◌&&◌, Option, Some, None, Ok, filter, map, eqb-true, arith, option_to_list}
-use Rattle.vt_spec.proofs.Common.{Among, Call, Filesystem, Fresh, IsWorld, Location, Make, Mount, MountFlags, MountInvariants, MountOverlay, Move, Outcome, Permit, Private, Remove, Serves, Task, ToBind, ToChange, ToEnterNamespace, ToExit, ToMake, ToMountOverlay, ToMountPlain, ToMove, ToOpen, ToOpenNew, ToPivot, ToRemoveDirectory, ToRename, ToSetFlags, ToSetType, ToUnmount, ToUnmountLazily, ToUnshare, ToWritePart, World, among-from_filter, among_from_list_all, and_parts, apply, bind_tree, call_outcome, common_steps, copied_mount, evens, finished_by, going, is_copied_up, is_in_ended, judge_in, list_all, looks_of, mount_at, mount_in, mount_lives, mount_numbered, mounted, mounts_of, namespace_entered, new_mount, none_is_some, number-mount_in, number-pivoted_mount, numbers_by, odds, overfills, overlay_at, overlay_filesystem, pivoted_mount, plain_filesystem, settled, taken_away, task_called, unshared, with_new_filesystem, without_mounts_on, without_replaced, without_task}
-use Rattle.vt_laws_rules.specs.Granted.{IsGranted}
-use Rattle.vt_laws_rules.specs.Granted.IsGranted.{mounts_overlayfs}
-use Rattle.vt_laws_rules.proofs.given.Inversion.{calls_are_granted}
-use Rattle.vt_laws_rules.proofs.judged.CallsJudged.{call_is_judged_then_applied}
-use Rattle.vt_laws_mounts.specs.Mounts.Attaching.{is_mount}
+use Rattle.std.proofs.Common.{inl, inr, ◌≡◌, refl, sym, ap, subst, ◌∙◌, ⊎_elim, ℕ, suc, nat_eq, true, false, true≢false, List, [], ◌∷◌, ◌&&◌, Option, Some, None, Ok, filter, map, eqb-true, arith, option_to_list}
+use Rattle.vt_spec.proofs.Common.{cases_Bool, Among, Call, Filesystem, Fresh, IsWorld, Location, Make, Mount, MountFlags, MountInvariants, MountOverlay, Move, Outcome, Permit, Private, Remove, Serves, Task, ToBind, ToChange, ToEnterNamespace, ToExit, ToMake, ToMountOverlay, ToMountPlain, ToMove, ToOpen, ToOpenNew, ToPivot, ToRemoveDirectory, ToRename, ToSetFlags, ToSetType, ToUnmount, ToUnmountLazily, ToUnshare, ToWritePart, World, among-from_filter, among_from_list_all, and_parts, apply, bind_tree, call_outcome, common_steps, copied_mount, evens, finished_by, going, is_copied_up, is_in_ended, judge_in, list_all, looks_of, mount_at, mount_in, mount_lives, mount_numbered, mounted, mounts_of, namespace_entered, new_mount, none_is_some, number-mount_in, number-pivoted_mount, numbers_by, odds, overfills, overlay_at, overlay_filesystem, pivoted_mount, plain_filesystem, settled, taken_away, task_called, unshared, with_new_filesystem, without_mounts_on, without_replaced, without_task}
+use Rattle.vt_laws_turns.proofs.Common.{IsGranted, KeepsView, NamesWhatIsThere, all_mounts_kept, all_permits_fit, call_is_judged_then_applied, calls_are_granted, change_of_files, copy_of_files, flags_are_of_one, found-append, found-map_there, found_itself, found_there, gone_on, is_mount, lazy_detaches_or_keeps, mounting_leaves_a_world, mounts_overlay, mounts_overlayfs, others_are_kept, policy_leads, taken_are_detached, type_is_all_that_changes, writing_of_files}
 use Rattle.vt_laws_mounts.proofs.mounts.MountsAttached.{attach_keeps_mounts, moved_mounts_show}
-use Rattle.vt_laws_mounts.proofs.mounts.MountsFound.{found-map_there, found_there}
-use Rattle.vt_laws_mounts.proofs.mounts.MountsReplaced.{found-append, found_itself}
-use Rattle.vt_laws_mounts.proofs.mounts.MountsRetyped.{flags_are_of_one, type_is_all_that_changes}
-use Rattle.vt_laws_mounts.proofs.ends.UnmountingEnds.{lazy_detaches_or_keeps, others_are_kept, taken_are_detached}
-use Rattle.vt_laws_worlds.proofs.merging.mounted.Worlds.{mounting_leaves_a_world}
-use Rattle.vt_laws_worlds.proofs.overlay_permits.worlds.PolicyLeads.{policy_leads}
-use Rattle.vt_laws_trees.specs.Trees.Calls.{mounts_overlay}
-use Rattle.vt_laws_worlds.specs.Worlds.Permits.{NamesWhatIsThere}
-use Rattle.vt_laws_worlds.proofs.kept.MountsAlike.{change_of_files, copy_of_files, writing_of_files}
-use Rattle.vt_laws_worlds.proofs.kept.MountsKept.{all_mounts_kept}
-use Rattle.vt_laws_worlds.proofs.worlds.FitPermitsNamed.{all_permits_fit}
-use Rattle.vt_laws_worlds.proofs.worlds.PermitsSeen.{gone_on}
-use Rattle.vt_laws_worlds.proofs.worlds.Seen.{KeepsView}
 use Rattle.vt_laws_turns.specs.Frames.Detached.{DetachedMountsStay}
 use Rattle.vt_laws_turns.proofs.frames.frames.SameMounts.{one_record}
 use Rattle.vt_laws_turns.proofs.frames.frames.ShownAlike.{permit_shown}
@@ -109,11 +92,10 @@ module _ (world : World ℕ) (fresh : Fresh ℕ) (task : Task ℕ) (is : IsWorld
   flags_stay (ToUnmountLazily mount) names number there none =
       ⊎_elim (λ gone. ap (λ (m : Mount ℕ). m.flags) gone) (λ kept. kept.flags)
       (lazy_detaches_or_keeps world mount number)
-  flags_stay (ToSetFlags mount flags) names number there none = by (nat_eq mount number) refl
-    where
-      by : (b : Bool) → nat_eq mount number ≡ b → HasFlags (left (ToSetFlags mount flags)) number
-      by true e = none_is_some task.namespace (cc (eqb-true mount number e))
-      by false e = cc (flags_are_of_one world (record { mount = mount; node = 0 }) flags number e)
+  flags_stay (ToSetFlags mount flags) names number there none = elim (cases_Bool (nat_eq mount number)) [
+    | inl e ↦ none_is_some task.namespace (cc (eqb-true mount number e))
+    | inr e ↦ cc (flags_are_of_one world (record { mount = mount; node = 0 }) flags number e)
+  ]
   flags_stay (ToSetType mount word recursive) names number there none =
       (type_is_all_that_changes world fresh mount word recursive number).flags
   flags_stay (ToPivot new put) names number there none =
@@ -176,20 +158,18 @@ module _ {world : World ℕ} {fresh : Fresh ℕ} {task : Task ℕ} (call : Call)
   mounting asked given other e number there = cc
 
   leaves_detached : LeavesDetached permit
-  leaves_detached = by (mounts_overlay call) refl
-    where
-      by : (b : Bool) → mounts_overlay call ≡ b → LeavesDetached permit
-      by true e = record {
-        mounts = subst (λ (o : Outcome ℕ). MountInvariants nat_eq o.world) outcome (mounted_world call e).mounts;
-        flags = λ number there none. mounting call permit
-            (calls_are_granted nat_eq (looks_of nat_eq world) (overfills nat_eq fresh world task) task call permit
-            granted) e number there;
-      }
-      by false e =
-          let fits = all_permits_fit world fresh task call permit is serves called e granted in record {
-            mounts = all_mounts_kept world fresh task permit is serves called fits;
-            flags = flags_stay world fresh task is permit fits.names;
-          }
+  leaves_detached = elim (cases_Bool (mounts_overlay call)) [
+    | inl e ↦ record {
+      mounts = subst (λ (o : Outcome ℕ). MountInvariants nat_eq o.world) outcome (mounted_world call e).mounts;
+      flags = λ number there none. mounting call permit
+          (calls_are_granted nat_eq (looks_of nat_eq world) (overfills nat_eq fresh world task) task call permit
+          granted) e number there;
+    }
+    | inr e ↦ let fits = all_permits_fit world fresh task call permit is serves called e granted in record {
+      mounts = all_mounts_kept world fresh task permit is serves called fits;
+      flags = flags_stay world fresh task is permit fits.names;
+    }
+  ]
 
   pub detached_stays : (number : ℕ) → is_mount world number ≡ true
       → (mount_numbered nat_eq world number).namespace ≡ None → is_mount (settled nat_eq applied) number ≡ true

@@ -3,8 +3,7 @@ use Rattle.std.proofs.Common.{arith, ◌≡◌, refl, sym, ap, subst, ◌∙◌,
 use Rattle.vt_spec.proofs.Common.{Among, Change, CopyUp, Filesystem, Fresh, Location, Make, Move, Permit, Remove, Task, ToChange, ToEnterNamespace, ToExit, ToMake, ToMountOverlay, ToMountPlain, ToOpen, ToOpenNew, ToRemoveDirectory, ToRename, ToSetType, ToUnmount, ToUnmountLazily, ToUnshare, ToWritePart, World, among-append, among-from_map, apply, changed_at, changed_if, common_steps, evens, filesystem_numbered, filesystems-taken_away, filesystems-without_replaced, filesystems_changed, going, is_copied_up, is_empty, list_any, mount_numbered, namespace_entered, nat_eq_itself, odds, overlay_filesystem, plain_filesystem, pwritten, replaced_if_numbered, unshared, with_change, with_copy, without_mounts_on, without_replaced, without_task}
 use Rattle.vt_laws_trees.proofs.layers.layers.LowersCalls.{same_filesystem}
 use Rattle.vt_laws_trees.proofs.layers.layers.LowersWorld.{number_of_filesystem}
-use Rattle.vt_laws_mounts.proofs.mounts.MountsRetyped.{types_are_of_mounts}
-use Rattle.vt_laws_mounts.proofs.ends.UnmountingEnds.{lazy_is_of_mounts}
+use Rattle.vt_laws_turns.proofs.Common.{lazy_is_of_mounts, types_are_of_mounts}
 
 -- a filesystem of a list has this number
 abbrev pub Has : List (Filesystem ℕ) → ℕ → Type 0

@@ -1,9 +1,7 @@
 -- A filesystem whose change number is what it was is what it was, but for what nothing uses.
 use Rattle.std.proofs.Common.{◌≡◌, ◌≢◌, refl, sym, ap, subst, ◌∙◌, inl, ℕ, nat_eq, true≢false, cond, List, ◌*◌, Option, Some, None, find, eqb-true, eq-eqb, arith, option_map, unwrap_or}
 use Rattle.vt_spec.proofs.Common.{Among, Filesystem, Fresh, Permit, Task, TaskName, World, apply, common_steps, filesystem_change_of, filesystem_numbered, filesystems_changed, found_among, found_passes, last_number, list_any, no_filesystem, numbers_raised, raised, raised_if_changed, settled}
-use Rattle.vt_laws_worlds.proofs.overlay_permits.worlds.PolicyLeads.{named_leaves}
-use Rattle.vt_laws_mounts.proofs.letting_go.Lists.{found_by}
-use Rattle.vt_laws_worlds.proofs.worlds.SeenTrees.{unused_by_filesystem}
+use Rattle.vt_laws_turns.proofs.Common.{found_by, named_leaves, unused_by_filesystem}
 use Rattle.vt_laws_turns.specs.Frames.Unraised.{IsCallIn, IsFilesystemUnraised, KeepsFilesystem, UnraisedFilesystemsStay}
 use Rattle.vt_laws_turns.proofs.frames.frames.FilesystemsGoOn.{GoesOn, filesystems_go_on}
 use Rattle.vt_laws_turns.proofs.frames.frames.FilesystemsGoOn.GoesOn.{Changed, New, Old}

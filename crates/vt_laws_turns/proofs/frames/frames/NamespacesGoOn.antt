@@ -1,10 +1,8 @@
 -- The namespaces after a permit are those before it, or new.
 use Rattle.std.proofs.Common.{◌≡◌, refl, ap, subst, ◌∙◌, ◌⊎◌, inl, inr, ⊎_elim, ℕ, nat_eq, Bool, true, false, List, [], ◌∷◌, ◌*◌, Option, Some, None, filter, find, arith}
 use Rattle.vt_spec.proofs.Common.{Among, Fresh, Location, Make, Move, Namespace, Permit, Remove, Task, ToChange, ToEnterNamespace, ToExit, ToMake, ToOpen, ToOpenNew, ToRemoveDirectory, ToRename, ToSetType, ToUnmount, ToUnmountLazily, ToUnshare, ToWritePart, World, among-append, among-from_filter, any_pair, apply, common_steps, evens, has_tasks, is_copied_up, odds, unshared, without_mounts_on, without_replaced, without_task}
-use Rattle.vt_laws_mounts.proofs.mounts.MountsRetyped.{types_are_of_mounts}
+use Rattle.vt_laws_turns.proofs.Common.{change_of_files, copy_of_files, lazy_is_of_mounts, types_are_of_mounts, writing_of_files}
 use Rattle.vt_laws_mounts.proofs.ends.Unmounting.{all_but_mounts, unmount_is_of_mounts}
-use Rattle.vt_laws_mounts.proofs.ends.UnmountingEnds.{lazy_is_of_mounts}
-use Rattle.vt_laws_worlds.proofs.kept.MountsAlike.{change_of_files, copy_of_files, writing_of_files}
 use Rattle.vt_laws_turns.proofs.frames.Found.{found_one}
 
 -- a namespace that is among those whose numbers are apart is found by its number

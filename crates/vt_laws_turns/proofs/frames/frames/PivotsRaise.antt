@@ -2,17 +2,11 @@
 -- they were.
 use Rattle.std.proofs.Common.{◌≡◌, refl, sym, ap, subst, ⊎_elim, ℕ, nat_eq, Bool, true, false, true≢false, cond, ◌||◌, List, [], ◌∷◌, Some, None, Ok, eqb-true, eq-eqb, is_some, arith}
 use Rattle.vt_spec.proofs.Common.{Among, Call, Fresh, Location, Mount, PivotRoot, Task, TaskName, ToPivot, World, among-filter, among-from_filter, among-map, child_at, common_steps, filesystems_changed_by, holds_of, is_located, judge_in, mount_at, mount_lives, mount_numbered, mounts_of, nat_eq_itself, none_is_some, number-mount_in, numbers_raised, pivoted, pivoted_mount, policy, settled, stands_at, task_called}
-use Rattle.vt_laws_rules.proofs.judged.CallsJudged.{call_is_judged_then_applied}
+use Rattle.vt_laws_turns.proofs.Common.{MayPivot, all_permits_fit, call_is_judged_then_applied, found_there, name_found, other_tasks_stay, stands_at_its_place}
 use Rattle.vt_laws_trees.specs.Calls.Tasks.{Pivots}
-use Rattle.vt_laws_trees.proofs.calls.tasks.TasksLaws.{other_tasks_stay}
-use Rattle.vt_laws_mounts.proofs.mounts.MountsFound.{found_there}
-use Rattle.vt_laws_worlds.specs.Worlds.Permits.{MayPivot}
 use Rattle.vt_laws_worlds.proofs.kept.MountsKeptAttaching.{own_there}
-use Rattle.vt_laws_worlds.proofs.worlds.CallsKept.{name_found}
-use Rattle.vt_laws_worlds.proofs.worlds.FitPermitsNamed.{all_permits_fit}
 use Rattle.vt_laws_turns.specs.Frames.Unraised.{IsCallIn, OtherTasksOfUnraisedNamespacesStay}
 use Rattle.vt_laws_turns.proofs.frames.frames.Unraised.{unraised_namespaces_keep_mounts}
-use Rattle.vt_laws_mounts.proofs.mounts.MountsPlaces.{stands_at_its_place}
 
 -- where one stands something stands
 nothing_stands : (mounts : List (Mount ℕ)) (place : Location ℕ) (mount : Mount ℕ) → Among mount mounts

@@ -1,19 +1,8 @@
 -- Mounts that a granted call leaves show what they showed.
-use Rattle.std.proofs.Common.{◌≡◌, refl, ap, subst, ◌∙◌, ℕ, nat_eq, Bool, true, false, Some, Ok, map}
-use Rattle.vt_spec.proofs.Common.{Among, Call, Fresh, IsWorld, Mount, MountOverlay, Outcome, Permit, Serves, Task, World, among-from_filter, among-map, among_from_contains, apply, call_outcome, evens, is_among_numbers, judge_in, looks_of, mount_lives, mount_numbered, odds, overfills, overlay_at, overlay_filesystem, settled, task_called}
-use Rattle.vt_laws_rules.proofs.given.Inversion.{calls_are_granted}
-use Rattle.vt_laws_rules.specs.Granted.{IsGranted}
-use Rattle.vt_laws_rules.specs.Granted.IsGranted.{mounts_overlayfs}
-use Rattle.vt_laws_mounts.specs.Mounts.Attaching.{is_mount}
+use Rattle.std.proofs.Common.{inl, inr, ◌≡◌, ap, subst, ◌∙◌, ℕ, nat_eq, true, false, Some, Ok, map}
+use Rattle.vt_spec.proofs.Common.{cases_Bool, Among, Call, Fresh, IsWorld, Mount, MountOverlay, Outcome, Permit, Serves, Task, World, among-from_filter, among-map, among_from_contains, apply, call_outcome, evens, is_among_numbers, judge_in, looks_of, mount_lives, mount_numbered, odds, overfills, overlay_at, overlay_filesystem, settled, task_called}
+use Rattle.vt_laws_turns.proofs.Common.{IsGranted, KeepsWhatIsSeen, all_mounts_kept, all_permits_fit, call_is_judged_then_applied, calls_are_granted, found_itself, is_mount, mounting_leaves_a_world, mounts_overlay, mounts_overlayfs, permits_keep_what_is_seen}
 use Rattle.vt_laws_mounts.specs.Mounts.Invariants.{OneNumberEach}
-use Rattle.vt_laws_mounts.proofs.mounts.MountsReplaced.{found_itself}
-use Rattle.vt_laws_rules.proofs.judged.CallsJudged.{call_is_judged_then_applied}
-use Rattle.vt_laws_worlds.proofs.merging.mounted.Worlds.{mounting_leaves_a_world}
-use Rattle.vt_laws_trees.specs.Trees.Calls.{mounts_overlay}
-use Rattle.vt_laws_worlds.proofs.kept.MountsKept.{all_mounts_kept}
-use Rattle.vt_laws_worlds.proofs.worlds.FitPermitsNamed.{all_permits_fit}
-use Rattle.vt_laws_worlds.proofs.worlds.PermitsSeen.{permits_keep_what_is_seen}
-use Rattle.vt_laws_worlds.proofs.worlds.Seen.{KeepsWhatIsSeen}
 use Rattle.vt_laws_worlds.proofs.worlds.SeenMounts.{mounted_seen}
 use Rattle.vt_laws_turns.proofs.frames.frames.SameMounts.{ShowAlike}
 
@@ -70,16 +59,15 @@ module _ {world : World ℕ} {fresh : Fresh ℕ} {task : Task ℕ} (call : Call)
   mounting asked given other e = cc
 
   pub permit_shown : Shown permit
-  permit_shown = by (mounts_overlay call) refl
-    where
-      by : (b : Bool) → mounts_overlay call ≡ b → Shown permit
-      by true e = (
-        subst (λ (o : Outcome ℕ). OneNumberEach o.world) outcome (mounted_world call e).mounts.one_number,
-        mounting call permit
-            (calls_are_granted nat_eq (looks_of nat_eq world) (overfills nat_eq fresh world task) task call permit
-            granted) e,
-      )
-      by false e = others e
+  permit_shown = elim (cases_Bool (mounts_overlay call)) [
+    | inl e ↦ (
+      subst (λ (o : Outcome ℕ). OneNumberEach o.world) outcome (mounted_world call e).mounts.one_number,
+      mounting call permit
+          (calls_are_granted nat_eq (looks_of nat_eq world) (overfills nat_eq fresh world task) task call permit
+          granted) e,
+    )
+    | inr e ↦ others e
+  ]
 
   -- and so does the sweep
   pub swept_show_alike : ShowAlike world (settled nat_eq applied)

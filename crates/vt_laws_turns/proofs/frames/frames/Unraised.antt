@@ -1,9 +1,7 @@
 -- A namespace whose change number is what it was has the mounts that it had.
 use Rattle.std.proofs.Common.{◌≡◌, ◌≢◌, refl, sym, ap, subst, ◌∙◌, ◌⊎◌, inl, inr, ⊎_elim, ℕ, nat_eq, Bool, true, false, true≢false, cond, List, ◌*◌, Option, Some, None, Ok, find, map, eqb-true, eq-eqb, arith, option_map, unwrap_or}
 use Rattle.vt_spec.proofs.Common.{Among, Call, Fresh, Mount, Namespace, Outcome, Permit, Task, TaskName, World, after, among-append_right, among-from_filter, among-map, apply, call_outcome, common_steps, finished_by, found_among, found_passes, holds_of, is_stale, judge_in, last_number, mounts_of, namespace_change_of, numbers_raised, or_parts, raised, raised_namespace, same_mounts_in, settled, task_called}
-use Rattle.vt_laws_rules.proofs.judged.CallsJudged.{call_is_judged_then_applied}
-use Rattle.vt_laws_worlds.proofs.overlay_permits.worlds.PolicyLeads.{policy_leads}
-use Rattle.vt_laws_worlds.proofs.worlds.SeenTrees.{unused_number}
+use Rattle.vt_laws_turns.proofs.Common.{call_is_judged_then_applied, policy_leads, unused_number}
 use Rattle.vt_laws_turns.specs.Frames.Unraised.{IsCallIn, IsNamespaceUnraised, UnraisedNamespacesKeepMounts}
 use Rattle.vt_laws_turns.proofs.frames.frames.NamespacesGoOn.{namespace_found, namespaces_go_on}
 use Rattle.vt_laws_turns.proofs.frames.frames.SameMounts.{lists_same, rises}

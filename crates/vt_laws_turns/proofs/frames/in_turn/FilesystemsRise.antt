@@ -1,7 +1,7 @@
 -- The change number of a filesystem stays, rises by one, or is the largest one for good.
 use Rattle.std.proofs.Common.{◌≡◌, ◌≢◌, refl, sym, ap, ◌∙◌, inl, inr, ℕ, nat_eq, Bool, true, false, cond, List, [], ◌∷◌, ◌*◌, Option, Some, None, find, eqb-true, eq-eqb, arith, option_map, unwrap_or}
 use Rattle.vt_spec.proofs.Common.{Filesystem, Fresh, IsWorld, Permit, Task, TaskName, World, apply, common_steps, filesystem_change_of, filesystem_numbered, filesystems_changed, found_among, found_passes, list_any, no_filesystem, numbers_raised, raised, raised_if_changed, settled}
-use Rattle.vt_laws_worlds.proofs.overlay_permits.worlds.PolicyLeads.{named_leaves}
+use Rattle.vt_laws_turns.proofs.Common.{named_leaves}
 use Rattle.vt_laws_turns.specs.Frames.InTurn.{AreBeside, CallBetween, IsBeside, UnraisedFilesystemsStayInTurn, after_call, after_calls}
 use Rattle.vt_laws_turns.specs.Frames.Unraised.{IsCallIn, IsFilesystemUnraised, KeepsFilesystem}
 use Rattle.vt_laws_turns.proofs.frames.Found.{found_map, found_one}

@@ -1,10 +1,7 @@
 -- The mounts that a task stands on stay the same records, in its namespace or in none.
 use Rattle.std.proofs.Common.{◌≡◌, refl, sym, ap, ◌∙◌, ℕ, nat_eq, true, List, [], ◌∷◌, Option, Some, None, eqb-true, arith, option_to_list}
 use Rattle.vt_spec.proofs.Common.{IsWorld, Location, Task, TaskName, World, among-filter, among-from_filter, and_parts, common_steps, found_or_none, list_all, mount_at, mounts_of, nat_eq_itself, none_is_some, number-mount_in, task_called}
-use Rattle.vt_laws_mounts.proofs.mounts.MountsReplaced.{found_itself}
-use Rattle.vt_laws_worlds.proofs.worlds.CallsKept.{name_found}
-use Rattle.vt_laws_worlds.proofs.worlds.Reached.{IsOn}
-use Rattle.vt_laws_worlds.proofs.worlds.ReachedWalks.{own_directory_found, root_found}
+use Rattle.vt_laws_turns.proofs.Common.{IsOn, found_itself, name_found, own_directory_found, root_found}
 use Rattle.vt_laws_turns.specs.Frames.Detached.{OtherTasksStandInTurn, StandsWhereItStood}
 use Rattle.vt_laws_turns.specs.Frames.InTurn.{AreBeside, AreOfOthers, CallBetween, IsBeside, after_call, after_calls}
 use Rattle.vt_laws_turns.specs.Frames.Unraised.{IsNamespaceUnraised}

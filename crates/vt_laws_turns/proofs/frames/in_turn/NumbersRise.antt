@@ -1,8 +1,7 @@
 -- A change number stays, rises by one, or is the largest one for good.
 use Rattle.std.proofs.Common.{◌≡◌, ◌≢◌, refl, sym, ap, subst, ◌∙◌, ◌⊎◌, inl, inr, ⊎_elim, ℕ, nat_eq, Bool, true, false, true≢false, cond, List, [], ◌∷◌, ◌+◌, ◌*◌, ◌≤◌, Option, Some, find, eqb-true, eq-eqb, ne_eqb, arith, option_map, ◌==◌}
-use Rattle.vt_spec.proofs.Common.{Call, Fresh, IsWorld, Namespace, Permit, Task, TaskName, World, apply, common_steps, filesystems_changed, found_among, found_passes, is_stale, last_number, mounts_of, namespace_change_of, numbers_raised, policy, raised, raised_namespace, settled, task_called}
-use Rattle.vt_laws_worlds.proofs.overlay_permits.worlds.PolicyLeads.{named_leaves}
-use Rattle.vt_laws_worlds.proofs.overlay_permits.worlds.EveryCall.{every_call_keeps_worlds}
+use Rattle.vt_spec.proofs.Common.{cases_Bool, Call, Fresh, IsWorld, Namespace, Permit, Task, TaskName, World, apply, common_steps, filesystems_changed, found_among, found_passes, is_stale, last_number, mounts_of, namespace_change_of, numbers_raised, policy, raised, raised_namespace, settled, task_called}
+use Rattle.vt_laws_turns.proofs.Common.{every_call_keeps_worlds, named_leaves}
 use Rattle.vt_laws_turns.specs.Frames.InTurn.{AreBeside, AreOfOthers, CallBetween, IsBeside, OtherTasksStayInTurn, UnraisedNamespacesKeepMountsInTurn, after_call, after_calls}
 use Rattle.vt_laws_turns.specs.Frames.Unraised.{IsCallIn, IsNamespaceUnraised}
 use Rattle.vt_laws_turns.proofs.frames.frames.NamespacesGoOn.{namespace_found, namespaces_go_on}
@@ -26,14 +25,12 @@ rises_first : (was next now : ℕ) → Rises was next → RisesOn next now → R
 rises_first was next now r (inl gone) = inl gone
 rises_first was next now (inl same) (inr on) = inr (subst (λ n. n ≤ now) same on.0, λ e. on.1 (same ∙ e))
 rises_first was next now (inr (inr gone)) (inr on) = absurd (on.1 gone)
-rises_first was next now (inr (inl more)) (inr on) = by (was == last_number) refl
-  where
-    by : (b : Bool) → (was == last_number) ≡ b → RisesOn was now
-    by true e = absurd (on.1 (cc (eqb-true was last_number e)))
-    by false e =
-        let next_is : next ≡ was + 1 = cc in
-        let above : was + 1 ≤ now = subst (λ n. n ≤ now) next_is on.0 in
-        inr (omega (arith, above), λ same. cc (eq-eqb was last_number same))
+rises_first was next now (inr (inl more)) (inr on) = elim (cases_Bool (was == last_number)) [
+  | inl e ↦ absurd (on.1 (cc (eqb-true was last_number e)))
+  | inr e ↦ let next_is : next ≡ was + 1 = cc in
+      let above : was + 1 ≤ now = subst (λ n. n ≤ now) next_is on.0 in
+      inr (omega (arith, above), λ same. cc (eq-eqb was last_number same))
+]
 
 rises_none : (was : ℕ) → RisesOn was was
 rises_none was = grind (arith, common_steps, eqb-true, true≢false, eq-eqb)
@@ -47,15 +44,13 @@ between was next now (inl same) (inr on) fresh = (
   unstale next now (same ∙ (not_stale was now fresh).0) (not_stale was now fresh).1,
 )
 between was next now (inr (inr gone)) (inr on) fresh = absurd (on.1 gone)
-between was next now (inr (inl more)) (inr on) fresh = by (was == last_number) refl
-  where
-    by : (b : Bool) → (was == last_number) ≡ b → (is_stale was next ≡ false) × (is_stale next now ≡ false)
-    by true e = absurd ((not_stale was now fresh).1 (sym (not_stale was now fresh).0 ∙ eqb-true was last_number e))
-    by false e =
-        let next_is : next ≡ was + 1 = cc in
-        let above : was + 1 ≤ now = subst (λ n. n ≤ now) next_is on.0 in
-        let same : was ≡ now = (not_stale was now fresh).0 in
-        absurd (omega (arith, above, same))
+between was next now (inr (inl more)) (inr on) fresh = elim (cases_Bool (was == last_number)) [
+  | inl e ↦ absurd ((not_stale was now fresh).1 (sym (not_stale was now fresh).0 ∙ eqb-true was last_number e))
+  | inr e ↦ let next_is : next ≡ was + 1 = cc in
+      let above : was + 1 ≤ now = subst (λ n. n ≤ now) next_is on.0 in
+      let same : was ≡ now = (not_stale was now fresh).0 in
+      absurd (omega (arith, above, same))
+]
 
 -- One call
 module _ {world : World ℕ} {fresh : Fresh ℕ} (given : IsCallIn world fresh) {number : ℕ}

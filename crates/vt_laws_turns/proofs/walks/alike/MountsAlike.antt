@@ -1,15 +1,9 @@
 -- Where a namespace has the mounts that it had, its mounts lead up and down as they did.
 use Rattle.std.proofs.Common.{◌≡◌, refl, sym, ap, subst, ◌∙◌, ◌⊎◌, inl, inr, ⊎_elim, ℕ, zero, suc, pred, nat_eq, Bool, true, cond, true≢false, List, [], ◌∷◌, Option, Some, None, map, find, filter, length, ◌≤◌, arith, option_map}
 use Rattle.vt_spec.proofs.Common.{Among, Location, Mount, MountInvariants, Stands, Task, World, among-filter, among-from_filter, among-map, at_root, chain, chain_ends, chain_goes_on, child_at, common_steps, false_from_ne_true, filter_here, filter_skip, found_among, found_or_none, found_passes, holds_of, hops, last_of_chain, last_or, length-map, looks_of, mount_numbered, mounts_of, mounts_over, nat_eq_itself, none_is_some, number-mount_in, on_parent, root_of, same_Some, same_location, stands_at}
-use Rattle.vt_spec.specs.Machine.Walking.{hop}
-use Rattle.vt_laws_mounts.proofs.mounts.MountsPlaces.{stands_there}
+use Rattle.vt_laws_turns.proofs.Common.{Way, chains_alike, ends, find_none, goes_on, hop, length-filter_le, namespace_below, stands_there}
 use Rattle.vt_laws_mounts.proofs.namespaces.Topmost.{topmost_is_free}
-use Rattle.vt_laws_mounts.proofs.letting_go.Chains.{Way, chains_alike}
-use Rattle.vt_laws_mounts.proofs.letting_go.Chains.Way.{ends, goes_on}
-use Rattle.vt_laws_mounts.proofs.letting_go.Lists.{find_none}
 use Rattle.vt_laws_mounts.proofs.namespaces.Unsharing.{itself, placed_inside, stands_itself}
-use Rattle.vt_laws_trees.proofs.trees.Lists.{length-filter_le}
-use Rattle.vt_laws_worlds.proofs.worlds.Reached.{namespace_below}
 
 -- what is kept is found as before, if all that may be found is kept
 find_where : {A : Type 0} (p q : A → Bool) (xs : List A) → ((x : A) → Among x xs → p x ≡ true → q x ≡ true)

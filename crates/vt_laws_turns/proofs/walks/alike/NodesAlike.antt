@@ -1,8 +1,7 @@
 -- Where a filesystem is what it was, but for what is gone, what is there lies where it lay.
-use Rattle.std.proofs.Common.{◌≡◌, refl, sym, ap, subst, ◌∙◌, ⊎_elim, ℕ, nat_eq, true, false, cond, true≢false, List, [], ◌∷◌, Option, Some, None, length, ◌+◌, arith, is_some}
-use Rattle.vt_spec.proofs.Common.{Among, FileTree, Filesystem, IsDirectory, IsReached, IsTree, ListsNumbers, Node, TreeInvariants, World, among_numbers, common_steps, directory_used, entry_at, filesystem_numbered, found, is_among, is_directory_node, is_directory_under, is_removed, led, named_parent, nat_eq_itself, parent_in, same_Some, targets_in, when}
-use Rattle.vt_laws_mounts.proofs.letting_go.Chains.{Way, chains_alike}
-use Rattle.vt_laws_mounts.proofs.letting_go.Chains.Way.{ends, goes_on}
+use Rattle.std.proofs.Common.{◌≡◌, refl, sym, ap, subst, ◌∙◌, ⊎_elim, ℕ, nat_eq, true, false, true≢false, List, [], ◌∷◌, Option, Some, length, ◌+◌, arith, is_some}
+use Rattle.vt_spec.proofs.Common.{Among, FileTree, Filesystem, IsDirectory, IsReached, IsTree, ListsNumbers, TreeInvariants, World, among_numbers, common_steps, directory_used, entry_at, filesystem_numbered, found, is_among, is_directory_node, is_directory_under, is_removed, led, named_parent, nat_eq_itself, same_Some}
+use Rattle.vt_laws_turns.proofs.Common.{Way, chains_alike, ends, goes_on}
 use Rattle.vt_laws_trees.proofs.trees.TreesAbove.{led_directory, parent_named}
 use Rattle.vt_laws_trees.proofs.trees.TreesOfWorlds.{numbered_all}
 use Rattle.vt_laws_trees.proofs.trees.TreesReached.{not_removed_reached}
@@ -30,10 +29,6 @@ module _ (files : FileTree ℕ) (is : IsTree files.tree) (other : ℕ → Option
 
   pub way_up : (to : ℕ) → IsDirectory files.tree to → IsReached files.tree to → Up to
   way_up to directory (names, e) = way_down names files.tree.root to e directory root_up
-
--- the parent by its name, by what is asked for it
-abbrev parent_by : ℕ → ℕ → Option (Node ℕ) → Option (Node ℕ) → Option ℕ
-parent_by d root node above = cond (nat_eq d root) None (when (is_among nat_eq d (targets_in above)) (parent_in d node))
 
 module _ {world later : World ℕ} (trees : TreeInvariants nat_eq world) (later_trees : TreeInvariants nat_eq later)
     (number : ℕ)

@@ -1,7 +1,7 @@
 -- What a walk met it has met after each further word.
 use Rattle.std.proofs.Common.{arith, inr, ℕ, zero, suc, nat_eq, Bool, true, false, cond, List, [], ◌∷◌, ◌||◌, Option, Some, None, Ok, Err, Result, flat_map}
 use Rattle.vt_spec.proofs.Common.{Among, Dot, DotDot, Here, LastWord, Location, Looks, Named, NoWord, Place, Rules, Stop, Task, all_met, also_met, among-append, among-append_left, among-append_right, and_then, common_steps, ends_in_slash, entered, entered_mounts, filesystems_of, follow_rules, is_no_word, last_word, met_at, met_by, object_named, placed, search_rules, stepped, steps_at, steps_with, stopped_by, symlink_of, symlink_start, symlink_there, then_walk, unless, walk_unless, word_walked}
-use Rattle.vt_spec.specs.declared.errors.Deny.{Deny}
+use Rattle.vt_laws_turns.proofs.Common.{Deny}
 use Rattle.vt_laws_turns.specs.Walks.ByWords.{steps_of}
 use Rattle.vt_laws_turns.specs.Walks.Walkers.{Last, Pending, Walk, arrived, ended, first_words, gone_on, last_of, last_step, one_word, opened, text_word, walked_on}
 use Rattle.vt_laws_turns.specs.Walks.Walkers.Last.{AsFile, AsName, AsOthers, NotFollowed}

@@ -1,11 +1,7 @@
 -- One step of a walk leads where it led, if the filesystems that it meets are what they were.
 use Rattle.std.proofs.Common.{append-nil, ◌≡◌, refl, sym, ap, subst, ◌∙◌, inl, inr, ⊎_elim, ℕ, nat_eq, Bool, true, false, cond, List, [], ◌∷◌, ◌++◌, Option, Some, None, Ok, Err, Result, flat_map, length, not, ◌||◌, arith, IfOk, ok_or, option_map, option_to_list}
 use Rattle.vt_spec.proofs.Common.{Among, Dot, DotDot, Here, IsWorld, LastWord, Location, Looks, Mount, Named, NoWord, Node, Overlay, Rules, Stop, Task, World, among-append, among-append_left, among-append_right, among-map, and_then, chain, common_steps, denial, entered_upward, entries_in, entry_location, entry_named, execute_right, filesystem_numbered, filesystems_of, hops, is_directory_node, is_directory_under, is_removed, last_or, looks_of, map-append, map_alike, met_by, mount_numbered, mounter_allows, mounts_of, node_allows, parent_in, same_location, search_rules, stepped, steps_with, stopped_by, unless, word_walked}
-use Rattle.vt_spec.specs.declared.errors.Deny.{Deny}
-use Rattle.vt_spec.specs.declared.errors.Rule.TheVariants.{W3, W4, W5, W6, W8}
-use Rattle.vt_spec.specs.Machine.Looks.{is_directory_at, mount_at, topmost}
-use Rattle.vt_spec.specs.Machine.Walking.{is_lost, is_top, parent_location}
-use Rattle.vt_laws_worlds.proofs.worlds.Reached.{IsFound, directory_found, place_found, step_found}
+use Rattle.vt_laws_turns.proofs.Common.{Deny, IsFound, W3, W4, W5, W6, W8, directory_found, is_directory_at, is_lost, is_top, mount_at, parent_location, place_found, step_found, topmost}
 use Rattle.vt_laws_turns.specs.Frames.Unraised.{KeepsFilesystem, KeepsOverlay}
 use Rattle.vt_laws_turns.proofs.walks.alike.MountsAlike.{IsOwn, chain_each, hop_in, hop_point, over_own, parent_own, same_hops, same_mount, same_over}
 use Rattle.vt_laws_turns.proofs.walks.alike.NodesAlike.{node_same, removed_same, under_same}

@@ -1,11 +1,7 @@
 -- Words walked lead where they led, if what they meet is what it was.
 use Rattle.std.proofs.Common.{◌≡◌, refl, sym, ap, subst, ◌∙◌, inl, ⊎_elim, ℕ, zero, suc, nat_eq, Bool, true, false, cond, true≢false, not, List, [], ◌∷◌, ◌++◌, ◌||◌, ◌⊎◌, Option, Some, None, Ok, Err, Result, flat_map, length, eqb-true, arith, IfOk, option_map, option_to_list, unwrap_or}
 use Rattle.vt_spec.proofs.Common.{Among, Dot, DotDot, Here, IsWorld, LastWord, Location, Looks, Mount, Named, NoWord, Place, Rules, Stop, Task, World, all_met, among-append, among-append_left, among-from_map, and_parts, and_then, any_among, common_steps, contains_from_among, ends_in_slash, entered, entries_in, entry_location, entry_named, filesystems_of, follow_rules, is_absolute, is_empty_list, is_no_word, is_special, last_word, list_all, met_at, met_by, mount_numbered, none_is_some, object_named, path_text, placed, same_Some, search_rules, start_of, stepped, steps_at, stopped_by, symlink_of, symlink_start, symlink_text, symlink_there, then_some, then_walk, unless, walk_start, walk_unless, word_walked}
-use Rattle.vt_spec.specs.declared.errors.Deny.{Deny}
-use Rattle.vt_spec.specs.Machine.Looks.{is_directory_at, topmost}
-use Rattle.vt_laws_mounts.proofs.mounts.MountsReplaced.{found_itself}
-use Rattle.vt_laws_worlds.proofs.worlds.Reached.{IsOn, directory_found, entry_found}
-use Rattle.vt_laws_worlds.proofs.worlds.ReachedWalks.{own_directory_found, root_found}
+use Rattle.vt_laws_turns.proofs.Common.{Deny, IsOn, directory_found, entry_found, found_itself, is_directory_at, own_directory_found, root_found, topmost}
 use Rattle.vt_laws_turns.specs.Walks.ByWords.{Aim, StandsOnDirectories, begun, last_for, pending_for, steps_of}
 use Rattle.vt_laws_turns.specs.Walks.HalfWalks.{FirstWordsLeadAlike, StandsAsItStood, met_in, words_walked_in}
 use Rattle.vt_laws_turns.specs.Walks.Walkers.{Last, Pending, Walk, all_words, arrived, ended, first_words, gone_on, has_no_word, last_of, last_step, one_word, opened, text_word, walked_on}

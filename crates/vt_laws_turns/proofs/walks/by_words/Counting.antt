@@ -1,7 +1,7 @@
 -- One word is one step, so after as many words as a walk has steps nothing is left of it.
 use Rattle.std.proofs.Common.{◌≡◌, refl, ap, ◌∙◌, cond, ℕ, suc, nat_eq, Bool, true, false, true≢false, not, List, [], ◌∷◌, ◌-◌, ◌≤◌, length, Option, Some, None, Ok, Err, Result, arith}
 use Rattle.vt_spec.proofs.Common.{Dot, DotDot, Here, LastWord, Location, Looks, Named, NoWord, Place, Rules, Stop, Task, and_then, common_steps, entered, entered_mounts, filesystems_of, follow_rules, is_empty_list, is_no_word, last_word, most_symlinks, object_named, placed, search_rules, stepped, steps_at, steps_with, stopped_by, symlink_start, symlink_there, then_walk, unless, walk_unless, word_walked}
-use Rattle.vt_spec.specs.declared.errors.Deny.{Deny}
+use Rattle.vt_laws_turns.proofs.Common.{Deny}
 use Rattle.vt_laws_turns.specs.Walks.Walkers.{Last, Pending, Walk, Walker, all_words, arrived, ended, first_words, gone_on, has_no_word, last_of, last_step, one_word, opened}
 use Rattle.vt_laws_turns.specs.Walks.Walkers.Last.{AsFile, AsName, AsOthers, NotFollowed}
 use Rattle.vt_laws_turns.specs.Walks.Walkers.Walk.{Goes, Names, Reaches}

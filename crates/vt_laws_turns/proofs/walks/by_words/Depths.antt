@@ -2,9 +2,7 @@
 -- each step that it had.
 use Rattle.std.proofs.Common.{◌≡◌, refl, ap, subst, ℕ, zero, suc, pred, nat_eq, Bool, true, false, List, [], ◌∷◌, ◌-◌, ◌≤◌, length, reverse, Option, Some, None, Ok, Err, Result, arith, nat_lt, ◌==◌}
 use Rattle.vt_spec.proofs.Common.{Follow, Here, LastWord, Location, Looks, Rules, Stop, Task, also_met, and_then, common_steps, follow_rules, if_symlink, last_word, list_any, longest_name, search_rules, slash_rules, stepped, steps_with, stopped_by, symlink_start, symlink_text, symlink_walked, then_walk, unless, walk_unless, word_walked, words, words_walked}
-use Rattle.vt_spec.specs.declared.errors.Deny.{Deny}
-use Rattle.vt_spec.specs.declared.errors.Rule.TheVariants.{W2, W7, W9}
-use Rattle.vt_spec.specs.Machine.Looks.{mount_at}
+use Rattle.vt_laws_turns.proofs.Common.{Deny, W2, W7, W9, mount_at}
 
 -- What comes after walks
 

@@ -1,10 +1,7 @@
 -- The walk to a file: how deep symlinks may stand in one another's texts does not matter, and each step is kept.
 use Rattle.std.proofs.Common.{◌≡◌, refl, sym, subst, ℕ, zero, suc, nat_eq, Bool, true, false, List, [], ◌∷◌, ◌≤◌, ◌||◌, length, reverse, Option, Some, None, Ok, Err, Result, arith, nat_lt, ◌==◌}
 use Rattle.vt_spec.proofs.Common.{Dot, DotDot, Follow, Here, LastWord, Looks, Named, NoWord, Place, Rules, Stop, Task, all_met, and_then, common_steps, ends_in_slash, final_word, follow_rules, list_any, longest_name, most_symlinks, object_named, placed, search_rules, steps_at, stopped_by, symlink_of, symlink_start, symlink_there, then_walk, unless, walk_unless, words}
-use Rattle.vt_spec.specs.declared.errors.Deny.{Deny}
-use Rattle.vt_spec.specs.declared.errors.Rule.TheVariants.{W2, W7, W9}
-use Rattle.vt_spec.specs.Machine.Looks.{mount_at}
-use Rattle.vt_spec.specs.Machine.Walking.{file_or_symlink, file_walked, followed, prefix_walked}
+use Rattle.vt_laws_turns.proofs.Common.{Deny, W2, W7, W9, file_or_symlink, file_walked, followed, mount_at, prefix_walked}
 use Rattle.vt_laws_turns.proofs.walks.by_words.Depths.{FollowAlike, Within, followed_same, one_left, start_long, texts_same, then_same, then_within, words_same}
 
 pub length-all_met : (filesystems : List ℕ) (steps : List (List ℕ)) → length (all_met filesystems steps) ≡ length steps

@@ -1,11 +1,7 @@
 -- What is left of a walk after one word, as a whole, is what was left before it.
 use Rattle.std.proofs.Common.{◌≡◌, refl, sym, ap, ◌∙◌, cond, ℕ, suc, nat_eq, Bool, true, false, true≢false, not, List, [], ◌∷◌, ◌++◌, ◌-◌, ◌≤◌, ◌||◌, length, reverse, Option, Some, None, Ok, Err, Result, arith, nat_lt, ◌==◌}
 use Rattle.vt_spec.proofs.Common.{Follow, Here, LastWord, Location, Looks, NoWord, Place, Rules, Stop, Task, and_then, common_steps, ends_in_slash, follow_rules, if_symlink, is_no_word, last_word, list_any, longest_name, most_symlinks, placed, reverse-append, reverse-reverse, slash_rules, start_of, stopped_by, symlink_of, symlink_start, symlink_text, symlink_there, symlink_walked, then_walk, unless, walk_unless, word_walked, words, words_walked}
-use Rattle.vt_spec.specs.declared.errors.Deny.{Deny}
-use Rattle.vt_spec.specs.declared.errors.Rule.TheVariants.{W3}
-use Rattle.vt_spec.specs.Machine.Looks.{is_directory_at, mount_at}
-use Rattle.vt_spec.specs.Machine.Walking.{file_walked, followed, last_walked, prefix_walked}
-use Rattle.vt_laws_worlds.proofs.worlds.Reached.{directory_no_link}
+use Rattle.vt_laws_turns.proofs.Common.{Deny, W3, directory_no_link, file_walked, followed, is_directory_at, last_walked, mount_at, prefix_walked}
 use Rattle.vt_laws_turns.specs.Walks.ByWords.{last_taken, names, reaches, rest_walked, texts_walked}
 use Rattle.vt_laws_turns.specs.Walks.Walkers.{Last, Pending, Walk, Walker, all_words, arrived, end_rules, ended, first_words, gone_on, has_no_word, last_of, last_step, one_word, opened, text_word}
 use Rattle.vt_laws_turns.specs.Walks.Walkers.Last.{AsFile, AsName, AsOthers, NotFollowed}

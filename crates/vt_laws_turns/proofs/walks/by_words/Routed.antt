@@ -1,10 +1,7 @@
 -- The rules that a call asks of where a walk ends add no word to it.
 use Rattle.std.proofs.Common.{◌≡◌, refl, ap, ◌∙◌, ℕ, nat_eq, Bool, true, false, not, List, [], ◌∷◌, ◌++◌, ◌&&◌, Option, Some, None, Ok, Err, Result, map, reverse, is_some, arith, option_to_list}
 use Rattle.vt_spec.proofs.Common.{Bind, Chdir, Chmod, Chown, Chroot, Creation, Exclusive, Exec, Here, Lazy, LinkTo, Looks, Ls, Lstat, MakeWhiteout, Mkdir, MountOverlay, MountPlain, MoveMount, NoCreation, Opaque, OpenFile, OrCreate, OverlayWords, PivotRoot, Place, Read, Readlink, Remount, Rename, Rmdir, Route, Rules, SetType, Stat, Stop, SymlinkAt, Task, Umount, Unlink, Write, common_steps, destination_walk, directory_walk, file_walk, is_directory_there, new_leaf_walk, new_walk, object_walk, old_leaf_walk, old_walk, place_walk, rename_new_walk, source_walk, symlink_walk, then_walk, walk_unless, work_walked}
-use Rattle.vt_spec.specs.declared.errors.Rule.TheVariants.{W3, W6}
-use Rattle.vt_spec.specs.Machine.Looks.{is_directory_at}
-use Rattle.vt_spec.specs.Machine.Turns.{here_route, layer_routes, open_route, place_route}
-use Rattle.vt_spec.specs.Machine.Walking.{new_name_rules, path_walked}
+use Rattle.vt_laws_turns.proofs.Common.{W3, W6, here_route, is_directory_at, layer_routes, new_name_rules, open_route, path_walked, place_route}
 use Rattle.vt_laws_turns.specs.Walks.ByWords.{Aim, names, reaches, steps_of, whole_walk}
 use Rattle.vt_laws_turns.specs.Walks.ByWords.Aim.{File, InDirectory, Object, Symlink, Words}
 use Rattle.vt_laws_turns.specs.Walks.Routes.{RoutesAreWalks, Way, layer_ways, way}

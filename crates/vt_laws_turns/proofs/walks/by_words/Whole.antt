@@ -1,8 +1,7 @@
 -- Word by word each walk leads where it leads as a whole.
 use Rattle.std.proofs.Common.{◌≡◌, refl, sym, ap, subst, ◌∙◌, cond, ℕ, zero, suc, nat_eq, Bool, true, false, true≢false, List, [], ◌∷◌, ◌+◌, ◌≤◌, length, reverse, Ok, Err, Result, arith}
-use Rattle.vt_spec.proofs.Common.{Dot, DotDot, Here, LastWord, Looks, Named, NoWord, Place, Stop, Task, common_steps, ends_in_slash, most_symlinks, path_text, placed, slash_rules, symlink_there, symlink_walk_by, then_walk, walk_start, walk_unless, words, words_walked}
-use Rattle.vt_spec.specs.Machine.Looks.{is_directory_at}
-use Rattle.vt_spec.specs.Machine.Walking.{file_walked, last_walked, prefix_walked}
+use Rattle.vt_spec.proofs.Common.{Dot, DotDot, Here, LastWord, Looks, Named, NoWord, Place, Stop, Task, common_steps, ends_in_slash, most_symlinks, path_text, placed, symlink_there, symlink_walk_by, then_walk, walk_start, walk_unless, words, words_walked}
+use Rattle.vt_laws_turns.proofs.Common.{file_walked, is_directory_at, last_walked, prefix_walked}
 use Rattle.vt_laws_turns.specs.Walks.ByWords.{Aim, AllWordsAreTheWalk, FirstWordsAreOfTheWalk, StandsOnDirectories, begun, last_for, names, pending_for, reaches, steps_of, whole_walk}
 use Rattle.vt_laws_turns.specs.Walks.ByWords.Aim.{File, InDirectory, Object, Symlink, Words}
 use Rattle.vt_laws_turns.specs.Walks.Walkers.{Last, Pending, Walk, Walker, all_words, end_rules, first_words, gone_on, last_of, one_word, walked_on}
@@ -145,12 +144,6 @@ module _ (looks : Looks ℕ) (task : Task ℕ) where
   module _ (stands : StandsOnDirectories looks task) (path : List ℕ) where
     abbrev start : Here ℕ
     start = walk_start task path
-
-    abbrev all : Result (Here ℕ) (Stop ℕ)
-    all = words_walked nat_eq looks task (follow looks task) start (reverse (words path))
-
-    abbrev slash_checked : Here ℕ → Result (Here ℕ) (Stop ℕ)
-    slash_checked here = walk_unless here.steps (slash_rules nat_eq looks path here.location) here
 
     quiet_start : (word : LastWord) (slash : Bool)
         → Rattle.vt_laws_turns.proofs.walks.by_words.Meanings.IsQuiet looks task start (AsFile word slash)

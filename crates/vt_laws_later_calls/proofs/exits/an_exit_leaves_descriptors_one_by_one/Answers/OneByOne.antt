@@ -3,18 +3,10 @@ use Rattle.std.proofs.Common.{arith, ◌≡◌, refl, ap, ◌∙◌, ℕ, nat_eq
 use Rattle.vt_spec.proofs.Common.{Fresh, Location, MountInvariants, Task, TaskName, ToExit, World, all_locations, apply, common_steps, locations_of, namespaces_ended, replaced_if_called, same_name, same_name_itself, settled, task_called, with_task, without_descriptor}
 use Rattle.vt_laws_mounts.proofs.letting_go.ends.EndsInTurn.{one_sweep_for_exits_with_overlays}
 use Rattle.vt_laws_mounts.proofs.letting_go.leaving.LeftOneByOne.{one_sweep_with_overlays}
-use Rattle.vt_laws_mounts.proofs.letting_go.leaving.PlacesLeft.{comes_nowhere_itself, location_among}
-use Rattle.vt_laws_mounts.proofs.letting_go.Lists.{Among, among-flat_map, among-from_filter, among-from_flat_map, among-from_map, among-map, list_all_from_among}
+use Rattle.vt_laws_later_calls.proofs.Common.{Among, HasTrees, IsSettled, RealsAreThere, UppersArePlain, among-flat_map, among-from_filter, among-from_flat_map, among-from_map, among-map, called_there, comes_nowhere, comes_nowhere_itself, is_location_among, list_all_from_among, location_among, name_found, with_sweeps, worlds_are_settled}
 use Rattle.vt_laws_mounts.proofs.letting_go.mounting.MountsSwept.{mounts_stand}
-use Rattle.vt_laws_mounts.proofs.letting_go.sweeps.OfWorlds.{worlds_are_settled}
-use Rattle.vt_laws_mounts.specs.LettingGo.InUse.{HasTrees, UppersArePlain}
-use Rattle.vt_laws_mounts.specs.LettingGo.Leaving.{comes_nowhere, is_location_among, with_sweeps}
-use Rattle.vt_laws_mounts.specs.LettingGo.LeavingOverlays.{IsSettled}
-use Rattle.vt_laws_mounts.specs.LettingGo.Overlays.{RealsAreThere}
 use Rattle.vt_laws_worlds.proofs.kept.MountsAlike.{same_mounts}
-use Rattle.vt_laws_worlds.proofs.worlds.CallsKept.{name_found}
 use Rattle.vt_laws_later_calls.specs.Exits.{ExitLeavesOneByOne, closed_by, closed_in}
-use Rattle.vt_laws_trees.proofs.trees.TreesTasks.{called_there}
 
 -- the locations of a task with a descriptor less are locations of the task
 still_located : (task : Task ℕ) (number : ℕ) (location : Location ℕ)

@@ -2,11 +2,7 @@
 use Rattle.std.proofs.Common.{◌≡◌, refl, sym, ap, subst, ◌∙◌, inl, inr, ◌⊎◌, ⊎_elim, ℕ, nat_eq, Bool, true, false, cond, List, Option, Some, None, is_some, map, Ok, Err}
 use Rattle.vt_spec.proofs.Common.{Credentials, Done, Fresh, IsWorld, Location, Ls, Lstat, Names, Node, Place, Rename, StatLine, Task, TaskName, ToRename, Told, World, denial, directory_walk, execute_right, files_at, is_directory_at, is_directory_node, is_directory_there, is_one_object, looks_of, may as may_do, mount_at, name_of, names_in, new_walk, node_allows, node_at, object_there, old_leaf_walk, place_walk, policy, raised_task, read_right, same_Some, stat_line, stepped, task_called}
 use Rattle.vt_spec.specs.declared.errors.Rule.{Rule}
-use Rattle.vt_spec.specs.declared.errors.Rule.TheVariants.{C1, W4, W6}
-use Rattle.vt_laws_trees.specs.Layers.Layers.Untouched.{IsKept}
-use Rattle.vt_laws_worlds.specs.Permits.Sees.{MayBeRenamed}
-use Rattle.vt_laws_worlds.specs.Worlds.Kept.{IsPlain}
-use Rattle.vt_laws_worlds.proofs.worlds.Reached.{directory_no_link}
+use Rattle.vt_laws_later_calls.proofs.Common.{C1, IsKept, IsPlain, MayBeRenamed, W4, W6, directory_no_link}
 use Rattle.vt_laws_later_calls.specs.LaterNames.{IsAnsweredUnlessBy, RenameDirectoryThenList, RenameDirectoryThenLstat, StandsOutside}
 use Rattle.vt_laws_later_calls.specs.Later.{IsAnswered}
 use Rattle.vt_laws_later_calls.specs.LaterPaths.{IsAnsweredUnless, IsRefused, LooksFrom, reads_all}

@@ -2,12 +2,7 @@
 -- name is missing.
 use Rattle.std.proofs.Common.{◌≡◌, refl, sym, ap, subst, ◌∙◌, inl, inr, ◌⊎◌, ⊎_elim, ℕ, nat_eq, Bool, true, false, cond, not, ◌&&◌, List, [], ◌∷◌, Option, Some, None, is_some, Ok, Err, length, unwrap_or}
 use Rattle.vt_spec.proofs.Common.{Done, Fresh, IsWorld, LastWord, Location, Looks, Ls, Lstat, Names, Node, Permit, Place, Rename, Task, TaskName, ToRename, Told, World, and_then-Ok, denial, directory_from_entry, ends_in_slash, entries_in, entry_at, entry_named, files_at, holds_of, is_directory_at, is_directory_node, is_directory_there, is_mount_point_anywhere, is_one_object, is_special, looks_of, mount_at, name_of, names_in, new_walk, node_allows, node_at, object_there, old_leaf_walk, old_walk, old_word_rules, or_parts, passing, place_walk, policy, read_right, rename_new_walk, rename_permit, rename_rules, renamed_permit, same_Some, same_ok, stat_line, stepped, task_called, walk_end}
-use Rattle.vt_spec.specs.declared.errors.Rule.TheVariants.{C1, W3, W6}
-use Rattle.vt_laws_worlds.specs.Permits.Sees.{MayBeRenamed}
-use Rattle.vt_laws_worlds.proofs.permits.sees.SeesNames.{tree_here}
-use Rattle.vt_laws_trees.specs.Layers.Layers.Untouched.{IsKept}
-use Rattle.vt_laws_worlds.specs.Worlds.Kept.{IsPlain}
-use Rattle.vt_laws_worlds.proofs.worlds.Reached.{IsFound, directory_no_link}
+use Rattle.vt_laws_later_calls.proofs.Common.{C1, IsFound, IsKept, IsPlain, MayBeRenamed, W3, W6, directory_no_link, tree_here}
 use Rattle.vt_laws_later_calls.specs.LaterNames.{LeadsToName, RenameThenFound, RenameThenListed}
 use Rattle.vt_laws_later_calls.proofs.later.AfterRename.{free_left, free_over, is_left, may, new_left, object_left, object_shown, old_left, to_shown}
 use Rattle.vt_laws_later_calls.proofs.Granted.{HasSucceeded, IsPermitted, permitted}

@@ -2,11 +2,7 @@
 use Rattle.std.proofs.Common.{◌≡◌, ◌≢◌, refl, sym, ap, subst, ◌∙◌, inl, inr, true≢false, ℕ, nat_eq, eqb-true, true, false, List, Some, is_some, Ok, option_to_list, Bool}
 use Rattle.vt_spec.proofs.Common.{Change, Done, Fresh, Here, LinkTo, Location, Looks, Lstat, Permit, Place, Task, TaskName, ToChange, Told, World, changed, directory_used, entries_in, entry_named, files_at, is_directory_at, is_special, linking, looks_of, name_of, node_at, not-false, place_walk, policy, raised_task, same_Some, stat_line, symlink_walk, task_called, topmost, with_change}
 use Rattle.vt_spec.specs.Machine.Looks as Look
-use Rattle.vt_laws_trees.specs.Calls.Inodes.{change_of}
-use Rattle.vt_laws_worlds.specs.Permits.Sees.{SeesTo}
-use Rattle.vt_laws_worlds.proofs.permits.sees.SeesNames.{tree_here}
-use Rattle.vt_laws_worlds.proofs.permits.sees.SeesTasks.{given_permits_are_seen_to}
-use Rattle.vt_laws_trees.specs.Trees.{IsFileTree}
+use Rattle.vt_laws_later_calls.proofs.Common.{IsFileTree, IsGranted, SeesTo, change_of, given_permits_are_seen_to, makes_hard_link, tree_here}
 use Rattle.vt_laws_later_calls.specs.LaterPaths.{LinkThenLstat}
 use Rattle.vt_laws_later_calls.specs.Later.{IsAnswered}
 use Rattle.vt_laws_later_calls.proofs.AfterChange.{ChangesTree, all_stays, later_mounts, spent}
@@ -18,8 +14,6 @@ use Rattle.vt_laws_later_calls.proofs.Readers.{MayLook, all_stands, caller, lead
 use Rattle.vt_laws_later_calls.proofs.WaysChanges.{RightsStay, TreeStays, name_leads, named_other, rights_named, ways_named}
 use Rattle.vt_laws_later_calls.proofs.WaysPlaces.{named_place, symlink_named_too}
 use Rattle.vt_laws_later_calls.proofs.WaysStay.{StandsAs}
-use Rattle.vt_laws_rules.specs.Granted.{IsGranted}
-use Rattle.vt_laws_rules.specs.Granted.IsGranted.{makes_hard_link}
 
 -- what a granted link was permitted
 record LinkParts (looks : Looks ℕ) (task : Task ℕ) (old new : List ℕ) (permit : Permit ℕ) : Type 0 where

@@ -1,10 +1,7 @@
 -- The name of a directory that was removed is missing.
 use Rattle.std.proofs.Common.{◌≡◌, refl, sym, ap, subst, ◌∙◌, inl, inr, ◌⊎◌, ℕ, nat_eq, true, false, List, Some, None, is_some, Ok, Err, Bool}
 use Rattle.vt_spec.proofs.Common.{Done, Fresh, IsWorld, Location, Looks, Lstat, Permit, Place, Rmdir, Task, TaskName, ToRemoveDirectory, World, denial, execute_right, is_directory_at, is_special, looks_of, may, mount_at, name_of, node_allows, node_at, object_there, old_walk, place_walk, policy, raised_task, same_Some, special_word, task_called}
-use Rattle.vt_spec.specs.declared.errors.Deny.{Deny}
-use Rattle.vt_spec.specs.declared.errors.Rule.TheVariants.{W4, W6, W8}
-use Rattle.vt_laws_mounts.proofs.mounts.MountsPlaces.{same_location_itself}
-use Rattle.vt_laws_worlds.specs.Worlds.Kept.{IsPlain}
+use Rattle.vt_laws_later_calls.proofs.Common.{Deny, IsGranted, IsPlain, W4, W6, W8, removes_directory, same_location_itself}
 use Rattle.vt_laws_later_calls.specs.Later.{IsOneInode}
 use Rattle.vt_laws_later_calls.specs.LaterPaths.{RmdirThenLstat}
 use Rattle.vt_laws_later_calls.proofs.later.AfterRemoval.{caller, is_left, mounts_seen, name_left, objects_stay, own_task, rights_left, seen_to}
@@ -17,8 +14,6 @@ use Rattle.vt_laws_later_calls.proofs.Ways.{LeadsToo, same_end}
 use Rattle.vt_laws_later_calls.proofs.later.WaysLeft.{Known, SeesStill, node_here, ways_lead}
 use Rattle.vt_laws_later_calls.proofs.WaysPlaces.{named_place, symlink_missing}
 use Rattle.vt_laws_later_calls.proofs.WaysStay.{StandsAs, node_in}
-use Rattle.vt_laws_rules.specs.Granted.{IsGranted}
-use Rattle.vt_laws_rules.specs.Granted.IsGranted.{removes_directory}
 
 -- a name may be missing, or a directory lost
 abbrev MissingOrLost : Deny → Type 0

@@ -1,17 +1,7 @@
 -- An object that was renamed is found by its new name, and the old one is missing.
 use Rattle.std.proofs.Common.{◌≡◌, ◌≢◌, refl, sym, ap, subst, ◌∙◌, inl, inr, ◌⊎◌, ⊎_elim, true≢false, ℕ, nat_eq, Bool, true, false, not, ◌&&◌, List, [], ◌∷◌, Option, Some, None, is_some, option_map, Ok, Err, unwrap_or}
 use Rattle.vt_spec.proofs.Common.{Change, Done, Fresh, IsWorld, Location, Looks, Lstat, Move, Permit, Place, Rename, StatLine, Task, TaskName, ToRename, Told, World, and_then-Ok, apply, changed, denial, directory_from_entry, directory_used, entries_in, entry_at, entry_named, files_at, holds_of, is_directory_at, is_directory_node, is_directory_there, is_one_object, is_special, looks_of, mount_at, name_of, new_walk, node_at, object_there, old_leaf_walk, old_walk, old_word_rules, passing, place_walk, policy, raised_task, rename_new_walk, rename_permit, rename_rules, renamed_permit, same_Some, same_ok, stat_line, stepped, task_called, topmost, walk_end, with_change}
-use Rattle.vt_spec.specs.declared.errors.Deny.{Deny}
-use Rattle.vt_spec.specs.declared.errors.Rule.TheVariants.{W3, W6}
-use Rattle.vt_laws_trees.specs.Calls.Inodes.{change_of}
-use Rattle.vt_laws_mounts.specs.LettingGo.FileChanges.{IsMoved}
-use Rattle.vt_laws_worlds.specs.Permits.Sees.{MayBeRenamed, SeesTo}
-use Rattle.vt_laws_worlds.proofs.permits.sees.SeesNames.{tree_here}
-use Rattle.vt_laws_worlds.proofs.permits.sees.SeesTasks.{given_permits_are_seen_to}
-use Rattle.vt_laws_trees.specs.Trees.{IsFileTree}
-use Rattle.vt_laws_worlds.specs.Worlds.Kept.{IsPlain}
-use Rattle.vt_laws_worlds.proofs.worlds.Reached.{IsFound, directory_found, step_found}
-use Rattle.vt_laws_worlds.proofs.worlds.ReachedWalks.{own_directory_found, root_found}
+use Rattle.vt_laws_later_calls.proofs.Common.{Deny, IsFileTree, IsFound, IsMoved, IsPlain, MayBeRenamed, SeesTo, W3, W6, change_of, directory_found, given_permits_are_seen_to, own_directory_found, plain_numbered, root_found, step_found, tree_here}
 use Rattle.vt_laws_later_calls.specs.LaterPaths.{RenameThenLstat}
 use Rattle.vt_laws_later_calls.proofs.AfterChange.{ChangesTree, all_stays, later_mounts, node_changed, spent}
 use Rattle.vt_laws_later_calls.proofs.Granted.{HasSucceeded, has_succeeded}
@@ -26,7 +16,6 @@ use Rattle.vt_laws_later_calls.proofs.Ways.{LeadsToo, both_walked, same_end, wal
 use Rattle.vt_laws_later_calls.proofs.WaysChanges.{RightsStay, TreeStays, moved_entry, moved_missing, moved_object, rights_moved, ways_moved}
 use Rattle.vt_laws_later_calls.proofs.WaysPlaces.{named_place, symlink_missing, symlink_named_too}
 use Rattle.vt_laws_later_calls.proofs.WaysStay.{StandsAs, node_in}
-use Rattle.vt_laws_trees.proofs.runs.answered.PlainStays.{plain_numbered}
 
 -- walks of a world lead where they lead
 pub itself_leads : (Refused : Deny → Type 0) (world : World ℕ) (is : IsWorld nat_eq world) → IsPlain world

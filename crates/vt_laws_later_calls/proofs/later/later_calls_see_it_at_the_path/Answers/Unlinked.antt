@@ -1,13 +1,7 @@
 -- A name that was removed is missing.
 use Rattle.std.proofs.Common.{◌≡◌, refl, sym, ap, subst, ◌∙◌, inl, inr, ℕ, nat_eq, true, false, not, ◌&&◌, List, [], ◌∷◌, Some, None, is_some, Ok, Err, Bool}
 use Rattle.vt_spec.proofs.Common.{changed, Change, Done, Fresh, Looks, Lstat, Permit, Place, Task, TaskName, ToChange, Unlink, World, apply, denial, directory_from_entry, directory_used, files_at, is_directory_at, is_directory_there, is_special, looks_of, name_of, node_at, object_there, old_walk, place_walk, policy, raised_task, removing, same_Some, task_called}
-use Rattle.vt_spec.specs.declared.errors.Deny.{Deny}
-use Rattle.vt_spec.specs.declared.errors.Rule.TheVariants.{W3, W6}
-use Rattle.vt_laws_trees.specs.Calls.Inodes.{change_of}
-use Rattle.vt_laws_worlds.specs.Permits.Sees.{SeesTo}
-use Rattle.vt_laws_worlds.proofs.permits.sees.SeesNames.{tree_here}
-use Rattle.vt_laws_worlds.proofs.permits.sees.SeesTasks.{given_permits_are_seen_to}
-use Rattle.vt_laws_trees.specs.Trees.{IsFileTree}
+use Rattle.vt_laws_later_calls.proofs.Common.{Deny, IsFileTree, IsGranted, SeesTo, W3, W6, change_of, given_permits_are_seen_to, tree_here, unlinks}
 use Rattle.vt_laws_later_calls.specs.LaterPaths.{UnlinkThenLstat}
 use Rattle.vt_laws_later_calls.proofs.Granted.{HasSucceeded, has_succeeded}
 use Rattle.vt_laws_later_calls.proofs.Looked.{lstat_refused}
@@ -18,8 +12,6 @@ use Rattle.vt_laws_later_calls.proofs.AfterChange.{ChangesTree}
 use Rattle.vt_laws_later_calls.proofs.WaysChanges.{TreeStays, name_missing, rights_removed, ways_removed}
 use Rattle.vt_laws_later_calls.proofs.WaysPlaces.{named_place, symlink_missing}
 use Rattle.vt_laws_later_calls.proofs.WaysStay.{StandsAs}
-use Rattle.vt_laws_rules.specs.Granted.{IsGranted}
-use Rattle.vt_laws_rules.specs.Granted.IsGranted.{unlinks}
 
 -- a name may be missing
 abbrev pub Missing : Deny → Type 0

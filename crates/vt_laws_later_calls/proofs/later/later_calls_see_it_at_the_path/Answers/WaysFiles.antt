@@ -1,10 +1,7 @@
 -- A file that write found or made is found again, by the symlinks that led to its place.
 use Rattle.std.proofs.Common.{◌≡◌, refl, sym, ap, subst, ◌∙◌, inl, inr, true≢false, ℕ, zero, suc, ◌-◌, ◌≤◌, nat_eq, Bool, true, false, ◌||◌, List, [], ◌∷◌, reverse, Option, Some, None, option_map, Result, Ok, arith, unwrap_or}
 use Rattle.vt_spec.proofs.Common.{Dot, DotDot, Here, LastWord, Location, Looks, Named, NoWord, NoneFails, Place, Stop, Task, and_then, and_then-Ok, common_steps, ends_in_slash, entered, entry_location, final_word, follow_rules, if_symlink, is_special, last_word, name_of, not-false, object_named, or_parts, passing, placed, same_Some, same_ok, search_rules, slash_rules, start_of, stepped, steps_at, stopped_by, symlink_of, symlink_start, symlink_text, symlink_there, symlink_walked, then_some, then_walk, unless, walk_unless, word_walked, words, words_walked}
-use Rattle.vt_spec.specs.declared.errors.Deny.{Deny}
-use Rattle.vt_spec.specs.Machine.Looks.{is_directory_at, topmost}
-use Rattle.vt_spec.specs.Machine.Walking.{file_or_symlink, file_walked, followed, prefix_walked}
-use Rattle.vt_laws_worlds.proofs.worlds.Reached.{directory_no_link}
+use Rattle.vt_laws_later_calls.proofs.Common.{Deny, directory_no_link, file_or_symlink, file_walked, followed, is_directory_at, prefix_walked, topmost}
 use Rattle.vt_laws_later_calls.proofs.Ways.{LeadsToo, at, both_walked, not_stopped, positive, same_end, start_known, start_same, walk_passed, walk_passing, word_too, words_lead}
 use Rattle.vt_laws_later_calls.proofs.WaysPlaces.{EndsThere, last_too, placed_at, through}
 

@@ -1,19 +1,7 @@
 -- Bytes that were written at a path are read there.
 use Rattle.std.proofs.Common.{◌≡◌, refl, sym, ap, subst, ◌∙◌, inl, inr, ◌⊎◌, ℕ, nat_eq, Bool, true, false, cond, ◌||◌, List, [], ◌∷◌, length, reverse, Option, Some, None, is_some, ok_or, Ok, Err, nat_lt, arith}
 use Rattle.vt_spec.proofs.Common.{Bytes, Change, Content, Directory, Done, Fresh, IsWorld, Location, Looks, Node, Permit, Place, Read, Regular, SetBytes, Symlink, Task, TaskName, ToChange, Whiteout, World, Write, allows, and_then-Ok, changed, common_steps, denial, ends_in_slash, file_mode, file_walk, file_word_rules, files_at, is_absolute, is_directory_at, is_directory_node, is_kind, is_kind_in, is_special, kind_of, largest_file, looks_of, make_permit, make_rules, new_attr, new_file, node_at, node_with_bytes, object_walk, or_parts, passing, path_text, policy, raised_task, read_right, rewrite_rules, same_Some, same_ok, stepped, symlink_text, task_called, unnumbered, walk_end, walk_start, with_change, words, words_walked, write_permit, written_permit}
-use Rattle.vt_spec.specs.declared.attributes.Attr.{Attr}
-use Rattle.vt_spec.specs.declared.attributes.Kind.TheVariants.{File, White}
-use Rattle.vt_spec.specs.declared.errors.Deny.{Deny}
-use Rattle.vt_spec.specs.declared.errors.Rule.TheVariants.{C1, E6, W6}
-use Rattle.vt_spec.specs.Machine.Walking.{file_walked, new_name_rules}
-use Rattle.vt_laws_trees.specs.Calls.Inodes.{change_of}
-use Rattle.vt_laws_trees.specs.Trees.{IsFileTree}
-use Rattle.vt_laws_trees.proofs.trees.ChangesNodes.{changed_node_there}
-use Rattle.vt_laws_trees.proofs.trees.TreesWalked.{Ends}
-use Rattle.vt_laws_worlds.specs.Worlds.Kept.{IsPlain}
-use Rattle.vt_laws_worlds.proofs.worlds.Reached.{others_are_files}
-use Rattle.vt_laws_worlds.proofs.worlds.ReachedPlaces.{IsEndPlace, file_walk_end}
-use Rattle.vt_laws_worlds.proofs.worlds.ReachedWalks.{own_directory_found, root_found}
+use Rattle.vt_laws_later_calls.proofs.Common.{cases_Option, Attr, C1, Deny, E6, Ends, File, IsEndPlace, IsFileTree, IsPlain, W6, White, change_of, changed_node_there, file_walk_end, file_walked, new_name_rules, others_are_files, own_directory_found, root_found}
 use Rattle.vt_laws_later_calls.specs.LaterPaths.{IsAnsweredUnless, IsSeenByAll, WriteThenRead}
 use Rattle.vt_laws_later_calls.proofs.AfterChange.{ChangesTree, all_stays, later_is, spent}
 use Rattle.vt_laws_later_calls.proofs.AttrSeen.{tree_there}
@@ -228,7 +216,22 @@ write_parts looks task path bytes permit e =
     (steps.0, walk_ended (file_walk nat_eq looks task path) steps.0 steps.1, parts.0.0, parts.1)
 
 pub write_then_read : WriteThenRead
-write_then_read path bytes world fresh name task is plain serves called granted = by parts.0.object refl parts.3
+write_then_read path bytes world fresh name task is plain serves called granted = elim (cases_Option parts.0.object) [
+  | inl object ↦ let small = passing ((nat_lt largest_file (length bytes), E6) ∷ []) _ it.did.permit
+      (sym (ap (written_permit nat_eq (looks_of nat_eq world) it.did.task parts.0 bytes) object) ∙ parts.3) in
+      let rules = passing (make_rules (looks_of nat_eq world) it.did.task parts.0 (unnumbered parts.0
+      (new_file it.did.task file_mode bytes))) _ it.did.permit small.1 in
+      let permit_is = sym (same_ok _ it.did.permit rules.1) in
+      seen (new_attr it.did.task file_mode)
+      (new_read it parts.1 words_pass.0 words_pass.1 permit_is)
+      (new_maker it parts.1 words_pass.0 words_pass.1 permit_is)
+  | inr its ↦ let rules = passing (rewrite_rules (looks_of nat_eq world) it.did.task its.0 bytes) (Ok (ToChange its.0
+      (SetBytes its.0.node bytes))) it.did.permit
+      (sym (ap (written_permit nat_eq (looks_of nat_eq world) it.did.task parts.0 bytes) its.1) ∙ parts.3) in
+      let permit_is = sym (same_ok _ it.did.permit rules.1) in
+      seen _ (old_read it parts.1 words_pass.0 words_pass.1 its.0 its.1 rules.0.0 rules.0.1.1.0 permit_is)
+      (rewriter it parts.1 words_pass.0 words_pass.1 its.0 its.1 rules.0.0 rules.0.1.1.0 permit_is)
+]
   where
     it : HasSucceeded world fresh name (Write path bytes) Done
     it = has_succeeded is plain serves refl refl refl granted
@@ -258,24 +261,3 @@ write_then_read path bytes world fresh name task is plain serves called granted 
           (inr looks.all) later_fresh ∙ ap (λ b. cond b (Ok (Bytes bytes)) (Err (denial C1)))
           (read_all reading.credentials looks.all attr (Regular bytes)),
     )
-
-    by : (o : Option (Location ℕ)) → parts.0.object ≡ o
-        → written_permit nat_eq (looks_of nat_eq world) it.did.task parts.0 bytes parts.0.object ≡ Ok it.did.permit
-        → IsAnsweredUnless C1 (policy nat_eq fresh world name (Write path bytes)).world name (Read path) (Bytes bytes)
-        × IsSeenByAll (policy nat_eq fresh world name (Write path bytes)).world task (Read path) (Bytes bytes)
-    by (Some file) object e =
-        let rules = passing (rewrite_rules (looks_of nat_eq world) it.did.task file bytes) (Ok (ToChange file
-        (SetBytes file.node bytes))) it.did.permit
-        (sym (ap (written_permit nat_eq (looks_of nat_eq world) it.did.task parts.0 bytes) object) ∙ e) in
-        let permit_is = sym (same_ok _ it.did.permit rules.1) in
-        seen _ (old_read it parts.1 words_pass.0 words_pass.1 file object rules.0.0 rules.0.1.1.0 permit_is)
-        (rewriter it parts.1 words_pass.0 words_pass.1 file object rules.0.0 rules.0.1.1.0 permit_is)
-    by None object e =
-        let small = passing ((nat_lt largest_file (length bytes), E6) ∷ []) _ it.did.permit
-        (sym (ap (written_permit nat_eq (looks_of nat_eq world) it.did.task parts.0 bytes) object) ∙ e) in
-        let rules = passing (make_rules (looks_of nat_eq world) it.did.task parts.0 (unnumbered parts.0
-        (new_file it.did.task file_mode bytes))) _ it.did.permit small.1 in
-        let permit_is = sym (same_ok _ it.did.permit rules.1) in
-        seen (new_attr it.did.task file_mode)
-        (new_read it parts.1 words_pass.0 words_pass.1 permit_is)
-        (new_maker it parts.1 words_pass.0 words_pass.1 permit_is)

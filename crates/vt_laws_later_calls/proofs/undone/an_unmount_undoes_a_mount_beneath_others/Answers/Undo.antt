@@ -1,14 +1,11 @@
 -- An unmount undoes a new mount and a bind of one mount, where mounts stood at receivers.
 use Rattle.std.proofs.Common.{◌≡◌, ◌⊎◌, false, inl, option_map, refl, subst, sym, true, nat_eq, unwrap_or, ℕ, []}
 use Rattle.vt_spec.proofs.Common.{Among, Filesystem, Fresh, Location, Mount, MountFlags, Shared, World, among-filter, among_from_contains, bound, contains_from_among, group_of, may_go, mount_at, mount_numbered, new_mount, receivers, receivers_of, receives, stands_at, takes_part, with_new_filesystem}
-use Rattle.vt_laws_mounts.specs.Mounts.Propagation.{world_after}
+use Rattle.vt_laws_later_calls.proofs.Common.{one_of, standing_is_computed, stands_on_mount, world_after}
 use Rattle.vt_laws_mounts.proofs.attached.BindsStand.{binds_keep_numbers, binds_keep_places, binds_keep_standing, new_mounts_keep_numbers, new_mounts_keep_places, new_mounts_keep_standing}
 use Rattle.vt_laws_mounts.proofs.propagation.PropagationPremises.{binds_can, new_mounts_can}
-use Rattle.vt_laws_mounts.proofs.mounts.Standing.{standing_is_computed}
-use Rattle.vt_laws_mounts.proofs.namespaces.Unsharing.{stands_on_mount}
 use Rattle.vt_laws_later_calls.specs.Undone.{CoveredTakePart, NoneGoesWithTheCopies, UnmountTakesWhatStoodBeside, UnmountTakesWhatStoodThere, UnmountUndoesBindBeneath, UnmountUndoesNewMountBeneath}
 use Rattle.vt_laws_later_calls.proofs.undone.Beneath.{copy_is_gone, has_its_record_back, masters_back, taken_along, taken_beside}
-use Rattle.vt_laws_mounts.proofs.propagation.OneAttached.{one_of}
 
 they_take_part : (world : World ℕ) (place : Location ℕ) → CoveredTakePart world place
     → (group : ℕ) (receiver mount : Mount ℕ) → (mount_at nat_eq world place).propagation ≡ Shared group

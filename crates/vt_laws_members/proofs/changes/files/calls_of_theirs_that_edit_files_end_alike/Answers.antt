@@ -1,4 +1,4 @@
-use Rattle.vt_laws_members.proofs.changes.files.FilesEnding.{chmods_end_alike, chowns_end_alike, opaques_end_alike, writes_end_alike}
+use Rattle.vt_laws_members.proofs.changes.Common.{chmods_end_alike, chowns_end_alike, opaques_end_alike, writes_end_alike}
 use Rattle.vt_laws_members.proofs.changes.files.PartWritten.{part_writes_end_alike}
 use Rattle.vt_laws_members.proofs.changes.files.calls_of_theirs_that_edit_files_end_alike.Goals as goal
 

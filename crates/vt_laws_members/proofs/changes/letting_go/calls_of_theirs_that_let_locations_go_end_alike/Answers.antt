@@ -1,7 +1,5 @@
 use Rattle.vt_laws_members.proofs.changes.letting_go.EnterLast.{setns_ends_alike}
-use Rattle.vt_laws_members.proofs.changes.letting_go.Umounting.{umounts_end_alike}
-use Rattle.vt_laws_members.proofs.changes.letting_go.Exiting.{exits_end_alike}
-use Rattle.vt_laws_members.proofs.changes.letting_go.Moving.{chdirs_end_alike, chroots_end_alike, closes_end_alike}
+use Rattle.vt_laws_members.proofs.changes.Common.{chdirs_end_alike, chroots_end_alike, closes_end_alike, exits_end_alike, umounts_end_alike}
 use Rattle.vt_laws_members.proofs.changes.letting_go.calls_of_theirs_that_let_locations_go_end_alike.Goals as goal
 
 pub returns-clause-close : goal.returns-clause-close

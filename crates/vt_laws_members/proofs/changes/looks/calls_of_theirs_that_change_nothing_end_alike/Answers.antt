@@ -1,5 +1,4 @@
-use Rattle.vt_laws_members.proofs.changes.looks.Told.{looks_end_alike}
-use Rattle.vt_laws_members.proofs.changes.tasks.Denied.{denials_end_alike}
+use Rattle.vt_laws_members.proofs.changes.Common.{denials_end_alike, looks_end_alike}
 use Rattle.vt_laws_members.proofs.changes.looks.calls_of_theirs_that_change_nothing_end_alike.Goals as goal
 
 pub returns-clause-looks : goal.returns-clause-looks

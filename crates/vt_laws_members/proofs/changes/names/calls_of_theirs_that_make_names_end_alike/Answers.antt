@@ -1,4 +1,4 @@
-use Rattle.vt_laws_members.proofs.changes.names.NamesEnding.{links_end_alike, mkdirs_end_alike, new_files_end_alike, symlinks_end_alike, whiteouts_end_alike}
+use Rattle.vt_laws_members.proofs.changes.Common.{links_end_alike, mkdirs_end_alike, new_files_end_alike, symlinks_end_alike, whiteouts_end_alike}
 use Rattle.vt_laws_members.proofs.changes.names.NewOpensEnding.{new_opens_end_alike}
 use Rattle.vt_laws_members.proofs.changes.names.calls_of_theirs_that_make_names_end_alike.Goals as goal
 

@@ -1,4 +1,4 @@
-use Rattle.vt_laws_members.proofs.changes.names.NamesEnding.{unlinks_end_alike}
+use Rattle.vt_laws_members.proofs.changes.Common.{unlinks_end_alike}
 use Rattle.vt_laws_members.proofs.changes.names.calls_of_theirs_that_take_names_end_alike.Goals as goal
 
 pub returns : goal.returns

@@ -1,4 +1,4 @@
-use Rattle.vt_laws_members.proofs.changes.overlays.OverlayEdits.{overlay_chmods_end_alike, overlay_chowns_end_alike, overlay_part_writes_end_alike, overlay_writes_end_alike}
+use Rattle.vt_laws_members.proofs.changes.Common.{overlay_chmods_end_alike, overlay_chowns_end_alike, overlay_part_writes_end_alike, overlay_writes_end_alike}
 use Rattle.vt_laws_members.proofs.changes.overlays.OverlayOpens.{overlay_opens_end_alike}
 use Rattle.vt_laws_members.proofs.changes.overlays.calls_of_theirs_that_edit_files_through_overlays_end_alike.Goals as goal
 

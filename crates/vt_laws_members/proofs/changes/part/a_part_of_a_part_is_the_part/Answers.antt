@@ -1,5 +1,5 @@
 use Rattle.vt_laws_members.proofs.changes.part.PartAgain.{part_of_the_part}
-use Rattle.vt_laws_members.proofs.changes.part.SettledPart.{part_is_settled}
+use Rattle.vt_laws_members.proofs.changes.Common.{part_is_settled}
 use Rattle.vt_laws_members.proofs.changes.part.a_part_of_a_part_is_the_part.Goals as goal
 
 pub returns-clause-again : goal.returns-clause-again

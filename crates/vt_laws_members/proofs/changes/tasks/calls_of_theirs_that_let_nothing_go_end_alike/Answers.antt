@@ -1,6 +1,6 @@
 use Rattle.vt_laws_members.proofs.changes.tasks.Forking.{forks_end_alike}
 use Rattle.vt_laws_members.proofs.changes.tasks.Opening.{opens_end_alike}
-use Rattle.vt_laws_members.proofs.changes.tasks.Rights.{drops_end_alike, empty_writes_end_alike, renames_of_one_end_alike, umasks_end_alike}
+use Rattle.vt_laws_members.proofs.changes.Common.{drops_end_alike, empty_writes_end_alike, renames_of_one_end_alike, umasks_end_alike}
 use Rattle.vt_laws_members.proofs.changes.tasks.calls_of_theirs_that_let_nothing_go_end_alike.Goals as goal
 
 pub returns-clause-umask : goal.returns-clause-umask
