@@ -155,6 +155,6 @@ impl Mounts {
         ensures are { AreOf result.now (attached_in (namespace_number namespace) self.now) }
         ensures order { are_ascending (mounts_in self.now) ≡ true }
     {
-        self.indexes.by_namespace.get(&namespace)
+        self.indexes.by_namespace.get_again(&namespace)
     }
 }
