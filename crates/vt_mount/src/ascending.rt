@@ -192,7 +192,9 @@ fn goes_last(ids: &[MountId], mount: MountId) -> bool
     }
 }
 
-// Removes a mount from a list. Mostly it is the last one.
+// Removes a mount from a list. Mostly it is the last one. It is a call of its own, so that `remove` of a single one stays
+// small.
+#[inline(never)]
 fn remove_from(ids: &mut Vec<MountId>, mount: MountId)
     requires { rises ids.old.items ≡ true }
     ensures items { ids.new.items ≡ filter (λ other. not (same_id other mount)) ids.old.items }
@@ -242,8 +244,7 @@ fn reaches(ids: &[MountId], mount: MountId) -> bool
     }
 }
 
-// Removes a mount from a list, wherever it is. It is a call of its own, so that a removal of the last one stays small.
-#[inline(never)]
+// Removes a mount from a list, wherever it is.
 fn remove_within(ids: &mut Vec<MountId>, mount: MountId)
     requires { rises ids.old.items ≡ true }
     ensures items { ids.new.items ≡ filter (λ other. not (same_id other mount)) ids.old.items }
