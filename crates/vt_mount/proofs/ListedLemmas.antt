@@ -2,6 +2,10 @@
 use Rattle.std.proofs.Common.{◌≡◌, ◌<◌, ℕ, zero, suc, Bool, true, false, cond, List, [], ◌∷◌, get_or, length, nat_eq, Option, None, Some, option_map, refl, sym, ap, ◌∙◌, arith, eqb-true, position, slice_get, IfSome, if◌then◌else◌, unwrap_or}
 use Rattle.vt_spec.proofs.Common.{IsEquivalence, keys_of, lookup}
 use Rattle.indexmap.specs.IndexMap.{set_value_at}
+use Rattle.indexmap.proofs.MapLemmas.{Found-position, index-first}
+use Rattle.indexmap.proofs.RemoveLemmas.{own_first}
+use Rattle.std.specs.List.{IsDistinct}
+use Rattle.std.specs.Map.{values_of}
 use Rattle.std.proofs.lemmas.List.Quantifiers.{position-Some}
 use Rattle.vt_location.specs.declared.numbers.MountId.{MountId}
 use Rattle.vt_mount.specs.declared.ascending.Ascending.{Ascending}
@@ -134,3 +138,15 @@ module _ {K : Type 0} {eq : K → K → Bool} (laws : IsEquivalence eq) (key : K
       drops q ∙ ap (λ b. cond b None (lookup (eq q) (set_value_at es i now))) (sym (laws.congr key one.0 q same))
       ∙ ap (cond (eq key q) None) (found-set_there es i now there q)
       ∙ dropped_list (eq key q) (Some now) (lookup (eq q) es)
+
+  -- the place of an entry with an equal key is that of the key
+  pub place-own : (es : List (K × Ascending)) (i : ℕ) (one : K × Ascending) → IsDistinct eq (keys_of es)
+      → Some one ≡ slice_get es i → eq key one.0 ≡ true → position (eq key) (keys_of es) ≡ Some i
+  place-own es i one distinct at same =
+      (λ j. position (λ q. laws.congr key one.0 q same j) (keys_of es))
+      ∙ index-first (eq one.0) es i (own_first eq laws es i one.0 one.1 distinct (sym at))
+
+  -- what is found under the key at a place
+  pub found-there : (es : List (K × Ascending)) (i : ℕ) → position (eq key) (keys_of es) ≡ Some i
+      → lookup (eq key) es ≡ slice_get (values_of es) i
+  found-there es i there = (Found-position (eq key) es i there).value

@@ -1,6 +1,6 @@
 -- A mount is found by its own number.
 use Rattle.std.proofs.Common.{◌≡◌, ℕ, suc, zero, Bool, true, false, cond, ◌&&◌, ◌||◌, T, List, [], ◌∷◌, filter, nat_eq, Option, None, Some, option_map, refl, sym, ap, ◌∙◌, eq-eqb, ne_eqb, true≢false, Ordering, Less, Equal, Greater, find, is_eq, is_lt}
-use Rattle.vt_spec.proofs.Common.{T_and_left, T_and_right, below_all, chain, child_at, eq_by_cmp, holds_of, last_or, list_any, lookup, stands_at}
+use Rattle.vt_spec.proofs.Common.{T_and_left, T_and_right, below_all, chain, child_at, eq_by_cmp, holds_of, last_or, list_any, lookup, or_false_left, or_false_right, same_location, stands_at, stands_on}
 use Rattle.vt_spec.specs.Machine.Mounts as meant
 use Rattle.vt_location.specs.declared.numbers.MountId.{MountId}
 use Rattle.vt_location.specs.Numbers.{counted}
@@ -122,6 +122,20 @@ child-found place es now child r view is there =
     ∙ found-child (stands_at nat_eq place) (in_order es) child (owns-all (in_order es) (rises-in_order es))
     (is ∙ ap (λ now. option_map (λ child. child.number) (child_at nat_eq (mounts_in now) place)) (sym view))
     ∙ ap (λ now. child_at nat_eq (mounts_in now) place) view
+
+-- no mount stands at a location on a mount on which none stands
+not_on : (at : meant.Location ℕ) (place : Option (meant.Location ℕ))
+    → holds_of (λ (place : meant.Location ℕ). nat_eq at.mount place.mount) place ≡ false
+    → holds_of (same_location nat_eq at) place ≡ false
+not_on at None none = refl
+not_on at (Some place) none = ap (λ b. b && nat_eq at.node place.node) none
+
+pub none_at : (at : meant.Location ℕ) (mounts : List (meant.Mount ℕ))
+    → list_any (stands_on nat_eq at.mount) mounts ≡ false → child_at nat_eq mounts at ≡ None
+none_at at [] none = refl
+none_at at (mount ∷ mounts) none =
+    ap (λ b. cond b (Some mount) (child_at nat_eq mounts at)) (not_on at mount.mount_point (or_false_left _ _ none))
+    ∙ none_at at mounts (or_false_right _ _ none)
 
 -- Chains of locations end where their rest ends
 

@@ -8,7 +8,7 @@ use std::alloc::{AllocError, Global};
 use vt_location::MountId;
 
 // For how many mounts a list has room when it is made.
-const FIRST_ROOM: usize = 16;
+const FIRST_ROOM: usize = 32;
 
 /// Mounts in the ascending order of their numbers, so that one is found by a binary search. A single one needs no
 /// allocation.
@@ -135,6 +135,7 @@ impl Ascending {
     }
 
     /// Removes a mount. It does not allocate.
+    #[inline]
     pub(crate) fn remove(&mut self, mount: MountId)
         ensures items { held self.new.one self.new.many ≡ filter (λ other. not (same_id other mount)) (held self.old.one self.old.many) }
         ensures reserved { self.new.reserved ≡ self.old.reserved }
@@ -149,7 +150,7 @@ impl Ascending {
     }
 }
 
-// A list of a mount, if any, with room for so many more. It gets room for eight at once.
+// A list of a mount, if any, with room for so many more.
 fn list_of(alloc: Global, one: Option<MountId>, more: usize) -> Result<Vec<MountId>, AllocError>
     requires { more < 3 }
     ensures items { IfOk result (λ ids. ids.items ≡ option_to_list one) }
@@ -191,7 +192,9 @@ fn goes_last(ids: &[MountId], mount: MountId) -> bool
     }
 }
 
-// Removes a mount from a list. Mostly it is the last one.
+// Removes a mount from a list. Mostly it is the last one. It is a call of its own, so that `remove` of a single one stays
+// small.
+#[inline(never)]
 fn remove_from(ids: &mut Vec<MountId>, mount: MountId)
     requires { rises ids.old.items ≡ true }
     ensures items { ids.new.items ≡ filter (λ other. not (same_id other mount)) ids.old.items }

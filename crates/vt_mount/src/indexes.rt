@@ -167,7 +167,7 @@ impl Indexes {
         ensures inode { self.new.by_inode ≡ self.old.by_inode }
     {
         match namespace {
-            Some(namespace) => self.by_namespace.add(namespace, mount),
+            Some(namespace) => self.by_namespace.add_again(namespace, mount),
             None => Ok(()),
         }
     }
@@ -192,7 +192,7 @@ impl Indexes {
         let Some(place) = place else {
             return Ok(());
         };
-        self.by_parent.add(place.mount, mount)?;
+        self.by_parent.add_again(place.mount, mount)?;
         self.by_location.add(place, mount)?;
         self.by_inode.add(place.node, mount)
     }
@@ -250,10 +250,10 @@ impl Indexes {
             ≡ taken (stood_over q place) mount (listed_over self.old q) }
     {
         if let Some(namespace) = namespace {
-            self.by_namespace.remove(&namespace, mount);
+            self.by_namespace.remove_again(&namespace, mount);
         }
         if let Some(place) = place {
-            self.by_parent.remove(&place.mount, mount);
+            self.by_parent.remove_again(&place.mount, mount);
             self.by_location.remove(&place, mount);
             self.by_inode.remove(&place.node, mount);
         }

@@ -1,5 +1,6 @@
 //! Mounts under keys, in the order of their numbers.
-ghost use Rattle.std.specs.Prelude.{◌≡◌, ◌+◌, ◌-◌, ◌<◌, [], filter, if◌then◌else◌, not, OnErr, OnOk};
+ghost use Rattle.std.specs.Prelude.{◌≡◌, ◌+◌, ◌-◌, ◌<◌, [], Some, filter, if◌then◌else◌, is_some, not, position, true, OnErr, OnOk};
+ghost use Rattle.std.specs.Map.{keys_of, lookup};
 ghost use Rattle.vt_mount.specs.Listed.{reserved, listed};
 ghost use Rattle.vt_mount.specs.Rising.{inserted, same_id};
 
@@ -14,6 +15,8 @@ use vt_location::MountId;
 #[derive(Debug, Drop)]
 pub(crate) struct MountsBy<K: Eq + Hash> {
     lists: IndexMap<K, Ascending>,
+    // Where the list was that changed last: the next change is often one of the same list.
+    recent: usize,
 }
 
 impl<K: Eq + Hash + Copy + Drop> MountsBy<K> {
@@ -23,6 +26,7 @@ impl<K: Eq + Hash + Copy + Drop> MountsBy<K> {
     {
         MountsBy {
             lists: IndexMap::new(alloc),
+            recent: 0,
         }
     }
 
@@ -37,6 +41,37 @@ impl<K: Eq + Hash + Copy + Drop> MountsBy<K> {
             Some(list) => list.as_slice(),
             None => &[],
         }
+    }
+
+    /// The mounts under a key, of which the list is likely the one that changed last.
+    pub(crate) fn get_again(&self, key: &K) -> &[MountId]
+        ensures { result.now ≡ listed K.eq key.now self.now }
+    {
+        match self.lists.get_index(self.recent) {
+            Some((recent, list)) if *key == *recent => list.as_slice(),
+            _ => self.get(key),
+        }
+    }
+
+    // Whether the list that changed last is the one under a key.
+    fn is_recent(&self, key: &K) -> bool
+        ensures { result ≡ true → position (K.eq key.now) (keys_of self.now.lists.entries) ≡ Some self.now.recent }
+    {
+        match self.lists.as_slice().get_index(self.recent) {
+            Some((recent, _)) => *key == *recent,
+            None => false,
+        }
+    }
+
+    // Where the list under a key is, which is likely the one that changed last.
+    fn place_of(&self, key: &K) -> Option<usize>
+        ensures place { result ≡ position (K.eq key.now) (keys_of self.now.lists.entries) }
+        ensures found { is_some result ≡ is_some (lookup (K.eq key.now) self.now.lists.entries) }
+    {
+        if self.is_recent(key) {
+            return Some(self.recent);
+        }
+        self.lists.get_index_of(key)
     }
 
     /// Reserves room for one more mount under a key, beside the room that is reserved there already.
@@ -69,6 +104,34 @@ impl<K: Eq + Hash + Copy + Drop> MountsBy<K> {
                 Ok(())
             }
         }
+    }
+
+    /// Adds a mount as `add` does, where the list is likely the one that changed last.
+    pub(crate) fn add_again(&mut self, key: K, mount: MountId) -> Result<(), AllocError>
+        ensures ok { OnOk result ((q : K) → listed K.eq q self.new
+            ≡ (if K.eq q key then inserted mount (listed K.eq q self.old) else listed K.eq q self.old)) }
+        ensures err { OnErr result ((q : K) → listed K.eq q self.new ≡ listed K.eq q self.old) }
+    {
+        if self.is_recent(&key) {
+            return self.add_at(self.recent, mount);
+        }
+        self.recent = self.lists.len();
+        self.add(key, mount)
+    }
+
+    // Adds a mount to the list at a place.
+    fn add_at(&mut self, place: usize, mount: MountId) -> Result<(), AllocError>
+        ensures ok { OnOk result ((key : K) → position (K.eq key) (keys_of self.old.lists.entries) ≡ Some place
+            → (q : K) → listed K.eq q self.new
+            ≡ (if K.eq q key then inserted mount (listed K.eq q self.old) else listed K.eq q self.old)) }
+        ensures err { OnErr result ((key : K) → position (K.eq key) (keys_of self.old.lists.entries) ≡ Some place
+            → (q : K) → listed K.eq q self.new ≡ listed K.eq q self.old) }
+    {
+        let alloc = *self.lists.allocator();
+        let Some(list) = self.lists.get_index_mut(place) else {
+            return Err(AllocError);
+        };
+        list.add(alloc, mount)
     }
 
     /// Inserts a mount under a key, where room is reserved, in the order of numbers. It does not allocate.
@@ -128,9 +191,30 @@ impl<K: Eq + Hash + Copy + Drop> MountsBy<K> {
             ≡ (if K.eq q key.now then filter (λ other. not (same_id other mount)) (listed K.eq q self.old)
             else listed K.eq q self.old) }
     {
-        let Some(place) = self.lists.get_index_of(key) else {
-            return;
-        };
+        if let Some(place) = self.lists.get_index_of(key) {
+            self.remove_at(place, mount);
+        }
+    }
+
+    /// Removes a mount as `remove` does, where the list is likely the one that changed last.
+    pub(crate) fn remove_again(&mut self, key: &K, mount: MountId)
+        ensures { (q : K) → listed K.eq q self.new
+            ≡ (if K.eq q key.now then filter (λ other. not (same_id other mount)) (listed K.eq q self.old)
+            else listed K.eq q self.old) }
+    {
+        if let Some(place) = self.place_of(key) {
+            self.recent = place;
+            self.remove_at(place, mount);
+        }
+    }
+
+    // Removes a mount from the list at a place, and drops the list if it gets empty.
+    fn remove_at(&mut self, place: usize, mount: MountId)
+        ensures { (key : K) → position (K.eq key) (keys_of self.old.lists.entries) ≡ Some place
+            → (q : K) → listed K.eq q self.new
+            ≡ (if K.eq q key then filter (λ other. not (same_id other mount)) (listed K.eq q self.old)
+            else listed K.eq q self.old) }
+    {
         let Some(list) = self.lists.get_index_mut(place) else {
             return;
         };

@@ -59,12 +59,24 @@ impl Mounts {
     {
         let mut here = root;
         for _ in 1..self.len() {
-            let Some(root) = self.root_over(here) else {
+            let Some(root) = self.covering_root(here) else {
                 return here;
             };
             here = root;
         }
         here
+    }
+
+    // The same as `root_over`, at the root of a mount: mostly no other stands on that mount at all.
+    fn covering_root(&self, place: Location) -> Option<Location>
+        ensures { option_map location_of result
+            ≡ option_map root_of (child_at nat_eq (mounts_in self.now) (location_of place)) }
+    {
+        if self.has_child(place.mount) {
+            self.root_over(place)
+        } else {
+            None
+        }
     }
 
     // The root of the mount that stands at a location.
@@ -143,6 +155,6 @@ impl Mounts {
         ensures are { AreOf result.now (attached_in (namespace_number namespace) self.now) }
         ensures order { are_ascending (mounts_in self.now) ≡ true }
     {
-        self.indexes.by_namespace.get(&namespace)
+        self.indexes.by_namespace.get_again(&namespace)
     }
 }

@@ -27,7 +27,7 @@ loop-init c =
 pub loop-preserved : goal.loop-preserved
 loop-preserved c =
     let is : step (mounts_in c.args.self.now) (location_of c.loop.here) ≡ Some (location_of c.in-Some.root) =
-    sym c.root_over.ensures ∙ ap (option_map location_of) c.in-Some.is in
+    sym c.covering_root.ensures ∙ ap (option_map location_of) c.in-Some.is in
     let one : c.len-end.result - c.loop.counter
     ≡ suc (c.len-end.result - (c.loop.counter + 1)) = omega (arith, c.loop-test.true) in (
       c.loop.invariant.0,
