@@ -44,4 +44,7 @@ pub trait Calls {
 
     /// Frees the world. Crates above end worlds by this call, so that one crate proves the drop of a world.
     fn end(self);
+
+    /// Forgets the world without freeing it: the system frees it faster where the program is about to end.
+    fn forget(self);
 }

@@ -10,6 +10,7 @@ ghost use Rattle.vt_calls.specs.Permitted.{IsPermitted};
 use crate::applying::apply;
 use std::alloc::Global;
 use std::marker::Model;
+use std::mem;
 use vt_answers::Calls;
 use vt_ns::World;
 use vt_policy::{Permit, judge};
@@ -69,6 +70,10 @@ impl Calls for Kernel {
     }
 
     fn end(self) {}
+
+    fn forget(self) {
+        mem::forget(self);
+    }
 }
 
 // The world's change number once a call has succeeded; the largest one stays.

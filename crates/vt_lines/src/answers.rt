@@ -21,7 +21,10 @@ pub fn answers<C: Calls>(
     let mut source = BytesSource::new(script, piece);
     let mut sink = BytesSink::new(alloc, piece);
     match run_as::<C, _, _>(version, alloc, &mut source, &mut sink) {
-        Ok(()) => Ok(sink),
+        Ok(world) => {
+            world.end();
+            Ok(sink)
+        }
         Err(_) => Err(AllocError),
     }
 }

@@ -65,7 +65,8 @@ impl<D: Read> Read for Watched<D> {
     }
 }
 
-/// Answers the script that a source gives, in a version of its language, and flushes the sink, also before a fault.
+/// Answers the script that a source gives, in a version of its language, and flushes the sink, also before a fault. The
+/// world is given back, to be freed or forgotten.
 ///
 /// `Read` and `Write`: that device failed. `Memory`: an allocation failed before anything was read or written.
 pub fn answer<C: Calls, R: Read + Drop, W: Write + Drop>(
@@ -73,7 +74,7 @@ pub fn answer<C: Calls, R: Read + Drop, W: Write + Drop>(
     alloc: Global,
     source: &mut ReadSource<R>,
     sink: &mut WriteSink<W>,
-) -> Result<(), RunFault>
+) -> Result<C, RunFault>
     requires source { IsFresh source.old }
     requires sink { sink.old.failures ≡ 0 }
     ensures ok { OnOk result (AnswersKnown (version_of version) (R.remaining source.old.reader)
@@ -87,10 +88,13 @@ pub fn answer<C: Calls, R: Read + Drop, W: Write + Drop>(
 {
     let outcome = run_as::<C, _, _>(version, alloc, source, sink);
     let flushed = sink.flush();
-    outcome?;
+    let world = outcome?;
     match flushed {
-        Ok(()) => Ok(()),
-        Err(_) => Err(RunFault::Write),
+        Ok(()) => Ok(world),
+        Err(_) => {
+            world.end();
+            Err(RunFault::Write)
+        }
     }
 }
 
@@ -115,8 +119,18 @@ fn answer_named<C: Calls, R: Read + Drop, W: Write + Drop>(
     let outcome = answer::<C, _, _>(version, alloc, &mut source, &mut sink);
     let handed_on = sink.into_inner().into_inner();
     match (outcome, handed_on) {
-        (Ok(()), Ok(writer)) => Ok(writer),
-        (Ok(()) | Err(RunFault::Write), Err(error)) => Err(Fault::Write {
+        (Ok(world), Ok(writer)) => {
+            // The program ends next, and the system frees its memory at once.
+            world.forget();
+            Ok(writer)
+        }
+        (Ok(world), Err(error)) => {
+            world.end();
+            Err(Fault::Write {
+                cause: *error.error(),
+            })
+        }
+        (Err(RunFault::Write), Err(error)) => Err(Fault::Write {
             cause: *error.error(),
         }),
         (Err(RunFault::Read), _) => Err(read_fault(alloc, name, reader.error)),
@@ -137,7 +151,8 @@ fn read_fault(alloc: Global, name: &str, cause: Option<io::Error>) -> Fault
     }
 }
 
-/// Answers the script in the file of this name, or on the standard input where it is `-`.
+/// Answers the script in the file of this name, or on the standard input where it is `-`. It is the last that a program
+/// does: the world is not freed.
 ///
 /// What was answered is handed on to the output, also before a fault. What a file holds no clause can say: that it is
 /// what is read, tests show.

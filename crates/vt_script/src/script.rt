@@ -104,16 +104,22 @@ pub fn run<C: Calls, R: Source, W: Sink>(
     ensures source_tells { R.tells source.old → R.tells source.new }
     ensures sink_tells { W.tells sink.old → W.tells sink.new }
 {
-    run_as::<C, _, _>(Version::One, alloc, source, sink)
+    match run_as::<C, _, _>(Version::One, alloc, source, sink) {
+        Ok(world) => {
+            world.end();
+            Ok(())
+        }
+        Err(fault) => Err(fault),
+    }
 }
 
-/// Answers a script as [`run`] does, in a version of its language.
+/// Answers a script as [`run`] does, in a version of its language, and gives back the world after its last line.
 pub fn run_as<C: Calls, R: Source, W: Sink>(
     version: Version,
     alloc: Global,
     source: &mut R,
     sink: &mut W,
-) -> Result<(), RunFault>
+) -> Result<C, RunFault>
     requires source_countable { R.failures source.old + 1 < 2 ^ 64 }
     requires sink_countable { W.failures sink.old + 1 < 2 ^ 64 }
 
@@ -145,6 +151,12 @@ pub fn run_as<C: Calls, R: Source, W: Sink>(
 {
     let mut session = Session::<C>::new(version, alloc)?;
     let outcome = answer_all(&mut session, source, sink);
-    session.into_world().end();
-    outcome
+    let world = session.into_world();
+    match outcome {
+        Ok(()) => Ok(world),
+        Err(fault) => {
+            world.end();
+            Err(fault)
+        }
+    }
 }
