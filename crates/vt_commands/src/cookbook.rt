@@ -7,8 +7,7 @@ use std::alloc::Global;
 use std::fs::File;
 use std::io::{self, Write};
 use std::rt::Files;
-use vt_cookbook::examples::{options_of, script_of};
-use vt_cookbook::list;
+use vt_cookbook::examples::{LIST, options_of, script_of};
 use vt_run::fault::{Fault, out_of_memory};
 
 // That a word is the name of no example.
@@ -76,6 +75,6 @@ pub fn write<R: Files + Eprint + AllocGlobal, W: Write>(
 {
     match name {
         Some(name) => write_named(rt, name, output),
-        None => hand_on_text(list(rt.alloc()), output),
+        None => hand_on_text(String::from_str(rt.alloc(), LIST), output),
     }
 }

@@ -1,8 +1,7 @@
 //! `examples/build-with-bind.vt`, by `checks/cookbook --write`.
 
 /// The script.
-pub fn script() -> &'static str {
-    "\
+pub static SCRIPT: &str = "\
 # A build as with COPY --chown, RUN and USER: files are made by root, the context is bound read-only, and a user runs.\n\
 \n\
 t mkdir /ctx\n\
@@ -31,5 +30,4 @@ t.1.1 write /ctx/x y                    => deny 30 EROFS F1\n\
 t.1 umount /ctx\n\
 t.1 rmdir /ctx\n\
 t.1.1 ls /                              => ok app\n\
-"
-}
+";

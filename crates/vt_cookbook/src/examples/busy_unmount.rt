@@ -1,8 +1,7 @@
 //! `examples/busy-unmount.vt`, by `checks/cookbook --write`.
 
 /// The script.
-pub fn script() -> &'static str {
-    "\
+pub static SCRIPT: &str = "\
 # Why an unmount is busy, also for a task of another namespace, and how a private copy of a mount stays behind.\n\
 \n\
 t mkdir /mnt\n\
@@ -29,5 +28,4 @@ t.1 mounts                              => ok 2\n\
 => 2 1 /mnt plain:2 / rw private\n\
 t rmdir /mnt\n\
 t.1 ls /\n\
-"
-}
+";

@@ -1,8 +1,7 @@
 //! `examples/bwrap.vt`, by `checks/cookbook --write`.
 
 /// The script.
-pub fn script() -> &'static str {
-    "\
+pub static SCRIPT: &str = "\
 # bwrap --ro-bind /usr /usr --tmpfs /tmp --bind ~/work /work --dir /etc, as a user without capabilities.\n\
 \n\
 t mkdir /usr\n\
@@ -43,5 +42,4 @@ t.1.1 mkdir /tmp/d\n\
 t.1.1 mount plain /tmp/d                => deny 1 EPERM K1\n\
 t.1.1 ls /                              => ok etc tmp usr work\n\
 t stat /home/me/work/out                => ok file 0644 1000 1000 4\n\
-"
-}
+";

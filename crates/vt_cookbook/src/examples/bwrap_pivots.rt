@@ -1,8 +1,7 @@
 //! `examples/version-2/bwrap-pivots.vt`, by `checks/cookbook --write`.
 
 /// The script.
-pub fn script() -> &'static str {
-    "\
+pub static SCRIPT: &str = "\
 # In version 2 (`--script 2`). bwrap --ro-bind /usr /usr --tmpfs /tmp --dir /etc, which changes its root twice. The first\n\
 # pivot makes a tmpfs the root, with the host's root at `oldroot`: what is bound from there into `newroot` may stand\n\
 # anywhere. The second makes `newroot` the root.\n\
@@ -58,5 +57,4 @@ t.1.1 ls ..                             => ok etc tmp usr\n\
 t.1.1 pivot_root /tmp /tmp              => deny 1 EPERM K1\n\
 t mounts                                => ok 1\n\
 => 1 - - plain:1 / rw shared:1\n\
-"
-}
+";

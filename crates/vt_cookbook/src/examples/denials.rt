@@ -1,8 +1,7 @@
 //! `examples/denials.vt`, by `checks/cookbook --write`.
 
 /// The script.
-pub fn script() -> &'static str {
-    "\
+pub static SCRIPT: &str = "\
 # One denial after another, each with its rule. A denied call changes nothing.\n\
 #\n\
 # Rules are checked in the order S, K, W, E, F, L, P, C, O, B, M, and by number within a letter; the first\n\
@@ -78,5 +77,4 @@ t.1 mkdir /d                            => deny 17 EEXIST E1\n\
 # Nothing was changed by any denial.\n\
 t ls /                                  => ok d high loop low m\n\
 t read /d/f                             => ok text\n\
-"
-}
+";

@@ -1,8 +1,7 @@
 //! `examples/docker-volumes.vt`, by `checks/cookbook --write`.
 
 /// The script.
-pub fn script() -> &'static str {
-    "\
+pub static SCRIPT: &str = "\
 # What `docker run` does with volumes: `-v /srv/data:/data` binds it private, and `bind-propagation=rshared` shares it. A\n\
 # disk that the host mounts later shows in the second container alone, and what that one mounts shows on the host.\n\
 \n\
@@ -73,5 +72,4 @@ t.2 mounts                              => ok 8\n\
 => 2 - 1.3,1.4,3.5,3.6 2.5,2.6\n\
 => 3 - 1.5,1.6,3.7,3.8 2.7,2.8\n\
 t umount /srv/data/usb\n\
-"
-}
+";

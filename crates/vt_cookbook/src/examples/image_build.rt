@@ -1,8 +1,7 @@
 //! `examples/image-build.vt`, by `checks/cookbook --write`.
 
 /// The script.
-pub fn script() -> &'static str {
-    "\
+pub static SCRIPT: &str = "\
 # What an image build does with users, modes and the umask, step by step.\n\
 #\n\
 # The first task builds as root does in a build container: it lays out the system directories, adds a user for\n\
@@ -64,5 +63,4 @@ t.2 ls /tmp/private                     => deny 13 EACCES C1\n\
 t.2 unlink /tmp/app.sock                => deny 1 EPERM C3\n\
 t.2 write /tmp/mine x\n\
 t.2 rename /tmp/mine /tmp/secret        => deny 1 EPERM C3\n\
-"
-}
+";

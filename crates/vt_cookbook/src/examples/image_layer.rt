@@ -1,8 +1,7 @@
 //! `examples/image-layer.vt`, by `checks/cookbook --write`.
 
 /// The script.
-pub fn script() -> &'static str {
-    "\
+pub static SCRIPT: &str = "\
 # What a layer of an image holds once it is unpacked: files, whiteouts and opaque directories.\n\
 #\n\
 # A layer says of a name below it that it is gone by a whiteout (in the archive a file `.wh.NAME`), and of a directory\n\
@@ -51,5 +50,4 @@ t fork 1000 1000 - -                    => ok t.1\n\
 t.1 mkdir /home/layer\n\
 t.1 whiteout /home/layer/motd\n\
 t.1 opaque /home/layer yes              => deny 1 EPERM K1\n\
-"
-}
+";

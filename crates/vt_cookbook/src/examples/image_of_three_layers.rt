@@ -1,8 +1,7 @@
 //! `examples/image-of-three-layers.vt`, by `checks/cookbook --write`.
 
 /// The script.
-pub fn script() -> &'static str {
-    "\
+pub static SCRIPT: &str = "\
 # An image of three layers, what a container of it sees, and why no layer changes while one runs.\n\
 #\n\
 # Docker, podman and containerd unpack each layer of an image once, and mount an overlay of them for each use. Here it\n\
@@ -92,5 +91,4 @@ t write /layers/top/bin/app three\n\
 t write /layers/base/etc/motd hello     => deny 16 EBUSY L1\n\
 t umount /run/shell\n\
 t write /layers/base/etc/motd hello\n\
-"
-}
+";

@@ -1,8 +1,7 @@
 //! `examples/lazy-unmount.vt`, by `checks/cookbook --write`.
 
 /// The script.
-pub fn script() -> &'static str {
-    "\
+pub static SCRIPT: &str = "\
 # A lazy unmount: the name is free at once, and the file goes with its last descriptor.\n\
 \n\
 t mkdir /m\n\
@@ -18,5 +17,4 @@ t mounts                                => ok 1\n\
 => 1 - - plain:1 / rw private\n\
 t close 0\n\
 t pread 0 0 1                           => deny 9 EBADF S4\n\
-"
-}
+";

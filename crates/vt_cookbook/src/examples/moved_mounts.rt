@@ -1,8 +1,7 @@
 //! `examples/moved-mounts.vt`, by `checks/cookbook --write`.
 
 /// The script.
-pub fn script() -> &'static str {
-    "\
+pub static SCRIPT: &str = "\
 # What `move` takes: roots of mounts, and neither onto shared mounts from shared parents nor under themselves.\n\
 \n\
 t mkdir /a\n\
@@ -27,5 +26,4 @@ t mounts                                => ok 3\n\
 => 2 1 /c plain:2 / rw shared:1\n\
 => 3 2 /s plain:3 / rw shared:2\n\
 t move / /a                             => deny 40 ELOOP M6\n\
-"
-}
+";

@@ -1,8 +1,7 @@
 //! `examples/nspawn.vt`, by `checks/cookbook --write`.
 
 /// The script.
-pub fn script() -> &'static str {
-    "\
+pub static SCRIPT: &str = "\
 # systemd-nspawn where the kernel refuses pivot_root: all mounts become slaves, the tree of the container is bound onto\n\
 # itself and moved to `/`, then `chroot`. `version-2/nspawn-pivot.vt` has the pivot.\n\
 \n\
@@ -29,5 +28,4 @@ t.1 mounts                              => ok 3\n\
 => 1 - - plain:1 / rw slave:1\n\
 => 2 1 / plain:1 /var/lib/machines/deb rw shared:2,slave:1\n\
 => 3 2 /run plain:2 / rw shared:3\n\
-"
-}
+";

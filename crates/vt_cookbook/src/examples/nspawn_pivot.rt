@@ -1,8 +1,7 @@
 //! `examples/version-2/nspawn-pivot.vt`, by `checks/cookbook --write`.
 
 /// The script.
-pub fn script() -> &'static str {
-    "\
+pub static SCRIPT: &str = "\
 # In version 2 (`--script 2`). systemd-nspawn: all mounts become slaves, the tree of the container is bound onto itself and\n\
 # becomes the root by pivot_root(\".\", \".\"), the old root is unmounted lazily, and what is left becomes shared. Where the\n\
 # kernel refuses the pivot, as on a rootfs, the tree is moved to `/` instead: `nspawn.vt`.\n\
@@ -35,5 +34,4 @@ t.1 mounts                              => ok 2\n\
 => 2 1 /run plain:2 / rw shared:3\n\
 t mounts                                => ok 1\n\
 => 1 - - plain:1 / rw shared:1\n\
-"
-}
+";

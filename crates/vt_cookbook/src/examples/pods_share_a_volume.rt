@@ -1,8 +1,7 @@
 //! `examples/pods-share-a-volume.vt`, by `checks/cookbook --write`.
 
 /// The script.
-pub fn script() -> &'static str {
-    "\
+pub static SCRIPT: &str = "\
 # Two pods share a volume of the host with `mountPropagation: Bidirectional`: what a driver mounts in one pod shows in the\n\
 # other and on the host, and an unmount anywhere goes everywhere.\n\
 \n\
@@ -38,5 +37,4 @@ t.1 exit\n\
 t.2 ls /v/m                             => ok csi\n\
 t.2 umount /v/m\n\
 t ls /var/vol/m\n\
-"
-}
+";

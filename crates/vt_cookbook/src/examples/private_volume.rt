@@ -1,8 +1,7 @@
 //! `examples/private-volume.vt`, by `checks/cookbook --write`.
 
 /// The script.
-pub fn script() -> &'static str {
-    "\
+pub static SCRIPT: &str = "\
 # Docker's default for a volume: it is bound `rprivate`. Later mounts and unmounts of the host do not reach it. It keeps\n\
 # copies of what was mounted when the container began, so that a disk that the host unmounts stays in use.\n\
 \n\
@@ -59,5 +58,4 @@ t.1 ls /box/volume/disk\n\
 => 1 - 1.1 2.1\n\
 => 2 - 1.2 2.2\n\
 => 3 - 1.3 2.4\n\
-"
-}
+";

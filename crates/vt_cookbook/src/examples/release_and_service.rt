@@ -1,8 +1,7 @@
 //! `examples/release-and-service.vt`, by `checks/cookbook --write`.
 
 /// The script.
-pub fn script() -> &'static str {
-    "\
+pub static SCRIPT: &str = "\
 # A release behind a symlink, a service that reads it through its group, and a stranger.\n\
 #\n\
 # A line is a call of a task: the task, the call, and its words. `t` is the first task; it has uid 0, all\n\
@@ -49,5 +48,4 @@ t.2 stat /srv/current/                  => ok dir 0755 0 0\n\
 \n\
 # A directory is not moved below itself, also where a symlink leads there: E5.\n\
 t rename /srv /srv/current/old          => deny 22 EINVAL E5\n\
-"
-}
+";

@@ -1,8 +1,7 @@
 //! `examples/replace-by-rename.vt`, by `checks/cookbook --write`.
 
 /// The script.
-pub fn script() -> &'static str {
-    "\
+pub static SCRIPT: &str = "\
 # How a file is replaced without a moment in which it is missing or half written.\n\
 #\n\
 # A writer writes to a new name and renames it over the old one. A reader that has the old file open keeps it;\n\
@@ -49,5 +48,4 @@ t rename /data/new /data/old            => deny 39 ENOTEMPTY E4\n\
 t unlink /data/old/f\n\
 t rename /data/new /data/old\n\
 t ls /data                              => ok config config.backup config.second latest old\n\
-"
-}
+";

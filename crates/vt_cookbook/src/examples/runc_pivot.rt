@@ -1,8 +1,7 @@
 //! `examples/version-2/runc-pivot.vt`, by `checks/cookbook --write`.
 
 /// The script.
-pub fn script() -> &'static str {
-    "\
+pub static SCRIPT: &str = "\
 # In version 2 (`--script 2`). How runc makes a root: all mounts become slaves, the mount of the bundle private, and the\n\
 # bundle is bound onto itself and filled. After pivot_root(\".\", \".\") the old root stands on top of the new one, and is\n\
 # unmounted from there, lazily. runc goes back to it by a descriptor; here the way is down into a directory and up again.\n\
@@ -59,5 +58,4 @@ t mounts                                => ok 2\n\
 => 1 - - plain:1 / rw shared:1\n\
 => 2 1 /home plain:2 / rw shared:2\n\
 t ls /run/bundle/rootfs                 => ok dev etc proc\n\
-"
-}
+";

@@ -1,8 +1,7 @@
 //! `examples/runc-root.vt`, by `checks/cookbook --write`.
 
 /// The script.
-pub fn script() -> &'static str {
-    "\
+pub static SCRIPT: &str = "\
 # How runc makes a root with `--no-pivot`: slaves first, the mount of the bundle private, the bundle bound onto itself,\n\
 # then moved to `/`, and `chroot`. A mount that is moved to `/` covers the root of its namespace. The usual way, by\n\
 # `pivot_root`, is `version-2/runc-pivot.vt`.\n\
@@ -45,5 +44,4 @@ t.1 mounts                              => ok 5\n\
 t mounts                                => ok 1\n\
 => 1 - - plain:1 / rw shared:1\n\
 t.1 ls ..                               => ok dev etc proc\n\
-"
-}
+";

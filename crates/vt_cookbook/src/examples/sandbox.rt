@@ -1,8 +1,7 @@
 //! `examples/sandbox.vt`, by `checks/cookbook --write`.
 
 /// The script.
-pub fn script() -> &'static str {
-    "\
+pub static SCRIPT: &str = "\
 # A sandbox as a build tool makes it: a mount namespace of its own, the sources bound read-only, a tmpfs to work in,\n\
 # and a changed root. Linux: unshare(2), mount(2) with MS_BIND, chroot(2).\n\
 \n\
@@ -60,5 +59,4 @@ t.1 exit\n\
 t ls /box                               => ok src\n\
 t mounts                                => ok 1\n\
 => 1 - - plain:1 / rw private\n\
-"
-}
+";

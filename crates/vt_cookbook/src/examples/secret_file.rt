@@ -1,8 +1,7 @@
 //! `examples/secret-file.vt`, by `checks/cookbook --write`.
 
 /// The script.
-pub fn script() -> &'static str {
-    "\
+pub static SCRIPT: &str = "\
 # Who reads a file of mode 400: its bits, the capabilities, the group. A child has no descriptors of its parent.\n\
 \n\
 t mkdir /run\n\
@@ -24,5 +23,4 @@ t chmod /run 750\n\
 t chmod /run/secret 440\n\
 t chown /run/secret 0 1000\n\
 t.1 read /run/secret                    => ok s3cr3t\n\
-"
-}
+";

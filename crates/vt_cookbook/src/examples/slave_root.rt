@@ -1,8 +1,7 @@
 //! `examples/slave-root.vt`, by `checks/cookbook --write`.
 
 /// The script.
-pub fn script() -> &'static str {
-    "\
+pub static SCRIPT: &str = "\
 # A container whose mounts are slaves (`rslave`), as runc begins each container: unmounts of the host reach it, so that it\n\
 # does not keep a disk in use, and nothing that it mounts goes to the host.\n\
 \n\
@@ -90,5 +89,4 @@ t.2.1 mounts                            => ok 3\n\
 # with masters 1 and 3: what the host mounts comes to both, and what one of them mounts goes to the other alone. The two\n\
 # /media/disk are slaves of group 2 and of no group of their own. Linux, in the two namespaces, where no other groups\n\
 # exist: / shared:3 master:1, /media/disk master:2, /media/second shared:5 master:4.\n\
-"
-}
+";

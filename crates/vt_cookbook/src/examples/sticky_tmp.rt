@@ -1,8 +1,7 @@
 //! `examples/sticky-tmp.vt`, by `checks/cookbook --write`.
 
 /// The script.
-pub fn script() -> &'static str {
-    "\
+pub static SCRIPT: &str = "\
 # A directory like /tmp: all may write in it, and only owners remove or rename.\n\
 \n\
 t mkdir /tmp\n\
@@ -20,5 +19,4 @@ t.1 chmod /tmp/a 666\n\
 t.2 write /tmp/a y\n\
 t.2 rename /tmp/s /tmp/a                => deny 1 EPERM C3\n\
 t ls /tmp                               => ok a l s\n\
-"
-}
+";

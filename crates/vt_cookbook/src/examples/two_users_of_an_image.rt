@@ -1,8 +1,7 @@
 //! `examples/two-users-of-an-image.vt`, by `checks/cookbook --write`.
 
 /// The script.
-pub fn script() -> &'static str {
-    "\
+pub static SCRIPT: &str = "\
 # Who may read what an image holds: the caller, and who mounted it.\n\
 #\n\
 # The kernel asks of each access twice: whether the caller may do it to the object that the overlay shows, and whether\n\
@@ -39,5 +38,4 @@ t read /mnt/etc/shadow                  => ok secret\n\
 t.1 read /mnt/etc/shadow                => deny 13 EACCES C1\n\
 t.1 read /mnt/root/key                  => deny 13 EACCES W4\n\
 t.1 read /mnt/etc/hosts                 => ok local\n\
-"
-}
+";

@@ -1,8 +1,7 @@
 //! `examples/unshare-mounts.vt`, by `checks/cookbook --write`.
 
 /// The script.
-pub fn script() -> &'static str {
-    "\
+pub static SCRIPT: &str = "\
 # unshare -m with `--propagation unchanged`, where an unmount goes to the host, and with its default, where it does not.\n\
 \n\
 t mkdir /mnt\n\
@@ -23,5 +22,4 @@ t.2 umount /mnt\n\
 t mounts                                => ok 2\n\
 => 1 - - plain:1 / rw shared:1\n\
 => 2 1 /mnt plain:2 / rw shared:2\n\
-"
-}
+";

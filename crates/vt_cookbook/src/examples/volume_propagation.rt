@@ -1,8 +1,7 @@
 //! `examples/volume-propagation.vt`, by `checks/cookbook --write`.
 
 /// The script.
-pub fn script() -> &'static str {
-    "\
+pub static SCRIPT: &str = "\
 # Mount propagation of a Kubernetes volume: the three values of a container's `mountPropagation`.\n\
 # Linux: mount(2) with MS_SHARED, MS_SLAVE and MS_PRIVATE; mount_namespaces(7).\n\
 \n\
@@ -109,5 +108,4 @@ t ls /pod/mine                          => ok hello\n\
 => 1 - 1.1 2.1,3.1\n\
 => 2 - 1.2 2.2,3.2,3.3\n\
 => 3 - 1.3 2.4,3.4,3.5\n\
-"
-}
+";
