@@ -11,6 +11,7 @@ use crate::fault::RunFault;
 use crate::hex::HexDigit;
 use crate::listing::write_mounts;
 use crate::peers::write_peers;
+use crate::refusal::error_text;
 use crate::token::is_plain;
 use itoa::Buffer;
 use vt_io::output::{Sink, SinkFailed};
@@ -225,6 +226,19 @@ fn write_content<W: Sink>(sink: &mut W, number: u64, text: &[u8]) -> Result<(), 
     write_all(sink, b"\n")
 }
 
+/// The line of an answer that is a descriptor.
+fn write_opened<W: Sink>(sink: &mut W, number: u64, descriptor: u8) -> Result<(), SinkFailed>
+    requires countable { W.failures sink.old + 1 < 2 ^ 64 }
+    ensures printed { let words = codes "ok" ∷ decimal descriptor ∷ [] in
+        Prints W.Sink (printed_line number words) result sink.old sink.new }
+{
+    let mut buffer = Buffer::new();
+    let digits = buffer.format(number).as_bytes();
+    let mut descriptor_buffer = Buffer::new();
+    let opened = descriptor_buffer.format(descriptor).as_bytes();
+    write_parts(sink, &[digits, b" ok ", opened, b"\n"])
+}
+
 /// The first line of an answer.
 fn write_answer<W: Sink>(sink: &mut W, number: u64, answer: &Answer) -> Result<(), SinkFailed>
     requires countable { W.failures sink.old + 1 < 2 ^ 64 }
@@ -245,14 +259,8 @@ fn write_denial<W: Sink>(sink: &mut W, number: u64, deny: &Deny) -> Result<(), S
 {
     let mut buffer = Buffer::new();
     let digits = buffer.format(number).as_bytes();
-    let mut errno_buffer = Buffer::new();
-    let errno = errno_buffer.format(deny.errno.number()).as_bytes();
-    let error = deny.errno.name().as_bytes();
     let rule = deny.rule.name().as_bytes();
-    write_parts(
-        sink,
-        &[digits, b" deny ", errno, b" ", error, b" ", rule, b"\n"],
-    )
+    write_parts(sink, &[digits, error_text(deny.errno), rule, b"\n"])
 }
 
 /// The first line that answers the line of this number.
@@ -268,6 +276,7 @@ fn write_line<W: Sink>(
     match outcome {
         Ok(Answer::Done) => write_done(sink, number),
         Ok(Answer::Bytes(text)) => write_content(sink, number, text),
+        Ok(Answer::Opened(descriptor)) => write_opened(sink, number, *descriptor),
         Ok(answer) => write_answer(sink, number, answer),
         Err(deny) => write_denial(sink, number, deny),
     }
