@@ -5,8 +5,9 @@ use Rattle.std.proofs.lemmas.List.Concat.{flat_map-append}
 use Rattle.std.specs.Global.{Vec}
 use Rattle.vt_spec.specs.declared.attributes.Kind.{Kind}
 use Rattle.vt_spec.specs.declared.attributes.Kind.TheVariants.{Dir, File, Symlink, White}
+use Rattle.vt_spec.specs.Language.Answers.Answer.{Child}
 use Rattle.vt_spec.specs.Language.Printed.{hex_digit, owner_words, stat_words}
-use Rattle.vt_line.specs.Printing.{further_words, kind_text, printed_names}
+use Rattle.vt_line.specs.Printing.{further_words, kind_text, printed_names, printed_numbers}
 
 abbrev pub escape : ℕ → List ℕ
 escape byte = 92 ∷ 120 ∷ hex_digit (byte / 16) ∷ hex_digit (byte % 16) ∷ []
@@ -53,17 +54,6 @@ content_line digits plain text number formatted printed =
     ∙ ap (λ text. decimal number ++ (codes " ok " ++ (text ++ codes "\n"))) (sym printed)
     ∙ text_line (decimal number) (printed_text text)
 
--- the first line of an answer
-ok_line : (digits rest : List ℕ)
-    → (digits ++ codes " ok") ++ (rest ++ codes "\n") ≡ (digits ++ (codes " ok" ++ rest)) ++ codes "\n"
-ok_line digits rest = simp append_assoc
-
-pub answer_line : (digits : List ℕ) (words : List (List ℕ)) (number : ℕ) → digits ≡ decimal number
-    → (digits ++ codes " ok") ++ (spaced words ++ codes "\n") ≡ printed_line number (codes "ok" ∷ words)
-answer_line digits words number formatted =
-    ap (λ digits. (digits ++ codes " ok") ++ (spaced words ++ codes "\n")) formatted
-    ∙ ok_line (decimal number) (spaced words)
-
 -- what is printed so far, a run, and what comes after it
 pub printed-front : (done plain others rest text : List ℕ)
     → done ++ flat_map printed_byte rest ≡ flat_map printed_byte text → plain ++ others ≡ rest
@@ -105,3 +95,34 @@ stat_words-further Dir line = flat_map-append (λ word. 32 ∷ word) (owner_word
 stat_words-further File line = flat_map-append (λ word. 32 ∷ word) (owner_words (codes "file") line.attr) (further_words File line)
 stat_words-further Symlink line = flat_map-append (λ word. 32 ∷ word) (owner_words (codes "link") line.attr) (further_words Symlink line)
 stat_words-further White line = sym (append-nil (spaced (owner_words (codes "white") line.attr)))
+
+-- the line that tells of an object
+front_line : (digits first rest : List ℕ) → ((digits ++ codes " ok") ++ first) ++ (rest ++ codes "\n")
+    ≡ (digits ++ (codes " ok" ++ (first ++ rest))) ++ codes "\n"
+front_line digits first rest = simp append_assoc
+
+pub told_line : (number : ℕ) (text : List ℕ) (kind : Kind) (line : StatLine) → text ≡ kind_text kind
+    → ((decimal number ++ codes " ok") ++ spaced (owner_words text line.attr))
+    ++ (spaced (further_words kind line) ++ codes "\n") ≡ printed_line number (codes "ok" ∷ stat_words kind line)
+told_line number text kind line is =
+    ap (λ text. ((decimal number ++ codes " ok") ++ spaced (owner_words text line.attr))
+    ++ (spaced (further_words kind line) ++ codes "\n")) is
+    ∙ front_line (decimal number) (spaced (owner_words (kind_text kind) line.attr)) (spaced (further_words kind line))
+    ∙ ap (λ words. (decimal number ++ (codes " ok" ++ words)) ++ codes "\n") (sym (stat_words-further kind line))
+
+-- the line of names, and that of a task
+pub listed_line : (number : ℕ) (names : List (Vec ℕ))
+    → ((decimal number ++ codes " ok") ++ printed_names names) ++ codes "\n"
+    ≡ printed_line number (codes "ok" ∷ printed_value (Names (map (λ name. name.items) names)))
+listed_line number names =
+    ap (λ text. text ++ codes "\n") (append_assoc (decimal number) (codes " ok") (printed_names names))
+    ∙ ap (λ text. (decimal number ++ (codes " ok" ++ text)) ++ codes "\n") (printed_names-value names)
+
+task_line : (digits numbers : List ℕ) → ((digits ++ codes " ok t") ++ numbers) ++ codes "\n"
+    ≡ (digits ++ (codes " ok t" ++ (numbers ++ []))) ++ codes "\n"
+task_line digits numbers = simp (append_assoc, append-nil)
+
+pub child_line : (number : ℕ) (name : List ℕ)
+    → ((decimal number ++ codes " ok t") ++ printed_numbers name) ++ codes "\n"
+    ≡ printed_line number (codes "ok" ∷ printed_value (Child name))
+child_line number name = task_line (decimal number) (printed_numbers name)

@@ -10,6 +10,7 @@ mod names;
 mod number;
 mod peers;
 pub mod print;
+mod refusal;
 mod token;
 pub mod version;
 mod words;

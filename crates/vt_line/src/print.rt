@@ -11,6 +11,7 @@ use crate::fault::RunFault;
 use crate::hex::HexDigit;
 use crate::listing::write_mounts;
 use crate::peers::write_peers;
+use crate::refusal::error_text;
 use crate::token::is_plain;
 use itoa::Buffer;
 use vt_io::output::{Sink, SinkFailed};
@@ -109,19 +110,6 @@ fn mode_digits(mode: Mode) -> [u8; 4]
     ]
 }
 
-/// An object's kind, mode, user and group, behind a space each.
-fn write_owner<W: Sink>(sink: &mut W, kind: &[u8], attr: &Attr) -> Result<(), SinkFailed>
-    requires countable { W.failures sink.old + 1 < 2 ^ 64 }
-    ensures printed { Prints W.Sink (spaced (owner_words kind.now attr.now)) result sink.old sink.new }
-{
-    let mode = mode_digits(attr.mode);
-    let mut uid_buffer = Buffer::new();
-    let uid = uid_buffer.format(attr.uid).as_bytes();
-    let mut gid_buffer = Buffer::new();
-    let gid = gid_buffer.format(attr.gid).as_bytes();
-    write_parts(sink, &[b" ", kind, b" ", &mode, b" ", uid, b" ", gid])
-}
-
 /// What an object is called.
 fn kind_text(kind: Kind) -> &'static [u8]
     ensures { result.now ≡ kind_text kind }
@@ -134,29 +122,6 @@ fn kind_text(kind: Kind) -> &'static [u8]
     }
 }
 
-/// What is told of an object beside its owner, behind a space.
-fn write_further<W: Sink>(sink: &mut W, line: &StatLine) -> Result<(), SinkFailed>
-    requires countable { W.failures sink.old + 1 < 2 ^ 64 }
-    ensures printed { let words = further_words line.now.kind (stat_line_of line.now) in
-        Prints W.Sink (spaced words) result sink.old sink.new }
-{
-    match line.kind {
-        Kind::Dir if line.opaque => write_word(sink, b"opaque"),
-        Kind::File | Kind::Symlink => write_number(sink, line.size as u64),
-        Kind::Dir | Kind::White => Ok(()),
-    }
-}
-
-/// What is told of an object, behind a space each.
-fn write_stat<W: Sink>(sink: &mut W, line: &StatLine) -> Result<(), SinkFailed>
-    requires countable { W.failures sink.old + 1 < 2 ^ 64 }
-    ensures printed { let words = stat_words line.now.kind (stat_line_of line.now) in
-        Prints W.Sink (spaced words) result sink.old sink.new }
-{
-    write_owner(sink, kind_text(line.kind), &line.attr)?;
-    write_further(sink, line)
-}
-
 /// The numbers of a task's name, behind a point each.
 fn write_numbers<W: Sink>(sink: &mut W, numbers: &[u8]) -> Result<(), SinkFailed>
     requires countable { W.failures sink.old + 1 < 2 ^ 64 }
@@ -167,36 +132,6 @@ fn write_numbers<W: Sink>(sink: &mut W, numbers: &[u8]) -> Result<(), SinkFailed
         write_parts(sink, &[b".", buffer.format(*number).as_bytes()])?;
     }
     Ok(())
-}
-
-/// The name of a task, behind a space.
-fn write_task<W: Sink>(sink: &mut W, name: &TaskName) -> Result<(), SinkFailed>
-    requires countable { W.failures sink.old + 1 < 2 ^ 64 }
-    ensures printed { Prints W.Sink (32 ∷ printed_task name.now) result sink.old sink.new }
-{
-    write_word(sink, b"t")?;
-    write_numbers(sink, name.numbers())
-}
-
-/// An answer's value, behind a space each.
-fn write_value<W: Sink>(sink: &mut W, answer: &Answer) -> Result<(), SinkFailed>
-    requires countable { W.failures sink.old + 1 < 2 ^ 64 }
-    ensures printed { let text = spaced (printed_value (answer_of answer.now)) in
-        Prints W.Sink text result sink.old sink.new }
-{
-    match answer {
-        Answer::Done => Ok(()),
-        Answer::Bytes(bytes) => {
-            write_all(sink, b" ")?;
-            write_text(sink, bytes)
-        }
-        Answer::Names(names) => write_names(sink, names),
-        Answer::Told(line) => write_stat(sink, line),
-        Answer::Opened(descriptor) => write_number(sink, u64::from(*descriptor)),
-        Answer::Child(name) => write_task(sink, name),
-        Answer::MountList(lines) => write_number(sink, lines.len() as u64),
-        Answer::PeerList(lines) => write_number(sink, lines.len() as u64),
-    }
 }
 
 /// The line of a call that is done.
@@ -225,16 +160,110 @@ fn write_content<W: Sink>(sink: &mut W, number: u64, text: &[u8]) -> Result<(), 
     write_all(sink, b"\n")
 }
 
+/// The line of an answer that is a number.
+fn write_counted<W: Sink>(sink: &mut W, number: u64, value: u64) -> Result<(), SinkFailed>
+    requires countable { W.failures sink.old + 1 < 2 ^ 64 }
+    ensures printed { let words = codes "ok" ∷ decimal value ∷ [] in
+        Prints W.Sink (printed_line number words) result sink.old sink.new }
+{
+    let mut buffer = Buffer::new();
+    let digits = buffer.format(number).as_bytes();
+    let mut value_buffer = Buffer::new();
+    let value = value_buffer.format(value).as_bytes();
+    write_parts(sink, &[digits, b" ok ", value, b"\n"])
+}
+
+/// The front of a line that tells of an object: its kind, mode, user and group.
+fn write_owner<W: Sink>(
+    sink: &mut W,
+    number: u64,
+    kind: &[u8],
+    attr: &Attr,
+) -> Result<(), SinkFailed>
+    requires countable { W.failures sink.old + 1 < 2 ^ 64 }
+    ensures printed { let front = decimal number ++ codes " ok" ++ spaced (owner_words kind.now attr.now) in
+        Prints W.Sink front result sink.old sink.new }
+{
+    let mut buffer = Buffer::new();
+    let digits = buffer.format(number).as_bytes();
+    let mode = mode_digits(attr.mode);
+    let mut uid_buffer = Buffer::new();
+    let uid = uid_buffer.format(attr.uid).as_bytes();
+    let mut gid_buffer = Buffer::new();
+    let gid = gid_buffer.format(attr.gid).as_bytes();
+    write_parts(
+        sink,
+        &[digits, b" ok ", kind, b" ", &mode, b" ", uid, b" ", gid],
+    )
+}
+
+/// The rest of that line: what an object of its kind has beside its owner.
+fn write_further<W: Sink>(sink: &mut W, line: &StatLine) -> Result<(), SinkFailed>
+    requires countable { W.failures sink.old + 1 < 2 ^ 64 }
+    ensures printed { let words = further_words line.now.kind (stat_line_of line.now) in
+        Prints W.Sink (spaced words ++ codes "\n") result sink.old sink.new }
+{
+    match line.kind {
+        Kind::Dir if line.opaque => write_all(sink, b" opaque\n"),
+        Kind::File | Kind::Symlink => {
+            let mut buffer = Buffer::new();
+            let size = buffer.format(line.size as u64).as_bytes();
+            write_parts(sink, &[b" ", size, b"\n"])
+        }
+        Kind::Dir | Kind::White => write_all(sink, b"\n"),
+    }
+}
+
+/// The line of an answer that tells of an object.
+fn write_told<W: Sink>(sink: &mut W, number: u64, line: &StatLine) -> Result<(), SinkFailed>
+    requires countable { W.failures sink.old + 1 < 2 ^ 64 }
+    ensures printed { let words = codes "ok" ∷ stat_words line.now.kind (stat_line_of line.now) in
+        Prints W.Sink (printed_line number words) result sink.old sink.new }
+{
+    write_owner(sink, number, kind_text(line.kind), &line.attr)?;
+    write_further(sink, line)
+}
+
+/// The line of an answer that is names.
+fn write_listed<W: Sink>(sink: &mut W, number: u64, names: &[Vec<u8>]) -> Result<(), SinkFailed>
+    requires countable { W.failures sink.old + 1 < 2 ^ 64 }
+    ensures printed { let text = decimal number ++ codes " ok" ++ printed_names names.now ++ codes "\n" in
+        Prints W.Sink text result sink.old sink.new }
+{
+    let mut buffer = Buffer::new();
+    write_parts(sink, &[buffer.format(number).as_bytes(), b" ok"])?;
+    write_names(sink, names)?;
+    write_all(sink, b"\n")
+}
+
+/// The line of an answer that is a task.
+fn write_child<W: Sink>(sink: &mut W, number: u64, name: &TaskName) -> Result<(), SinkFailed>
+    requires countable { W.failures sink.old + 1 < 2 ^ 64 }
+    ensures printed { let text = decimal number ++ codes " ok t" ++ printed_numbers name.now ++ codes "\n" in
+        Prints W.Sink text result sink.old sink.new }
+{
+    let mut buffer = Buffer::new();
+    write_parts(sink, &[buffer.format(number).as_bytes(), b" ok t"])?;
+    write_numbers(sink, name.numbers())?;
+    write_all(sink, b"\n")
+}
+
 /// The first line of an answer.
 fn write_answer<W: Sink>(sink: &mut W, number: u64, answer: &Answer) -> Result<(), SinkFailed>
     requires countable { W.failures sink.old + 1 < 2 ^ 64 }
     ensures printed { let words = codes "ok" ∷ printed_value (answer_of answer.now) in
         Prints W.Sink (printed_line number words) result sink.old sink.new }
 {
-    let mut buffer = Buffer::new();
-    write_parts(sink, &[buffer.format(number).as_bytes(), b" ok"])?;
-    write_value(sink, answer)?;
-    write_all(sink, b"\n")
+    match answer {
+        Answer::Done => write_done(sink, number),
+        Answer::Bytes(text) => write_content(sink, number, text),
+        Answer::Names(names) => write_listed(sink, number, names),
+        Answer::Told(line) => write_told(sink, number, line),
+        Answer::Opened(descriptor) => write_counted(sink, number, u64::from(*descriptor)),
+        Answer::Child(name) => write_child(sink, number, name),
+        Answer::MountList(lines) => write_counted(sink, number, lines.len() as u64),
+        Answer::PeerList(lines) => write_counted(sink, number, lines.len() as u64),
+    }
 }
 
 /// The line of a refusal: the error's number and name, and the rule.
@@ -245,14 +274,8 @@ fn write_denial<W: Sink>(sink: &mut W, number: u64, deny: &Deny) -> Result<(), S
 {
     let mut buffer = Buffer::new();
     let digits = buffer.format(number).as_bytes();
-    let mut errno_buffer = Buffer::new();
-    let errno = errno_buffer.format(deny.errno.number()).as_bytes();
-    let error = deny.errno.name().as_bytes();
     let rule = deny.rule.name().as_bytes();
-    write_parts(
-        sink,
-        &[digits, b" deny ", errno, b" ", error, b" ", rule, b"\n"],
-    )
+    write_parts(sink, &[digits, error_text(deny.errno), rule, b"\n"])
 }
 
 /// The first line that answers the line of this number.
@@ -266,8 +289,6 @@ fn write_line<W: Sink>(
         Prints W.Sink (printed_line number words) result sink.old sink.new }
 {
     match outcome {
-        Ok(Answer::Done) => write_done(sink, number),
-        Ok(Answer::Bytes(text)) => write_content(sink, number, text),
         Ok(answer) => write_answer(sink, number, answer),
         Err(deny) => write_denial(sink, number, deny),
     }

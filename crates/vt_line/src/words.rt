@@ -299,6 +299,7 @@ impl<'a> Words<'a> {
     }
 
     /// The next word.
+    #[inline(always)]
     pub fn next(&mut self) -> Option<&'a [u8]>
         ensures { MatchOption result (self.old ≡ []) (λ text. self.old ≡ text.now ∷ self.new) }
     {
