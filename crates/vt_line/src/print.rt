@@ -1,7 +1,7 @@
 //! How answers are printed, without taking memory.
 ghost use Rattle.std.specs.List.{flat_map};
 ghost use Rattle.std.specs.Prelude.{◌≡◌, ◌+◌, ◌/◌, ◌%◌, ◌^◌, ◌<◌, [], ◌∷◌, ◌++◌, codes, decimal, false, length, slice_index, All, IsTrue, IfErr};
-ghost use Rattle.vt_spec.specs.Language.Printed.{hex_digit, owner_words, printed_byte, printed_line, printed_mode, printed_rows, printed_task, printed_text, printed_value, reply_line, spaced, stat_words};
+ghost use Rattle.vt_spec.specs.Language.Printed.{hex_digit, owner_words, printed_byte, printed_line, printed_mode, printed_rows, printed_text, printed_value, reply_line, spaced, stat_words};
 ghost use Rattle.vt_spec.specs.Language.Script.{is_plain};
 ghost use Rattle.vt_io.specs.Sink.{Prints};
 ghost use Rattle.vt_request.specs.Answers.{answer_of, result_of, stat_line_of};
