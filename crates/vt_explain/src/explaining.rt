@@ -14,10 +14,12 @@ use crate::locks::{self, add_locks};
 use crate::mounters::{self, add_mounter};
 use crate::report::Section;
 use crate::walked::{View, Walked, push_walk};
+use serde_json::Value;
 use std::alloc::{AllocError, Global};
 use vt_calls::Kernel;
 use vt_check::check::Format;
 use vt_check::draft::Draft;
+use vt_check::object::List;
 use vt_io::memory::BytesSink;
 use vt_lines::lines::first_line;
 use vt_lines::told::{Teller, answer_told};
@@ -26,7 +28,7 @@ use vt_ns::World;
 use vt_request::{Answer, Call, CallKind, TaskName, WriteCall};
 use vt_rule_pages::pages::page_of;
 use vt_script::{Version, write_reply};
-use vt_show::cells::{Cell, begin_value, push_members, push_quoted};
+use vt_show::cells::{Cell, object_of};
 use vt_show::picture::Picture;
 use vt_show::tasks::{push_task, push_task_object};
 use vt_spec::errors::{Deny, Rule};
@@ -102,6 +104,15 @@ fn push_head_text(
     text.push("\n");
 }
 
+// The names of rules, as a list of JSON.
+fn names_of(alloc: Global, rules: &[Rule]) -> Result<Value, AllocError> {
+    let mut names = List::new(alloc);
+    for rule in rules {
+        names.push_text(rule.name());
+    }
+    names.end()
+}
+
 // Appends the line, its answer, the rule that refuses it, and the later ones, as an object of JSON and a newline.
 fn push_head_object(
     asked: Asked<'_>,
@@ -110,39 +121,24 @@ fn push_head_object(
     later: &[Rule],
     text: &mut Draft,
 ) {
-    let alloc = asked.alloc;
-    text.push("{");
-    if rule.is_some() {
-        text.push("\"also\":[");
-        for other in later {
-            begin_value(text);
-            push_quoted(text, other.name());
-        }
-        text.push("]");
-    }
     let cells = [
         Cell::Part(answer, 0, answer.len()),
         Cell::Number(asked.line.number),
+        Cell::Text("line"),
     ];
-    push_members(alloc, text, &["answer", "line"], &cells);
+    let mut object = object_of(asked.alloc, &["answer", "line", "section"], &cells);
+    object.put_bytes("text", asked.line.text);
     match rule {
         Some(rule) => {
             let page = page_of(rule);
-            let cells = [
-                Cell::Text(page.manual),
-                Cell::Text(page.meaning),
-                Cell::Text(rule.name()),
-            ];
-            push_members(alloc, text, &["manual", "meaning", "rule"], &cells);
+            object.put("also", names_of(asked.alloc, later));
+            object.put_text("manual", page.manual);
+            object.put_text("meaning", page.meaning);
+            object.put_text("rule", rule.name());
         }
-        None => push_members(alloc, text, &["rule"], &[Cell::Nothing]),
+        None => object.put("rule", Ok(Value::Null)),
     }
-    let mut line = Draft::new(alloc);
-    line.push_bytes(asked.line.text);
-    text.push(",\"section\":\"line\"");
-    let cells = [Cell::Part(&line, 0, line.len())];
-    push_members(alloc, text, &["text"], &cells);
-    text.push("}\n");
+    object.push_line(text);
 }
 
 // Appends the line, its answer, the rule that refuses it, and the later ones.

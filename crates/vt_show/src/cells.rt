@@ -1,8 +1,10 @@
 //! What is told of a thing, in parts: each as it stands in a text, and as a value of JSON.
 use crate::names;
 use crate::places::push_place;
-use std::alloc::Global;
+use serde_json::Value;
+use std::alloc::{AllocError, Global};
 use vt_check::draft::Draft;
+use vt_check::object::{List, Object};
 use vt_cred::{Caps, MountFlags};
 use vt_location::Location;
 use vt_node::{Kind, Mode};
@@ -77,8 +79,8 @@ pub fn push_cells(text: &mut Draft, cells: &[Cell<'_>]) {
     }
 }
 
-/// Appends a text with a backslash before each quote and backslash in it. It has no other character that JSON or Graphviz
-/// would want escaped.
+/// Appends a text with a backslash before each quote and backslash in it. It has no other character that Graphviz would
+/// want escaped.
 pub fn push_escaped(text: &mut Draft, words: &str) {
     for character in words.chars() {
         if matches!(character, '"' | '\\') {
@@ -88,83 +90,69 @@ pub fn push_escaped(text: &mut Draft, words: &str) {
     }
 }
 
-/// Appends a text between quotes.
-pub fn push_quoted(text: &mut Draft, words: &str) {
-    text.push("\"");
-    push_escaped(text, words);
-    text.push("\"");
-}
-
-// Appends a part as it stands in a text, between quotes.
-fn push_quoted_cell(alloc: Global, text: &mut Draft, cell: &Cell<'_>) {
-    let mut words = Draft::new(alloc);
-    push_cell(&mut words, cell);
-    match words.end() {
-        Ok(words) => push_quoted(text, words.as_str()),
-        Err(_) => text.fail(),
-    }
-}
-
-/// Begins a value of a list, behind a comma if there is one before it.
-pub fn begin_value(text: &mut Draft) {
-    if !text.ends_with("[") {
-        text.push(",");
-    }
-}
-
-// Appends numbers of groups as a list.
-fn push_id_list(text: &mut Draft, ids: &[u32]) {
-    text.push("[");
+// Numbers of groups, as a list.
+fn ids_value(alloc: Global, ids: &[u32]) -> Result<Value, AllocError> {
+    let mut list = List::new(alloc);
     for id in ids {
-        begin_value(text);
-        text.push_number(u64::from(*id));
+        list.push(Ok(Value::from(u64::from(*id))));
     }
-    text.push("]");
+    list.end()
 }
 
-// Appends mounts as a list.
-fn push_mount_list(text: &mut Draft, places: &[MountPlace]) {
-    text.push("[");
+// Mounts, as a list.
+fn mounts_value(alloc: Global, places: &[MountPlace]) -> Result<Value, AllocError> {
+    let mut list = List::new(alloc);
     for place in places {
-        begin_value(text);
-        text.push("\"");
-        names::push_mount(text, *place);
-        text.push("\"");
+        let mut text = Draft::new(alloc);
+        names::push_mount(&mut text, *place);
+        list.push(draft_value(text));
     }
-    text.push("]");
+    list.end()
 }
 
-// Appends where in its filesystem something is, or null.
-fn push_path_or_null(text: &mut Draft, path: &Option<String>) {
-    match path {
-        Some(path) => push_quoted(text, names::or_root(path.as_str())),
-        None => text.push("null"),
+// A text that was written.
+fn draft_value(text: Draft) -> Result<Value, AllocError> {
+    Ok(Value::String(text.end()?))
+}
+
+// A part as it stands in a text.
+fn text_value(alloc: Global, cell: &Cell<'_>) -> Result<Value, AllocError> {
+    let mut text = Draft::new(alloc);
+    push_cell(&mut text, cell);
+    draft_value(text)
+}
+
+/// Where in its filesystem a tree begins, or null.
+pub fn root_value(alloc: Global, root: &Option<String>) -> Result<Value, AllocError> {
+    match root {
+        Some(path) => Value::try_from_str(alloc, names::or_root(path.as_str())),
+        None => Ok(Value::Null),
     }
 }
 
-/// Appends members with these values, without the braces of their object: the first begins it, or stands behind others.
-/// They are in the order of their names.
-pub fn push_members(alloc: Global, text: &mut Draft, members: &[&str], cells: &[Cell<'_>]) {
+// A part as a value of JSON.
+fn value_of(alloc: Global, cell: &Cell<'_>) -> Result<Value, AllocError> {
+    match cell {
+        Cell::Nothing => Ok(Value::Null),
+        Cell::Root(root) => root_value(alloc, *root),
+        Cell::Number(number) => Ok(Value::from(*number)),
+        Cell::Count(number) => Ok(Value::from(*number as u64)),
+        Cell::Ids(ids) => ids_value(alloc, *ids),
+        Cell::Mounts(places) => mounts_value(alloc, *places),
+        _ => text_value(alloc, cell),
+    }
+}
+
+/// An object of JSON with these members.
+pub fn object_of(alloc: Global, members: &[&str], cells: &[Cell<'_>]) -> Object {
+    let mut object = Object::new(alloc);
     for (member, cell) in members.iter().zip(cells) {
-        if !text.ends_with("{") {
-            text.push(",");
-        }
-        push_quoted(text, *member);
-        text.push(":");
-        match cell {
-            Cell::Nothing => text.push("null"),
-            Cell::Number(_) | Cell::Count(_) => push_cell(text, cell),
-            Cell::Ids(ids) => push_id_list(text, *ids),
-            Cell::Mounts(places) => push_mount_list(text, *places),
-            Cell::Root(root) => push_path_or_null(text, *root),
-            _ => push_quoted_cell(alloc, text, cell),
-        }
+        object.put(*member, value_of(alloc, cell));
     }
+    object
 }
 
 /// Appends an object with these members, and a newline.
 pub fn push_line(alloc: Global, text: &mut Draft, members: &[&str], cells: &[Cell<'_>]) {
-    text.push("{");
-    push_members(alloc, text, members, cells);
-    text.push("}\n");
+    object_of(alloc, members, cells).push_line(text);
 }

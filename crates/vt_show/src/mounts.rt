@@ -4,7 +4,7 @@ use crate::columns::Table;
 use crate::names::filesystem_type;
 use crate::picture::MountShown;
 use crate::places::place_of;
-use std::alloc::{AllocError, Global};
+use std::alloc::Global;
 use vt_check::draft::Draft;
 use vt_location::MountId;
 use vt_ns::World;
@@ -42,6 +42,56 @@ struct Waiting {
     is_last: bool,
 }
 
+// The mounts of a namespace one after the other: each before its children, which are in the order of their numbers.
+#[derive(Drop)]
+struct MountWalk<'a> {
+    world: &'a World,
+    waiting: Vec<Waiting>,
+    // Whether the last mount is the last child of its parent, behind the same of each that it stands on.
+    path: Vec<bool>,
+    failed: bool,
+}
+
+impl<'a> MountWalk<'a> {
+    // Before the root mount of these.
+    fn new(world: &'a World, mounts: &[MountShown]) -> Self {
+        let mut walk = MountWalk {
+            world,
+            waiting: Vec::new(world.alloc()),
+            path: Vec::new(world.alloc()),
+            failed: false,
+        };
+        for shown in mounts.iter().rev() {
+            if shown.parent.is_none() {
+                walk.push(shown.mount.number, 0, true);
+            }
+        }
+        walk
+    }
+
+    // A mount waits.
+    fn push(&mut self, id: MountId, depth: usize, is_last: bool) {
+        let waiting = Waiting { id, depth, is_last };
+        self.failed |= self.waiting.push(waiting).is_err();
+    }
+
+    // The next mount, or nothing behind the last one.
+    fn next(&mut self) -> Option<MountId> {
+        let next = self.waiting.pop()?;
+        self.path.truncate(next.depth.saturating_sub(1));
+        if next.depth > 0 {
+            self.failed |= self.path.push(next.is_last).is_err();
+        }
+        let depth = next.depth.saturating_add(1);
+        let mut is_last = true;
+        for child in self.world.all_mounts().children(next.id).iter().rev() {
+            self.push(*child, depth, is_last);
+            is_last = false;
+        }
+        Some(next.id)
+    }
+}
+
 // Adds the row of a mount, which is a last child or not, as each of those is that it stands on.
 fn add_mount(table: &mut Table, path: &[bool], shown: &MountShown) {
     table.add(&Cell::Mount(shown.place));
@@ -62,44 +112,22 @@ fn add_mount(table: &mut Table, path: &[bool], shown: &MountShown) {
     ]);
 }
 
-// Adds the mounts of a namespace, from its root mount on, each before its children, which are in the order of their
-// numbers.
-fn add_mounts(world: &World, table: &mut Table, mounts: &[MountShown]) -> Result<(), AllocError> {
-    let mut waiting = Vec::new(world.alloc());
-    let mut path = Vec::new(world.alloc());
-    for shown in mounts.iter().rev() {
-        if shown.parent.is_none() {
-            waiting.push(Waiting {
-                id: shown.mount.number,
-                depth: 0,
-                is_last: true,
-            })?;
-        }
-    }
+// Adds the mounts of a namespace.
+fn add_mounts(world: &World, table: &mut Table, mounts: &[MountShown]) {
+    let mut walk = MountWalk::new(world, mounts);
     for _ in mounts {
-        let Some(next) = waiting.pop() else {
+        let Some(id) = walk.next() else {
             break;
         };
-        path.truncate(next.depth.saturating_sub(1));
-        if next.depth > 0 {
-            path.push(next.is_last)?;
-        }
-        if let Some(place) = place_of(world, next.id) {
+        if let Some(place) = place_of(world, id) {
             if let Some(shown) = mounts.get(place.place.saturating_sub(1)) {
-                add_mount(table, &path, shown);
+                add_mount(table, &walk.path, shown);
             }
         }
-        let mut is_last = true;
-        for child in world.all_mounts().children(next.id).iter().rev() {
-            waiting.push(Waiting {
-                id: *child,
-                depth: next.depth.saturating_add(1),
-                is_last,
-            })?;
-            is_last = false;
-        }
     }
-    Ok(())
+    if walk.failed {
+        table.text.fail();
+    }
 }
 
 /// Appends a namespace, of which these are the mounts, with a table of them.
@@ -108,9 +136,7 @@ pub fn push_namespace(world: &World, text: &mut Draft, mounts: &[MountShown]) {
         text.push("\nNAMESPACE ");
         text.push_number(first.place.namespace as u64);
         let mut table = Table::new(world.alloc(), &HEADS);
-        if add_mounts(world, &mut table, mounts).is_err() {
-            table.text.fail();
-        }
+        add_mounts(world, &mut table, mounts);
         table.write(text);
     }
 }

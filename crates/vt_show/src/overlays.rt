@@ -1,10 +1,12 @@
 //! Overlays: who mounted them, and their layers.
-use crate::cells::{Cell, begin_value, count_or_nothing, push_cells, push_members};
+use crate::cells::{Cell, object_of, push_cells, root_value};
 use crate::picture::{MountShown, Picture};
 use crate::places::root_of;
 use crate::tasks::{push_credentials, push_told};
+use serde_json::Value;
 use std::alloc::AllocError;
 use vt_check::draft::Draft;
+use vt_check::object::{List, Object};
 use vt_location::{Mount, NodeRef};
 use vt_ns::World;
 use vt_overlay::Overlay;
@@ -55,29 +57,27 @@ fn push_overlay(
         let mut told = Draft::new(world.alloc());
         let directory = layer.directory.node_ref();
         push_layer(&mut told, world, picture, &shown.mount, directory);
-        let what = [Cell::Text("layer "), Cell::Number(place)];
-        push_told(text, &what, &[Cell::Part(&told, 0, told.len())]);
+        let words = [Cell::Part(&told, 0, told.len())];
+        push_told(text, "layer", Some(place), &words);
     }
 }
 
-// Appends the directory of a layer as an object.
-fn push_layer_object(
-    text: &mut Draft,
+// The directory of a layer, as an object.
+fn layer_value(
     world: &World,
     picture: &Picture,
     mount: &Mount,
     directory: NodeRef,
-) {
-    let number = count_or_nothing(picture.number_of(directory.filesystem));
-    match layer_root(world, mount, directory) {
-        Ok(root) => {
-            let cells = [number, Cell::Root(&root)];
-            text.push("{");
-            push_members(world.alloc(), text, &["filesystem", "path"], &cells);
-            text.push("}");
-        }
-        Err(_) => text.fail(),
+) -> Result<Value, AllocError> {
+    let alloc = world.alloc();
+    let root = layer_root(world, mount, directory)?;
+    let mut object = Object::new(alloc);
+    match picture.number_of(directory.filesystem) {
+        Some(number) => object.put_number("filesystem", number as u64),
+        None => object.put("filesystem", Ok(Value::Null)),
     }
+    object.put("path", root_value(alloc, &root));
+    object.end()
 }
 
 // Appends an overlay that a mount shows as an object of JSON and a newline.
@@ -88,13 +88,12 @@ fn push_overlay_object(
     shown: &MountShown,
     overlay: &Overlay,
 ) {
-    text.push("{\"layers\":[");
+    let alloc = world.alloc();
+    let mut layers = List::new(alloc);
     for layer in overlay.lowers() {
-        begin_value(text);
         let directory = layer.directory.node_ref();
-        push_layer_object(text, world, picture, &shown.mount, directory);
+        layers.push(layer_value(world, picture, &shown.mount, directory));
     }
-    text.push("],\"mounter\":{");
     let cred = overlay.mounter();
     let cells = [
         Cell::Capabilities(cred.caps()),
@@ -102,11 +101,12 @@ fn push_overlay_object(
         Cell::Ids(cred.groups()),
         Cell::Number(u64::from(cred.uid())),
     ];
-    let members = ["capabilities", "gid", "groups", "uid"];
-    push_members(world.alloc(), text, &members, &cells);
-    text.push("},\"overlay\":");
-    text.push_number(shown.filesystem as u64);
-    text.push("}\n");
+    let mounter = object_of(alloc, &["capabilities", "gid", "groups", "uid"], &cells);
+    let mut object = Object::new(alloc);
+    object.put("layers", layers.end());
+    object.put("mounter", mounter.end());
+    object.put_number("overlay", shown.filesystem as u64);
+    object.push_line(text);
 }
 
 /// Appends the overlays that mounts show, as text or as objects.

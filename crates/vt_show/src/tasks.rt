@@ -1,21 +1,38 @@
 //! Tasks, and whose credentials they have.
-use crate::cells::{Cell, begin_value, push_cells, push_members};
+use crate::cells::{Cell, object_of, push_cells};
 use crate::names;
 use crate::places::{namespace_number, push_path};
+use serde_json::Value;
+use std::alloc::AllocError;
 use vt_check::draft::Draft;
+use vt_check::object::{List, Object};
 use vt_cred::Cred;
 use vt_location::Location;
 use vt_ns::World;
 use vt_tasks::Task;
 
+static MEMBERS: [&str; 7] = [
+    "capabilities",
+    "gid",
+    "groups",
+    "namespace",
+    "task",
+    "uid",
+    "umask",
+];
+
 // The columns that a line of a task or an overlay has before its words.
 const WORDS: usize = 13;
 
-/// Appends a line: what is told, and the words behind it.
-pub fn push_told(text: &mut Draft, what: &[Cell<'_>], words: &[Cell<'_>]) {
+/// Appends a line: what is told, with its number if it has one, and the words behind it.
+pub fn push_told(text: &mut Draft, what: &str, number: Option<u64>, words: &[Cell<'_>]) {
     text.push("  ");
     let begin = text.len();
-    push_cells(text, what);
+    text.push(what);
+    if let Some(number) = number {
+        text.push(" ");
+        text.push_number(number);
+    }
     let length = text.len().saturating_sub(begin);
     text.push_times(' ', WORDS.saturating_sub(length));
     push_cells(text, words);
@@ -24,12 +41,9 @@ pub fn push_told(text: &mut Draft, what: &[Cell<'_>], words: &[Cell<'_>]) {
 
 /// Appends whose credentials these are, and what they are.
 pub fn push_credentials(text: &mut Draft, whose: &str, cred: &Cred) {
-    push_told(text, &[Cell::Text(whose)], &ids_of(cred));
-    push_told(
-        text,
-        &[Cell::Text("capabilities")],
-        &[Cell::Capabilities(cred.caps())],
-    );
+    push_told(text, whose, None, &ids_of(cred));
+    let caps = [Cell::Capabilities(cred.caps())];
+    push_told(text, "capabilities", None, &caps);
 }
 
 /// Who credentials act as: user, group, and supplementary groups.
@@ -44,6 +58,26 @@ pub fn ids_of(cred: &Cred) -> [Cell<'_>; 6] {
     ]
 }
 
+// Appends which permissions a task takes from its new objects.
+fn push_umask(text: &mut Draft, task: &Task) {
+    let umask = [Cell::Octal(task.umask.bits(), 3)];
+    push_told(text, "umask", None, &umask);
+}
+
+// Appends the open files of a task, a line each.
+fn push_descriptors(world: &World, text: &mut Draft, task: &Task) {
+    for number in 0..=u8::MAX {
+        if let Some(file) = task.descriptors.get(number) {
+            let words = [
+                Cell::Text(names::access(file.access)),
+                Cell::Text(" "),
+                Cell::Place(world, file.location),
+            ];
+            push_told(text, "open", Some(u64::from(number)), &words);
+        }
+    }
+}
+
 /// Appends a task.
 pub fn push_task(world: &World, text: &mut Draft, task: &Task) {
     text.push("TASK ");
@@ -52,86 +86,61 @@ pub fn push_task(world: &World, text: &mut Draft, task: &Task) {
     text.push_number(namespace_number(world, task.namespace) as u64);
     text.push("\n");
     push_credentials(text, "ids", &task.cred);
-    push_told(
-        text,
-        &[Cell::Text("umask")],
-        &[Cell::Octal(task.umask.bits(), 3)],
-    );
+    push_umask(text, task);
     let place = [Cell::Place(world, task.root)];
-    push_told(text, &[Cell::Text("root")], &place);
+    push_told(text, "root", None, &place);
     let place = [Cell::Place(world, task.directory)];
-    push_told(text, &[Cell::Text("directory")], &place);
-    for number in 0..=u8::MAX {
-        if let Some(file) = task.descriptors.get(number) {
-            let what = [Cell::Text("open "), Cell::Number(u64::from(number))];
-            let words = [
-                Cell::Text(names::access(file.access)),
-                Cell::Text(" "),
-                Cell::Place(world, file.location),
-            ];
-            push_told(text, &what, &words);
-        }
-    }
+    push_told(text, "directory", None, &place);
+    push_descriptors(world, text, task);
 }
 
-// Appends where an object is, as an object of its mount and its path, or null.
-fn push_place_object(world: &World, text: &mut Draft, at: Location) {
-    let mut path = Draft::new(world.alloc());
+// Where an object is, as an object of its mount and its path, or null.
+fn place_value(world: &World, at: Location) -> Result<Value, AllocError> {
+    let alloc = world.alloc();
+    let mut path = Draft::new(alloc);
     match push_path(world, at, &mut path) {
         Some(mount) => {
-            text.push("{");
             let cells = [Cell::Mount(mount), Cell::Part(&path, 0, path.len())];
-            push_members(world.alloc(), text, &["mount", "path"], &cells);
-            text.push("}");
+            object_of(alloc, &["mount", "path"], &cells).end()
         }
         None => {
-            text.push_part(&path, 0, 0);
-            text.push("null");
+            path.end()?;
+            Ok(Value::Null)
         }
     }
 }
 
-// Appends the open files of a task, as a list.
-fn push_open_files(world: &World, text: &mut Draft, task: &Task) {
-    text.push("[");
+// The open files of a task, as a list of objects.
+fn open_value(world: &World, task: &Task) -> Result<Value, AllocError> {
+    let alloc = world.alloc();
+    let mut files = List::new(alloc);
     for number in 0..=u8::MAX {
         if let Some(file) = task.descriptors.get(number) {
-            begin_value(text);
-            text.push("{\"access\":\"");
-            text.push(names::access(file.access));
-            text.push("\",\"at\":");
-            push_place_object(world, text, file.location);
-            text.push(",\"descriptor\":");
-            text.push_number(u64::from(number));
-            text.push("}");
+            let mut object = Object::new(alloc);
+            object.put_text("access", names::access(file.access));
+            object.put("at", place_value(world, file.location));
+            object.put_number("descriptor", u64::from(number));
+            files.push(object.end());
         }
     }
-    text.push("]");
+    files.end()
 }
 
 /// Appends a task as an object of JSON and a newline.
 pub fn push_task_object(world: &World, text: &mut Draft, task: &Task) {
-    let alloc = world.alloc();
-    let caps = Cell::Capabilities(task.cred.caps());
-    text.push("{");
-    push_members(alloc, text, &["capabilities"], &[caps]);
-    text.push(",\"directory\":");
-    push_place_object(world, text, task.directory);
+    let cred = &task.cred;
     let cells = [
-        Cell::Number(u64::from(task.cred.gid())),
-        Cell::Ids(task.cred.groups()),
+        Cell::Capabilities(cred.caps()),
+        Cell::Number(u64::from(cred.gid())),
+        Cell::Ids(cred.groups()),
         Cell::Count(namespace_number(world, task.namespace)),
-    ];
-    push_members(alloc, text, &["gid", "groups", "namespace"], &cells);
-    text.push(",\"open\":");
-    push_open_files(world, text, task);
-    text.push(",\"root\":");
-    push_place_object(world, text, task.root);
-    let cells = [
         Cell::Task(&task.name),
-        Cell::Number(u64::from(task.cred.uid())),
+        Cell::Number(u64::from(cred.uid())),
         Cell::Octal(task.umask.bits(), 3),
     ];
-    push_members(alloc, text, &["task", "uid", "umask"], &cells);
-    text.push("}\n");
+    let mut object = object_of(world.alloc(), &MEMBERS, &cells);
+    object.put("directory", place_value(world, task.directory));
+    object.put("open", open_value(world, task));
+    object.put("root", place_value(world, task.root));
+    object.push_line(text);
 }
