@@ -28,32 +28,32 @@ mod volume_propagation;
 
 /// The examples in the order of the cookbook, one a line: the name, and what it shows.
 pub const LIST: &str = "\
-docker-volumes       what docker run -v and bind-propagation=rshared show of a disk that the host mounts later\n\
-pods-share-a-volume  two pods share a volume with mountPropagation: Bidirectional\n\
-runc-pivot           runc's root by pivot_root(\".\", \".\"), and the lazy unmount of the old one\n\
-runc-root            the same with --no-pivot: a moved mount and a changed root\n\
-bwrap                bwrap: read-only /usr, a tmpfs, a work directory, and a user without capabilities\n\
-bwrap-pivots         its two pivots\n\
-nspawn-pivot         systemd-nspawn makes its tree the root by a pivot\n\
-nspawn               it moves it to / where there is none\n\
-unshare-mounts       unshare -m, with --propagation unchanged and with its default\n\
-busy-unmount         why an unmount is busy, and which copy stays behind\n\
-secret-file          who reads a secret of mode 400\n\
-sticky-tmp           a sticky /tmp: who removes what\n\
-build-with-bind      an image build with a context that is bound read-only\n\
-moved-mounts         which mounts move takes\n\
-lazy-unmount         a lazy unmount while a file is open\n\
-sandbox              a sandbox of a build tool\n\
-release-and-service  a release behind a symlink\n\
-image-build          an image build\n\
-replace-by-rename    a file replaced without a gap\n\
-volume-propagation   propagation of a Kubernetes volume\n\
-private-volume       Docker's private volumes\n\
-slave-root           runc's slaves\n\
-image-layer          a layer of an image, unpacked: whiteouts and opaque directories\n\
-image-of-three-layerswhat a read-only container sees of three layers\n\
-two-users-of-an-imagewho may read what an image holds\n\
-denials              each kind of denial\n\
+docker-volumes         what docker run -v and bind-propagation=rshared show of a disk that the host mounts later\n\
+pods-share-a-volume    two pods share a volume with mountPropagation: Bidirectional\n\
+runc-pivot             runc's root by pivot_root(\".\", \".\"), and the lazy unmount of the old one\n\
+runc-root              the same with --no-pivot: a moved mount and a changed root\n\
+bwrap                  bwrap: read-only /usr, a tmpfs, a work directory, and a user without capabilities\n\
+bwrap-pivots           its two pivots\n\
+nspawn-pivot           systemd-nspawn makes its tree the root by a pivot\n\
+nspawn                 it moves it to / where there is none\n\
+unshare-mounts         unshare -m, with --propagation unchanged and with its default\n\
+busy-unmount           why an unmount is busy, and which copy stays behind\n\
+secret-file            who reads a secret of mode 400\n\
+sticky-tmp             a sticky /tmp: who removes what\n\
+build-with-bind        an image build with a context that is bound read-only\n\
+moved-mounts           which mounts move takes\n\
+lazy-unmount           a lazy unmount while a file is open\n\
+sandbox                a sandbox of a build tool\n\
+release-and-service    a release behind a symlink\n\
+image-build            an image build\n\
+replace-by-rename      a file replaced without a gap\n\
+volume-propagation     propagation of a Kubernetes volume\n\
+private-volume         Docker's private volumes\n\
+slave-root             runc's slaves\n\
+image-layer            a layer of an image, unpacked: whiteouts and opaque directories\n\
+image-of-three-layers  what a read-only container sees of three layers\n\
+two-users-of-an-image  who may read what an image holds\n\
+denials                each kind of denial\n\
 ";
 
 // Their names.
