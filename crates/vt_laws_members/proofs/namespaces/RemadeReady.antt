@@ -1,5 +1,5 @@
 -- Where mounts of theirs change and new ones come, the world is ready to be swept.
-use Rattle.std.proofs.Common.{arith, ◌≡◌, refl, sym, ◌∙◌, ◌⊎◌, inl, inr, ⊎_elim, ℕ, nat_eq, true, true≢false, List, Option, None, filter, map, not, eq-eqb, eqb-true}
+use Rattle.std.proofs.Common.{arith, ◌≡◌, refl, sym, ap, ◌∙◌, ◌⊎◌, inl, inr, ⊎_elim, ℕ, nat_eq, true, true≢false, List, Option, None, filter, map, not, eq-eqb, eqb-true}
 use Rattle.vt_spec.proofs.Common.{Among, Location, Mount, Task, TaskName, World, all_locations, among-append, among-append_right, among-filter, among-flat_map, among-from_filter, among-from_flat_map, among-from_map, among_numbers, and_parts, any_among, common_steps, is_at, is_member_task, locations, locations_of, members, mount_at, mount_lives, no_outsider_on, none_among, or_cases, outsiders, own_lowers, pair-filter, roots_and_directories, used_alone, used_filesystems, wholly_locked, without_dead_mounts}
 use Rattle.vt_laws_members.proofs.Common.{OneNumberEach, found_itself, is_own, lowers_same, used_are_free, used_same}
 use Rattle.vt_laws_members.proofs.judging.Common.{IsTheirs}
@@ -59,8 +59,8 @@ module _ (it : Remaking) (does : ChangesTheirs it) (moves : MovesTheirs it) wher
 
     mounts_own : (y : Mount ℕ) → Among y living.mounts → y.filesystem ≡ number → Fits y
     mounts_own y n e = ⊎_elim (λ turned. let from = among-from_map turn world.mounts y turned in rw from.2
-        (by_mount from.0 from.1 (cc ((does.shape from.0).filesystem)) from.0.namespace refl))
-        (λ fresh. inl (does.owned y fresh))
+        (by_mount from.0 from.1 (sym (does.shape from.0).filesystem ∙ ap (λ (q : Mount ℕ). q.filesystem) (sym from.2) ∙
+        e) from.0.namespace refl)) (λ fresh. inl (does.owned y fresh))
         (among-append (map turn world.mounts) it.plan.added y (was y n))
 
     -- a location of others shows what it showed

@@ -31,8 +31,8 @@ module _ {world : World ℕ} {names : List TaskName} {task : Task ℕ} (member :
   -- Walks of the layers
   each_at : (paths : List (List ℕ)) → IfOk (each_walked nat_eq (looks_of nat_eq world) task paths) (Each At)
   each_at [] = λ l m. absurd m
-  each_at (path ∷ paths) = then_ok StandsThere (Each At) _ _ (end_ok StandsThere
-      (source_walk nat_eq (looks_of nat_eq world) task path) (at_source member path))
+  each_at (path ∷ paths) = then_ok StandsThere (Each At) (walk_end (source_walk nat_eq (looks_of nat_eq world) task
+      path)) _ (end_ok StandsThere (source_walk nat_eq (looks_of nat_eq world) task path) (at_source member path))
       (λ here on. then_ok (Each At) (Each At) (each_walked nat_eq (looks_of nat_eq world) task paths) _ (each_at paths)
       (λ rest all l m. ⊎_elim (λ same. rw same on) (λ later. all l later) m))
 

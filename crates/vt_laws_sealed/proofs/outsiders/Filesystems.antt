@@ -49,16 +49,16 @@ module _ {world : World ℕ} {names : List TaskName} (apart : IsApart world name
   layer_there : (merged : Filesystem ℕ) → Among merged world.filesystems → (layer : Layer ℕ)
       → Among layer (of_overlay [] layers_of merged) → is_among nat_eq layer.filesystem numbers ≡ true
   layer_there merged there layer m = elim (cases_Option merged.overlay) [
-    | inl e ↦ absurd
-        (subst (Among layer) (ap (overlay_or [] layers_of) e) m)
+    | inl e ↦ absurd (subst (Among layer) (ap (overlay_or [] layers_of) e) m)
     | inr its ↦ there_by_node layer.filesystem layer.directory
         (directory_used (filesystem_numbered nat_eq world layer.filesystem).files.tree layer.directory
         (and_parts (not (is_overlay (filesystem_numbered nat_eq world layer.filesystem)))
         (is_directory_node ((filesystem_numbered nat_eq world layer.filesystem).files.tree.node layer.directory))
-        (among_from_list_all _ _ (sym (ap (overlay_or true (λ o. list_all (is_plain_layer nat_eq world) (layers_of o)))
-        its.1) ∙ among_from_list_all (of_overlay true (λ o. list_all (is_plain_layer nat_eq world) (layers_of o))) _
-        apart.is.overlays.plain_layers merged there) layer (subst (Among layer) (ap (overlay_or [] layers_of) its.1)
-        m))).1)
+        (among_from_list_all (is_plain_layer nat_eq world) (layers_of its.0)
+        (sym (ap (overlay_or true (λ o. list_all (is_plain_layer nat_eq world) (layers_of o))) its.1)
+        ∙ among_from_list_all (of_overlay true (λ o. list_all (is_plain_layer nat_eq world) (layers_of o)))
+        world.filesystems apart.is.overlays.plain_layers merged there)
+        layer (subst (Among layer) (ap (overlay_or [] layers_of) its.1) m))).1)
   ]
 
   -- of a filesystem that is found, layers are in filesystems that are there

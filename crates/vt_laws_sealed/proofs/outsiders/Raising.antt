@@ -151,10 +151,9 @@ module _ (before left : World ℕ) (names : List TaskName) (name : TaskName) (ch
         }))
 
     shown_same : (files : FileTree ℕ) (x : Filesystem ℕ) → shown_by files (raise_in x) ≡ shown_by files x
-    shown_same files x = elim (cases_Bool _) [
+    shown_same files x = elim (cases_Bool (is_among nat_eq x.number used)) [
       | inl e ↦ ap (shown_by files) (used_stays x e)
-      | inr e ↦ either
-          (list_any (λ n. nat_eq n x.number) changed) e
+      | inr e ↦ either (list_any (λ n. nat_eq n x.number) changed) e
     ]
       where
         either : (b : Bool) → is_among nat_eq x.number used ≡ false

@@ -167,9 +167,8 @@ module _ {world : World ℕ} {names : List TaskName} {name : TaskName} (it : IsC
       (same_left it task called) (all_left it task called)
 
 pub exits_end_alike : ExitsEndAlike
-exits_end_alike world names name it fresh supply = elim (cases_Option _) [
-  | inl e ↦ unnamed_ends_alike it fresh supply
-      e
+exits_end_alike world names name it fresh supply = elim (cases_Option (task_called world name)) [
+  | inl e ↦ unnamed_ends_alike it fresh supply e
   | inr its ↦ last_or_not its.0 its.1 (list_any (λ (t : Task ℕ). nat_eq its.0.namespace t.namespace)
       (filter (λ (t : Task ℕ). not (same_name name t.name)) world.tasks)) refl
 ]

@@ -105,10 +105,9 @@ module _ {world : World ℕ} {names set : List TaskName} (left : Retasks world n
   stood_there : (y : Mount ℕ) → Among y living.mounts
       → is_at nat_eq (roots_and_directories (filter (is_member_task set) left.tasks_too)) y ≡ true
       → (is_own world names (filter (is_member_task set) left.tasks_too) y ≡ true) ⊎ (y.mount_point ≡ None)
-  stood_there y n h = elim (cases_Option _) [
+  stood_there y n h = elim (cases_Option y.mount_point) [
     | inl e ↦ inr e
-    | inr its ↦ let from = was y n in inl
-        (owned_now y (whole_point from.0 y its.0 from.1 from.2 its.1).1)
+    | inr its ↦ let from = was y n in inl (owned_now y (whole_point from.0 y its.0 from.1 from.2 its.1).1)
   ]
 
   -- all is theirs

@@ -1,7 +1,7 @@
 -- A change of an overlay by which inodes are copied up, and edited: the two filesystems that it changes, in the world and
 -- in the part.
 use Rattle.std.proofs.Common.{inr, arith, ◌≡◌, refl, sym, ap, subst, ◌∙◌, inl, ⊎_elim, ℕ, nat_eq, eqb-true, Bool, true, false, cond, List, [], ◌∷◌, ◌++◌, Some, flat_map, map, option_to_list}
-use Rattle.vt_spec.proofs.Common.{cases_Bool, AddName, Among, Change, CopyUp, Filesystem, Fresh, IsWorld, Layer, Location, Make, Merge, Move, Overlay, Remove, SetAttr, SetBytes, SetMark, Stack, TaskName, World, among-append_left, among-append_right, among-flat_map, among-from_filter_map, among-map, among_from_all, change_layers, changed_at, common_steps, filesystem_at, filesystem_changed, filesystem_numbered, is_among, is_among_numbers, list_all, list_any, map_twice, merge_changed, mount_at, of_overlay, overlay_changed, part_of, part_of_filesystem, raised, raised_if_changed, replaced_if_numbered, stack_of, used_directly, used_filesystems, with_change, with_files, ⊤}
+use Rattle.vt_spec.proofs.Common.{cases_Bool, AddName, Among, Change, CopyUp, Filesystem, Fresh, IsWorld, Layer, Location, Make, Merge, Move, Overlay, Remove, SetAttr, SetBytes, SetMark, Stack, TaskName, World, among-append_left, among-append_right, among-flat_map, among-from_filter_map, among-map, among_from_all, change_layers, changed_at, common_steps, filesystem_at, filesystem_changed, filesystem_numbered, is_among, is_among_numbers, list_all, list_any, map_twice, merge_changed, mount_at, of_overlay, overlay_changed, overlay_or, part_of, part_of_filesystem, raised, raised_if_changed, replaced_if_numbered, stack_of, used_directly, used_filesystems, with_change, with_files, ⊤}
 use Rattle.vt_laws_members.proofs.Common.{CanChange, ChangesFilesystem, Inode, among-each_once, found, inodes_lost_with_upper, merge_after, shown_how, unchanged, used_directly_used, with_filesystems}
 use Rattle.vt_laws_worlds.proofs.overlays_let_go.changing.NamesLost.{only_these_lose_names}
 use Rattle.vt_laws_worlds.proofs.overlays_let_go.changing.OverlaysChanged.{all_changed, becomes, is_swap, merged_there, new_merged, swap_both}
@@ -137,13 +137,12 @@ module _ {world : World ℕ} {names : List TaskName} (it : OverlayChange world n
       → ((merge : Merge ℕ) → what (record (it.overlay) { real = merge.real }) ≡ what it.overlay) → (x : Filesystem ℕ)
       → Among x w.filesystems → of_overlay default what (step x) ≡ of_overlay default what x
   overlays_stay {A} w ones default what same x m = elim (cases_Bool (nat_eq merged.number x.number)) [
-    | inl e ↦ ap
-        (λ f. of_overlay default what (step f)) (ones.one_merged x m e) ∙ ap (of_overlay default what)
-        (becomes it.is it.can) ∙ same (merge_after it.supply world it.location it.overlay it.upper it.change) ∙ sym (cc)
-        ∙ ap (of_overlay default what) (sym (ones.one_merged x m e))
-    | inr e ↦ ap
-        (λ b. of_overlay default what (replaced_if_numbered nat_eq layer_later (cond b merged_later x))) e ∙ other
-        (nat_eq layer.number x.number) refl
+    | inl e ↦ ap (λ f. of_overlay default what (step f)) (ones.one_merged x m e)
+        ∙ ap (of_overlay default what) (becomes it.is
+        it.can) ∙ same (merge_after it.supply world it.location it.overlay it.upper it.change)
+        ∙ sym (ap (overlay_or default what) its) ∙ ap (of_overlay default what) (sym (ones.one_merged x m e))
+    | inr e ↦ ap (λ b. of_overlay default what (replaced_if_numbered nat_eq layer_later (cond b merged_later x))) e
+        ∙ other (nat_eq layer.number x.number) refl
   ]
     where
       its : merged.overlay ≡ Some it.overlay
@@ -164,12 +163,8 @@ module _ {world : World ℕ} {names : List TaskName} (it : OverlayChange world n
   pub unused_apart : (k : ℕ) → is_among nat_eq k (used_filesystems nat_eq world names) ≡ true → (x : Filesystem ℕ)
       → is_among nat_eq x.number (used_filesystems nat_eq world names) ≡ false
       → nat_eq (filesystem_numbered nat_eq world k).number x.number ≡ false
-  unused_apart k used x unused = elim (cases_Bool _) [
-    | inl e ↦ cc (
-      old_used world names it.is k used,
-      eqb-true
-          (filesystem_numbered nat_eq world k).number x.number e,
-    )
+  unused_apart k used x unused = elim (cases_Bool (nat_eq (filesystem_numbered nat_eq world k).number x.number)) [
+    | inl e ↦ cc (old_used world names it.is k used, eqb-true (filesystem_numbered nat_eq world k).number x.number e)
     | inr e ↦ e
   ]
 

@@ -11,10 +11,9 @@ module _ {world : World ℕ} {names : List TaskName} {name : TaskName} {call : C
   pub by_permit : ((task : Task ℕ) → task_called world name ≡ Some task → (permit : Permit ℕ)
       → judge_in nat_eq fresh world task call ≡ Ok permit → EndsAlike world names name call fresh other)
       → EndsAlike world names name call fresh other
-  by_permit granted_so = elim (cases_Option _) [
+  by_permit granted_so = elim (cases_Option (task_called world name)) [
     | inl none ↦ unnamed_ends_alike it fresh other none
-    | inr its ↦
-        judged_by its.0 its.1 (judge_in nat_eq fresh world its.0 call) refl
+    | inr its ↦ judged_by its.0 its.1 (judge_in nat_eq fresh world its.0 call) refl
   ]
     where
       judged_by : (task : Task ℕ) → task_called world name ≡ Some task → (j : Judgement ℕ)

@@ -64,10 +64,9 @@ module _ {world : World ℕ} {names : List TaskName} {name : TaskName} {call : C
 
   pub denial_ends_alike : is_ok (policy nat_eq fresh world name call).answer ≡ false
       → EndsAlike world names name call fresh other
-  denial_ends_alike refused = elim (cases_Option _) [
+  denial_ends_alike refused = elim (cases_Option (task_called world name)) [
     | inl e ↦ unnamed_ends_alike e
-    | inr its ↦ judged its.0 its.1
-        (judge_in nat_eq fresh world its.0 call) refl
+    | inr its ↦ judged its.0 its.1 (judge_in nat_eq fresh world its.0 call) refl
   ]
     where
       judged : (task : Task ℕ) → task_called world name ≡ Some task → (j : Judgement ℕ)

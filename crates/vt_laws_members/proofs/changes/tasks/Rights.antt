@@ -148,21 +148,18 @@ module _ {world : World ℕ} {names : List TaskName} {name : TaskName} {call : C
       )
 
 pub umasks_end_alike : UmasksEndAlike
-umasks_end_alike world names name mode it fresh other = elim (cases_Option _) [
-  | inl e ↦ unnamed_ends_alike it fresh
-      other e
-  | inr its ↦ rights_end it its.1 (record its.0 { umask = permission_bits mode }) refl refl refl refl Done fresh
-      other refl refl refl
+umasks_end_alike world names name mode it fresh other = elim (cases_Option (task_called world name)) [
+  | inl e ↦ unnamed_ends_alike it fresh other e
+  | inr its ↦ rights_end it its.1 (record its.0 { umask = permission_bits mode }) refl refl refl refl Done
+      fresh other refl refl refl
 ]
 
 pub drops_end_alike : DropsEndAlike
-drops_end_alike world names name which it fresh other = elim (cases_Option _) [
-  | inl e ↦ unnamed_ends_alike it fresh
-      other e
-  | inr its ↦ rights_end it its.1 (record its.0 {
-    credentials = with_dropped its.0.credentials
-        (capabilities_of which its.0.credentials);
-  }) refl refl refl refl Done fresh other refl refl refl
+drops_end_alike world names name which it fresh other = elim (cases_Option (task_called world name)) [
+  | inl e ↦ unnamed_ends_alike it fresh other e
+  | inr its ↦ rights_end it its.1 (record its.0
+      { credentials = with_dropped its.0.credentials (capabilities_of which its.0.credentials) }) refl refl refl refl
+      Done fresh other refl refl refl
 ]
 
 -- Calls that are granted and change nothing

@@ -1,5 +1,5 @@
 -- The events of a lazy unmount of a mount of theirs are the same in the part, in the same order.
-use Rattle.std.proofs.Common.{◌≡◌, refl, sym, subst, ◌∙◌, inl, inr, ⊎_elim, ℕ, zero, suc, nat_eq, arith, true, List, [], ◌∷◌, Some, None, length, ◌≤◌, if◌then◌else◌, nat_lt}
+use Rattle.std.proofs.Common.{◌≡◌, refl, sym, ap, subst, ◌∙◌, inl, inr, ⊎_elim, ℕ, zero, suc, nat_eq, arith, true, List, [], ◌∷◌, Some, None, length, ◌≤◌, if◌then◌else◌, nat_lt}
 use Rattle.vt_spec.proofs.Common.{Among, Location, Mount, MountInvariants, Task, TaskName, World, among-from_filter, among-from_flat_map, chain_ends, children, common_steps, depth_of, folded, insert_deepest, members, mount_numbered, mount_tree, number-mount_in, part_of, stands_on, tree_from}
 use Rattle.vt_laws_members.proofs.Common.{cases_Option, AllStand, IsSealed, OneNumberEach, among_inserted, depth_by_rank, from_tree, is_own, numbered, rank, rank_child, taken_in_turn}
 use Rattle.vt_laws_members.proofs.judging.Common.{IsTheirs, child_own, own_theirs, parent_theirs, same_mount, tree_alike}
@@ -41,20 +41,20 @@ module _ {world : World ℕ} {names : List TaskName} (sealing : IsSealed world n
       on)) ∙ sym (depth_of_root world (mount_numbered nat_eq world k) e)
 
   deep_alike : (n k : ℕ) → On k → deep k ≤ n → DeepAlike k
-  deep_alike zero k on l = elim (cases_Option _) [
+  deep_alike zero k on l = elim (cases_Option (mount_numbered nat_eq world k).mount_point) [
     | inl e ↦ root_alike k on e
-    | inr its ↦ let child : deep k ≡ suc
-        (deep its.0.mount) = rank_child world sealing.is.mounts.one_number sealing.is.mounts.standing k its.0 its.1 in
+    | inr its ↦ let child : deep k ≡ suc (deep its.0.mount) =
+        rank_child world sealing.is.mounts.one_number sealing.is.mounts.standing k its.0 its.1 in
         absurd (omega (arith, child, l))
   ]
-  deep_alike (suc n) k on l = elim (cases_Option _) [
+  deep_alike (suc n) k on l = elim (cases_Option (mount_numbered nat_eq world k).mount_point) [
     | inl e ↦ root_alike k on e
-    | inr its ↦ let child : deep k ≡ suc
-        (deep its.0.mount) = rank_child world sealing.is.mounts.one_number sealing.is.mounts.standing k its.0 its.1 in
+    | inr its ↦ let child : deep k ≡ suc (deep its.0.mount) = rank_child world sealing.is.mounts.one_number
+        sealing.is.mounts.standing k its.0 its.1 in
         let less : deep its.0.mount ≤ n = omega (arith, child, l) in
         cc (
           depth_of_child part in_part.one_number in_part.standing k its.0
-              (cc (same_mount world names sealing.is.mounts k on)),
+              (ap (λ (m : Mount ℕ). m.mount_point) (same_mount world names sealing.is.mounts k on) ∙ its.1),
           (deep_alike n) its.0.mount
               (parent_theirs world names sealing.is.mounts k its.0 on its.1) less,
           depth_of_child world

@@ -102,10 +102,9 @@ module _ (world : World ℕ) (first second : List ℕ) where
 
     fall_alike : (n a b c : ℕ) (place : Location ℕ) → rank_at place ≤ n → rank_at place ≤ a → rank_at place ≤ b
         → rank_at place ≤ c → FallAlike a b c place
-    fall_alike zero a b c place few more more_then more_at_once = elim (cases_Option _) [
-      | inl e ↦ fall_from_root a b c
-          place e
-      | inr its ↦ let child : rank_at place ≡ suc (rank_at its.0) = rank_child world one all _ its.0 its.1 in
+    fall_alike zero a b c place few more more_then more_at_once = elim (cases_Option (down place)) [
+      | inl e ↦ fall_from_root a b c place e
+      | inr its ↦ let child : rank_at place ≡ suc (rank_at its.0) = rank_child world one all place.mount its.0 its.1 in
           absurd (omega (arith, child, few))
     ]
     fall_alike (suc n) a b c place few more more_then more_at_once = elim (cases_Option (down place)) [
@@ -187,7 +186,7 @@ module _ (world : World ℕ) (first second : List ℕ) where
   -- who is a member at the end is one after the first part
   members_before : (group : ℕ) → has_members nat_eq at_once.mounts group ≡ true
       → has_members nat_eq firstly.mounts group ≡ true
-  members_before group has = elim (cases_Bool _) [
+  members_before group has = elim (cases_Bool (has_members nat_eq firstly.mounts group)) [
     | inl e ↦ e
     | inr e ↦ cc (none e)
   ]
