@@ -1,6 +1,6 @@
 -- The kinds of a call's turn.
 use Rattle.std.proofs.Common.{◌≡◌, refl, sym, ap, subst, ◌⊎◌, inl, inr, ℕ, nat_eq, Bool, true, false, List, [], ◌∷◌, Option, Some, None, Ok, Err, Result, ◌+◌, nat_le, slice_get, unwrap_or}
-use Rattle.vt_spec.proofs.Common.{Call, Calls, Fresh, Progress, Queued, Route, Sched, Someone, Task, Turned, call_turn_of, entry_rules, first_of_list, first_progress, first_turn, first_turn_by, found_passes, further, is_failing, is_overtaken, later_turn, looks_of, most_restarts, next_word, none_is_some, one_further, queue_of, queue_turn, restarted, routes, same_name, same_task_name, task_called, turn, turn_under_way, unless, word_walked_by, words_of}
+use Rattle.vt_spec.proofs.Common.{Call, Calls, Fresh, Progress, Queued, Route, Sched, Someone, Task, Turned, call_turn_of, entry_rules, first_of_list, first_progress, first_turn, first_turn_by, found_passes, further, is_failing, is_overtaken, later_turn, looks_of, most_restarts, next_word, none_is_some, one_further, queue_of, queue_turn, restarted, routes, same_name, same_task_name, turn, turn_under_way, unless, word_walked_by, words_of}
 use Rattle.vt_laws_turns.proofs.Common.{Deny, run_whole, went_on}
 use Rattle.vt_laws_turns.specs.Restarts.{IsNextOf, under_way_of}
 
@@ -88,14 +88,12 @@ module _ (sched : Sched ℕ) (task : Task ℕ) (line : ℕ) (call : Call) (fresh
           → TurnKind (call_turn_of nat_eq sched task.name line call fresh found)
       by_task None e = none_is_some task e
       by_task (Some other) e = subst (λ (t : Task ℕ). TurnKind (turn_under_way nat_eq sched t line call fresh
-          (under_way_of sched.under_way task.name))) (sym (ap (λ o. unwrap_or o other) e))
-          (by_progress (under_way_of sched.under_way task.name) refl)
+          (under_way_of sched.under_way task.name))) (sym (ap (λ o. unwrap_or o other) e)) (by_progress _ refl)
 
       by_item : (q : Queued) → q ≡ record { line = line; item = Calls call }
           → TurnKind (queue_turn nat_eq sched (Someone task.name) (q ∷ []) (Some fresh))
-      by_item q e =
-          subst (λ (one : Queued). TurnKind (queue_turn nat_eq sched (Someone task.name) (one ∷ []) (Some fresh)))
-          (sym e) (by_task (task_called sched.world task.name) next.called)
+      by_item q e = subst (λ (one : Queued). TurnKind (queue_turn nat_eq sched (Someone task.name) (one ∷ [])
+          (Some fresh))) (sym e) (by_task _ next.called)
 
       by_queue : (items : List Queued) → first_of_list items ≡ Some (record { line = line; item = Calls call })
           → TurnKind (queue_turn nat_eq sched (Someone task.name) items (Some fresh))

@@ -51,9 +51,8 @@ module _ {world : World ℕ} {names : List TaskName} (sealing : IsSealed world n
       (ap (λ (w : World ℕ). w.mounts) of_part ∙ sym (ap (λ (w : World ℕ). w.mounts) of_world)) ∙ same_own u names
 
   pub masters_alike : part_of_master nat_eq u_part names ≡ part_of_master nat_eq u names
-  masters_alike =
-      ap (λ l. λ (group : ℕ). cond (list_any (is_member_of nat_eq group) l) (master_too group) None) own_alike
-      ∙ (λ i group. by group (list_any (is_member_of nat_eq group) (own_mounts nat_eq u names)) refl i)
+  masters_alike = ap (λ l. λ (group : ℕ). cond (list_any (is_member_of nat_eq group) l) (master_too group) None)
+      own_alike ∙ (λ i group. by group _ refl i)
     where
       by : (group : ℕ) (b : Bool) → list_any (is_member_of nat_eq group) (own_mounts nat_eq u names) ≡ b
           → cond b (master_too group) None ≡ cond b (master group) None
@@ -72,9 +71,7 @@ module _ {world : World ℕ} {names : List TaskName} (sealing : IsSealed world n
 
   pub grown_alike : (name : TaskName) → part_of nat_eq (numbers_raised nat_eq world name [] u) names
       ≡ part_of nat_eq (numbers_raised nat_eq part name [] u_part) names
-  grown_alike name =
-      parts_left sealing u.mounts u_part.mounts master master_too u.filesystems u_part.filesystems one_part above_alike
-      name
+  grown_alike name = parts_left sealing u.mounts u_part.mounts master master_too _ _ one_part above_alike name
 
 -- So it is where copies come.
 module _ {world : World ℕ} {names : List TaskName} (attaching : AttachesTheirs world names) {new : Copies ℕ}

@@ -62,9 +62,8 @@ module _ (world : World ℕ) (names : List TaskName) (is : IsWorld nat_eq world)
   tree_mine : (depth : ℕ) (m : Mount ℕ) → mine m → (o : Mount ℕ) → Among o (bindable_tree nat_eq depth world.mounts m)
       → mine o
   tree_mine zero m its o n = ⊎_elim (λ same. rw same its) (λ none. absurd none) n
-  tree_mine (suc depth) m its o n = ⊎_elim (λ same. rw same its) (λ below. let child = among-from_flat_map
-      (bindable_tree nat_eq depth world.mounts) (bindable_children nat_eq world.mounts m.number) o below in tree_mine
-      depth child.0 (child_mine m child.0 its child.1) o child.2) n
+  tree_mine (suc depth) m its o n = ⊎_elim (λ same. rw same its) (λ below. let child = among-from_flat_map _ _ o below
+      in tree_mine depth child.0 (child_mine m child.0 its child.1) o child.2) n
 
   -- each is one of theirs, or shows what the source's mount shows
   abbrev IsCopied : Mount ℕ → Type 0

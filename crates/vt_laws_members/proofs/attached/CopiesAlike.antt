@@ -142,9 +142,7 @@ module _ {world : World ℕ} {names : List TaskName} (attaching : AttachesTheirs
     copy_alike p n twig = cc (same_destination, type_alike p n twig)
 
     pub copies_alike : (p : Mount ℕ) → Among p parts → copies_at nat_eq base_part new tree parts p ≡ copies p
-    copies_alike p n =
-        map_alike (copy_at nat_eq base_part new tree parts p) (copy_at nat_eq base new tree parts p) tree.twigs
-        (λ twig m. copy_alike p n twig)
+    copies_alike p n = map_alike _ (copy_at nat_eq base new tree parts p) tree.twigs (λ twig m. copy_alike p n twig)
 
     push_alike : (m : Mount ℕ) → pushed_up nat_eq base_part new tree parts m ≡ push m
     push_alike m = grind (arith, common_steps, copies_alike, found_among)

@@ -32,8 +32,7 @@ module _ (world : World ℕ) (names : List TaskName) (is : IsWorld nat_eq world)
   located_there l m =
       let number = among_numbers (numbers world) l.mount (located_well l m) in
       let x = among-from_map (λ (x : Mount ℕ). x.number) world.mounts l.mount number in
-      let y = shown_at world names x.0 (any_from_among (λ (k : Location ℕ). nat_eq k.mount x.0.number)
-      (locations (members world names)) l m (eq-eqb l.mount x.0.number x.2)) in
+      let y = shown_at world names x.0 (any_from_among _ _ l m (eq-eqb l.mount x.0.number x.2)) in
       let same : y.0.number ≡ l.mount = ⊎_elim (λ same. cc x.2) (λ stub. cc (stub.0, x.2))
       (kept_how world names (members world names) x.0 y.0 y.1) in
       is_among_numbers (numbers part) l.mount (rw (← same) (among-map (λ (z : Mount ℕ). z.number) part.mounts y.0

@@ -1,6 +1,6 @@
 -- The part of a world in which mounts of theirs changed, others came after all, and show filesystems of theirs or new
 -- ones.
-use Rattle.std.proofs.Common.{arith, ◌≡◌, refl, sym, ap, subst, ◌∙◌, ◌⊎◌, inl, inr, ⊎_elim, ℕ, nat_eq, Bool, true, false, cond, true≢false, List, [], ◌∷◌, ◌++◌, Option, Some, None, find, flat_map, map, ◌||◌, ◌&&◌, eqb-true, option_map, option_to_list, unwrap_or, filter_map}
+use Rattle.std.proofs.Common.{arith, ◌≡◌, refl, sym, ap, subst, ◌∙◌, ◌⊎◌, inl, inr, ⊎_elim, ℕ, nat_eq, Bool, true, false, cond, true≢false, List, [], ◌∷◌, ◌++◌, Option, Some, None, find, map, ◌||◌, ◌&&◌, eqb-true, option_map, option_to_list, unwrap_or, filter_map}
 use Rattle.vt_spec.proofs.Common.{Among, Filesystem, Layer, Location, Mount, Overlay, Task, TaskName, World, among-append, among-append_left, among-append_right, among-filter, among-flat_map, among-from_filter, among-from_flat_map, among-from_map, among-map, among_numbers, and_parts, any_among, any_from_among, change_layers, common_steps, filesystem_numbered, filter_alike, filter_map-append, find-append, is_among, is_among_numbers, is_at, is_own_mount, is_under, layers_of, lies_in_layer, lies_in_own_lower, list_any, locations, members, mount_at, mount_in, no_filesystem, no_mount, none_among, of_overlay, or_left, own_lowers, own_mounts, part_of, part_of_filesystem, part_of_lower, part_of_master, roots_and_directories, same_truth, seen_by_descriptor, used_directly, used_filesystems, when}
 use Rattle.std.specs.Option.{option_or}
 use Rattle.vt_laws_members.proofs.Common.{among-each_once, among-from_each_once, filter_map_same, find_none, is_own, keep, kept_how, kept_whole, used_directly_used}
@@ -47,21 +47,14 @@ found_before w new n other = ap (λ o. unwrap_or o (no_filesystem n))
 pub used_how : (w : World ℕ) (names : List TaskName) (n : ℕ) → is_among nat_eq n (used_filesystems nat_eq w names)
     ≡ true → Among n (used_directly nat_eq w names)
     ⊎ ((d : ℕ) × Among d (used_directly nat_eq w names) × Among n (change_layers (filesystem_numbered nat_eq w d)))
-used_how w names n h = ⊎_elim inl
-    (λ m. let from = among-from_flat_map (λ d. change_layers (filesystem_numbered nat_eq w d))
-    (used_directly nat_eq w names) n m in inr (from.0, from.1, from.2)) (among-append (used_directly nat_eq w names) _ n
-    (among-from_each_once (used_directly nat_eq w names
-    ++ flat_map (λ d. change_layers (filesystem_numbered nat_eq w d)) (used_directly nat_eq w names)) n
-    (among_numbers (used_filesystems nat_eq w names) n h)))
+used_how w names n h = ⊎_elim inl (λ m. let from = among-from_flat_map _ _ n m in inr (from.0, from.1, from.2))
+    (among-append (used_directly nat_eq w names) _ n (among-from_each_once _ n (among_numbers _ n h)))
 
 used_by_layer : (w : World ℕ) (names : List TaskName) (n d : ℕ) → Among d (used_directly nat_eq w names)
     → Among n (change_layers (filesystem_numbered nat_eq w d))
     → is_among nat_eq n (used_filesystems nat_eq w names) ≡ true
 used_by_layer w names n d m on = is_among_numbers (used_filesystems nat_eq w names) n
-    (among-each_once (used_directly nat_eq w names
-    ++ flat_map (λ d. change_layers (filesystem_numbered nat_eq w d)) (used_directly nat_eq w names)) n
-    (among-append_right (used_directly nat_eq w names) _ n
-    (among-flat_map (λ d. change_layers (filesystem_numbered nat_eq w d)) (used_directly nat_eq w names) d n m on)))
+    (among-each_once _ n (among-append_right (used_directly nat_eq w names) _ n (among-flat_map _ _ d n m on)))
 
 abbrev lowers_at : World ℕ → ℕ → List (Layer ℕ)
 lowers_at w n = of_overlay [] (λ (overlay : Overlay ℕ). overlay.lowers) (filesystem_numbered nat_eq w n)
@@ -142,8 +135,7 @@ module _ {v : World ℕ} {names : List TaskName} {change : Mount ℕ → Mount �
   pub own_how : (y : Mount ℕ) → Among y u.mounts → owns y ≡ true
       → ((x : Mount ℕ) × Among x v.mounts × (owns x ≡ true) × (y ≡ change x)) ⊎ Among y added
   own_how y m own = ⊎_elim (λ old. let from = among-from_map change v.mounts y old in
-      inl (from.0, from.1, by from.0 from.1 from.2 (owns from.0) refl, from.2))
-      inr (among-append (map change v.mounts) added y m)
+      inl (from.0, from.1, by from.0 from.1 from.2 _ refl, from.2)) inr (among-append (map change v.mounts) added y m)
     where
       by : (x : Mount ℕ) → Among x v.mounts → y ≡ change x → (b : Bool) → owns x ≡ b → owns x ≡ true
       by x n e true f = f
@@ -280,13 +272,10 @@ module _ {v : World ℕ} {names : List TaskName} {change : Mount ℕ → Mount �
 
   pub used_same : (n : ℕ) → fresh_one n ≡ false → is_among nat_eq n (used_filesystems nat_eq u names)
       ≡ is_among nat_eq n (used_filesystems nat_eq v names)
-  used_same n other = same_truth (is_among nat_eq n (used_filesystems nat_eq u names))
-      (is_among nat_eq n (used_filesystems nat_eq v names)) (λ h. ⊎_elim
-      (λ direct. ⊎_elim (used_directly_used v names n) (λ is. absurd (true≢false (sym is ∙ other)))
-      (direct_from n direct)) (λ layer. ⊎_elim
-      (λ old. used_by_layer v names n layer.0 old (subst (Among n) (of_same changes layer.0 old) layer.2))
-      (λ is. let f = new_found layer.0 is in
-      new_changes f.0 f.1 n (subst (Among n) (ap (of_overlay [] changes) f.2) layer.2)) (direct_from layer.0 layer.1))
+  used_same n other = same_truth _ _ (λ h. ⊎_elim (λ direct. ⊎_elim (used_directly_used v names n) (λ is. cc)
+      (direct_from n direct)) (λ layer. ⊎_elim (λ old. used_by_layer v names n layer.0 old
+      (subst (Among n) (of_same changes layer.0 old) layer.2)) (λ is. let f = new_found layer.0 is in
+      new_changes f.0 f.1 n (subst (Among n) (cc) layer.2)) (direct_from layer.0 layer.1))
       (used_how u names n h)) (λ h. ⊎_elim (λ direct. used_directly_used u names n (direct_to n direct))
       (λ layer. used_by_layer u names n layer.0 (direct_to layer.0 layer.1)
       (subst (Among n) (sym (of_same changes layer.0 layer.1)) layer.2)) (used_how v names n h))

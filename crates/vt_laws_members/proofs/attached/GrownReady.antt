@@ -1,6 +1,6 @@
 -- A world that is ready to be swept for a set is ready still, where mounts of theirs change and more come.
 use Rattle.std.proofs.Common.{arith, ◌≡◌, refl, sym, ap, ◌∙◌, ◌⊎◌, inl, inr, ⊎_elim, ℕ, nat_eq, Bool, true, false, true≢false, List, [], ◌++◌, Option, Some, None, filter, is_some, map, ◌&&◌}
-use Rattle.vt_spec.proofs.Common.{Among, Filesystem, Layer, Location, Mount, Stands, TaskName, World, all_locations, among-append, among-append_left, among-from_map, among-map, among_from_all, common_steps, filter_all, found_or_none, is_among, is_at, is_located, is_nowhere_or_attached, is_under, list_all, list_any, locations, members, mount_at, mount_lives, number-mount_in, or_left, own_lowers, part_of, roots_and_directories, settled, used_filesystems}
+use Rattle.vt_spec.proofs.Common.{Among, Filesystem, Layer, Location, Mount, Stands, TaskName, World, all_locations, among-append, among-append_left, among-from_map, among-map, among_from_all, common_steps, filter_all, found_or_none, is_among, is_at, is_nowhere_or_attached, is_under, list_all, list_any, locations, members, mount_at, mount_lives, number-mount_in, or_left, own_lowers, part_of, roots_and_directories, settled, used_filesystems}
 use Rattle.vt_laws_members.proofs.Common.{AllStand, OneNumberEach, among_from_list_all, found_itself, is_own, namespace_below}
 use Rattle.vt_laws_mounts.proofs.letting_go.leaving.PlacesLeft.{placed_is_attached}
 use Rattle.vt_laws_members.proofs.changes.Common.{Alone, IsCut, NoOthers, Ready, part_of_settled, swept_of}
@@ -31,8 +31,7 @@ module _ {v : World ℕ} {names : List TaskName} {change : Mount ℕ → Mount �
 
   -- a mount afterwards is theirs, or as it was
   grown_how : (y : Mount ℕ) → Among y grown.mounts → (owns y ≡ true) ⊎ (Among y v.mounts × (owns y ≡ false))
-  grown_how y m =
-      ⊎_elim (λ old. let from = among-from_map change v.mounts y old in by from.0 from.1 from.2 (owns from.0) refl)
+  grown_how y m = ⊎_elim (λ old. let from = among-from_map change v.mounts y old in by from.0 from.1 from.2 _ refl)
       (λ more. inl (grows.ours y more)) (among-append (map change v.mounts) added y m)
     where
       by : (x : Mount ℕ) → Among x v.mounts → y ≡ change x → (b : Bool) → owns x ≡ b
@@ -43,8 +42,7 @@ module _ {v : World ℕ} {names : List TaskName} {change : Mount ℕ → Mount �
   own_placed y = grind (arith, common_steps)
 
   lives_now : (y : Mount ℕ) → Among y grown.mounts → mount_lives nat_eq grown y ≡ true
-  lives_now y m = ⊎_elim (λ own. or_left (is_some y.namespace) (is_located nat_eq grown y.number) (own_placed y own))
-      (λ still. ready.lives y still.0) (grown_how y m)
+  lives_now y m = ⊎_elim (λ own. or_left _ _ (own_placed y own)) (λ still. ready.lives y still.0) (grown_how y m)
 
   located_now : (l : Location ℕ) → Among l (locations (members v names))
       → (y : Mount ℕ) × Among y grown.mounts × (l.mount ≡ y.number)

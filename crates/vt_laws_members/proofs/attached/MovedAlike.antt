@@ -110,7 +110,4 @@ module _ {world : World ℕ} {names : List TaskName} (sealing : IsSealed world n
     pub moved_alike : (name : TaskName)
         → part_of nat_eq (numbers_raised nat_eq world name [] (settled nat_eq left_here)) names
         ≡ part_of nat_eq (numbers_raised nat_eq (part_of nat_eq world names) name [] (settled nat_eq left_there)) names
-    moved_alike name =
-        parts_left sealing (settled nat_eq left_here).mounts (settled nat_eq left_there).mounts
-        (settled nat_eq left_here).master (settled nat_eq left_there).master (settled nat_eq left_here).filesystems
-        (settled nat_eq left_there).filesystems swept_alike above_alike name
+    moved_alike name = parts_left sealing (settled nat_eq left_here).mounts _ _ _ _ _ swept_alike above_alike name

@@ -98,8 +98,7 @@ module _ {world : World ℕ} {names : List TaskName} (moving : MovesTheirs world
       child.2) n
 
   pub origin_mine : (o : Mount ℕ) → Among o origins → Mine o
-  origin_mine o m = tree_mine (length world.mounts) (mount_numbered nat_eq world moving.number)
-      (moving.top_there, moving.top_own) o m
+  origin_mine o m = tree_mine (length world.mounts) _ (moving.top_there, moving.top_own) o m
 
   -- at the destination mounts that move keep their numbers
   keeps_number : (o : Mount ℕ) → (copied destination o).number ≡ o.number

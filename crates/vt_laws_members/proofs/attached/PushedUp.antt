@@ -47,8 +47,7 @@ module _ {world : World ℕ} {names : List TaskName} (attaching : AttachesTheirs
       (rest_of at_parts) none)
 
   pub other_stays : (x : Mount ℕ) → Among x world.mounts → owns x ≡ false → up x ≡ x
-  other_stays x m other =
-      stays_put x (λ p n. by p n (stands_at nat_eq (record { mount = p.number; node = attaching.place.node }) x) refl)
+  other_stays x m other = stays_put x (λ p n. by p n _ refl)
     where
       by : (p : Mount ℕ) → Among p (rest_of at_parts) → (b : Bool)
           → stands_at nat_eq (record { mount = p.number; node = attaching.place.node }) x ≡ b → b ≡ false
@@ -65,8 +64,7 @@ module _ {world : World ℕ} {names : List TaskName} (attaching : AttachesTheirs
   -- each copy is of a mount of the tree
   pub copy_of : (p x : Mount ℕ) → Among x (made_at p) → (o : Mount ℕ) × Among o origins × (x ≡ copy p o)
   copy_of p x m =
-      let t = among-from_map (copy_at nat_eq (base attaching) new
-      (tree attaching new moves origins) at_parts p) (map twig origins) x m in
+      let t = among-from_map _ (map twig origins) x m in
       let o = among-from_map twig origins t.0 t.1 in (
         o.0,
         o.1,
@@ -74,8 +72,7 @@ module _ {world : World ℕ} {names : List TaskName} (attaching : AttachesTheirs
       )
 
   pub copy_there : (p o : Mount ℕ) → Among o origins → Among (copy p o) (made_at p)
-  copy_there p o m = among-map (copy_at nat_eq (base attaching) new (tree attaching new moves origins) at_parts p)
-      (map twig origins) (twig o) (among-map twig origins o m)
+  copy_there p o m = among-map _ (map twig origins) (twig o) (among-map twig origins o m)
 
   copy_own : (p : Mount ℕ) → Among p at_parts → (o : Mount ℕ) → owns (copy p o) ≡ true
   copy_own p n o = (parts_own attaching p n).1

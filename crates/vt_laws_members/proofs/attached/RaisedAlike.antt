@@ -150,5 +150,4 @@ module _ {world : World ℕ} {names : List TaskName} (sealing : IsSealed world n
             namespaces = filter (spaces (sym (same_members world names) i))
                 (map (raised_namespace nat_eq part later_part) part.namespaces);
             tasks = filter (is_member_task names) (map (raised_task name) part.tasks);
-          }) ∙ sym (part_respaced later_part names name (map (raised_namespace nat_eq part later_part) part.namespaces))
-          ∙ sym (cc (left_so part later_part))
+          }) ∙ sym (part_respaced later_part names name _) ∙ sym (cc (left_so part later_part))

@@ -28,11 +28,9 @@ module _ (world : World ℕ) (names : List TaskName) (is : IsWorld nat_eq world)
       rw (ap (mount_numbered nat_eq world) at.2 ∙ numbered world names is.mounts at.0 at.1) (listed_mount at.0 at.1)
 
   listed_directly : (n : ℕ) → Among n (used_directly nat_eq world names) → IsListed n
-  listed_directly n m =
-      ⊎_elim (λ shown. let x = among-from_map (λ (x : Mount ℕ). x.filesystem) (own_mounts nat_eq world names) n shown in
+  listed_directly n m = ⊎_elim (λ shown. let x = among-from_map (λ (x : Mount ℕ). x.filesystem) _ n shown in
       rw x.2 (listed_mount x.0 (among-from_filter (is_own_mount nat_eq world names) world.mounts x.0 x.1).0))
-      (λ at. let l = among-from_map (λ (l : Location ℕ). (mount_at nat_eq world l).filesystem)
-      (locations (members world names)) n at in rw l.2 (listed_location l.0 l.1))
+      (λ at. let l = among-from_map _ (locations (members world names)) n at in rw l.2 (listed_location l.0 l.1))
       (among-append (map (λ (x : Mount ℕ). x.filesystem) (own_mounts nat_eq world names)) _ n m)
 
   listed_layer : (d n : ℕ) → Among n (change_layers (filesystem_numbered nat_eq world d)) → IsListed n
@@ -46,8 +44,7 @@ module _ (world : World ℕ) (names : List TaskName) (is : IsWorld nat_eq world)
           → Among n (overlay_or [] changes o) → IsListed n
       by None e h = absurd h
       by (Some overlay) e h =
-          let layer = among-from_map (λ (layer : Layer ℕ). layer.filesystem)
-          (option_to_list overlay.upper ++ option_to_list overlay.work) n h in
+          let layer = among-from_map (λ (layer : Layer ℕ). layer.filesystem) _ n h in
           rw layer.2 (listed_by layer.0.filesystem layer.0.directory (layer_directory world names is
           (filesystem_numbered nat_eq world d) (overlay_there world names is d overlay e) layer.0
           (subst (λ o. Among layer.0 (overlay_or [] layers_of o)) (sym e)
@@ -55,8 +52,7 @@ module _ (world : World ℕ) (names : List TaskName) (is : IsWorld nat_eq world)
           layer.1))))
 
   used_listed : (n : ℕ) → is_among nat_eq n (used_filesystems nat_eq world names) ≡ true → IsListed n
-  used_listed n used =
-      ⊎_elim (listed_directly n) (λ layer. listed_layer layer.0 n layer.2) (used_how world names n used)
+  used_listed n used = ⊎_elim (listed_directly n) (λ layer. listed_layer _ n layer.2) (used_how world names n used)
 
   module _ (fresh : Fresh ℕ) (serves : Serves nat_eq world fresh) where
     pub filesystem_unlike : (f : Filesystem ℕ) → Among f world.filesystems → (k : ℕ) → nat_eq f.number (fresh k) ≡ false
@@ -80,8 +76,7 @@ module _ (world : World ℕ) (names : List TaskName) (is : IsWorld nat_eq world)
 
     pub group_new : (k : ℕ) → world.master (fresh k) ≡ None
     group_new k = (all_in_use world is).groups (fresh k)
-        (none_from_among (is_member_of nat_eq (fresh k)) world.mounts (λ m n. by m n (is_member_of nat_eq
-        (fresh k) m) refl))
+        (none_from_among (is_member_of nat_eq (fresh k)) world.mounts (λ m n. by m n _ refl))
       where
         sourced : (m : Mount ℕ) → source_of m.propagation ≡ Some (fresh k) → Among (fresh k) (used_by_mount m)
         sourced m e = inr (rw e (inl refl))

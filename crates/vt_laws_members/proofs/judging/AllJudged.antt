@@ -1,7 +1,7 @@
 -- Calls of members are judged in their part as in the world.
-use Rattle.std.proofs.Common.{arith, ◌≡◌, refl, sym, ap, subst, ◌∙◌, inr, ℕ, nat_eq, Bool, true, false, cond, List, [], ◌∷◌, filter, find, Option, Some, None, Ok, not, length, ◌&&◌, ◌||◌, ◌+◌, nat_lt, ok_or, option_to_list}
-use Rattle.vt_spec.proofs.Common.{Among, Bind, Call, Chdir, Chmod, Chown, Chroot, Close, Descriptor, Drop, Exec, Exit, Fork, Judgement, Lazy, LinkTo, ListMounts, Location, Looks, Ls, Lstat, MakeWhiteout, Mkdir, MountOverlay, MountPlain, MoveMount, Opaque, OpenFile, Permit, PivotRoot, Pread, Pwrite, Read, Readlink, Remount, Rename, Rmdir, SetType, Setns, Stat, SymlinkAt, Task, TaskName, ToWritePart, Umask, Umount, Unlink, Unshare, World, Write, among-append_left, among-append_right, among-flat_map, among-map, among_from_contains, and_then, common_steps, contains_from_among, denial, descriptor_numbered, found_among, holds_of, is_among, is_busy, is_elsewhere, is_empty, is_locked_at, is_member_task, judge, largest_file, live_layers, live_upper_and_work, locations, locations_of, looks_of, members, mount_at, mount_tree, number-mount_in, overlaps_one_of, part_of, pwrite_permit, pwrite_rules, same_name, same_task_name, setns_permit, unless, upper_and_work, used_filesystems}
-use Rattle.vt_laws_members.proofs.Common.{Alike, E6, L1, S4, each_from, is_own, located, sealed_by}
+use Rattle.std.proofs.Common.{arith, ◌≡◌, refl, sym, ap, subst, ◌∙◌, inr, ℕ, nat_eq, Bool, true, false, cond, List, [], ◌∷◌, filter, find, Option, Some, None, Ok, not, ◌||◌, ok_or, option_to_list}
+use Rattle.vt_spec.proofs.Common.{Among, Bind, Call, Chdir, Chmod, Chown, Chroot, Close, Descriptor, Drop, Exec, Exit, Fork, Judgement, Lazy, LinkTo, ListMounts, Location, Looks, Ls, Lstat, MakeWhiteout, Mkdir, MountOverlay, MountPlain, MoveMount, Opaque, OpenFile, Permit, PivotRoot, Pread, Pwrite, Read, Readlink, Remount, Rename, Rmdir, SetType, Setns, Stat, SymlinkAt, Task, TaskName, ToWritePart, Umask, Umount, Unlink, Unshare, World, Write, among-append_left, among-append_right, among-flat_map, among-map, among_from_contains, and_then, common_steps, contains_from_among, denial, descriptor_numbered, found_among, holds_of, is_among, is_busy, is_elsewhere, is_locked_at, is_member_task, judge, live_layers, live_upper_and_work, locations, locations_of, looks_of, members, mount_at, mount_tree, number-mount_in, overlaps_one_of, part_of, pwrite_permit, pwrite_rules, same_name, same_task_name, setns_permit, unless, upper_and_work, used_filesystems}
+use Rattle.vt_laws_members.proofs.Common.{Alike, S4, each_from, is_own, located, sealed_by}
 use Rattle.vt_laws_members.proofs.judging.TheirCalls.{IsMember, a_member}
 use Rattle.vt_laws_members.specs.Judging.{MembersAreJudgedAlike, is_theirs}
 use Rattle.vt_laws_members.proofs.judging.Busy.{busy_alike}
@@ -28,8 +28,7 @@ pub called_alike : (names : List TaskName) (name : TaskName) → is_among same_n
     → (tasks : List (Task ℕ)) → find (λ (task : Task ℕ). same_name name task.name) (filter (is_member_task names) tasks)
     ≡ find (λ (task : Task ℕ). same_name name task.name) tasks
 called_alike names name theirs [] = refl
-called_alike names name theirs (task ∷ rest) =
-    by (same_name name task.name) (is_member_task names task) refl refl (called_alike names name theirs rest)
+called_alike names name theirs (task ∷ rest) = by _ _ refl refl (called_alike names name theirs rest)
   where
     by : (a b : Bool) → same_name name task.name ≡ a → is_member_task names task ≡ b
         → find (λ (t : Task ℕ). same_name name t.name) (filter (is_member_task names) rest)
@@ -82,8 +81,7 @@ module _ {world : World ℕ} {names : List TaskName} {task : Task ℕ} (member :
 
   pub walks : Alike one other task (λ number. own number ≡ true)
   walks =
-      let alike = members_see_alike world names task member.is (contains_from_among (members world names) task
-      member.among) in
+      let alike = members_see_alike world names task member.is (contains_from_among _ task member.among) in
       record {
         root = alike.root;
         node = alike.node;
@@ -110,11 +108,9 @@ module _ {world : World ℕ} {names : List TaskName} {task : Task ℕ} (member :
   descriptor_locked : (descriptor : Descriptor ℕ) → Among descriptor task.descriptors
       → is_locked_at nat_eq world descriptor.location ≡ is_locked_at nat_eq part descriptor.location
   descriptor_locked descriptor m =
-      let at : Among descriptor.location (locations (members world names)) =
-      among-flat_map locations_of (members world names) task descriptor.location member.among
-      (inr (inr (among-map (λ (d : Descriptor ℕ). d.location) task.descriptors descriptor m))) in
-      locked_here descriptor.location (located_used world names member.is descriptor.location at)
-      (sym (located world names descriptor.location at))
+      let at : Among descriptor.location (locations (members world names)) = among-flat_map locations_of _ task
+      descriptor.location member.among (inr (inr (among-map _ task.descriptors descriptor m))) in
+      locked_here descriptor.location (located_used world names member.is _ at) (sym (located world names _ at))
 
   pwrite_alike : (number offset : ℕ) (bytes : List ℕ)
       → pwrite_permit one task number offset bytes ≡ pwrite_permit other task number offset bytes
@@ -133,9 +129,7 @@ module _ {world : World ℕ} {names : List TaskName} {task : Task ℕ} (member :
           → and_then (ok_or (cond b (Some descriptor) None) (denial S4)) (wrote one)
           ≡ and_then (ok_or (cond b (Some descriptor) None) (denial S4)) (wrote other)
       which descriptor m false = refl
-      which descriptor m true =
-          ap (λ b. unless ((not (is_empty bytes) && nat_lt largest_file (offset + length bytes), E6) ∷ (b, L1) ∷ [])
-          (Ok (ToWritePart descriptor.location offset bytes))) (descriptor_locked descriptor m)
+      which descriptor m true = cc (descriptor_locked descriptor m)
 
       by : (o : Option (Descriptor ℕ)) → descriptor_numbered task number ≡ o → of_found one o ≡ of_found other o
       by o e = grind (arith, common_steps, which, found_among)

@@ -1,6 +1,6 @@
 -- Mounts of other namespaces stand on nothing that members reach but what is locked.
 use Rattle.std.proofs.Common.{inr, ◌≡◌, refl, sym, ap, subst, ◌∙◌, inl, ⊎_elim, ℕ, nat_eq, Bool, true, false, true≢false, not, List, [], ◌++◌, Option, Some, None, is_some, ◌&&◌, eq-eqb, eqb-true, arith, option_map, option_to_list}
-use Rattle.vt_spec.proofs.Common.{cases_Bool, Among, Filesystem, Layer, Location, Mount, Overlay, Stands, TaskName, World, among-append_left, among-filter, among-flat_map, among_from_all, among_from_list_all, among_numbers, and_from, and_parts, any_among, any_from_among, common_steps, directory_used, filesystem_at, filesystem_numbered, found_or_none, holds_of, is_among, is_directory_at, is_directory_node, is_locked, is_locked_at, is_overlay, is_own_namespace, is_point, is_under, lies_in_layer, lies_or_counts_under, list_any, live_lowers, live_upper_and_work, locations, members, mount_at, mounts_on, no_outsider_on, none_among, none_is_some, not-true, of_overlay, or_cases, or_left, other_mounts, outsiders, overlaps_one_of, overlays, part_of, points_of, then_some, upper_and_work, upper_object, upper_points, used_alone, used_filesystems, wholly_locked}
+use Rattle.vt_spec.proofs.Common.{cases_Bool, Among, Filesystem, Layer, Location, Mount, Overlay, Stands, TaskName, World, among-append_left, among-filter, among-flat_map, among_from_all, among_from_list_all, among_numbers, and_from, and_parts, any_among, any_from_among, common_steps, directory_used, filesystem_at, filesystem_numbered, found_or_none, holds_of, is_among, is_directory_at, is_directory_node, is_locked, is_locked_at, is_overlay, is_own_namespace, is_point, is_under, lies_in_layer, lies_or_counts_under, list_any, live_lowers, locations, members, mount_at, mounts_on, no_outsider_on, none_among, none_is_some, not-true, of_overlay, or_cases, or_left, other_mounts, outsiders, overlaps_one_of, overlays, part_of, points_of, then_some, upper_and_work, upper_object, upper_points, used_alone, used_filesystems, wholly_locked}
 use Rattle.vt_laws_members.proofs.Common.{IsSealed, all_locked, is_own, layer_directory, namespace_below, numbered, used_are_free}
 use Rattle.vt_laws_trees.proofs.layers.layers.LowersWorld.{number_of_filesystem}
 use Rattle.vt_laws_trees.proofs.layers.locked.Apart.{under_itself}
@@ -27,8 +27,7 @@ module _ {world : World ℕ} {names : List TaskName} (sealing : IsSealed world n
         (λ (x : Mount ℕ). x.namespace) (numbered world names sealing.is.mounts mount there) ∙ placed
 
     below_there : Among (mount_at nat_eq world point) world.mounts
-    below_there =
-        ⊎_elim (λ found. found) (λ none. none_is_some n (cc below_placed)) (found_or_none world.mounts point.mount)
+    below_there = ⊎_elim (λ found. found) (λ none. none_is_some n (cc below_placed)) (found_or_none _ point.mount)
 
     -- what it stands on is not theirs alone
     not_alone : used_alone nat_eq world names shows ≡ true → ⊥
@@ -46,8 +45,7 @@ module _ {world : World ℕ} {names : List TaskName} (sealing : IsSealed world n
     whole : uses shows ≡ true → wholly_locked nat_eq world names shows ≡ true
     whole used = ⊎_elim (λ alone. absurd (not_alone alone)) (λ locked. locked)
         (or_cases (used_alone nat_eq world names shows) (wholly_locked nat_eq world names shows)
-        (used_are_free world names sealing.sealed_off shows (among_numbers (used_filesystems nat_eq world names) shows
-        used)))
+        (used_are_free world names sealing.sealed_off shows (among_numbers _ shows used)))
 
     directory : is_directory_at nat_eq world point ≡ true
     directory = grind (arith, common_steps, among_from_list_all)
@@ -60,9 +58,8 @@ module _ {world : World ℕ} {names : List TaskName} (sealing : IsSealed world n
   module _ (merged : Filesystem ℕ) (there : Among merged world.filesystems) {overlay : Overlay ℕ}
       (e : merged.overlay ≡ Some overlay) (upper : Layer ℕ) (its : Among upper (upper_and_work overlay)) where
     upper_apart : overlaps_one_of nat_eq world (live_lowers nat_eq world) upper ≡ false
-    upper_apart = none_among (overlaps_one_of nat_eq world (live_lowers nat_eq world)) (live_upper_and_work world)
-        sealing.is.overlays.lowers_apart upper (among-flat_map (of_overlay [] upper_and_work) (overlays world) merged
-        upper (among-filter is_overlay world.filesystems merged there (cc)) (rw e its))
+    upper_apart = none_among _ _ sealing.is.overlays.lowers_apart upper (among-flat_map (of_overlay [] upper_and_work)
+        (overlays world) merged upper (among-filter is_overlay world.filesystems merged there (cc)) (rw e its))
 
     upper_directory : is_directory_node
         ((filesystem_numbered nat_eq world upper.filesystem).files.tree.node upper.directory) ≡ true
@@ -112,11 +109,10 @@ module _ {world : World ℕ} {names : List TaskName} (sealing : IsSealed world n
           → is_point nat_eq world filesystem node mount ≡ true → ⊥
       not_here filesystem node f k h =
           let at = at_point filesystem node h in
-          let same : (mount_at nat_eq world at.0).filesystem ≡ number = at.3 ∙ f in
+          let same : (mount_at nat_eq world at.0).filesystem ≡ number = cc in
           true≢false (cc (
             at.2,
-            locked mount there placed outside at.1 (ap uses same ∙ theirs_used world names
-                sealing.is here own),
+            locked mount there placed outside at.1 (cc (theirs_used world names sealing.is here own)),
           ))
 
       not_above : (overlay : Overlay ℕ) → (filesystem_at nat_eq world here).overlay ≡ Some overlay

@@ -27,8 +27,7 @@ module _ {world : World ℕ} {names : List TaskName} (sealing : IsSealed world n
   pub none_located : (location : Location ℕ) → Among location (locations (outsiders world names))
       → owns (mount_at nat_eq world location) ≡ false
   none_located location m = not-true (is_on_own_mount nat_eq world names location)
-      (among_from_list_all (λ l. not (is_on_own_mount nat_eq world names l)) (locations (outsiders world names))
-      (apart_if_sealed sealing).locations location m)
+      (among_from_list_all _ (locations (outsiders world names)) (apart_if_sealed sealing).locations location m)
 
   used_alike : (gone : List ℕ) → ((number : ℕ) → Among number gone
       → (mount : Mount ℕ) × Among mount world.mounts × (owns mount ≡ true) × (mount.number ≡ number))

@@ -106,13 +106,11 @@ module _ (world : World ℕ) (names : List TaskName) (is : MountInvariants nat_e
   child_theirs a child (mount, m, number, ground) there at =
       let same : child.namespace ≡ mount.namespace = cc (
         numbered world names is child there,
-        namespace_below world
-            child.number a (stands_itself child there) (ap (λ (x : Mount ℕ). x.mount_point)
-            (numbered world names is child there) ∙ at),
+        namespace_below world child.number a (stands_itself child there) (cc (numbered world names is child there)),
         numbered world names is mount m,
       ) in
       ⊎_elim (λ own. own_by child mount same own) (λ stood. absurd (nowhere_stands world names is child a there
-      (same ∙ stood.0) at)) ground
+      (cc) at)) ground
 
   pub entered_theirs : (a b : Location ℕ) → IsTheirs a.mount
       → option_map root_of (child_at nat_eq world.mounts a) ≡ Some b → IsTheirs b.mount
@@ -150,9 +148,7 @@ module _ (world : World ℕ) (names : List TaskName) (is : MountInvariants nat_e
 
   pub over_theirs : (here : Location ℕ) → IsTheirs here.mount
       → Each (λ (l : Location ℕ). IsTheirs l.mount) (mounts_over nat_eq world.mounts here)
-  over_theirs here own =
-      chain_each (λ (l : Location ℕ). IsTheirs l.mount) (λ a. option_map root_of (child_at nat_eq world.mounts a))
-      entered_theirs (length world.mounts) here own
+  over_theirs here own = chain_each _ _ entered_theirs (length world.mounts) here own
 
   -- Chains of mount points, upwards
   module _ (next other : Location ℕ → Option (Location ℕ))
@@ -194,18 +190,16 @@ module _ (world : World ℕ) (names : List TaskName) (is : MountInvariants nat_e
         by (Some b) e rest =
             let child = rank_child world is.one_number is.standing a.mount b (goes a b e) in
             goes_on a b e (alike a own ∙ e) (subst (λ x. Among x there) (cc own.2)
-            (among-map (λ (mount : Mount ℕ). suc mount.number) part.mounts own.0
-            (among-filter_map kept world.mounts own.0 own.0 own.1 (ground_whole own.0 own.3))))
-            (rest b (up_theirs a b own e) (omega (arith, child, less)))
+            (among-map _ part.mounts own.0 (among-filter_map kept world.mounts own.0 own.0 own.1
+            (ground_whole own.0 own.3)))) (rest b (up_theirs a b own e) (omega (arith, child, less)))
 
     pub up_alike : (here : Location ℕ) → IsTheirs here.mount
         → chain (length part.mounts) other here ≡ chain (length world.mounts) next here
     up_alike here own =
         let size : length there ≡ length part.mounts = length-map part.mounts (λ (mount : Mount ℕ). suc mount.number) in
         let less : length part.mounts ≤ length world.mounts = length-filter_map kept world.mounts in
-        sym (chains_alike next other key there by_key (length world.mounts) (length part.mounts) here
-        (way (length world.mounts) here own (rank_bounded world is.one_number is.standing here.mount))
-        (omega (arith, size, less)) (omega (arith, size)))
+        sym (chains_alike next other key there by_key _ _ here (way (length world.mounts) here own
+        (rank_bounded world is.one_number is.standing here.mount)) (omega (arith, size, less)) (omega (arith, size)))
 
     pub up_each : (here : Location ℕ) → IsTheirs here.mount
         → Each (λ (l : Location ℕ). IsTheirs l.mount) (chain (length world.mounts) next here)

@@ -1,6 +1,6 @@
 -- Calls that make, change, remove and rename files are judged alike.
 use Rattle.std.proofs.Common.{◌≡◌, refl, ap, ℕ, nat_eq, Bool, true, List, [], ◌∷◌, Option, Some, None, Ok, arith, unwrap_or}
-use Rattle.vt_spec.proofs.Common.{Access, Creation, Exclusive, Judgement, Location, Looks, NoCreation, Node, OrCreate, Place, SetMark, Symlink, Task, ToChange, Whiteout, admin_rules, and_then, attr_at, attr_permit, attr_with_mode, attr_with_owner, chmod_permit, chown_permit, common_steps, create_file_permit, descriptor_rules, directory_mode, directory_walk, exact_attr, exclusive_word_rules, file_walk, file_word_rules, hard_link_permit, hard_link_rules, is_read_only, is_special, linking, make_permit, may_chown, mkdir_permit, new_attr, new_directory, new_leaf_walk, new_walk, object_there, object_walk, old_leaf_walk, opaque_permit, opaque_rules, open_by_permit, open_file_permit, open_permit, opened_or_created_permit, owns, removing, symlink_mode, symlink_permit, symlink_walk, unless, unlink_permit, unlink_rules, walk_end, whiteout_permit, whiteout_rules, write_permit, written_permit}
+use Rattle.vt_spec.proofs.Common.{Access, Creation, Exclusive, Judgement, Location, Looks, NoCreation, Node, OrCreate, Place, SetMark, Symlink, Task, ToChange, Whiteout, admin_rules, attr_at, attr_permit, attr_with_mode, attr_with_owner, chmod_permit, chown_permit, common_steps, create_file_permit, descriptor_rules, directory_mode, directory_walk, exact_attr, exclusive_word_rules, file_walk, file_word_rules, hard_link_permit, hard_link_rules, is_read_only, is_special, linking, make_permit, may_chown, mkdir_permit, new_attr, new_directory, new_leaf_walk, new_walk, object_there, object_walk, opaque_permit, opaque_rules, open_by_permit, open_file_permit, open_permit, opened_or_created_permit, owns, removing, symlink_mode, symlink_permit, unless, unlink_permit, unlink_rules, whiteout_permit, whiteout_rules, write_permit, written_permit}
 use Rattle.vt_laws_members.proofs.Common.{E1, E2}
 use Rattle.vt_spec.specs.Machine.Judge.{made_permit}
 use Rattle.vt_spec.specs.Machine.Rules.Descriptors.{copy_rules, is_copied_up}
@@ -60,11 +60,8 @@ module _ {one other : Looks ℕ} {task : Task ℕ} {own uses : ℕ → Bool} (al
 
   pub whiteout_alike : (path : List ℕ) → whiteout_permit nat_eq one task path ≡ whiteout_permit nat_eq other task path
   unfolding whiteout_permit
-  whiteout_alike path =
-      judged_alike IsPlaced (new_leaf_walk nat_eq one task path) (new_leaf_walk nat_eq other task path)
-      (λ place. whiteout_by place one) (λ place. whiteout_by place other)
-      (new_leaf_agrees alike.walks alike.directory alike.rules.removed path)
-      (λ place at. let on : own place.parent.mount ≡ true = at.0 in
+  whiteout_alike path = judged_alike IsPlaced _ _ _ _ (new_leaf_agrees alike.walks alike.directory alike.rules.removed
+      path) (λ place at. let on : own place.parent.mount ≡ true = at.0 in
       asked_alike (whiteout_by place) (λ looks. rw (is_read_only, on) refl))
 
   abbrev link_by : Location ℕ → Place ℕ → Looks ℕ → Judgement ℕ
@@ -75,15 +72,9 @@ module _ {one other : Looks ℕ} {task : Task ℕ} {own uses : ℕ → Bool} (al
   pub hard_link_alike : (old new : List ℕ)
       → hard_link_permit nat_eq one task old new ≡ hard_link_permit nat_eq other task old new
   unfolding hard_link_permit
-  hard_link_alike old new =
-      judged_alike StandsHere (symlink_walk nat_eq one task old) (symlink_walk nat_eq other task old)
-      (λ from. and_then (walk_end (new_leaf_walk nat_eq one task new)) (λ place. link_by from.location place one))
-      (λ from. and_then (walk_end (new_leaf_walk nat_eq other task new)) (λ place. link_by from.location place other))
-      (symlink_agrees alike.walks alike.directory alike.rules.removed old) (λ from there.
-      judged_alike IsPlaced (new_leaf_walk nat_eq one task new) (new_leaf_walk nat_eq other task new)
-      (λ place. link_by from.location place one) (λ place. link_by from.location place other)
-      (new_leaf_agrees alike.walks alike.directory alike.rules.removed new)
-      (λ place at. let on : own place.parent.mount ≡ true = at.0 in
+  hard_link_alike old new = judged_alike StandsHere _ _ _ _ (symlink_agrees alike.walks alike.directory
+      alike.rules.removed old) (λ from there. judged_alike IsPlaced _ _ _ _ (new_leaf_agrees alike.walks alike.directory
+      alike.rules.removed new) (λ place at. let on : own place.parent.mount ≡ true = at.0 in
       asked_alike (link_by from.location place) (λ looks. rw (is_read_only, there, on) refl)))
 
   written_by : (place : Place ℕ) → On place.parent.mount → (bytes : List ℕ) (o : Option (Location ℕ)) → IsFound o
@@ -118,10 +109,8 @@ module _ {one other : Looks ℕ} {task : Task ℕ} {own uses : ℕ → Bool} (al
 
   pub unlink_alike : (path : List ℕ) → unlink_permit nat_eq one task path ≡ unlink_permit nat_eq other task path
   unfolding unlink_permit
-  unlink_alike path = judged_alike IsPlaced (old_leaf_walk nat_eq one task path) (old_leaf_walk nat_eq other task path)
-      (λ place. unlink_by place (object_there place) one) (λ place. unlink_by place (object_there place) other)
-      (old_leaf_agrees alike.walks alike.directory alike.rules.removed path)
-      (λ place at. unlink_same place (object_there place) at.0 (there_own place at))
+  unlink_alike path = judged_alike IsPlaced _ _ _ _ (old_leaf_agrees alike.walks alike.directory alike.rules.removed
+      path) (λ place at. unlink_same place (object_there place) at.0 (there_own place at))
 
   -- Attributes
 

@@ -60,12 +60,8 @@ module _ {one other : Looks ℕ} (task : Task ℕ) (own : ℕ → Bool) {uses : 
   each_agrees : (paths : List (List ℕ))
       → Agree (λ list. Each At list) (each_walked nat_eq one task paths) (each_walked nat_eq other task paths)
   each_agrees [] = (refl, λ l m. absurd m)
-  each_agrees (path ∷ paths) = and_agree StandsThere (λ list. Each At list) (walk_end
-      (source_walk nat_eq one task path)) (walk_end (source_walk nat_eq other task path))
-      (λ here. and_then (each_walked nat_eq one task paths) (λ rest. Ok (here.location ∷ rest)))
-      (λ here. and_then (each_walked nat_eq other task paths) (λ rest. Ok (here.location ∷ rest))) (walked_one path)
-      (λ here on. and_agree (λ list. Each At list) (λ list. Each At list) (each_walked nat_eq one task paths)
-      (each_walked nat_eq other task paths) (λ rest. Ok (here.location ∷ rest)) (λ rest. Ok (here.location ∷ rest))
+  each_agrees (path ∷ paths) = and_agree StandsThere (λ list. Each At list) _ _ _ _ (walked_one path)
+      (λ here on. and_agree (λ list. Each At list) (λ list. Each At list) (each_walked nat_eq one task paths) _ _ _
       (each_agrees paths) (λ rest all. (refl, λ l m. ⊎_elim (λ first. rw first on) (λ later. all l later) m)))
 
   given_agrees : (path : Option (List ℕ))
@@ -113,14 +109,10 @@ module _ {one other : Looks ℕ} (task : Task ℕ) (own : ℕ → Bool) {uses : 
 
   module _ (layers : LayerLocations ℕ) (all : AreAt layers) where
     at_lower : Each At layers.lowers
-    at_lower l m =
-        all l (among-append_left (layers.lowers ++ option_to_list layers.upper) (option_to_list layers.work) l
-        (among-append_left layers.lowers (option_to_list layers.upper) l m))
+    at_lower l m = all l (among-append_left _ (option_to_list layers.work) l (among-append_left layers.lowers _ l m))
 
     at_upper : Each At (option_to_list layers.upper)
-    at_upper l m =
-        all l (among-append_left (layers.lowers ++ option_to_list layers.upper) (option_to_list layers.work) l
-        (among-append_right layers.lowers (option_to_list layers.upper) l m))
+    at_upper l m = all l (among-append_left _ _ l (among-append_right layers.lowers (option_to_list layers.upper) l m))
 
     at_work : Each At (option_to_list layers.work)
     at_work l m =

@@ -1,6 +1,6 @@
 -- rmdir(2) and rename(2) are judged alike.
 use Rattle.std.proofs.Common.{◌≡◌, refl, sym, ap, ◌∙◌, inl, inr, ℕ, nat_eq, Bool, true, false, ◌||◌, ◌&&◌, not, List, [], ◌∷◌, ◌++◌, Option, Some, None, Ok, option_to_list}
-use Rattle.vt_spec.proofs.Common.{Allowed, Judgement, Location, Looks, Place, Rules, Task, ToRemoveDirectory, ToRename, and_then, any_from_among, has_no_upper, holds_of, is_directory_there, is_mount_point_anywhere, is_mount_point_in, is_one_object, is_read_only, list_any, may_not, moving, name_of, object_there, old_leaf_walk, old_walk, old_word_rules, removing, rename_new_walk, rename_permit, renamed_permit, rmdir_permit, rmdir_word_rules, same_object_rules, unless, walk_end, write_right}
+use Rattle.vt_spec.proofs.Common.{Allowed, Judgement, Location, Looks, Place, Rules, Task, ToRemoveDirectory, ToRename, and_then, any_from_among, has_no_upper, holds_of, is_directory_there, is_mount_point_anywhere, is_mount_point_in, is_one_object, is_read_only, list_any, may_not, moving, name_of, object_there, old_leaf_walk, old_walk, old_word_rules, removing, rename_new_walk, rename_permit, renamed_permit, rmdir_permit, same_object_rules, unless, walk_end, write_right}
 use Rattle.vt_spec.specs.declared.errors.Rule.{Rule}
 use Rattle.vt_laws_members.proofs.Common.{B1, C1, C3, E2, E3, E4, E5, F1, F2, L1, O1, P1, P2, is_directory_at, mount_at}
 use Rattle.vt_spec.specs.Machine.Rules.Conditions.{is_kept, mounter_may_not}
@@ -52,14 +52,8 @@ module _ {one other : Looks ℕ} {task : Task ℕ} {own uses : ℕ → Bool} (al
 
   pub rmdir_alike : (path : List ℕ) → rmdir_permit nat_eq one task path ≡ rmdir_permit nat_eq other task path
   unfolding rmdir_permit
-  rmdir_alike path = judged_alike IsAt (old_walk nat_eq one task path) (old_walk nat_eq other task path)
-      (λ place. unless (rmdir_word_rules place) (rmdir_by place (object_there place)
-      (is_mount_point_in nat_eq one task.namespace (object_there place)) one))
-      (λ place. unless (rmdir_word_rules place) (rmdir_by place (object_there place)
-      (is_mount_point_in nat_eq other task.namespace (object_there place)) other))
-      (old_agrees alike.walks alike.directory alike.rules.removed path)
-      (λ place at. ap (unless (rmdir_word_rules place))
-      (rmdir_same place (object_there place) at.0 (there_own alike place at)))
+  rmdir_alike path = judged_alike IsAt (old_walk nat_eq one task path) _ _ _ (old_agrees alike.walks alike.directory
+      alike.rules.removed path) (λ place at. cc (rmdir_same place (object_there place) at.0 (there_own alike place at)))
 
   -- Renaming
 

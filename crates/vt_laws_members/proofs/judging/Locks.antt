@@ -58,8 +58,7 @@ module _ (a b : World ℕ) (number : ℕ) (same : filesystem_numbered nat_eq b n
       let at = any_among (lies_or_counts_under nat_eq a number object) (live_layers a) h in
       let from = among-from_flat_map (of_overlay [] layers_of) (overlays a) at.0 at.1 in
       let under = under_at object at.0 at.2 in
-      any_from_among (lies_or_counts_under nat_eq b number object) (live_layers b) at.0
-      (among-flat_map (of_overlay [] layers_of) (overlays b) from.0 at.0
+      any_from_among _ (live_layers b) at.0 (among-flat_map (of_overlay [] layers_of) (overlays b) from.0 at.0
       (within from.0 from.1 (has_layer number from.0 at.0 from.2 under.1)) from.2) under.0
 
 -- In a world, and in the part of a sealed set
@@ -71,8 +70,7 @@ module _ {world : World ℕ} {names : List TaskName} (sealing : IsSealed world n
       → is_among nat_eq merged.number (used_filesystems nat_eq world names) ≡ true → Among merged (overlays part)
   used_in_part merged m used =
       let from = among-from_filter is_overlay world.filesystems merged m in
-      among-filter is_overlay part.filesystems merged (among-filter_map (part_of_filesystem nat_eq world names)
-      world.filesystems merged merged from.0 (cc)) from.1
+      among-filter is_overlay part.filesystems merged (among-filter_map _ _ merged merged from.0 (cc)) from.1
 
   -- overlays with a layer in what they use alone are theirs
   pub alone_in_part : (number : ℕ) → used_alone nat_eq world names number ≡ true → (merged : Filesystem ℕ)
@@ -124,8 +122,7 @@ module _ {world : World ℕ} {names : List TaskName} (sealing : IsSealed world n
       ) in
       let tree = tree_there number layer.directory directory in
       let way = under_led (files_of number) tree.0 layer.directory object both.1 in
-      led_is_there (record { tree = (files_of number).tree; directory = layer.directory }) tree.0 directory way.0 object
-      way.1
+      led_is_there _ tree.0 directory way.0 object way.1
 
   counts_there : (number object : ℕ) (layer : Layer ℕ) (merged : Filesystem ℕ) → Among merged (overlays world)
       → counts_in_layer nat_eq world number object layer merged ≡ true
@@ -215,11 +212,8 @@ module _ {world : World ℕ} {names : List TaskName} (sealing : IsSealed world n
       let in_part : Among whole.merged (overlays part) = among_from_contains (overlays part) whole.merged
       (their_overlays_are_in_the_part world names whole.merged sealing.is
       (contains_from_among (overlays world) whole.merged whole.overlaid) whole.alone) in
-      any_from_among (lies_or_counts_under nat_eq part number object) (live_layers part) whole.layer
-      (among-flat_map (of_overlay [] layers_of) (overlays part) whole.merged whole.layer in_part whole.layered)
-      (or_left (lies_in_layer nat_eq part number object whole.layer) _ (and_from (nat_eq number whole.layer.filesystem)
-      (is_under nat_eq (filesystem_numbered nat_eq part number).files whole.layer.directory object)
-      (eq-eqb number whole.layer.filesystem whole.inside)
+      any_from_among _ (live_layers part) whole.layer (among-flat_map _ (overlays part) whole.merged whole.layer in_part
+      whole.layered) (or_left _ _ (and_from _ _ (eq-eqb number whole.layer.filesystem whole.inside)
       (ap (λ (f : Filesystem ℕ). is_under nat_eq f.files whole.layer.directory object) (found world names number used)
       ∙ subst (λ d. is_under nat_eq (files_of number) d object ≡ true) whole.at_root (whole.under object there))))
 

@@ -1,6 +1,6 @@
 -- What lower layers of overlays that members reach have at a path is in the part.
 use Rattle.std.proofs.Common.{◌≡◌, refl, sym, ap, ◌∙◌, inl, inr, ⊎_elim, ℕ, nat_eq, Bool, true, false, cond, not, List, [], ◌∷◌, ◌++◌, filter, find, flat_map, map, Option, Some, None, ◌||◌, ◌&&◌, eq-eqb, eqb-true, arith, option_to_list, unwrap_or, filter_map}
-use Rattle.vt_spec.proofs.Common.{cases_Bool, Among, FileTree, Filesystem, IsTree, IsWorld, Layer, ListsNumbers, Location, Node, Overlay, TaskName, World, among-append_left, among-append_right, among-filter, among-flat_map, among-map, among_from_all, among_numbers, and_from, any_from_among, change_layers, common_steps, cons_option, cuts, filesystem_at, filesystem_numbered, found_among, has_lower_directory, has_lower_directory_at, hides, is_among, is_among_numbers, is_directory_node, is_under, led, lies_in_layer, lies_in_own_lower, list_any, mount_at, no_filesystem, node_led, none_is_some, of_overlay, open_layer, overlay_or, own_lowers, part_of, part_of_filesystem, part_of_lower, path_down, prefixes, used_directly, used_filesystems, view_of, when}
+use Rattle.vt_spec.proofs.Common.{cases_Bool, Among, FileTree, Filesystem, IsTree, IsWorld, Layer, ListsNumbers, Location, Node, Overlay, TaskName, World, among-append_left, among-append_right, among-filter, among-flat_map, among-map, among_from_all, among_numbers, and_from, any_from_among, change_layers, common_steps, cons_option, cuts, filesystem_at, filesystem_numbered, found_among, has_lower_directory, has_lower_directory_at, hides, is_among, is_among_numbers, is_directory_node, led, lies_in_own_lower, list_any, mount_at, no_filesystem, node_led, none_is_some, open_layer, overlay_or, own_lowers, part_of, part_of_filesystem, part_of_lower, path_down, prefixes, used_directly, used_filesystems, view_of, when}
 use Rattle.vt_laws_members.proofs.Common.{cases_Option, among-each_once, found, found_filesystem, layer_directory, led_is_there, led_under, lowers_have_directory, shown_how}
 use Rattle.vt_laws_trees.proofs.layers.views.Stay.{led_where}
 use Rattle.vt_laws_members.proofs.judging.SeenInPart.{OnTheirs, filesystem_alike, theirs_directly}
@@ -42,13 +42,9 @@ module _ (world : World ℕ) (names : List TaskName) (is : IsWorld nat_eq world)
         in_chosen : (object : ℕ) (way : List (List ℕ)) → led x.files.tree layer.directory way ≡ Some object
             → is_among nat_eq object (filter (lies_in_own_lower nat_eq world names x.number) x.files.numbers) ≡ true
         in_chosen object way e = is_among_numbers (filter (lies_in_own_lower nat_eq world names x.number)
-            x.files.numbers) object (among-filter (lies_in_own_lower nat_eq world names x.number) x.files.numbers object
-            (among_numbers x.files.numbers object (listed object ∙ led_is_there
-            (record { tree = x.files.tree; directory = layer.directory }) tree top way object e))
-            (any_from_among (lies_in_layer nat_eq world x.number object) lowers layer low
-            (and_from (nat_eq x.number layer.filesystem) (is_under nat_eq
-            (filesystem_numbered nat_eq world x.number).files layer.directory object)
-            (eq-eqb x.number layer.filesystem (sym its)) (cc (
+            x.files.numbers) object (among-filter _ x.files.numbers object (among_numbers x.files.numbers object
+            (listed object ∙ led_is_there _ tree top way object e)) (any_from_among _ lowers layer low
+            (and_from (nat_eq x.number layer.filesystem) _ (eq-eqb x.number layer.filesystem (sym its)) (cc (
               itself,
               led_under x.files tree layer.directory listed top
                   object (way, e),
@@ -168,9 +164,7 @@ module _ (world : World ℕ) (names : List TaskName) (is : IsWorld nat_eq world)
 
     module _ (overlay : Overlay ℕ) (e : merged.overlay ≡ Some overlay) where
       lower_low : (layer : Layer ℕ) → Among layer overlay.lowers → Among layer lowers
-      lower_low layer m =
-          among-flat_map (λ n. of_overlay [] (λ (o : Overlay ℕ). o.lowers) (filesystem_numbered nat_eq world n))
-          (used_directly nat_eq world names) number layer (theirs_directly world names is here own) (rw e m)
+      lower_low layer m = among-flat_map _ _ number layer (theirs_directly world names is here own) (rw e m)
 
       lower_alike : (layer : Layer ℕ) → Among layer overlay.lowers → ViewsAlike layer
       lower_alike layer m path = lower_view layer (lower_low layer m) (layer_directory world names is merged
@@ -179,12 +173,10 @@ module _ (world : World ℕ) (names : List TaskName) (is : IsWorld nat_eq world)
 
       pub upper_used : (layer : Layer ℕ) → Among layer (option_to_list overlay.upper)
           → is_among nat_eq layer.filesystem used ≡ true
-      upper_used layer m = is_among_numbers used layer.filesystem (among-each_once
-          (used_directly nat_eq world names ++ flat_map (λ n. change_layers (filesystem_numbered nat_eq world n))
-          (used_directly nat_eq world names)) layer.filesystem (among-append_right (used_directly nat_eq world names)
-          (flat_map (λ n. change_layers (filesystem_numbered nat_eq world n)) (used_directly nat_eq world names))
-          layer.filesystem (among-flat_map (λ n. change_layers (filesystem_numbered nat_eq world n))
-          (used_directly nat_eq world names) number layer.filesystem (theirs_directly world names is here own)
+      upper_used layer m = is_among_numbers used layer.filesystem (among-each_once _ layer.filesystem
+          (among-append_right (used_directly nat_eq world names) (flat_map
+          (λ n. change_layers (filesystem_numbered nat_eq world n)) (used_directly nat_eq world names)) layer.filesystem
+          (among-flat_map _ _ number layer.filesystem (theirs_directly world names is here own)
           (rw e (among-map (λ (l : Layer ℕ). l.filesystem) (option_to_list overlay.upper ++ option_to_list overlay.work)
           layer (among-append_left (option_to_list overlay.upper) (option_to_list overlay.work) layer m))))))
 

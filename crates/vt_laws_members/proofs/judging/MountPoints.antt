@@ -1,5 +1,5 @@
 -- Which mounts are on what members reach is the same in the part.
-use Rattle.std.proofs.Common.{◌≡◌, refl, sym, ap, ◌∙◌, inl, inr, ⊎_elim, ℕ, nat_eq, Bool, true, false, ◌⊎◌, List, [], ◌∷◌, Some, None, ◌||◌, ◌&&◌, eqb-true, arith}
+use Rattle.std.proofs.Common.{◌≡◌, refl, sym, ◌∙◌, inl, inr, ⊎_elim, ℕ, nat_eq, Bool, true, false, ◌⊎◌, List, [], ◌∷◌, Some, None, ◌||◌, ◌&&◌, eqb-true, arith}
 use Rattle.vt_spec.proofs.Common.{Among, IsWorld, Location, Mount, Task, TaskName, World, among-filter, among-filter_map, among-from_filter, among-from_filter_map, among-from_flat_map, any_among, any_from_among, common_steps, holds_of, is_at, is_point, list_any, locations, looks_of, members, mount_at, mounts_on, none_is_some, or_left, or_right, part_of, points_of, roots_and_directories, same_Some, same_truth, seen_by_descriptor, when}
 use Rattle.vt_laws_members.proofs.Common.{cases_Option, is_own, keep, kept_how, kept_whole, numbered}
 use Rattle.vt_laws_members.specs.Judging.{is_theirs}
@@ -85,26 +85,24 @@ module _ (world : World ℕ) (names : List TaskName) (is : IsWorld nat_eq world)
       → ((mount : Mount ℕ) → Among mount world.mounts → stands_on_one world (points_of nat_eq world here) mount ≡ true
       → test mount ≡ true → owns mount ≡ true)
       → list_any test (mounts_on nat_eq world here) ≡ list_any test (mounts_on nat_eq part here)
-  found_alike test none here own theirs_all = same_truth (list_any test (mounts_on nat_eq world here))
-      (list_any test (mounts_on nat_eq part here)) (λ h. let at = any_among test (mounts_on nat_eq world here) h in let
-      from = among-from_filter (stands_on_one world (points_of nat_eq world here)) world.mounts at.0 at.1 in let its :
-      owns at.0 ≡ true = theirs_all at.0 from.0 from.1 at.2 in any_from_among test (mounts_on nat_eq part here) at.0
-      (among-filter (stands_on_one part (points_of nat_eq part here)) part.mounts at.0
-      (among-filter_map (keep world names theirs) world.mounts at.0 at.0 from.0
-      (kept_whole world names theirs at.0 (or_left (owns at.0) (is_at nat_eq (roots_and_directories theirs) at.0) its)))
-      (ap (λ points. stands_on_one part points at.0) (points_same here own) ∙ all_same at.0 from.0 its
-      (points_of nat_eq world here) ∙ from.1)) at.2) (λ h. let at = any_among test (mounts_on nat_eq part here) h in let
-      from = among-from_filter (stands_on_one part (points_of nat_eq part here)) part.mounts at.0 at.1 in let kept =
+  found_alike test none here own theirs_all = same_truth _ _ (λ h. let at = any_among test (mounts_on nat_eq world here)
+      h in let from = among-from_filter (stands_on_one world (points_of nat_eq world here)) world.mounts at.0 at.1
+      in let its : owns at.0 ≡ true = theirs_all at.0 from.0 from.1 at.2 in any_from_among test _ at.0
+      (among-filter _ part.mounts at.0 (among-filter_map (keep world names theirs) world.mounts at.0 at.0 from.0
+      (kept_whole world names theirs at.0 (or_left _ _ its))) (cc (
+        points_same here own,
+        all_same at.0 from.0 its
+            (points_of nat_eq world here),
+      ))) at.2) (λ h. let at = any_among test (mounts_on nat_eq part here) h in let from =
+      among-from_filter (stands_on_one part (points_of nat_eq part here)) part.mounts at.0 at.1 in let kept =
       among-from_filter_map (keep world names theirs) world.mounts at.0 from.0 in ⊎_elim
-      (λ own. ⊎_elim (λ same. by at.0 at.2 from.1 (rw (← same) kept.1) own)
-      (λ stub. cc (at.2, none at.0 (ap (λ (x : Mount ℕ). x.namespace) (sym stub.0))))
+      (λ own. ⊎_elim (λ same. by at.0 at.2 from.1 (rw (← same) kept.1) own) (λ stub. cc (at.2, none at.0 (cc)))
       (kept_how world names theirs kept.0 at.0 kept.2)) (λ detached. cc (at.2, none at.0 detached))
       (part_mount kept.0 at.0 kept.1 kept.2))
     where
       by : (mount : Mount ℕ) → test mount ≡ true → stands_on_one part (points_of nat_eq part here) mount ≡ true
           → Among mount world.mounts → owns mount ≡ true → list_any test (mounts_on nat_eq world here) ≡ true
-      by mount passes on m its = any_from_among test (mounts_on nat_eq world here) mount
-          (among-filter (stands_on_one world (points_of nat_eq world here)) world.mounts mount m
+      by mount passes on m its = any_from_among test _ mount (among-filter _ world.mounts mount m
           (cc (all_same mount m its (points_of nat_eq world here), points_same here own))) passes
 
   module _ (task : Task ℕ) (member : Among task theirs) where

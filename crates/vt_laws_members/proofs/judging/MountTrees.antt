@@ -32,8 +32,7 @@ module _ (world : World ℕ) (names : List TaskName) (is : IsWorld nat_eq world)
   owns = is_own world names theirs
 
   pub own_whole : (mount : Mount ℕ) → owns mount ≡ true → kept mount ≡ Some mount
-  own_whole mount own = kept_whole world names theirs mount
-      (or_left (owns mount) (is_at nat_eq (roots_and_directories theirs) mount) own)
+  own_whole mount own = kept_whole world names theirs mount (or_left (owns mount) _ own)
 
   -- a mount of theirs, by its number
   pub own_theirs : (mount : Mount ℕ) → Among mount world.mounts → owns mount ≡ true
@@ -66,18 +65,15 @@ module _ (world : World ℕ) (names : List TaskName) (is : IsWorld nat_eq world)
       → any_pair (λ (a b : Mount ℕ). nat_eq a.number b.number) (filter_map kept list) ≡ false
   apart [] e = refl
   apart (x ∷ rest) e =
-      let parts = or_parts (list_any (λ (b : Mount ℕ). nat_eq x.number b.number) rest)
-      (any_pair (λ (a b : Mount ℕ). nat_eq a.number b.number) rest) e in
+      let parts = or_parts (list_any (λ (b : Mount ℕ). nat_eq x.number b.number) rest) _ e in
       by (kept x) refl parts.0 (apart rest parts.1)
     where
       by : (o : Option (Mount ℕ)) → kept x ≡ o → list_any (λ (b : Mount ℕ). nat_eq x.number b.number) rest ≡ false
           → any_pair (λ (a b : Mount ℕ). nat_eq a.number b.number) (filter_map kept rest) ≡ false
           → any_pair (λ (a b : Mount ℕ). nat_eq a.number b.number) (cons_option o (filter_map kept rest)) ≡ false
       by None f none later = later
-      by (Some y) f none later = or_from (list_any (λ (b : Mount ℕ). nat_eq y.number b.number) (filter_map kept rest))
-          (any_pair (λ (a b : Mount ℕ). nat_eq a.number b.number) (filter_map kept rest))
-          (none_from_among (λ (b : Mount ℕ). nat_eq y.number b.number) (filter_map kept rest)
-          (λ z m. let from = among-from_filter_map kept rest z m in cc (
+      by (Some y) f none later = or_from _ _ (none_from_among (λ (b : Mount ℕ). nat_eq y.number b.number)
+          (filter_map kept rest) (λ z m. let from = among-from_filter_map kept rest z m in cc (
             kept_number x y f,
             kept_number from.0 z from.2,
             none_among (λ (b : Mount ℕ). nat_eq x.number b.number) rest none from.0 from.1,

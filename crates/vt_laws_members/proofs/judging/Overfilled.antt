@@ -195,9 +195,8 @@ module _ {world : World ℕ} {names : List TaskName} (sealing : IsSealed world n
     pub bind_overfills : (fresh other : Fresh ℕ) (task : Task ℕ) (source : Location ℕ) (recursive : Bool)
         → On source.mount → overfills nat_eq fresh world task (ToBind source place recursive)
         ≡ overfills nat_eq other part task (ToBind source place recursive)
-    bind_overfills fresh other task source recursive from =
-        copies_alike world part refl refl refl refl refl refl fresh other (bind_tree nat_eq world source recursive)
-        (bind_tree nat_eq part source recursive) (cc (bind_alike world names sealing.is source recursive from))
+    bind_overfills fresh other task source recursive from = copies_alike world part refl refl refl refl refl refl fresh
+        other _ (bind_tree nat_eq part source recursive) (cc (bind_alike world names sealing.is source recursive from))
 
     -- a tree of theirs that moves
     module _ (number : ℕ) (source : Among (mount_numbered nat_eq world number) world.mounts)

@@ -23,10 +23,9 @@ module _ {world : World ℕ} {names : List TaskName} (sealing : IsSealed world n
   Whole = wholly_locked nat_eq world names number ≡ true
 
   how : {A : Type 0} → (Alone → A) → (Whole → A) → A
-  how alone whole = ⊎_elim alone whole
-      (or_cases (used_alone nat_eq world names number) (wholly_locked nat_eq world names number)
-      (used_are_free world names sealing.sealed_off number (among_numbers (used_filesystems nat_eq world names) number
-      used)))
+  how alone whole = ⊎_elim alone whole (or_cases (used_alone nat_eq world names number)
+      (wholly_locked nat_eq world names number) (used_are_free world names sealing.sealed_off number
+      (among_numbers _ number used)))
 
   same : filesystem_numbered nat_eq part number ≡ filesystem_numbered nat_eq world number
   same = found world names number used

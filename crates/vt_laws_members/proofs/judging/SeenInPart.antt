@@ -1,6 +1,6 @@
 -- What members see on the mounts that they get to is what their part shows.
 use Rattle.std.proofs.Common.{◌≡◌, refl, sym, ap, subst, ◌∙◌, inl, inr, ⊎_elim, ℕ, nat_eq, Bool, true, List, [], ◌∷◌, Option, Some, map, eq-eqb, eqb-true, arith, option_to_list}
-use Rattle.vt_spec.proofs.Common.{Among, IsWorld, Location, Mount, Task, TaskName, World, all_locations, among-append_left, among-append_right, among-filter, among-flat_map, among-from_filter, among-from_flat_map, among-from_map, among-map, among_from_contains, among_from_list_all, and_parts, any_among, any_from_among, common_steps, filesystem_at, filesystem_numbered, hops, is_among, is_at, is_directory_at, is_directory_seen_in, is_directory_under, is_located_well, is_member_task, is_own_mount, is_there, list_all, locations, locations_of, looks_of, members, mount_at, mount_numbered, none_is_some, own_mounts, part_of, roots_and_directories, stands_on_directories, used_directly, used_filesystems}
+use Rattle.vt_spec.proofs.Common.{Among, IsWorld, Location, Mount, Task, TaskName, World, all_locations, among-append_left, among-append_right, among-filter, among-flat_map, among-from_filter, among-from_flat_map, among-from_map, among-map, among_from_contains, among_from_list_all, and_parts, any_among, any_from_among, common_steps, filesystem_at, filesystem_numbered, hops, is_among, is_at, is_directory_at, is_directory_seen_in, is_directory_under, is_located_well, is_member_task, is_there, list_all, locations, locations_of, looks_of, members, mount_at, mount_numbered, none_is_some, own_mounts, part_of, roots_and_directories, stands_on_directories, used_directly, used_filesystems}
 use Rattle.vt_laws_members.proofs.Common.{Each, found, hop, numbered, used_directly_used}
 use Rattle.vt_laws_sealed.specs.Part.Walks.{AreOn}
 use Rattle.vt_laws_members.specs.Judging.{MembersSeeAlike, is_theirs}
@@ -36,15 +36,11 @@ module _ (world : World ℕ) (names : List TaskName) (is : IsWorld nat_eq world)
 
   ground_directly : (mount : Mount ℕ) → Among mount world.mounts → IsGround world names is.mounts mount
       → Among mount.filesystem (used_directly nat_eq world names)
-  ground_directly mount m ground = ⊎_elim
-      (λ own. among-append_left (map (λ (mount : Mount ℕ). mount.filesystem) (own_mounts nat_eq world names))
-      (map (λ location. (mount_at nat_eq world location).filesystem) (locations theirs)) mount.filesystem
-      (among-map (λ (mount : Mount ℕ). mount.filesystem) (own_mounts nat_eq world names) mount
-      (among-filter (is_own_mount nat_eq world names) world.mounts mount m own))) (λ stood.
+  ground_directly mount m ground = ⊎_elim (λ own. among-append_left _ _ mount.filesystem
+      (among-map _ (own_mounts nat_eq world names) mount (among-filter _ world.mounts mount m own))) (λ stood.
       let at = any_among (λ (l : Location ℕ). nat_eq l.mount mount.number) (roots_and_directories theirs) stood.1 in
       let it : mount_at nat_eq world at.0 ≡ mount =
-      ap (mount_numbered nat_eq world) (eqb-true at.0.mount mount.number at.2)
-      ∙ numbered world names is.mounts mount m in
+      cc (eqb-true at.0.mount mount.number at.2, numbered world names is.mounts mount m) in
       subst (λ (x : Mount ℕ). Among x.filesystem (used_directly nat_eq world names)) it
       (located_directly at.0 (located at.0 at.1))) ground
 
@@ -53,8 +49,7 @@ module _ (world : World ℕ) (names : List TaskName) (is : IsWorld nat_eq world)
   theirs_directly here own = rw (its_mount world names is.mounts here.mount own) (ground_directly own.0 own.1 own.3)
 
   pub theirs_used : (here : Location ℕ) → OnTheirs here → uses (mount_at nat_eq world here).filesystem ≡ true
-  theirs_used here own =
-      used_directly_used world names (mount_at nat_eq world here).filesystem (theirs_directly here own)
+  theirs_used here own = used_directly_used world names _ (theirs_directly here own)
 
   pub mount_alike : (here : Location ℕ) → OnTheirs here → mount_at nat_eq world here ≡ mount_at nat_eq part here
   mount_alike here own = sym (same_mount world names is.mounts here.mount own)

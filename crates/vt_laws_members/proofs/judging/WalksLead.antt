@@ -61,9 +61,7 @@ module _ {one other : Looks ℕ} {task : Task ℕ} {Own : ℕ → Type 0} (alike
   text_agrees : {B : Type 0} (R : B → Type 0) (path : List ℕ) (f g : List ℕ → Result B (Stop ℕ))
       → ((text : List ℕ) → Agree R (f text) (g text))
       → Agree R (then_walk (path_text path) f) (then_walk (path_text path) g)
-  text_agrees R path f g next =
-      then_agree (λ text. Unit {0}) R (path_text path) (path_text path) f g (refl, ok_any (path_text path))
-      (λ text any. next text)
+  text_agrees R path f g next = then_agree _ R (path_text path) _ f g (refl, ok_any _) (λ text any. next text)
 
   path_agrees : (path : List ℕ) → Agree HereAt (path_walked nat_eq one task path) (path_walked nat_eq other task path)
   path_agrees path = text_agrees HereAt path
@@ -79,9 +77,7 @@ module _ {one other : Looks ℕ} {task : Task ℕ} {Own : ℕ → Type 0} (alike
 
   pub object_agrees : (path : List ℕ)
       → Agree HereAt (object_walk nat_eq one task path) (object_walk nat_eq other task path)
-  object_agrees path = then_agree HereAt HereAt (path_walked nat_eq one task path) (path_walked nat_eq other task path)
-      (λ here. walk_unless here.steps (slash_rules nat_eq one path here.location) here)
-      (λ here. walk_unless here.steps (slash_rules nat_eq other path here.location) here) (path_agrees path)
+  object_agrees path = then_agree HereAt HereAt (path_walked nat_eq one task path) _ _ _ (path_agrees path)
       (λ here own. unless_same HereAt here.steps _ _ here (same_slash path here.location own) own)
 
   pub directory_agrees : (path : List ℕ)
@@ -97,8 +93,7 @@ module _ {one other : Looks ℕ} {task : Task ℕ} {Own : ℕ → Type 0} (alike
       → Agree HereAt (prefix_walked nat_eq one task (followed nat_eq one task) here list)
       (prefix_walked nat_eq other task (followed nat_eq other task) here list)
   prefix_agrees here own [] = (refl, own)
-  prefix_agrees here own (word ∷ prefix) = words_agree one other task Own alike (followed nat_eq one task)
-      (followed nat_eq other task) follows here own prefix
+  prefix_agrees here own (word ∷ prefix) = words_agree one other task Own alike _ _ follows here own prefix
 
   last_agrees : (here : Here ℕ) → HereAt here → (word : LastWord)
       → Agree HereAt (last_walked nat_eq one task here word) (last_walked nat_eq other task here word)
@@ -200,10 +195,8 @@ module _ {one other : Looks ℕ} {task : Task ℕ} {Own : ℕ → Type 0} (alike
   same_new_name place at = cc (removed place.parent at.0)
 
   pub new_agrees : (path : List ℕ) → Agree PlaceAt (new_walk nat_eq one task path) (new_walk nat_eq other task path)
-  new_agrees path = then_agree PlaceAt PlaceAt (place_walk nat_eq one task path) (place_walk nat_eq other task path)
-      (λ place. walk_unless place.steps (new_name_rules nat_eq one place) place)
-      (λ place. walk_unless place.steps (new_name_rules nat_eq other place) place) (place_agrees path)
-      (λ place at. unless_same PlaceAt place.steps _ _ place (same_new_name place at) at)
+  new_agrees path = then_agree PlaceAt PlaceAt (place_walk nat_eq one task path) (place_walk nat_eq other task path) _ _
+      (place_agrees path) (λ place at. unless_same PlaceAt place.steps _ _ place (same_new_name place at) at)
 
   pub new_leaf_agrees : (path : List ℕ)
       → Agree PlaceAt (new_leaf_walk nat_eq one task path) (new_leaf_walk nat_eq other task path)
@@ -226,10 +219,7 @@ module _ {one other : Looks ℕ} {task : Task ℕ} {Own : ℕ → Type 0} (alike
 
   pub old_leaf_agrees : (path : List ℕ)
       → Agree PlaceAt (old_leaf_walk nat_eq one task path) (old_leaf_walk nat_eq other task path)
-  old_leaf_agrees path = then_agree PlaceAt PlaceAt (old_walk nat_eq one task path) (old_walk nat_eq other task path)
-      (λ place. walk_unless place.steps ((place.slash && not (is_directory_there nat_eq one place), W3) ∷ []) place)
-      (λ place. walk_unless place.steps ((place.slash && not (is_directory_there nat_eq other place), W3) ∷ []) place)
-      (old_agrees path) (λ place at. unless_same PlaceAt place.steps _ _ place
+  old_leaf_agrees path = then_agree _ _ _ _ _ _ (old_agrees path) (λ place at. unless_same PlaceAt place.steps _ _ place
       (ap (λ b. (place.slash && not b, W3) ∷ []) (same_directory_there place at)) at)
 
   pub rename_new_agrees : (path : List ℕ) (was : Bool)

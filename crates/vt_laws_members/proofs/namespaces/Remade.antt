@@ -170,9 +170,8 @@ module _ (it : Remaking) (does : ChangesTheirs it) (moves : MovesTheirs it) wher
       → ((owns old m || stands old m) ≡ true) ⊎ (at old m ≡ true)
   at_was m n h =
       let l = any_among (λ (l : Location ℕ). nat_eq l.mount m.number) (locations new) h in
-      ⊎_elim
-      (λ before. inr (any_from_among (λ (l : Location ℕ). nat_eq l.mount m.number) (locations old) l.0 before l.2))
-      (λ on. inl (whole_at m n l.0 l.2 on)) (moves.places l.0 l.1)
+      ⊎_elim (λ before. inr (any_from_among _ (locations old) l.0 before l.2)) (λ on. inl (whole_at m n l.0 l.2 on))
+      (moves.places l.0 l.1)
 
   less_whole : (m : Mount ℕ) → Among m world.mounts → (owns old m || stands old m) ≡ false
       → (owns new m || stands new m) ≡ false
@@ -201,8 +200,7 @@ module _ (it : Remaking) (does : ChangesTheirs it) (moves : MovesTheirs it) wher
           ∙ ap (keep world names new) (does.others m n (or_parts (owns old m) (stands old m) e).0).1
           ∙ ap (λ c. cond c (Some (stub m)) (when (at new m) (stub m)))
           (or_parts (owns new m) (stands new m) (less_whole m n e)).1 ∙ sym (after e)
-      by false e false f true g =
-          absurd (⊎_elim (λ whole. true≢false (sym whole ∙ e)) (λ there. true≢false (sym there ∙ f)) (at_was m n g))
+      by false e false f true g = absurd (⊎_elim (λ whole. true≢false (cc)) (λ there. true≢false (cc)) (at_was m n g))
       by false e false f false g = cc (after e)
 
   mounts_less : filter_map (keep world names new) v_part.mounts ≡ filter_map (keep world names new) v.mounts
@@ -275,9 +273,7 @@ module _ (it : Remaking) (does : ChangesTheirs it) (moves : MovesTheirs it) wher
       → ((m : Mount ℕ) × Among m world.mounts × (l.mount ≡ m.number) × (y : Mount ℕ)
       × (keep world names old m ≡ Some y)) ⊎ OnAdded it.plan l
   place_shown l m = ⊎_elim (λ before. let on = placed_old l before in
-      let shown = shown_at world names on.0
-      (any_from_among (λ (p : Location ℕ). nat_eq p.mount on.0.number) (locations old) l
-      before (eq-eqb l.mount on.0.number on.2)) in
+      let shown = shown_at world names on.0 (any_from_among _ _ l before (eq-eqb l.mount on.0.number on.2)) in
       inl (on.0, on.1, on.2, shown.0, shown.1)) (λ rest. ⊎_elim (λ on. inl (
         on.0,
         on.1,
@@ -302,13 +298,11 @@ module _ (it : Remaking) (does : ChangesTheirs it) (moves : MovesTheirs it) wher
       (among-append_right mounted (map shows (locations old)) (shows l) (among-map shows (locations old) l before)))
       (λ rest. ⊎_elim (λ on. rw (filesystem_after on.0 on.1 l (sym on.2)) (theirs_directly world names it.is l on))
       (λ fresh. let y = fresh.0 in let there = among-append_right (map turn world.mounts) it.plan.added y fresh.1 in
-      shown_was y there (does.owned y fresh.1) (mount_at nat_eq v l).filesystem (cc (shown_after y there l fresh.2)))
-      rest) (moves.places l m)
+      shown_was y there (does.owned y fresh.1) _ (cc (shown_after y there l fresh.2))) rest) (moves.places l m)
 
   direct_was : (n : ℕ) → Among n (used_directly nat_eq v names) → Among n (used_directly nat_eq world names)
-  direct_was n m = ⊎_elim (λ shown. let y = among-from_map (λ (m : Mount ℕ). m.filesystem) (own_mounts nat_eq v names) n
-      shown in let own = among-from_filter (owns new) v.mounts y.0 y.1 in shown_was y.0 own.0 own.1 n y.2)
-      (λ placed. let l = among-from_map (λ (l : Location ℕ). (mount_at nat_eq v l).filesystem) (locations new) n placed
+  direct_was n m = ⊎_elim (λ shown. let y = among-from_map _ _ n shown in let own = among-from_filter (owns new)
+      v.mounts y.0 y.1 in shown_was y.0 own.0 own.1 n y.2) (λ placed. let l = among-from_map _ (locations new) n placed
       in rw l.2 (located_was l.0 l.1)) (among-append (map (λ (m : Mount ℕ). m.filesystem) (own_mounts nat_eq v names))
       (map (λ (l : Location ℕ). (mount_at nat_eq v l).filesystem) (locations new)) n m)
 

@@ -56,17 +56,13 @@ module _ (it : Remaking) (does : ChangesTheirs it) (moves : MovesTheirs it) wher
 
   located_so : (l : Location ℕ) → Among l (locations new) → (y : Mount ℕ) × Among y living.mounts × (l.mount ≡ y.number)
   located_so l m = ⊎_elim (λ on. let there = among-filter_map kept world.mounts on.0 on.3 on.1 on.4 in
-      let number : l.mount ≡ (turn on.3).number =
-      on.2 ∙ sym (number_kept on.0 on.3 on.4) ∙ sym (does.shape on.3).number in (
+      let number : l.mount ≡ (turn on.3).number = cc (number_kept on.0 on.3 on.4, (does.shape on.3).number) in (
         turn on.3,
-        located_lives after (turn on.3) l
-            (among-append_left (map turn part.mounts) it.plan.added (turn on.3) (among-map turn part.mounts on.3 there))
-            all number,
+        located_lives after (turn on.3) l (among-append_left _ _ (turn on.3) (among-map turn _ on.3 there)) all number,
         number,
       )) (λ fresh. (
         fresh.0,
-        located_lives after fresh.0 l
-            (among-append_right (map turn part.mounts) it.plan.added fresh.0 fresh.1) all fresh.2,
+        located_lives after _ l (among-append_right (map turn part.mounts) it.plan.added fresh.0 fresh.1) all fresh.2,
         fresh.2,
       )) (place_shown it does moves l (rw (← moves.same) m))
     where
@@ -90,8 +86,7 @@ module _ (it : Remaking) (does : ChangesTheirs it) (moves : MovesTheirs it) wher
       (kept_how world names old from.0 z from.2))
 
   fits : (y : Mount ℕ) → Among y living.mounts → Fits y
-  fits y n =
-      ⊎_elim (λ turned. let from = among-from_map turn part.mounts y turned in rw from.2 (in_or_out from.0 from.1))
+  fits y n = ⊎_elim (λ turned. let from = among-from_map turn _ y turned in rw from.2 (in_or_out from.0 from.1))
       (λ fresh. in_new y (inl (does.owned y fresh))) (among-append (map turn part.mounts) it.plan.added y (was y n))
 
   alone : (number : ℕ) → NoOthers living names number

@@ -36,9 +36,7 @@ module _ (b : World ℕ) (kept : MountInvariants nat_eq b) where
   settled_members y n g e =
       let z = any_among (is_member_of nat_eq g) b.mounts (live_members b.master (has_members nat_eq b.mounts) g
       (among_from_all (HasLivingGroups nat_eq b) b.mounts kept.groups y n g e)) in
-      any_from_among (is_member_of nat_eq g) (filter (mount_lives nat_eq b) b.mounts) z.0
-      (among-filter (mount_lives nat_eq b) b.mounts z.0 z.1
-      (or_left (is_some z.0.namespace) (is_located nat_eq b z.0.number) (member_attached z.0 z.1 g z.2))) z.2
+      any_from_among _ _ z.0 (among-filter _ b.mounts z.0 z.1 (or_left _ _ (member_attached z.0 z.1 g z.2))) z.2
 
 module _ (it : Remaking) (does : ChangesTheirs it) (moves : MovesTheirs it) where
   abbrev world : World ℕ

@@ -1,6 +1,6 @@
 -- Where mounts of theirs change and new ones come, the world is ready to be swept.
 use Rattle.std.proofs.Common.{arith, ◌≡◌, refl, sym, ap, ◌∙◌, ◌⊎◌, inl, inr, ⊎_elim, ℕ, nat_eq, true, true≢false, List, Option, None, filter, map, not, eq-eqb, eqb-true}
-use Rattle.vt_spec.proofs.Common.{Among, Location, Mount, Task, TaskName, World, all_locations, among-append, among-append_right, among-filter, among-flat_map, among-from_filter, among-from_flat_map, among-from_map, among_numbers, and_parts, any_among, common_steps, holds_of, is_at, is_member_task, list_any, locations, locations_of, members, mount_at, mount_lives, no_outsider_on, none_among, or_cases, outsiders, own_lowers, pair-filter, roots_and_directories, used_alone, used_filesystems, wholly_locked, without_dead_mounts}
+use Rattle.vt_spec.proofs.Common.{Among, Location, Mount, Task, TaskName, World, all_locations, among-append, among-append_right, among-filter, among-flat_map, among-from_filter, among-from_flat_map, among-from_map, among_numbers, and_parts, any_among, common_steps, is_at, is_member_task, locations, locations_of, members, mount_at, mount_lives, no_outsider_on, none_among, or_cases, outsiders, own_lowers, pair-filter, roots_and_directories, used_alone, used_filesystems, wholly_locked, without_dead_mounts}
 use Rattle.vt_laws_members.proofs.Common.{OneNumberEach, found_itself, is_own, lowers_same, used_are_free, used_same}
 use Rattle.vt_laws_members.proofs.judging.Common.{IsTheirs}
 use Rattle.vt_laws_members.proofs.changes.letting_go.Changed.{mount_under}
@@ -48,8 +48,7 @@ module _ (it : Remaking) (does : ChangesTheirs it) (moves : MovesTheirs it) wher
   own_after m n own = ⊎_elim inr (λ stays. inl (cc (stays.0, stays.1))) (does.placed m n own)
 
   pub none_after : (m : Mount ℕ) → Among m world.mounts → m.namespace ≡ None → Fits (turn m)
-  none_after m n none =
-      inr (cc ((does.others m n (ap (holds_of (λ i. list_any (λ (t : Task ℕ). nat_eq i t.namespace) old)) none)).0))
+  none_after m n none = inr (cc ((does.others m n (cc)).0))
 
   -- where others have no foothold
   module _ (number : ℕ) (none : no_outsider_on nat_eq world names number ≡ true) where
@@ -96,8 +95,7 @@ module _ (it : Remaking) (does : ChangesTheirs it) (moves : MovesTheirs it) wher
   located_so l m = ⊎_elim (λ before. let on = placed_old it does moves l before in of_before on.0 on.1 on.2)
       (λ rest. ⊎_elim (λ on. of_before on.0 on.1 (sym on.2)) (λ fresh. (
         fresh.0,
-        located_lives after fresh.0 l
-            (among-append_right (map turn world.mounts) it.plan.added fresh.0 fresh.1) all fresh.2,
+        located_lives after _ l (among-append_right (map turn world.mounts) it.plan.added fresh.0 fresh.1) all fresh.2,
         fresh.2,
       )) rest) (moves.places l m)
     where

@@ -40,17 +40,15 @@ last_itself next (suc n) l e = cc (chain_ends next n l e)
 pub new_among_spaces : (w : World ℕ) (fresh : Fresh ℕ) → Serves nat_eq w fresh → (n : Namespace ℕ)
     → Among n w.namespaces → nat_eq (new_space fresh) n.number ≡ false
 new_among_spaces w fresh serves n m =
-    false_from_ne_true (nat_eq (new_space fresh) n.number) (λ same. true≢false
-    (sym (is_among_numbers (numbers_in_use w) (new_space fresh) (rw (eqb-true (new_space fresh) n.number same)
-    (among-append_right (flat_map used_by_mount w.mounts ++ flat_map used_by_filesystem w.filesystems)
-    (map (λ (x : Namespace ℕ). x.number) w.namespaces) n.number (among-map (λ (x : Namespace ℕ). x.number) w.namespaces
-    n m)))) ∙ serves.unused 0))
+    false_from_ne_true _ (λ same. true≢false (sym (is_among_numbers (numbers_in_use w) (new_space fresh)
+    (rw (eqb-true (new_space fresh) n.number same) (among-append_right (flat_map used_by_mount w.mounts ++ flat_map
+    used_by_filesystem w.filesystems) (map (λ (x : Namespace ℕ). x.number) w.namespaces) n.number
+    (among-map (λ (x : Namespace ℕ). x.number) w.namespaces n m)))) ∙ serves.unused 0))
 
 -- a namespace that is listed
 pub listed_in : (w : World ℕ) (n : ℕ) → is_listed nat_eq w n ≡ true
     → (x : Namespace ℕ) × Among x w.namespaces × (n ≡ x.number)
-listed_in w n h = among-from_map (λ (x : Namespace ℕ). x.number) w.namespaces n
-    (among_numbers (map (λ (x : Namespace ℕ). x.number) w.namespaces) n h)
+listed_in w n h = among-from_map (λ (x : Namespace ℕ). x.number) w.namespaces n (among_numbers _ n h)
 
 -- a world and its task that gets a namespace
 pub record CanUnshare (w : World ℕ) (fresh : Fresh ℕ) (task : Task ℕ) : Type 0 where
@@ -116,9 +114,7 @@ module _ (w : World ℕ) (fresh : Fresh ℕ) (task : Task ℕ) (can : CanUnshare
 
   base_listed : MountsAreListed base
   base_listed = list_all_from_among (λ (x : Mount ℕ). list_all (is_listed nat_eq base) (option_to_list x.namespace))
-      base.mounts (λ m n. ⊎_elim (λ before. old m.namespace (among_from_list_all
-      (λ (x : Mount ℕ). list_all (is_listed nat_eq w) (option_to_list x.namespace)) w.mounts can.listed m before))
-      (λ fresh_one. cc (
+      base.mounts (λ m n. ⊎_elim (λ before. old _ (among_from_list_all _ _ can.listed m before)) (λ fresh_one. cc (
         (among-from_map copy copied m fresh_one).2,
         is_among_numbers
             (map (λ (x : Namespace ℕ). x.number) base.namespaces) s
@@ -151,10 +147,9 @@ module _ (w : World ℕ) (fresh : Fresh ℕ) (task : Task ℕ) (can : CanUnshare
   stays_on : Ends false w task → namespaces_ended nat_eq base ≡ base
   stays_on (other, m, together, differ) = none_ends base base_listed (others_have (has_tasks nat_eq base) new_has
       (λ n at. let t = any_among (λ (x : Task ℕ). nat_eq n.number x.namespace) w.tasks
-      (among_from_list_all (has_tasks nat_eq w) w.namespaces can.live n at) in ⊎_elim
-      (λ same. task_in n.number other m differ (cc (eqb-true n.number t.0.namespace t.2)))
-      (λ apart. task_in n.number t.0 t.1 apart (eqb-true n.number t.0.namespace t.2)) (can.only t.0 t.1)))
-      (none_lost base base_kept)
+      (among_from_list_all _ w.namespaces can.live n at) in ⊎_elim (λ same. task_in n.number other m differ
+      (cc (eqb-true n.number t.0.namespace t.2))) (λ apart. task_in n.number t.0 t.1 apart
+      (eqb-true n.number t.0.namespace t.2)) (can.only t.0 t.1))) (none_lost base base_kept)
 
   -- The namespace ends
   abbrev gone : List ℕ
@@ -218,9 +213,8 @@ module _ (w : World ℕ) (fresh : Fresh ℕ) (task : Task ℕ) (can : CanUnshare
   master_left g (has_master it above has e later) = cc (source_left above later)
 
   none_lost_there : list_any (lost_a_group nat_eq left_by) left_by.mounts ≡ false
-  none_lost_there = none_from_among (lost_a_group nat_eq left_by) left_by.mounts
-      (λ y n. let from = among-from_map (after_going nat_eq base gone) base.mounts y n in cc
-      (from.2, cut_so from.0 from.1, by from.0 from.1 (in_space k from.0)))
+  none_lost_there = none_from_among (lost_a_group nat_eq left_by) left_by.mounts (λ y n. let from = among-from_map _ _ y
+      n in cc (from.2, cut_so from.0 from.1, by from.0 from.1 (in_space k from.0)))
     where
       source : (m : Mount ℕ) → Among m base.mounts → (o : Option ℕ) → source_of m.propagation ≡ o
           → (is_lost_group nat_eq left_by o || is_lost_group nat_eq left_by (then_some o left_by.master)) ≡ false
@@ -243,12 +237,10 @@ module _ (w : World ℕ) (fresh : Fresh ℕ) (task : Task ℕ) (can : CanUnshare
 
   other_spaces : Ends true w task
       → list_all (λ (n : Namespace ℕ). nat_eq k n.number || has_tasks nat_eq base n) base.namespaces ≡ true
-  other_spaces alone = others_have (λ (n : Namespace ℕ). nat_eq k n.number || has_tasks nat_eq base n)
-      (or_right (nat_eq k s) (has_tasks nat_eq base new) new_has) (λ n at. let t = any_among
-      (λ (x : Task ℕ). nat_eq n.number x.namespace) w.tasks (among_from_list_all (has_tasks nat_eq w) w.namespaces
-      can.live n at) in ⊎_elim (λ same. or_left (nat_eq k n.number) (has_tasks nat_eq base n)
-      (eq-eqb k n.number (cc (eqb-true n.number t.0.namespace t.2))))
-      (λ apart. or_right (nat_eq k n.number) (has_tasks nat_eq base n)
+  other_spaces alone = others_have _ (or_right (nat_eq k s) (has_tasks nat_eq base new) new_has)
+      (λ n at. let t = any_among (λ (x : Task ℕ). nat_eq n.number x.namespace) w.tasks
+      (among_from_list_all _ w.namespaces can.live n at) in ⊎_elim (λ same. or_left (nat_eq k n.number) _
+      (eq-eqb k n.number (cc (eqb-true n.number t.0.namespace t.2)))) (λ apart. or_right (nat_eq k n.number) _
       (task_in n.number t.0 t.1 apart (eqb-true n.number t.0.namespace t.2))) (can.only t.0 t.1))
 
   -- So the world is remade

@@ -112,10 +112,8 @@ module _ {world : World ℕ} {names : List TaskName} {name : TaskName} (it : IsC
   entered n h =
       let t = any_among (λ (x : Task ℕ). nat_eq n x.namespace) new h in
       let u = set_from t.0 t.1 in
-      ⊎_elim
-      (λ caller. inr (in_new (eqb-true n s (ap (λ (x : Task ℕ). nat_eq n x.namespace) (sym (u.2 ∙ caller.1)) ∙ t.2))))
-      (λ same. inl (any_from_among (λ (x : Task ℕ). nat_eq n x.namespace) old u.0 u.1
-      (ap (λ (x : Task ℕ). nat_eq n x.namespace) (sym (u.2 ∙ same)) ∙ t.2))) (replaced_how u.0 (in_world u.0 u.1))
+      ⊎_elim (λ caller. inr (in_new (eqb-true n s (cc)))) (λ same. inl
+      (any_from_among (λ (x : Task ℕ). nat_eq n x.namespace) old u.0 u.1 (cc))) (replaced_how u.0 (in_world u.0 u.1))
     where
       in_new : n ≡ s → IsNewSpace world n
       in_new e = grind (arith, common_steps, in_space, none_in_new, can_world, new_among_spaces)
@@ -237,8 +235,7 @@ module _ {world : World ℕ} {names : List TaskName} {name : TaskName} (it : IsC
     still_in : (n : ℕ) → (ends && nat_eq k n) ≡ false → in_spaces old n ≡ true → in_spaces new n ≡ true
     still_in n out h =
         let t = any_among (λ (x : Task ℕ). nat_eq n x.namespace) old h in
-        ⊎_elim (λ same. by ends here_too out (cc (eqb-true n t.0.namespace t.2)))
-        (λ apart_so. any_from_among (λ (x : Task ℕ). nat_eq n x.namespace) new t.0
+        ⊎_elim (λ same. by ends here_too out (cc (eqb-true n t.0.namespace t.2))) (λ apart_so. any_from_among _ new t.0
         (rw (← stays t.0 apart_so) (in_set t.0 t.1)) t.2) (only t.0 (in_world t.0 t.1))
       where
         by : (e : Bool) → Ends e part task → (e && nat_eq k n) ≡ false → k ≡ n → in_spaces new n ≡ true
@@ -318,8 +315,7 @@ module _ {world : World ℕ} {names : List TaskName} {name : TaskName} (it : IsC
   granted_alike judged false e = unshare_alike true alone (λ t m. alone t (in_world t m)) judged
     where
       alone : (t : Task ℕ) → Among t world.tasks → same_name task.name t.name ≡ false → nat_eq k t.namespace ≡ false
-      alone t m differ = none_among (λ (x : Task ℕ). nat_eq k x.namespace) rest e t
-          (among-filter (λ (x : Task ℕ). not (same_name task.name x.name)) world.tasks t m (cc))
+      alone t m differ = none_among _ rest e t (among-filter _ world.tasks t m (cc))
   granted_alike judged true e =
       let at = any_among (λ (t : Task ℕ). nat_eq k t.namespace) rest e in
       let from = among-from_filter (λ (t : Task ℕ). not (same_name task.name t.name)) world.tasks at.0 at.1 in
@@ -340,6 +336,4 @@ unshares task = of_rules Unshares (admin_rules task) (Ok ToUnshare) refl
 
 pub unshares_end_alike : UnsharesEndAlike
 unshares_end_alike world names name it fresh serves = by_known it fresh fresh refl (λ task e. Unshares)
-    (λ task e. unshares task) (λ task e permit judged known. granted_alike it task e fresh serves (judged ∙ ap Ok known)
-    (list_any (λ (t : Task ℕ). nat_eq task.namespace t.namespace)
-    (filter (λ (t : Task ℕ). not (same_name task.name t.name)) world.tasks)) refl)
+    (λ task e. unshares task) (λ task e permit judged known. granted_alike it task e fresh serves (cc) _ refl)

@@ -39,10 +39,8 @@ module _ {world : World ℕ} {names : List TaskName} {task : Task ℕ} (member :
   given_at : (path : Option (List ℕ))
       → IfOk (walked_if_given nat_eq (looks_of nat_eq world) task path) (λ place. Each At (option_to_list place))
   given_at None = λ l m. absurd m
-  given_at (Some path) = then_ok StandsThere (λ place. Each At (option_to_list place))
-      (walk_end (source_walk nat_eq (looks_of nat_eq world) task path)) _
-      (end_ok StandsThere (source_walk nat_eq (looks_of nat_eq world) task path) (at_source member path))
-      (λ here on l m. ⊎_elim (λ same. rw same on) (λ none. absurd none) m)
+  given_at (Some path) = then_ok StandsThere _ _ _ (end_ok StandsThere (source_walk nat_eq (looks_of nat_eq world) task
+      path) (at_source member path)) (λ here on l m. ⊎_elim (λ same. rw same on) (λ none. absurd none) m)
 
   layers_at : (words : OverlayWords) → IfOk (layers_walked nat_eq (looks_of nat_eq world) task words) AreAt
   layers_at words =
@@ -83,8 +81,7 @@ module _ {world : World ℕ} {names : List TaskName} {task : Task ℕ} (member :
         from.1))))
 
     upper_used : Each IsUsed (option_to_list overlay.upper)
-    upper_used = given_used places.upper (λ l m. all l
-        (among-append_left (places.lowers ++ option_to_list places.upper) (option_to_list places.work) l
+    upper_used = given_used places.upper (λ l m. all l (among-append_left _ (option_to_list places.work) l
         (among-append_right places.lowers (option_to_list places.upper) l m)))
 
     work_used : Each IsUsed (option_to_list overlay.work)

@@ -68,8 +68,7 @@ module _ {world : World ℕ} (names : List TaskName) (is : IsWorld nat_eq world)
   opened w = map (open_layer nat_eq w) (shown_layers overlay)
 
   opened_alike : opened part ≡ opened world
-  opened_alike = map_alike (open_layer nat_eq part) (open_layer nat_eq world) (shown_layers overlay)
-      (λ layer m. cc (found world names layer.filesystem (used layer m)))
+  opened_alike = map_alike _ _ _ (λ layer m. cc (found world names layer.filesystem (used layer m)))
 
   -- a path in a layer is no longer than the part has inodes
   in_layer : (layer : Layer ℕ) → Among layer (shown_layers overlay) → (path : List (List ℕ)) (object : ℕ)

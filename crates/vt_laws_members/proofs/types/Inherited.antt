@@ -43,8 +43,7 @@ module _ (w : World ℕ) (kind : Mount ℕ → Propagation ℕ) (masters : ℕ �
   regrouped_keeps false = refl
 
   mounts_left : (regrouped nat_eq between).mounts ≡ map after w.mounts
-  mounts_left = mounts-regrouped between
-      ∙ map_twice (inheriting nat_eq between) (λ (m : Mount ℕ). record m { propagation = kind m }) w.mounts
+  mounts_left = mounts-regrouped between ∙ map_twice (inheriting nat_eq between) _ w.mounts
 
   regrouped_so : regrouped nat_eq between ≡ with_changed w after (regrouped nat_eq between).master
   regrouped_so = cc (regrouped_keeps (list_any (lost_a_group nat_eq between) between.mounts), mounts_left)

@@ -81,13 +81,12 @@ module _ (fresh : Fresh ℕ) (word : TypeWord) (named : List (Mount ℕ)) where
 -- a number that a mount's group or master has is none of those handed in
 unlike : (w : World ℕ) (supply : Fresh ℕ) → Serves nat_eq w supply → (m : Mount ℕ) → Among m w.mounts → (g : ℕ)
     → source_of m.propagation ≡ Some g → (k : ℕ) → nat_eq g (supply k) ≡ false
-unlike w supply serves m n g e k = false_from_ne_true (nat_eq g (supply k)) (λ same. true≢false
-    (cc (
-      eqb-true g (supply k) same,
-      is_among_numbers (numbers_in_use w) g
-          (mount_uses w m n g (inr (subst (λ o. Among g (option_to_list o)) (sym e) (inl refl)))),
-      serves.unused k,
-    )))
+unlike w supply serves m n g e k = false_from_ne_true _ (λ same. true≢false (cc (
+  eqb-true g (supply k) same,
+  is_among_numbers (numbers_in_use w) g
+      (mount_uses w m n g (inr (subst (λ o. Among g (option_to_list o)) (sym e) (inl refl)))),
+  serves.unused k,
+)))
 
 -- the group of this number is new
 abbrev pub IsNewGroup : Fresh ℕ → TypeWord → ℕ → Type 0
@@ -96,8 +95,7 @@ IsNewGroup fresh word g = (takes_groups word ≡ true) × (k : ℕ) × (fresh k 
 -- it has no master yet
 new_none : (world : World ℕ) → IsWorld nat_eq world → (fresh : Fresh ℕ)
     → Serves nat_eq world fresh → (k : ℕ) → world.master (fresh k) ≡ None
-new_none world is fresh serves k =
-    (all_in_use world is).groups (fresh k) (false_from_ne_true (has_members nat_eq world.mounts (fresh k)) (λ h.
+new_none world is fresh serves k = (all_in_use world is).groups (fresh k) (false_from_ne_true _ (λ h.
     let y = any_among (is_member_of nat_eq (fresh k)) world.mounts h in
     true≢false (sym (eq-eqb (fresh k) (fresh k) refl) ∙ unlike world fresh serves y.0 y.1 (fresh k)
     (source_from_group y.0.propagation (fresh k) (member_group (fresh k) y.0 y.2)) k)))
@@ -157,8 +155,7 @@ module _ {world : World ℕ} {names : List TaskName} (sealing : IsSealed world n
   part_named m n h =
       let from = among-from_filter_map (keep world names theirs) world.mounts m n in
       ⊎_elim (λ same. own_named m (rw (← same) from.1) h) (λ stub. cc (
-        (among-from_filter (is_own_mount nat_eq world names) world.mounts from.0
-            (own_named from.0 from.1 (ap (is_named fresh word named) stub.0 ∙ h))).1,
+        (among-from_filter (is_own_mount nat_eq world names) world.mounts from.0 (own_named from.0 from.1 (cc))).1,
         stub.1,
       ))
       (kept_how world names theirs from.0 m from.2)
@@ -179,7 +176,7 @@ module _ {world : World ℕ} {names : List TaskName} (sealing : IsSealed world n
 
   part_member_own : (m : Mount ℕ) → Among m part.mounts → (g : ℕ) → is_member_of nat_eq g (changed m) ≡ true
       → Among m owns
-  part_member_own m n g h = elim (cases_Bool (is_named fresh word named m)) [
+  part_member_own m n g h = elim (cases_Bool _) [
     | inl e ↦ part_named m n e
     | inr e ↦ part_source sealing m n g
         (source_from_group m.propagation g (member_group g m (member_was m g e h)))
@@ -194,8 +191,7 @@ module _ {world : World ℕ} {names : List TaskName} (sealing : IsSealed world n
   )
 
   has_alike : (g : ℕ) → Heard g → has t_part g ≡ has t g
-  has_alike g heard = same_truth (has t_part g) (has t g)
-      (λ h. let y = any_among (is_member_of nat_eq g) t_part.mounts h in
+  has_alike g heard = same_truth _ (has t g) (λ h. let y = any_among (is_member_of nat_eq g) t_part.mounts h in
       let from = among-from_map changed part.mounts y.0 y.1 in
       let its = ap (is_member_of nat_eq g) (sym from.2) ∙ y.2 in
       (is_in from.0 (part_member_own from.0 from.1 g its) g its).0)

@@ -128,5 +128,4 @@ module _ {world : World ℕ} {names : List TaskName} (sealing : IsSealed world n
 
     pub types_left : (name : TaskName) → part_of nat_eq (numbers_raised nat_eq world name [] later) names
         ≡ part_of nat_eq (numbers_raised nat_eq part name [] later_part) names
-    types_left = parts_left sealing later.mounts later_part.mounts master master_there
-        world.filesystems part.filesystems parts_later masters_later
+    types_left = parts_left sealing later.mounts _ master master_there _ part.filesystems parts_later masters_later

@@ -168,11 +168,7 @@ module _ {world : World ℕ} {names : List TaskName} {fresh : Fresh ℕ} (it : I
       ) ≡ Some entry → IsMade entry
       by true f h = none_is_some entry h
       by false f h =
-          let entry_is = same_Some (
-            new.image group origin.number,
-            nearest_image nat_eq base new parts destination (twig_of new (group_of destination.propagation) origin)
-                (world.master group),
-          ) entry h in
+          let entry_is = same_Some _ entry h in
           let number = new_image group origin.number in (
             (number.0, cc (entry_is, number.1)),
             λ g k. nearest_foreign origin m (world.master group) g (cc (entry_is)),
@@ -219,9 +215,8 @@ module _ {world : World ℕ} {names : List TaskName} {fresh : Fresh ℕ} (it : I
       (member_group group member.0 member.2) (eqb-true group entry.0 e ∙ made.0.1)))
 
   foreign_master : (group above : ℕ) → IsForeign group → left.master group ≡ Some above → IsForeign above
-  foreign_master group above foreign e = ⊎_elim
-      (λ same. foreign_above so_far group above foreign (cc)) (λ set. (made_foreign set.0 set.1).1 above
-      (sym set.2 ∙ e)) (masters_from group (all_groups_made nat_eq base new tree parts) world.master)
+  foreign_master group above foreign e = ⊎_elim (λ same. foreign_above so_far group above foreign (cc))
+      (λ set. (made_foreign set.0 set.1).1 above (sym set.2 ∙ e)) (masters_from group _ world.master)
 
   -- A type of which the group is one of others: then each group that it hears is.
   heard_foreign : (kind : Propagation ℕ) → ((group : ℕ) → group_of kind ≡ Some group → IsForeign group)
@@ -238,9 +233,8 @@ module _ {world : World ℕ} {names : List TaskName} {fresh : Fresh ℕ} (it : I
   -- the type of a mount of others, as it was
   pub old_foreign : (other : Mount ℕ) → Among other (other_mounts nat_eq world names) → (group : ℕ)
       → HearsGroup so_far left other.propagation group → IsForeign group
-  old_foreign other m = heard_foreign other.propagation
-      (λ group e. other_hears_foreign so_far other m group (inl e)) (λ group e. other_hears_foreign so_far other m group
-      (inr (ap (master_of world) e)))
+  old_foreign other m = heard_foreign _ (λ group e. other_hears_foreign so_far other m group (inl e))
+      (λ group e. other_hears_foreign so_far other m group (inr (ap (master_of world) e)))
 
   -- the type of a copy
   twig_foreign : (origin : Mount ℕ) → Among origin it.mounts → (group : ℕ) → HearsGroup so_far left

@@ -52,8 +52,7 @@ module _ {world : World ℕ} {names : List TaskName} {New : ℕ → Type 0} (apa
       (map change world.mounts) other (subst (λ some. Among other (others_by some)) moved.members m) in
       let from = among-from_map change world.mounts other out.0 in (
         from.0,
-        among-filter (λ (x : Mount ℕ). holds_of (λ n. not (theirs n)) x.namespace) world.mounts from.0 from.1
-            (was from.0 (cc (from.2, out.1))),
+        among-filter _ world.mounts from.0 from.1 (was from.0 (cc (from.2, out.1))),
         from.2,
       )
     where

@@ -1,6 +1,6 @@
 -- Where others change something: on mounts of their namespaces, where they stand, or where they have a file open.
-use Rattle.std.proofs.Common.{◌≡◌, subst, inr, ℕ, nat_eq, Bool, true, false, List, [], ◌∷◌, Option, Some, Ok, is_some, ◌==◌}
-use Rattle.vt_spec.proofs.Common.{Among, Call, Change, CopyUp, Descriptor, Fresh, Here, IsWorld, LastWord, Location, Permit, Place, SetMark, Task, TaskName, World, among-map, descriptor_found, directory_used, directory_walk, file_walk, files_at, found_among, is_copied_up, looks_of, none_is_some, object_walk, overfills, same_Some, task_called, when, words, ⊤}
+use Rattle.std.proofs.Common.{◌≡◌, subst, inr, ℕ, nat_eq, Bool, true, false, List, [], ◌∷◌, Option, Some, Ok, is_some}
+use Rattle.vt_spec.proofs.Common.{Among, Call, Change, CopyUp, Fresh, Here, IsWorld, LastWord, Location, Permit, Place, SetMark, Task, TaskName, World, among-map, descriptor_found, directory_used, file_walk, files_at, found_among, is_copied_up, looks_of, none_is_some, object_walk, overfills, same_Some, task_called, when, words, ⊤}
 use Rattle.vt_laws_sealed.proofs.Common.{IsGranted, IsGround, at_end, change_asked, changes_mark, changes_mode, changes_owner, creates, creates_exclusively, directory_ground, directory_ways_are_searched, makes_directory, makes_hard_link, makes_symlink, makes_whiteout, name_found, new_leaf_ways_are_searched, new_name_ways_are_searched, object_ways_are_searched, old_leaf_ways_are_searched, old_name_ways_are_searched, opens, opens_existing, overwrites_file, removes_directory, renames, searched_ground, start_ground, unlinks, way_ground, writes_new_file, writes_part}
 use Rattle.vt_laws_sealed.proofs.outsiders.OthersCalls.{IsOthersCall}
 use Rattle.vt_laws_trees.specs.Calls.Inodes.{written_if_some}
@@ -8,7 +8,6 @@ use Rattle.vt_laws_trees.specs.Calls.Searched.{IsSearchedToFile, IsSearchedToNam
 use Rattle.vt_laws_trees.specs.Calls.Searched.WayToFile.{file_in, through_symlink}
 use Rattle.vt_laws_trees.specs.Calls.Searched.WayToName.{name_in, no_name}
 use Rattle.vt_laws_trees.proofs.calls.ways.WaysFiles.{file_ways_are_searched}
-use Rattle.vt_laws_worlds.proofs.worlds.ReachedPlaces.{HereDirectory}
 use Rattle.vt_laws_worlds.proofs.worlds.ReachedWalks.{directory_walk_end}
 use Rattle.vt_laws_sealed.proofs.outsiders.Entering.{ground_outside, old_outside, task_there}
 use Rattle.vt_laws_sealed.proofs.outsiders.Opening.{IsFileGround, file_walk_ground}
@@ -36,10 +35,9 @@ module _ (world : World ℕ) (is : IsWorld nat_eq world) (task : Task ℕ) (ther
       → WayToFile world task start path_words passed directory → OnGround start → OnGround directory
   file_way_ground start directory path_words passed (file_in from at path last object before way named plain) ground =
       name_ground from at path before last way ground
-  file_way_ground start directory path_words passed
-      (through_symlink from at end path last object text before in_text way named linked rest) ground =
-      file_way_ground _ end (words text) in_text rest
-      (start_ground world is task there at text (name_ground from at path before last way ground))
+  file_way_ground start directory path_words passed (through_symlink from at end path last object text before in_text
+      way named linked rest) ground = file_way_ground _ end _ in_text rest (start_ground world is task there at text
+      (name_ground from at path before last way ground))
 
   pub named_ground : (path : List ℕ) (directory : Location ℕ) (last : LastWord)
       → IsSearchedToName world task path directory last → OnGround directory
@@ -87,9 +85,8 @@ module _ {world : World ℕ} {fresh : Fresh ℕ} {names : List TaskName} {name :
   found_at : (path : List ℕ) (place : Place ℕ) (file : Location ℕ)
       → file_walk nat_eq (looks_of nat_eq world) task path ≡ Ok place
       → place.object ≡ Some file → IsOutside world names file
-  found_at path place file walk is_there =
-      at file (at_end (IsFileGround world outsider.is task there) (file_walk nat_eq (looks_of nat_eq world) task path)
-      place (file_walk_ground world outsider.is task there path) walk file is_there)
+  found_at path place file walk is_there = at file (at_end (IsFileGround world outsider.is task there) _ place
+      (file_walk_ground world outsider.is task there path) walk file is_there)
 
   opened : (file : Location ℕ) → IsOutside world names file → (copied : Bool)
       → AreTheirs (when copied (file, CopyUp file.node))
@@ -122,24 +119,18 @@ module _ {world : World ℕ} {fresh : Fresh ℕ} {names : List TaskName} {name :
       (named_at path place.parent place.last (old_name_ways_are_searched world task path place walk), tt)
   granted_theirs asked permit (renames old new from to both two passed) = of from.parent _
       (named_at old from.parent from.last (old_leaf_ways_are_searched world task old from both.from_end), tt)
-  granted_theirs asked permit (changes_mode path mode here walk passed) =
-      of here.location _ (object_at path here walk, tt)
-  granted_theirs asked permit (changes_owner path uid gid here walk passed) =
-      of here.location _ (object_at path here walk, tt)
-  granted_theirs asked permit (changes_mark path mark here admin walk passed) =
-      of here.location (SetMark here.location.node mark) (
-        at here.location (searched_ground world outsider.is task there path here.location
-            (directory_ways_are_searched world task path here walk)),
-        directory_used (files_at nat_eq world here.location).tree here.location.node
-            (at_end (HereDirectory world outsider.is task itself)
-            (directory_walk nat_eq (looks_of nat_eq world) task path)
-            here (directory_walk_end world outsider.is task itself path) walk).1,
-      )
+  granted_theirs asked permit (changes_mode path mode here walk passed) = of _ _ (object_at path here walk, tt)
+  granted_theirs asked permit (changes_owner path uid gid here walk passed) = of _ _ (object_at path here walk, tt)
+  granted_theirs asked permit (changes_mark path mark here admin walk passed) = of here.location _ (
+    at here.location (searched_ground world outsider.is task there path here.location
+        (directory_ways_are_searched world task path here walk)),
+    directory_used (files_at nat_eq world here.location).tree here.location.node
+        (at_end _ _ here (directory_walk_end world outsider.is task itself path) walk).1,
+  )
     where
       itself : task_called world task.name ≡ Some task
       itself = cc (name_found world name task outsider.called, outsider.called)
-  granted_theirs asked permit (opens path access here few walk passed) =
-      opened here.location (object_at path here walk) (is_copied_up nat_eq world here.location access)
+  granted_theirs asked permit (opens path access here few walk passed) = opened _ (object_at path here walk) _
   granted_theirs asked permit (opens_existing path access mode place file few walk named is_there passed) =
       opened file (found_at path place file walk is_there) (is_copied_up nat_eq world file access)
   granted_theirs asked permit (creates path access mode place few walk named missing passed) =
@@ -147,7 +138,6 @@ module _ {world : World ℕ} {fresh : Fresh ℕ} {names : List TaskName} {name :
   granted_theirs asked permit (creates_exclusively path access mode place few walk named passed) = of place.parent _
       (named_at path place.parent place.last (new_name_ways_are_searched world task path place walk), tt)
   granted_theirs asked permit (writes_part number offset bytes descriptor found passed) = written descriptor.location
-      (old_outside outsider descriptor.location (inr (inr (among-map (λ (d : Descriptor ℕ). d.location) task.descriptors
-      descriptor (found_among (λ (d : Descriptor ℕ). number == d.number) task.descriptors descriptor
-      (descriptor_found task number (λ d. d.writes) descriptor found).0))))) offset bytes
+      (old_outside outsider descriptor.location (inr (inr (among-map _ task.descriptors descriptor
+      (found_among _ _ descriptor (descriptor_found task number (λ d. d.writes) descriptor found).0))))) offset bytes
   granted_theirs asked permit granted = λ made e. none_is_some made e

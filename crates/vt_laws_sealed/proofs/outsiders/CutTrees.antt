@@ -47,8 +47,7 @@ module _ (used : List ℕ) (files : FileTree ℕ) (holds : HoldsTree used files)
   led_used : (path : List (List ℕ)) (from object : ℕ) → is_among nat_eq from used ≡ true
       → led files.tree from path ≡ Some object → is_among nat_eq object used ≡ true
   led_used [] from object is e = cc (same_Some from object e)
-  led_used (name ∷ path) from object is e =
-      by (λ next. led_used path next object) (entry_at files.tree from name) refl e
+  led_used (name ∷ path) from object is e = by (λ next. led_used path next object) _ refl e
     where
       by : ((next : ℕ) → is_among nat_eq next used ≡ true → led files.tree next path ≡ Some object
           → is_among nat_eq object used ≡ true) → (o : Option ℕ) → entry_at files.tree from name ≡ o
@@ -66,8 +65,7 @@ module _ (used : List ℕ) (files : FileTree ℕ) (holds : HoldsTree used files)
     directory_kept = cc
 
     pub under_same : (object : ℕ) → is_under nat_eq cut top object ≡ is_under nat_eq files top object
-    under_same object = same_truth (is_under nat_eq cut top object) (is_under nat_eq files top object)
-        (λ h. let way = under_led cut cut_is.tree top object h in
+    under_same object = same_truth _ _ (λ h. let way = under_led cut cut_is.tree top object h in
         led_under files conditions.tree top conditions.numbers directory object (way.0, led_was way.0 top object way.1))
         (λ h. let way = under_led files conditions.tree top object h in
         led_under cut cut_is.tree top cut_is.numbers directory_kept object (way.0, led_kept way.0 top object way.1))
@@ -108,10 +106,7 @@ module _ {used : List ℕ} {files : FileTree ℕ} (holds : HoldsTree used files)
       under_used used files holds conditions at.0.directory top.0 top.1 object both.1
 
   lies_same : (object : ℕ) → lies_in (only_among nat_eq used files) object ≡ lies_in files object
-  lies_same object = any_alike (λ (layer : Layer ℕ). nat_eq number layer.filesystem
-      && is_under nat_eq (only_among nat_eq used files) layer.directory object)
-      (λ (layer : Layer ℕ). nat_eq number layer.filesystem && is_under nat_eq files layer.directory object) lowers
-      (λ layer m. by layer m (nat_eq number layer.filesystem) refl)
+  lies_same object = any_alike _ _ lowers (λ layer m. by layer m (nat_eq number layer.filesystem) refl)
     where
       by : (layer : Layer ℕ) → Among layer lowers → (b : Bool) → nat_eq number layer.filesystem ≡ b
           → (b && is_under nat_eq (only_among nat_eq used files) layer.directory object)
@@ -124,9 +119,7 @@ module _ {used : List ℕ} {files : FileTree ℕ} (holds : HoldsTree used files)
   chosen = filter (lies_in files) files.numbers
 
   pub numbers_same : filter (lies_in (only_among nat_eq used files)) (only_among nat_eq used files).numbers ≡ chosen
-  numbers_same = filter_same (lies_in (only_among nat_eq used files)) (lies_in files)
-      (filter (λ x. is_among nat_eq x used) files.numbers) lies_same
-      ∙ filter_within (lies_in files) used files.numbers (λ x m. lies_used x)
+  numbers_same = filter_same _ _ _ lies_same ∙ filter_within (lies_in files) used files.numbers (λ x m. lies_used x)
 
   node_same : (object : ℕ) → cond (is_among nat_eq object chosen)
       (cond (is_among nat_eq object used) (files.tree.node object) None) None

@@ -87,10 +87,8 @@ module _ {world : World ℕ} {names : List TaskName} (apart : IsApart world name
   pub replaced_is_rewritten : (number : ℕ) (files : FileTree ℕ)
       → map (replaced_if_numbered nat_eq (with_files (filesystem_numbered nat_eq world number) files)) world.filesystems
       ≡ map (rewritten number files) world.filesystems
-  replaced_is_rewritten number files =
-      map_alike (replaced_if_numbered nat_eq (with_files (filesystem_numbered nat_eq world number) files))
-      (rewritten number files) world.filesystems (λ x m.
-      cc (number_of_filesystem world number, by x m (nat_eq number x.number) refl))
+  replaced_is_rewritten number files = map_alike _ (rewritten number files) world.filesystems
+      (λ x m. cc (number_of_filesystem world number, by x m (nat_eq number x.number) refl))
     where
       by : (x : Filesystem ℕ) → Among x world.filesystems → (b : Bool) → nat_eq number x.number ≡ b
           → cond b (with_files (filesystem_numbered nat_eq world number) files) x ≡ cond b
@@ -109,11 +107,10 @@ module _ {world : World ℕ} {names : List TaskName} (apart : IsApart world name
       map_twice (replaced_if_numbered nat_eq (with_files (filesystem_numbered nat_eq world upper) merge.upper))
       (replaced_if_numbered nat_eq new) world.filesystems ∙ map_alike
       (λ x. replaced_if_numbered nat_eq (with_files (filesystem_numbered nat_eq world upper) merge.upper)
-      (replaced_if_numbered nat_eq new x)) (λ x. rewritten upper merge.upper (remerged number merge x))
-      world.filesystems (λ x m.
-      ap (replaced_if_numbered nat_eq (with_files (filesystem_numbered nat_eq world upper) merge.upper))
-      (ap (λ n. cond (nat_eq n x.number) new x) (number_of_filesystem world number)
-      ∙ merged x m (nat_eq number x.number) refl) ∙ ap (λ n. cond (nat_eq n (remerged number merge x).number)
+      (replaced_if_numbered nat_eq new x)) (λ x. rewritten upper merge.upper (remerged number merge x)) _
+      (λ x m. ap (replaced_if_numbered nat_eq (with_files (filesystem_numbered nat_eq world upper) merge.upper))
+      (ap (λ n. cond (nat_eq n x.number) new x) (number_of_filesystem world number) ∙ merged x m
+      (nat_eq number x.number) refl) ∙ ap (λ n. cond (nat_eq n (remerged number merge x).number)
       (with_files (filesystem_numbered nat_eq world upper) merge.upper) (remerged number merge x))
       (number_of_filesystem world upper) ∙ above x m (nat_eq upper (remerged number merge x).number) refl)
     where
@@ -150,8 +147,7 @@ module _ {world : World ℕ} {names : List TaskName} (apart : IsApart world name
 
   unused_differs : (number : ℕ) → is_used number ≡ false → (x : Filesystem ℕ) → is_used x.number ≡ true
       → nat_eq number x.number ≡ false
-  unused_differs number unused x used = false_from_ne_true (nat_eq number x.number) (λ e.
-      cc (used, eqb-true number x.number e, unused))
+  unused_differs number unused x used = false_from_ne_true _ (λ e. cc (used, eqb-true number x.number e, unused))
 
   -- what the part has of a tree that keeps what lies under their layers
   lowered_stays : (number : ℕ) (files : FileTree ℕ)

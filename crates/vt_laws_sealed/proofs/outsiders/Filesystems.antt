@@ -1,6 +1,6 @@
 -- Filesystems that a set of tasks uses are there, and a new one is none of them.
 use Rattle.std.proofs.Common.{inr, arith, ◌≡◌, refl, sym, ap, subst, ◌∙◌, inl, ⊎_elim, ℕ, nat_eq, true, false, cond, true≢false, List, [], ◌∷◌, ◌++◌, append-nil, Option, Some, None, filter, find, flat_map, is_some, map, not, ◌&&◌, eqb-true, option_to_list, unwrap_or, filter_map}
-use Rattle.vt_spec.proofs.Common.{Among, Filesystem, Fresh, Layer, Location, Mount, Namespace, Overlay, Serves, TaskName, World, all_locations, among-append, among-append_left, among-append_right, among-flat_map, among-from_filter, among-from_flat_map, among-from_map, among-map, among_from_contains, among_from_list_all, among_numbers, and_parts, change_layers, common_steps, cons_option, directory_used, false_from_ne_true, filesystem_numbered, filter-append, filter_map-append, found_among, has_its_root, is_among, is_among_left, is_among_numbers, is_among_right, is_directory_node, is_located_well, is_member_task, is_overlay, is_own_mount, is_plain_layer, is_under, layers_of, list_all, list_any, locations, locations_of, members, mount_at, no_filesystem, none_from_among, numbers_in_use, of_overlay, only_among, overlay_or, overlays, own_lowers, own_mounts, used_by_filesystem, used_by_mount, used_directly, used_filesystems, when}
+use Rattle.vt_spec.proofs.Common.{Among, Filesystem, Fresh, Layer, Mount, Namespace, Overlay, Serves, TaskName, World, all_locations, among-append, among-append_left, among-append_right, among-flat_map, among-from_filter, among-from_flat_map, among-from_map, among-map, among_from_contains, among_from_list_all, among_numbers, and_parts, change_layers, common_steps, cons_option, directory_used, false_from_ne_true, filesystem_numbered, filter-append, filter_map-append, found_among, is_among, is_among_left, is_among_numbers, is_among_right, is_directory_node, is_member_task, is_overlay, is_own_mount, is_plain_layer, is_under, layers_of, list_all, list_any, locations, locations_of, members, mount_at, no_filesystem, none_from_among, numbers_in_use, of_overlay, only_among, overlay_or, overlays, own_lowers, own_mounts, used_by_filesystem, used_by_mount, used_directly, used_filesystems, when}
 use Rattle.vt_laws_sealed.specs.Part.Parts.{SeesTheSame, shown_of}
 use Rattle.vt_laws_sealed.specs.Part.Seals.{IsApart}
 use Rattle.vt_laws_sealed.proofs.part.Kept.{among-from_each_once, filter_map_same}
@@ -29,22 +29,19 @@ module _ {world : World ℕ} {names : List TaskName} (apart : IsApart world name
       → is_among nat_eq number numbers ≡ true
   directly_there number m = ⊎_elim (λ shown.
       let mount = among-from_map (λ (x : Mount ℕ). x.filesystem) (own_mounts nat_eq world names) number shown in
-      let rooted = and_parts (is_directory_node
-      ((filesystem_numbered nat_eq world mount.0.filesystem).files.tree.node mount.0.root)) _
-      (among_from_list_all (has_its_root nat_eq world) world.mounts apart.is.roots mount.0
+      let rooted = and_parts (is_directory_node ((filesystem_numbered nat_eq world mount.0.filesystem).files.tree.node
+      mount.0.root)) _ (among_from_list_all _ world.mounts apart.is.roots mount.0
       (among-from_filter (is_own_mount nat_eq world names) world.mounts mount.0 mount.1).0) in
       ap (λ n. is_among nat_eq n numbers) mount.2 ∙ there_by_node mount.0.filesystem mount.0.root
       (directory_used (filesystem_numbered nat_eq world mount.0.filesystem).files.tree mount.0.root rooted.0))
       (λ located.
-      let location = among-from_map (λ (l : Location ℕ). (mount_at nat_eq world l).filesystem)
-      (locations (members world names)) number located in
+      let location = among-from_map _ (locations (members world names)) number located in
       let task = among-from_flat_map locations_of (members world names) location.0 location.1 in
       let well = and_parts (is_among nat_eq location.0.mount (map (λ (x : Mount ℕ). x.number) world.mounts))
       (is_some ((filesystem_numbered nat_eq world (mount_at nat_eq world location.0).filesystem).files.tree.node
-      location.0.node))
-      (among_from_list_all (is_located_well nat_eq world) (all_locations world) apart.is.tasks.locations_live location.0
-      (among-flat_map locations_of world.tasks task.0 location.0
-      (among-from_filter (is_member_task names) world.tasks task.0 task.1).0 task.2)) in
+      location.0.node)) (among_from_list_all _ (all_locations world) apart.is.tasks.locations_live location.0
+      (among-flat_map locations_of world.tasks task.0 location.0 (among-from_filter (is_member_task names) world.tasks
+      task.0 task.1).0 task.2)) in
       cc (location.2, there_by_node (mount_at nat_eq world location.0).filesystem location.0.node well.1))
       (among-append (map (λ (x : Mount ℕ). x.filesystem) (own_mounts nat_eq world names)) _ number m)
 
@@ -69,8 +66,7 @@ module _ {world : World ℕ} {names : List TaskName} (apart : IsApart world name
       → ((overlay : Overlay ℕ) (layer : Layer ℕ) → Among layer (some overlay) → Among layer (layers_of overlay))
       → (layer : Layer ℕ) → Among layer (of_overlay [] some (filesystem_numbered nat_eq world number))
       → is_among nat_eq layer.filesystem numbers ≡ true
-  found_layer_there number some within layer =
-      by (find (λ (f : Filesystem ℕ). nat_eq number f.number) world.filesystems) refl
+  found_layer_there number some within layer = by _ refl
     where
       up : (o : Option (Overlay ℕ)) → Among layer (overlay_or [] some o) → Among layer (overlay_or [] layers_of o)
       up None m = m
@@ -112,15 +108,13 @@ module _ {world : World ℕ} {names : List TaskName} (apart : IsApart world name
   module _ (fresh : Fresh ℕ) (serves : Serves nat_eq world fresh) where
     there_not_new : (number k : ℕ) → is_among nat_eq number numbers ≡ true → number ≡ fresh k → ⊥
     there_not_new number k there e =
-        let at = among-from_map (λ (f : Filesystem ℕ). f.number) world.filesystems number
-        (among_numbers numbers number there) in
-        true≢false (sym (is_among_left number (flat_map used_by_mount world.mounts
-        ++ flat_map used_by_filesystem world.filesystems)
-        (map (λ (namespace : Namespace ℕ). namespace.number) world.namespaces)
+        let at = among-from_map _ world.filesystems number (among_numbers numbers number there) in
+        true≢false (sym (is_among_left number (flat_map used_by_mount world.mounts ++ flat_map used_by_filesystem
+        world.filesystems) (map (λ (namespace : Namespace ℕ). namespace.number) world.namespaces)
         (is_among_right number (flat_map used_by_mount world.mounts) (flat_map used_by_filesystem world.filesystems)
         (is_among_numbers (flat_map used_by_filesystem world.filesystems) number
-        (among-flat_map used_by_filesystem world.filesystems at.0 number at.1 (inl at.2)))))
-        ∙ ap (λ n. is_among nat_eq n (numbers_in_use world)) e ∙ serves.unused k)
+        (among-flat_map used_by_filesystem _ at.0 number at.1 (inl at.2))))) ∙ ap
+        (λ n. is_among nat_eq n (numbers_in_use world)) e ∙ serves.unused k)
 
     pub not_of_the_world : (number k : ℕ) → IsOfTheWorld world names number → number ≡ fresh k → ⊥
     not_of_the_world number k of e = there_not_new number k (of_the_world_there number of) e

@@ -1,6 +1,6 @@
 -- The sweeps of mounts, groups and filesystems take nothing that a sealed set sees.
-use Rattle.std.proofs.Common.{arith, ◌≡◌, refl, sym, ap, ◌∙◌, ⊎_elim, ℕ, nat_eq, Bool, true, false, cond, true≢false, List, [], ◌∷◌, ◌++◌, Option, Some, None, filter, find, flat_map, map, ◌&&◌, ◌||◌, eq-eqb, eqb-true, unwrap_or, filter_map}
-use Rattle.vt_spec.proofs.Common.{Among, Filesystem, Layer, Location, Mount, TaskName, World, among-append, among-flat_map, among-from_filter, among-from_flat_map, among-from_map, among_from_contains, among_numbers, and_from, any_among, any_from_among, change_layers, common_steps, false_from_ne_true, filesystem_lives, filesystem_numbered, has_layer_on, is_among, is_member_of, is_member_task, is_mounted, layers_of, list_any, locations, locations_of, members, mount_at, mount_numbered, no_filesystem, of_overlay, or_left, or_right, own_lowers, own_mounts, used_directly, used_filesystems, when, without_dead_filesystems, without_dead_groups, without_dead_mounts}
+use Rattle.std.proofs.Common.{arith, ◌≡◌, refl, sym, ap, ◌∙◌, ⊎_elim, ℕ, nat_eq, Bool, true, false, cond, true≢false, List, [], ◌∷◌, Option, Some, None, filter, find, map, ◌&&◌, ◌||◌, eq-eqb, eqb-true, unwrap_or, filter_map}
+use Rattle.vt_spec.proofs.Common.{Among, Filesystem, Layer, Mount, TaskName, World, among-append, among-flat_map, among-from_filter, among-from_flat_map, among-from_map, among_from_contains, among_numbers, and_from, any_among, any_from_among, common_steps, false_from_ne_true, filesystem_lives, filesystem_numbered, has_layer_on, is_among, is_member_of, is_member_task, is_mounted, layers_of, list_any, locations, locations_of, members, mount_numbered, no_filesystem, of_overlay, or_left, or_right, own_lowers, own_mounts, used_directly, used_filesystems, when, without_dead_filesystems, without_dead_groups, without_dead_mounts}
 use Rattle.vt_laws_sealed.proofs.Common.{found_itself}
 use Rattle.vt_laws_sealed.specs.Part.Parts.{SeesTheSame, shown_of}
 use Rattle.vt_laws_sealed.specs.Part.Seals.{IsApart}
@@ -48,22 +48,17 @@ module _ (world before : World ℕ) (names : List TaskName) (apart : IsApart wor
 
   mounted_if_shown : (number : ℕ) (mount : Mount ℕ) → Among mount before.mounts → mount.filesystem ≡ number
       → is_mounted nat_eq before number ≡ true
-  mounted_if_shown number mount m e = any_from_among (λ (x : Mount ℕ). nat_eq number x.filesystem) before.mounts mount m
-      (eq-eqb number mount.filesystem (sym e))
+  mounted_if_shown number mount m e = any_from_among _ before.mounts mount m (eq-eqb number mount.filesystem (sym e))
 
   -- what they use directly is mounted
   direct_mounted : (number : ℕ) → Among number direct → is_mounted nat_eq before number ≡ true
-  direct_mounted number m = ⊎_elim (λ shown. let mount = among-from_map (λ (x : Mount ℕ). x.filesystem)
-      (own_mounts nat_eq world names) number shown in
+  direct_mounted number m = ⊎_elim (λ shown. let mount = among-from_map _ _ number shown in
       mounted_if_shown number mount.0 (own_later world before names sees mount.0 mount.1) (sym mount.2)) (λ located.
-      let at = among-from_map (λ (l : Location ℕ). (mount_at nat_eq world l).filesystem)
-      (locations (members world names)) number located in
+      let at = among-from_map _ (locations (members world names)) number located in
       let task = among-from_flat_map locations_of (members world names) at.0 at.1 in
       let there = located_there apart at.0 (among-flat_map locations_of world.tasks task.0 at.0
       (among-from_filter (is_member_task names) world.tasks task.0 task.1).0 task.2) in
-      let shown = shown_at world names there.0
-      (any_from_among (λ (l : Location ℕ). nat_eq l.mount there.0.number) (locations (members world names)) at.0 at.1
-      there.2) in
+      let shown = shown_at world names there.0 (any_from_among _ (locations (members world names)) at.0 at.1 there.2) in
       let later = there_later world before names sees there.0 shown.0 there.1 shown.1 in
       mounted_if_shown number later.0 later.1 (later.3 ∙ ap (λ (x : Mount ℕ). x.filesystem)
       (sym (found_itself world.mounts apart.is.mounts.one_number there.0 there.1))
@@ -74,11 +69,8 @@ module _ (world before : World ℕ) (names : List TaskName) (apart : IsApart wor
   layer_alive : (number : ℕ) (merged : Filesystem ℕ) → Among merged world.filesystems → Among merged.number direct
       → has_layer_on nat_eq number merged ≡ true → alive number ≡ true
   layer_alive number merged m used has = or_right (is_mounted nat_eq before number) _
-      (any_from_among (λ other. has_layer_on nat_eq number other && is_mounted nat_eq before other.number)
-      before.filesystems merged
-      (used_later world before names sees merged m (used_directly_used world names merged.number used))
-      (and_from (has_layer_on nat_eq number merged) (is_mounted nat_eq before merged.number) has
-      (direct_mounted merged.number used)))
+      (any_from_among _ before.filesystems merged (used_later world before names sees merged m
+      (used_directly_used world names merged.number used)) (and_from _ _ has (direct_mounted merged.number used)))
 
   layered : (number : ℕ) (merged : Filesystem ℕ) (layer : Layer ℕ) → Among layer (of_overlay [] layers_of merged)
       → nat_eq number layer.filesystem ≡ true → has_layer_on nat_eq number merged ≡ true
@@ -96,9 +88,7 @@ module _ (world before : World ℕ) (names : List TaskName) (apart : IsApart wor
   used_alive number m = ⊎_elim (λ d. or_left (is_mounted nat_eq before number) _ (direct_mounted number d))
       (λ changed. let of = changed_of world names number changed in
       layer_alive number of.0 of.1 of.2 (layered number of.0 of.3 of.4 (eq-eqb number of.3.filesystem of.5)))
-      (among-append direct _ number
-      (among-from_each_once (direct ++ flat_map (λ n. change_layers (filesystem_numbered nat_eq world n)) direct)
-      number m))
+      (among-append direct _ number (among-from_each_once _ number m))
 
   abbrev alive_world : World ℕ
   alive_world = without_dead_filesystems nat_eq before

@@ -1,6 +1,6 @@
 -- The sweep of inodes takes nothing that a sealed set sees.
-use Rattle.std.proofs.Common.{arith, ◌≡◌, refl, sym, ap, ◌∙◌, inr, ℕ, nat_eq, Bool, true, false, List, [], ◌++◌, None, filter, flat_map, option_map}
-use Rattle.vt_spec.proofs.Common.{Among, FileTree, Filesystem, IsDirectory, Layer, TaskName, World, among-append_left, among-filter, among-flat_map, among-map, any_pair, common_steps, has_layer_on, is_among, is_among_numbers, is_overlay, layers_in, layers_of, list_all, list_any, located_in, named_in, number-only_used, objects_of_overlay, of_overlay, only_used, only_used_by, own_lowers, real_among, sealed, used_filesystems, used_in, without_dead_in}
+use Rattle.std.proofs.Common.{arith, ◌≡◌, refl, sym, ap, ◌∙◌, inr, ℕ, nat_eq, Bool, true, false, List, [], None, option_map}
+use Rattle.vt_spec.proofs.Common.{Among, FileTree, Filesystem, IsDirectory, Layer, TaskName, World, among-append_left, among-filter, among-flat_map, among-map, any_pair, common_steps, has_layer_on, is_among, is_among_numbers, is_overlay, layers_in, layers_of, list_any, located_in, named_in, number-only_used, of_overlay, only_used, only_used_by, own_lowers, real_among, sealed, used_filesystems, used_in, without_dead_in}
 use Rattle.vt_laws_sealed.proofs.Common.{IsFileTree, OneNumberEach, named_is_used}
 use Rattle.vt_laws_sealed.specs.Part.Parts.{SeesTheSame}
 use Rattle.vt_laws_sealed.specs.Part.Seals.{IsApart}
@@ -59,18 +59,11 @@ module _ {world before : World ℕ} {names : List TaskName} (apart : IsApart wor
       → is_among nat_eq layer.directory (used_in nat_eq before x) ≡ true
   top_used x layer m e =
       let of = lower_of world before names sees layer m in
-      is_among_numbers (used_in nat_eq before x) layer.directory
-      (inr (among-append_left (named_in x.files ++ located_in nat_eq before x.number
-      ++ layers_in nat_eq before x.number)
-      (flat_map (objects_of_overlay nat_eq x.number) before.filesystems) layer.directory
-      (in_third (named_in x.files) (located_in nat_eq before x.number)
-      (layers_in nat_eq before x.number) layer.directory (among-map (λ (l : Layer ℕ). l.directory)
-      (filter (λ (l : Layer ℕ). nat_eq x.number l.filesystem)
-      (flat_map (of_overlay [] layers_of) before.filesystems)) layer
-      (among-filter (λ (l : Layer ℕ). nat_eq x.number l.filesystem)
-      (flat_map (of_overlay [] layers_of) before.filesystems) layer
-      (among-flat_map (of_overlay [] layers_of) before.filesystems of.0 layer
-      (used_later world before names sees of.0 of.1 of.2) of.3) e)))))
+      is_among_numbers (used_in nat_eq before x) layer.directory (inr (among-append_left _ _ layer.directory
+      (in_third (named_in x.files) (located_in nat_eq before x.number) (layers_in nat_eq before x.number)
+      layer.directory (among-map (λ (l : Layer ℕ). l.directory) _ layer
+      (among-filter (λ (l : Layer ℕ). nat_eq x.number l.filesystem) _ layer (among-flat_map (of_overlay [] layers_of)
+      before.filesystems of.0 layer (used_later world before names sees of.0 of.1 of.2) of.3) e)))))
 
   lower_same : (x : Filesystem ℕ) → Among x before.filesystems
       → list_any (λ (layer : Layer ℕ). nat_eq x.number layer.filesystem) lowers ≡ true
@@ -101,8 +94,7 @@ module _ {world before : World ℕ} {names : List TaskName} (apart : IsApart wor
           × IsDirectory x.files.tree layer.directory)
           → (b : Bool) → lowered_by used lowers (only_used nat_eq before b x).files (only_used nat_eq before b x)
           ≡ lowered_by used lowers x.files x
-      by_choice plain conditions tops true = by_all plain conditions tops
-          (list_all (λ number. is_among nat_eq number (used_in nat_eq before x)) x.files.numbers)
+      by_choice plain conditions tops true = by_all plain conditions tops _
       by_choice plain conditions tops false = refl
 
   pub inodes_swept : SeesTheSame world swept names

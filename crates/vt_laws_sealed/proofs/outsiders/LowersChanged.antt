@@ -41,8 +41,7 @@ module _ (old new : FileTree ℕ) (number : ℕ) (lowers : List (Layer ℕ)) (ke
 
     led_there : (path : List (List ℕ)) (object : ℕ) → led old.tree top path ≡ Some object
         → is_some (old.tree.node object) ≡ true
-    led_there path object e =
-        led_is_there (record { tree = old.tree; directory = top }) keeps.was.tree top_directory path object e
+    led_there path object e = led_is_there _ keeps.was.tree top_directory path object e
 
     pub under_there : (object : ℕ) → is_under nat_eq old top object ≡ true → is_some (old.tree.node object) ≡ true
     under_there object h =
@@ -78,8 +77,7 @@ module _ (old new : FileTree ℕ) (number : ℕ) (lowers : List (Layer ℕ)) (ke
   lying object h = search (arith, common_steps, any_among, and_parts, under_there)
 
   new_lies_nowhere : (object : ℕ) → Among object keeps.more → lies_in old object ≡ false
-  new_lies_nowhere object m = false_from_ne_true (lies_in old object) (λ h.
-      cc ((lying object h).0, keeps.none object m))
+  new_lies_nowhere object m = false_from_ne_true _ (λ h. cc ((lying object h).0, keeps.none object m))
 
   abbrev chosen : List ℕ
   chosen = filter (lies_in old) old.numbers
@@ -88,9 +86,8 @@ module _ (old new : FileTree ℕ) (number : ℕ) (lowers : List (Layer ℕ)) (ke
   chosen_lies object h = (among-from_filter (lies_in old) old.numbers object (among_numbers chosen object h)).1
 
   numbers_same : filter (lies_in new) new.numbers ≡ chosen
-  numbers_same = ap (filter (lies_in new)) keeps.numbers
-      ∙ filter_same (lies_in new) (lies_in old) (keeps.more ++ old.numbers) lies_same
-      ∙ filter_without (lies_in old) keeps.more old.numbers new_lies_nowhere
+  numbers_same = ap (filter (lies_in new)) keeps.numbers ∙ filter_same (lies_in new) (lies_in old)
+      (keeps.more ++ old.numbers) lies_same ∙ filter_without (lies_in old) _ old.numbers new_lies_nowhere
 
   node_same : (object : ℕ) → cond (is_among nat_eq object chosen) (new.tree.node object) None
       ≡ cond (is_among nat_eq object chosen) (old.tree.node object) None

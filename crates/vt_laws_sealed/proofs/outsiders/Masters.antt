@@ -54,8 +54,7 @@ module _ {before later : World ℕ} {names : List TaskName} (sees : SeesTheSame 
       let lives : Lives (has_members nat_eq before.mounts) before.master source =
       among_from_all (HasLivingGroups nat_eq before) before.mounts is.groups own
       (among-from_filter (is_own_mount nat_eq before names) before.mounts own m).0 source e in
-      let member = own_member before names is apart source
-      (own, m, start_hears before source own.propagation e) lives in
+      let member = own_member before names is apart source (own, m, start_hears before source _ e) lives in
       grind (arith, common_steps, any_from_among)
 
   above_same : (own : Mount ℕ) → Among own (own_mounts nat_eq before names)
@@ -75,11 +74,9 @@ module _ {before later : World ℕ} {names : List TaskName} (sees : SeesTheSame 
       let in_later : is_own_namespace nat_eq later names namespace ≡ true =
       cc (sees.tasks, own) in
       let same : mounts_of nat_eq later namespace ≡ mounts_of nat_eq before namespace =
-      sym (of_own later namespace in_later)
-      ∙ ap (filter (λ (mount : Mount ℕ). holds_of (nat_eq namespace) mount.namespace))
-      (own_mounts_same before later names sees) ∙ of_own before namespace own in
-      ap (same_list (same_mount nat_eq before later) (mounts_of nat_eq before namespace)) same
-      ∙ same_list_itself (same_mount nat_eq before later) (mounts_of nat_eq before namespace)
-      (λ mount m. same_mount_itself before later mount
-      (above_same mount (among-from_filter (λ (mount : Mount ℕ). holds_of (nat_eq namespace) mount.namespace)
-      (own_mounts nat_eq before names) mount (subst (Among mount) (sym (of_own before namespace own)) m)).0))
+      sym (of_own later namespace in_later) ∙ ap (filter (λ (mount : Mount ℕ). holds_of (nat_eq namespace)
+      mount.namespace)) (own_mounts_same before later names sees) ∙ of_own before _ own in
+      ap (same_list (same_mount nat_eq before later) (mounts_of nat_eq before namespace)) same ∙ same_list_itself
+      (same_mount nat_eq before later) (mounts_of nat_eq before namespace) (λ mount m. same_mount_itself before later
+      mount (above_same mount (among-from_filter (λ (mount : Mount ℕ). holds_of (nat_eq namespace) mount.namespace)
+      (own_mounts nat_eq before names) mount (subst (Among mount) (sym (of_own before _ own)) m)).0))

@@ -73,9 +73,7 @@ copies_grow : (fresh : Fresh ℕ) (k : ℕ) (merge : Merge ℕ) (list : List ℕ
 copies_grow fresh k merge [] = grows_by_none fresh merge.upper merge.upper refl refl
 copies_grow fresh k merge (object ∷ rest) =
     let one = copy_of nat_eq merge object (fresh k) (merge.files.tree.node object) (is_in_upper merge object) in
-    grows_on fresh merge.upper one.upper (copied_each nat_eq fresh (k + 1) one rest).upper
-    (copy_grows fresh k merge object (merge.files.tree.node object) (is_in_upper merge object))
-    (copies_grow fresh (k + 1) one rest)
+    grows_on fresh merge.upper one.upper _ (copy_grows fresh k merge object _ _) (copies_grow fresh (k + 1) one rest)
 
 -- by a part of the new numbers
 up_grows : (fresh supply : Fresh ℕ) → ((k : ℕ) → IsNewBy fresh (supply k)) → (merge : Merge ℕ) (object : ℕ)
@@ -98,15 +96,13 @@ emptying_grows fresh upper (Some object) = grows_by_none fresh upper _ refl refl
 left_grows : (fresh supply : Fresh ℕ) → ((k : ℕ) → IsNewBy fresh (supply k)) → (whiteout : Bool) (stack : Stack ℕ)
     (upper : FileTree ℕ) (directory : ℕ) (name : List ℕ)
     → Grows fresh upper (name_left_by nat_eq whiteout supply stack upper directory name)
-left_grows fresh supply within true stack upper directory name =
-    grows_by_one fresh upper _ (supply 0) refl refl (within 0)
+left_grows fresh supply within true stack upper directory name = grows_by_one fresh upper _ _ refl refl (within 0)
 left_grows fresh supply within false stack upper directory name = grows_by_none fresh upper _ refl refl
 
 move_grows : (fresh : Fresh ℕ) (upper : FileTree ℕ) (from : ℕ) (old : List ℕ) (to : ℕ) (new : List ℕ) (object : ℕ)
     → Grows fresh upper (with_moved nat_eq upper from old to new object)
 move_grows fresh upper from old to new object =
-    grows_by_none fresh upper (with_moved nat_eq upper from old to new object)
-    (root_moved upper from old to new object) (numbers_moved upper from old to new object)
+    grows_by_none fresh upper _ (root_moved upper from old to new object) (numbers_moved upper from old to new object)
 
 -- one inode more, under a name
 make_grows : (fresh : Fresh ℕ) (upper : FileTree ℕ) (directory : ℕ) (name : List ℕ) (number : ℕ) (node : Node ℕ)

@@ -29,8 +29,7 @@ module _ (world : World ℕ) (is : IsWorld nat_eq world) (task : Task ℕ) (ther
   front_ground : (start here : Location ℕ) (front : List (List ℕ)) → OnGround start
       → IsFront world task start front here → OnGround here
   front_ground start here [] ground e = subst OnGround (sym e) ground
-  front_ground start here (word ∷ front) ground before =
-      way_ground world is task there start here (reverse front) before.passed before.way ground
+  front_ground start here (word ∷ front) ground before = way_ground world is task there start here _ _ before.way ground
 
   object_ground : (here : Location ℕ) (word : LastWord) (o : Option (Location ℕ)) → OnGround here
       → object_named nat_eq world task here word ≡ Ok o → (file : Location ℕ) → o ≡ Some file → OnGround file
@@ -143,7 +142,5 @@ module _ {world : World ℕ} {fresh : Fresh ℕ} {names : List TaskName} {name :
 
   pub open_outside : (file : Location ℕ) (access : Access)
       → judge_in nat_eq fresh world task call ≡ Ok (ToOpen file access) → IsOutside world names file
-  open_outside file access judged = ground_outside outsider file
-      (file_reached call (ToOpen file access)
-      (calls_are_granted nat_eq (looks_of nat_eq world) (overfills nat_eq fresh world task) task call
-      (ToOpen file access) judged) file access refl)
+  open_outside file access judged = ground_outside outsider file (file_reached call (ToOpen file access)
+      (calls_are_granted nat_eq (looks_of nat_eq world) _ task call (ToOpen file access) judged) file access refl)

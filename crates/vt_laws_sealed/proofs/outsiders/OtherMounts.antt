@@ -1,6 +1,6 @@
 -- Mounts of others, and the groups that they hear.
 use Rattle.std.proofs.Common.{arith, ◌≡◌, refl, sym, ap, subst, ◌∙◌, ◌⊎◌, inl, inr, ⊎_elim, ℕ, zero, suc, nat_eq, true, false, true≢false, List, [], ◌∷◌, Option, Some, None, map, not, eq-eqb, eqb-true, option_to_list}
-use Rattle.vt_spec.proofs.Common.{Among, Fresh, HasLivingGroups, Location, Mount, Propagation, Serves, Stands, Task, TaskName, World, all_locations, among-filter, among-flat_map, among-from_filter, among-from_flat_map, among-from_map, among_from_all, among_from_list_all, and_parts, any_among, any_from_among, children, common_steps, false_from_ne_true, group_of, holds_of, is_among, is_among_left, is_among_numbers, is_at, is_directory_seen_in, is_located_well, is_member_of, is_member_task, is_own_mount, is_own_namespace, is_there, list_all, list_all_from_among, master_of, members, mount_at, mount_numbered, none_is_some, not-true, numbers_in_use, or_cases, other_mounts, outsiders, own_mounts, receives_events_of, roots_and_directories, share_events, shares_no_events, source_of, stands_on, stands_on_directories, tree_from, used_by_mount}
+use Rattle.vt_spec.proofs.Common.{Among, Fresh, HasLivingGroups, Location, Mount, Propagation, Serves, Stands, Task, TaskName, World, all_locations, among-filter, among-flat_map, among-from_filter, among-from_flat_map, among-from_map, among_from_all, among_from_list_all, and_parts, any_among, any_from_among, children, common_steps, false_from_ne_true, group_of, holds_of, is_among, is_among_left, is_among_numbers, is_at, is_directory_seen_in, is_member_of, is_member_task, is_own_mount, is_own_namespace, is_there, list_all, list_all_from_among, master_of, members, mount_at, mount_numbered, none_is_some, not-true, numbers_in_use, or_cases, other_mounts, outsiders, own_mounts, receives_events_of, roots_and_directories, share_events, shares_no_events, source_of, stands_on, stands_on_directories, tree_from, used_by_mount}
 use Rattle.vt_laws_sealed.proofs.Common.{IsNewBy, all_in_use, found_itself, namespace_below}
 use Rattle.vt_laws_sealed.proofs.part.groups.EventsApart.{above_lives, member_group, members_of, none_hears, sides}
 use Rattle.vt_laws_sealed.proofs.part.groups.ReceiversAlike.{Living, OtherLives, none_other, other_above, own_member}
@@ -16,9 +16,7 @@ module _ (world : World ℕ) (names : List TaskName) {namespace : ℕ}
   not_own = cc
 
   pub is_other : Among mount (other_mounts nat_eq world names)
-  is_other = among-filter (λ (m : Mount ℕ). holds_of (λ n. not (is_own_namespace nat_eq world names n)) m.namespace)
-      world.mounts mount there
-      (cc)
+  is_other = among-filter _ world.mounts mount there (cc)
 
 -- and no root or working directory of theirs is on it.
 module _ {world : World ℕ} {names : List TaskName} (apart : IsApart world names) {namespace : ℕ}
@@ -42,9 +40,8 @@ module _ {world : World ℕ} {names : List TaskName} (apart : IsApart world name
           → nat_eq location.mount mount.number ≡ true
           → is_directory_seen_in nat_eq world member.namespace location ≡ true → ⊥
       seen member m location e directory =
-          let it : mount_at nat_eq world location ≡ mount =
-          ap (mount_numbered nat_eq world) (eqb-true location.mount mount.number e)
-          ∙ found_itself world.mounts apart.is.mounts.one_number mount there in
+          let it : mount_at nat_eq world location ≡ mount = ap (mount_numbered nat_eq world)
+          (eqb-true location.mount mount.number e) ∙ found_itself _ apart.is.mounts.one_number mount there in
           grind (arith, common_steps, and_parts, true≢false, any_from_among, eq-eqb, eqb-true)
 
 -- a mount of a namespace
@@ -81,8 +78,7 @@ tree_in {world} {names} apart namespace zero mount is x m =
     ⊎_elim (λ e. subst (IsIn world namespace) (sym e) is) (λ none. absurd none) m
 tree_in {world} {names} apart namespace (suc depth) mount is x m = ⊎_elim (λ e. subst (IsIn world namespace) (sym e) is)
     (λ later.
-    let from = among-from_flat_map (tree_from nat_eq depth world.mounts) (children nat_eq world.mounts mount.number) x
-    later in
+    let from = among-from_flat_map (tree_from nat_eq depth world.mounts) _ x later in
     tree_in apart namespace depth from.0 (child_in apart namespace mount is from.0 from.1) x from.2) m
 
 -- the mount of a location that a task uses is there
@@ -92,8 +88,7 @@ pub located_there : {world : World ℕ} {names : List TaskName} (apart : IsApart
 located_there {world} {names} apart location m =
     let well = and_parts (is_among nat_eq location.mount (map (λ (x : Mount ℕ). x.number) world.mounts))
     (is_there nat_eq world (mount_at nat_eq world location).filesystem location.node)
-    (among_from_list_all (is_located_well nat_eq world) (all_locations world) apart.is.tasks.locations_live location
-    m) in
+    (among_from_list_all _ (all_locations world) apart.is.tasks.locations_live location m) in
     let number = any_among (nat_eq location.mount) (map (λ (x : Mount ℕ). x.number) world.mounts) well.0 in
     let from = among-from_map (λ (x : Mount ℕ). x.number) world.mounts number.0 number.1 in
     (from.0, from.1, cc (from.2, number.2))
@@ -102,8 +97,7 @@ located_there {world} {names} apart location m =
 pub namespace_outside : (world : World ℕ) (names : List TaskName) → IsApart world names → (task : Task ℕ)
     → Among task (outsiders world names) → is_own_namespace nat_eq world names task.namespace ≡ false
 namespace_outside world names apart task outside = not-true (is_own_namespace nat_eq world names task.namespace)
-    (among_from_list_all (λ (t : Task ℕ). not (is_own_namespace nat_eq world names t.namespace)) (outsiders world names)
-    apart.tasks task outside)
+    (among_from_list_all _ (outsiders world names) apart.tasks task outside)
 
 -- Numbers that are handed in are of no mount and of no group.
 module _ (world : World ℕ) (fresh : Fresh ℕ) (serves : Serves nat_eq world fresh) where
@@ -146,9 +140,8 @@ standing_apart world names apart = standing_apart_of world names apart NothingNe
 
 pub standing_apart_with : (world : World ℕ) (names : List TaskName) → IsApart world names → (fresh : Fresh ℕ)
     → Serves nat_eq world fresh → StandsApart world names (IsNewBy fresh)
-standing_apart_with world names apart fresh serves =
-    standing_apart_of world names apart (IsNewBy fresh) (λ mount group m is_in new.
-    member_not_new world fresh serves mount group new.0 m is_in new.1)
+standing_apart_with world names apart fresh serves = standing_apart_of world names apart _
+    (λ mount group m is_in new. member_not_new world fresh serves mount group new.0 m is_in new.1)
 
 -- Groups of others: a mount of others hears it, or its number is new.
 module _ {world : World ℕ} {names : List TaskName} {New : ℕ → Type 0} (apart : StandsApart world names New) where
@@ -210,14 +203,12 @@ module _ {world : World ℕ} {names : List TaskName} {New : ℕ → Type 0} (apa
       → master_of left own.propagation ≡ master_of world own.propagation)
       → ((other : Mount ℕ) → Among other (other_mounts nat_eq left names) → (group : ℕ)
       → HearsGroup left other.propagation group → Foreign group) → shares_no_events nat_eq left names ≡ true
-  events_stay_apart left same masters others =
-      ap (list_all (λ own. list_all (λ other. not (share_events nat_eq left own other))
-      (other_mounts nat_eq left names))) same ∙ list_all_from_among
+  events_stay_apart left same masters others = ap (list_all (λ own. list_all
+      (λ other. not (share_events nat_eq left own other)) (other_mounts nat_eq left names))) same ∙ list_all_from_among
       (λ own. list_all (λ other. not (share_events nat_eq left own other)) (other_mounts nat_eq left names))
-      (own_mounts nat_eq world names)
-      (λ own m. list_all_from_among (λ other. not (share_events nat_eq left own other)) (other_mounts nat_eq left names)
-      (λ other n. ap not (false_from_ne_true (share_events nat_eq left own other) (λ h.
-      ⊎_elim (own_receives own m other n) (other_receives own m other n)
+      (own_mounts nat_eq world names) (λ own m. list_all_from_among (λ other. not (share_events nat_eq left own other))
+      (other_mounts nat_eq left names) (λ other n. ap not (false_from_ne_true _
+      (λ h. ⊎_elim (own_receives own m other n) (other_receives own m other n)
       (or_cases (receives_events_of nat_eq left own other) (receives_events_of nat_eq left other own) h)))))
     where
       -- the group of which a mount is a member

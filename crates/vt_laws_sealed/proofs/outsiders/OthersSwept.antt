@@ -23,8 +23,7 @@ module _ (world before : World ℕ) (names : List TaskName) (others : OthersStay
   found_living location m = ap (λ o. unwrap_or o (no_mount location.mount)) (search before.mounts)
     where
       located : (mount : Mount ℕ) → nat_eq location.mount mount.number ≡ true → mount_lives nat_eq before mount ≡ true
-      located mount e = or_right (is_some mount.namespace) _
-          (any_from_among (λ (l : Location ℕ). nat_eq mount.number l.mount) (all_locations before) location m
+      located mount e = or_right (is_some mount.namespace) _ (any_from_among _ (all_locations before) location m
           (eq-eqb mount.number location.mount (sym (eqb-true location.mount mount.number e))))
 
       search : (list : List (Mount ℕ))
@@ -114,8 +113,7 @@ module _ (world before : World ℕ) (names : List TaskName) (others : OthersStay
       let parts = and_parts (no_outsider_on nat_eq before names number)
       (list_all (λ merged. not (has_layer_on nat_eq number merged)
       || no_outsider_on nat_eq before names merged.number) (overlays before)) alone in
-      and_from (no_outsider_on nat_eq last names number) (list_all (λ merged. not (has_layer_on nat_eq number merged)
-      || no_outsider_on nat_eq last names merged.number) (overlays last)) (no_outsider_same number ∙ parts.0)
+      and_from (no_outsider_on nat_eq last names number) _ (no_outsider_same number ∙ parts.0)
       (list_all_from_among (λ merged. not (has_layer_on nat_eq number merged)
       || no_outsider_on nat_eq last names merged.number) (overlays last) (λ merged m. let was = overlay_was merged m in
       ap (λ b. not b || no_outsider_on nat_eq last names merged.number) (sym (was.3 number))

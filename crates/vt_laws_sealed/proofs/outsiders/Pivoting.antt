@@ -105,8 +105,7 @@ module _ {world : World ℕ} {fresh : Fresh ℕ} {names : List TaskName} {name :
       let out = among-from_filter (λ (x : Task ℕ). not (is_member_task names x)) (map move world.tasks) t m in
       let from = among-from_map move world.tasks t out.0 in (
         from.0,
-        among-filter (λ (x : Task ℕ). not (is_member_task names x)) world.tasks from.0 from.1
-            (cc (from.2, member_kept from.0, out.1)),
+        among-filter _ world.tasks from.0 from.1 (cc (from.2, member_kept from.0, out.1)),
         from.2,
       )
 
@@ -134,8 +133,7 @@ module _ {world : World ℕ} {fresh : Fresh ℕ} {names : List TaskName} {name :
   located location m =
       let of = among-from_flat_map locations_of those location m in
       let old = was of.0 of.1 in
-      by old.0 old.1 (nat_eq task.namespace old.0.namespace)
-      (subst (λ (t : Task ℕ). Among location (locations_of t)) old.2 of.2)
+      by old.0 old.1 _ (subst (λ (t : Task ℕ). Among location (locations_of t)) old.2 of.2)
     where
       by : (old : Task ℕ) → Among old (outsiders world names) → (b : Bool)
           → Among location (locations_of (cond b (record old {
@@ -143,14 +141,12 @@ module _ {world : World ℕ} {fresh : Fresh ℕ} {names : List TaskName} {name :
             directory = pivoted_location nat_eq old_root new_root old.directory;
           }) old)) → IsOutside world names location
       by old among true n = ⊎_elim (λ root. moved_outside old among old.root location (inl refl) root)
-          (λ rest. ⊎_elim (λ directory. moved_outside old among old.directory location (inr (inl refl)) directory)
-          (λ open_ones. inl (
+          (λ rest. ⊎_elim (λ directory. moved_outside old among _ _ (inr (inl refl)) directory) (λ open_ones. inl (
             location,
             among-flat_map locations_of (outsiders world names) old location among (inr (inr open_ones)),
             refl,
           )) rest) n
-      by old among false n =
-          inl (location, among-flat_map locations_of (outsiders world names) old location among n, refl)
+      by old among false n = inl (location, among-flat_map locations_of _ old location among n, refl)
 
   moved : OthersMove world names (map move world.tasks) world.namespaces
   moved = record {

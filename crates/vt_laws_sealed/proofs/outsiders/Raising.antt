@@ -40,8 +40,7 @@ module _ (before left : World ℕ) (names : List TaskName) (name : TaskName) (ch
   member_stays task member = by (same_name name task.name) refl
     where
       by : (b : Bool) → same_name name task.name ≡ b → cond b (record task { change = raised task.change }) task ≡ task
-      by true e =
-          absurd (true≢false (sym member ∙ ap (λ n. is_among same_name n names) (sym (same_task_name name task.name e))
+      by true e = absurd (true≢false (sym member ∙ ap (λ n. is_among same_name n names) (sym (same_task_name name _ e))
           ∙ outside))
       by false e = refl
 
@@ -50,8 +49,7 @@ module _ (before left : World ℕ) (names : List TaskName) (name : TaskName) (ch
       (λ task m. member_stays task (among-from_filter (is_member_task names) left.tasks task m).1)
 
   outsiders_raised : outsiders later names ≡ map raise (outsiders left names)
-  outsiders_raised =
-      filter-map (λ task. not (is_member_task names task)) raise left.tasks (λ task. ap not (member_kept task))
+  outsiders_raised = filter-map _ raise left.tasks (λ task. ap not (member_kept task))
 
   outsiders_locations : locations (outsiders later names) ≡ locations (outsiders left names)
   outsiders_locations = ap (flat_map locations_of) outsiders_raised ∙ flat_map-map raise locations_of
@@ -178,15 +176,13 @@ module _ (before left : World ℕ) (names : List TaskName) (name : TaskName) (ch
     own_stays : (namespace : Namespace ℕ) → is_own_namespace nat_eq left names namespace.number ≡ true
         → raise_of namespace ≡ namespace
     own_stays namespace own = ap (λ b. cond b namespace (record namespace { change = raised namespace.change }))
-        (same_mounts sees is apart namespace.number
-        (ap (λ tasks. own_by tasks namespace.number) (sym sees.tasks) ∙ own))
+        (same_mounts sees is apart _ (ap (λ tasks. own_by tasks namespace.number) (sym sees.tasks) ∙ own))
 
     namespaces_raised : (part_of nat_eq later names).namespaces ≡ (part_of nat_eq left names).namespaces
-    namespaces_raised =
-        ap (λ tasks. filter (λ (n : Namespace ℕ). own_by tasks n.number) later.namespaces) members_raised
-        ∙ filter-map (λ (n : Namespace ℕ). own_by (members left names) n.number) raise_of left.namespaces
-        (λ n. ap (own_by (members left names)) (namespace_number n))
-        ∙ map_same raise_of (filter (λ (n : Namespace ℕ). own_by (members left names) n.number) left.namespaces)
+    namespaces_raised = ap (λ tasks. filter (λ (n : Namespace ℕ). own_by tasks n.number) later.namespaces)
+        members_raised ∙ filter-map (λ (n : Namespace ℕ). own_by (members left names) n.number) raise_of left.namespaces
+        (λ n. ap (own_by (members left names)) (namespace_number n)) ∙ map_same _
+        (filter (λ (n : Namespace ℕ). own_by (members left names) n.number) left.namespaces)
         (λ n m. own_stays n (among-from_filter (λ (n : Namespace ℕ). own_by (members left names) n.number)
         left.namespaces n m).1)
 

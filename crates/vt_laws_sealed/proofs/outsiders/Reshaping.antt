@@ -1,6 +1,6 @@
 -- Mounts of others with other mount points and types, in their namespaces or in none: the part shows the same of them.
 use Rattle.std.proofs.Common.{arith, ◌≡◌, refl, sym, ap, ◌∙◌, ◌⊎◌, inl, inr, ⊎_elim, ℕ, nat_eq, Bool, true, false, cond, List, Option, Some, None, ◌||◌}
-use Rattle.vt_spec.proofs.Common.{Among, Location, Mount, Propagation, TaskName, World, among-filter, common_steps, holds_of, is_at, is_own_mount, is_own_namespace, locations, members, own_mounts, roots_and_directories, seen_by_descriptor, when}
+use Rattle.vt_spec.proofs.Common.{Among, Location, Mount, Propagation, TaskName, World, among-filter, common_steps, holds_of, is_at, is_own_namespace, locations, members, own_mounts, roots_and_directories, seen_by_descriptor, when}
 use Rattle.vt_laws_sealed.proofs.part.part.PartOfPart.{is_own, keep}
 use Rattle.vt_laws_sealed.proofs.outsiders.ChangedWorlds.{KeepsOrDetaches}
 use Rattle.vt_laws_sealed.proofs.outsiders.OtherMounts.{not_own}
@@ -39,8 +39,7 @@ reshaped_kept world names apart mount there new shaped own_same nowhere_same = b
       where
         which : (b : Bool) → is_own_namespace nat_eq world names n ≡ b
             → keep world names (members world names) new ≡ keep world names (members world names) mount
-        which true own = ap (keep world names (members world names)) (own_same
-            (among-filter (is_own_mount nat_eq world names) world.mounts mount there
+        which true own = ap (keep world names (members world names)) (own_same (among-filter _ world.mounts mount there
             (ap (holds_of (is_own_namespace nat_eq world names)) e ∙ own)))
         which false other =
             let no_place = apart.not_stood n other mount there e in

@@ -1,9 +1,9 @@
 -- What a set of tasks sees is there, where it sees the same: mounts, filesystems and lower layers.
-use Rattle.std.proofs.Common.{arith, ◌≡◌, refl, sym, ap, subst, ℕ, nat_eq, Bool, true, false, cond, true≢false, List, [], ◌++◌, Option, Some, None, filter, find, flat_map, map, ◌&&◌, ◌||◌, eqb-true, option_to_list, unwrap_or, filter_map}
-use Rattle.vt_spec.proofs.Common.{Among, FileTree, Filesystem, Layer, Mount, Overlay, Task, TaskName, World, among-append_left, among-append_right, among-filter_map, among-from_filter, among-from_filter_map, among-from_flat_map, among-from_map, change_layers, common_steps, filesystem_numbered, found_among, found_passes, is_among, is_at, is_own_mount, is_under, layers_of, list_any, locations, members, no_filesystem, none_is_some, of_overlay, only_among, overlay_or, own_lowers, own_mounts, part_of, roots_and_directories, same_Some, seen_by_descriptor, used_directly, used_filesystems, when}
+use Rattle.std.proofs.Common.{arith, ◌≡◌, refl, sym, ap, subst, ℕ, nat_eq, Bool, true, false, cond, true≢false, List, [], ◌++◌, Option, Some, None, filter, find, flat_map, map, ◌&&◌, eqb-true, option_to_list, unwrap_or, filter_map}
+use Rattle.vt_spec.proofs.Common.{Among, FileTree, Filesystem, Layer, Mount, Overlay, Task, TaskName, World, among-append_left, among-append_right, among-filter_map, among-from_filter, among-from_filter_map, among-from_flat_map, among-from_map, change_layers, common_steps, filesystem_numbered, found_among, found_passes, is_among, is_at, is_own_mount, is_under, layers_of, list_any, locations, members, no_filesystem, none_is_some, of_overlay, only_among, overlay_or, own_lowers, own_mounts, part_of, same_Some, seen_by_descriptor, used_directly, used_filesystems, when}
 use Rattle.vt_laws_sealed.specs.Part.Parts.{SeesTheSame, shown_of}
 use Rattle.vt_laws_sealed.proofs.part.part.Observed.{own_mounts_same}
-use Rattle.vt_laws_sealed.proofs.part.part.PartOfPart.{is_own, keep, kept_how, used_directly_used}
+use Rattle.vt_laws_sealed.proofs.part.part.PartOfPart.{keep, kept_how, used_directly_used}
 
 -- A filesystem that is used is whole in a part, and so it is there where the part is the same.
 module _ (used : List ℕ) (lowers : List (Layer ℕ)) where
@@ -33,8 +33,7 @@ module _ (used : List ℕ) (lowers : List (Layer ℕ)) where
 pub shown_at : (world : World ℕ) (names : List TaskName) (mount : Mount ℕ)
     → is_at nat_eq (locations (members world names)) mount ≡ true
     → (shown : Mount ℕ) × (keep world names (members world names) mount ≡ Some shown)
-shown_at world names mount at = either (is_own world names (members world names) mount
-    || is_at nat_eq (roots_and_directories (members world names)) mount)
+shown_at world names mount at = either _
   where
     either : (b : Bool) → (shown : Mount ℕ) × (cond b (Some mount)
         (when (is_at nat_eq (locations (members world names)) mount) (seen_by_descriptor mount)) ≡ Some shown)
@@ -48,8 +47,7 @@ pub changed_of : (world : World ℕ) (names : List TaskName) (number : ℕ)
     → (merged : Filesystem ℕ) × Among merged world.filesystems × Among merged.number (used_directly nat_eq world names)
     × (layer : Layer ℕ) × Among layer (of_overlay [] layers_of merged) × (number ≡ layer.filesystem)
 changed_of world names number m =
-    let from = among-from_flat_map (λ n. change_layers (filesystem_numbered nat_eq world n))
-    (used_directly nat_eq world names) number m in
+    let from = among-from_flat_map _ (used_directly nat_eq world names) number m in
     by from.0 from.1 (find (λ (f : Filesystem ℕ). nat_eq from.0 f.number) world.filesystems) refl from.2
   where
     up : (o : Option (Overlay ℕ)) → Among number (overlay_or [] (λ overlay. map (λ (layer : Layer ℕ). layer.filesystem)
@@ -65,8 +63,7 @@ changed_of world names number m =
         × (layer : Layer ℕ) × Among layer (of_overlay [] layers_of merged) × (number ≡ layer.filesystem)
     by k direct None e h = absurd (subst (λ o. Among number (change_layers (unwrap_or o (no_filesystem k)))) e h)
     by k direct (Some merged) e h =
-        let layer = up merged.overlay
-        (subst (λ o. Among number (change_layers (unwrap_or o (no_filesystem k)))) e h) in (
+        let layer = up _ (subst (λ o. Among number (change_layers (unwrap_or o (no_filesystem k)))) e h) in (
           merged,
           found_among (λ (f : Filesystem ℕ). nat_eq k f.number) world.filesystems merged e,
           subst (λ n. Among n (used_directly nat_eq world names)) (eqb-true k merged.number
@@ -107,13 +104,11 @@ module _ (world later : World ℕ) (names : List TaskName) (sees : SeesTheSame w
   -- a filesystem that they use is there, and was
   pub used_later : (x : Filesystem ℕ) → Among x world.filesystems
       → is_among nat_eq x.number (used_filesystems nat_eq world names) ≡ true → Among x later.filesystems
-  used_later = used_across (used_filesystems nat_eq world names) (own_lowers nat_eq world names) world later
-      (sym sees.filesystems)
+  used_later = used_across _ (own_lowers nat_eq world names) world later (sym sees.filesystems)
 
   pub used_was : (x : Filesystem ℕ) → Among x later.filesystems
       → is_among nat_eq x.number (used_filesystems nat_eq world names) ≡ true → Among x world.filesystems
-  used_was =
-      used_across (used_filesystems nat_eq world names) (own_lowers nat_eq world names) later world sees.filesystems
+  used_was = used_across _ (own_lowers nat_eq world names) later world sees.filesystems
 
   -- a lower layer of theirs is one of an overlay that is there
   pub lower_of : (layer : Layer ℕ) → Among layer (own_lowers nat_eq world names)
@@ -121,9 +116,7 @@ module _ (world later : World ℕ) (names : List TaskName) (sees : SeesTheSame w
       × (is_among nat_eq merged.number (used_filesystems nat_eq world names) ≡ true)
       × Among layer (of_overlay [] layers_of merged) × Among merged.number (used_directly nat_eq world names)
   lower_of layer m =
-      let from = among-from_flat_map
-      (λ n. of_overlay [] (λ (overlay : Overlay ℕ). overlay.lowers) (filesystem_numbered nat_eq world n))
-      (used_directly nat_eq world names) layer m in
+      let from = among-from_flat_map _ (used_directly nat_eq world names) layer m in
       by from.0 from.1 (find (λ (f : Filesystem ℕ). nat_eq from.0 f.number) world.filesystems) refl from.2
     where
       up : (o : Option (Overlay ℕ)) → Among layer (overlay_or [] (λ (overlay : Overlay ℕ). overlay.lowers) o)

@@ -11,17 +11,14 @@ module _ {A : Type 0} (number_of : A → ℕ) where
       → Among a list → (number : ℕ) → nat_eq number (number_of a) ≡ true → numbered number list ≡ Some a
   found_one [] apart a m number e = absurd m
   found_one (first ∷ rest) apart a m number e =
-      let parts = or_parts (list_any (λ b. nat_eq (number_of first) (number_of b)) rest)
-      (any_pair (λ a b. nat_eq (number_of a) (number_of b)) rest) apart in
-      ⊎_elim (λ same. cc)
-      (λ later. by (nat_eq number (number_of first)) refl parts.0 later (found_one rest parts.1 a later number e)) m
+      let parts = or_parts _ (any_pair (λ a b. nat_eq (number_of a) (number_of b)) rest) apart in
+      ⊎_elim (λ same. cc) (λ later. by _ refl parts.0 later (found_one rest parts.1 a later number e)) m
     where
       clash : (xs : List A) → list_any (λ b. nat_eq (number_of first) (number_of b)) xs ≡ false → Among a xs
           → nat_eq (number_of first) (number_of a) ≡ false
       clash [] none n = absurd n
       clash (x ∷ xs) none n =
-          let parts = or_parts (nat_eq (number_of first) (number_of x))
-          (list_any (λ b. nat_eq (number_of first) (number_of b)) xs) none in
+          let parts = or_parts (nat_eq (number_of first) (number_of x)) _ none in
           ⊎_elim (λ same. cc (parts.0)) (λ l. clash xs parts.1 l) n
 
       by : (b : Bool) → nat_eq number (number_of first) ≡ b

@@ -22,8 +22,7 @@ items o = unwrap_or (option_map (λ (q : Queue). q.items) o) []
 pub shorter : (who other : Who) (queues : List Queue) → queue_of (map (shortened who) queues) other
     ≡ cond (same_who other who) (rest_of (queue_of queues other)) (queue_of queues other)
 shorter who other [] = grind (arith, common_steps)
-shorter who other (queue ∷ queues) =
-    first (same_who who queue.who) refl (same_who other queue.who) refl (shorter who other queues)
+shorter who other (queue ∷ queues) = first (same_who who queue.who) refl _ refl (shorter who other queues)
   where
     first : (a : Bool) → same_who who queue.who ≡ a → (b : Bool) → same_who other queue.who ≡ b
         → queue_of (map (shortened who) queues) other

@@ -1,7 +1,7 @@
 -- The text of a schedule is that of its commits.
 use Rattle.std.proofs.Common.{◌≡◌, refl, ℕ, Bool, List, [], ◌∷◌, ◌++◌, Option, Some, None, ◌+◌, arith, append_assoc, option_to_list}
-use Rattle.vt_spec.proofs.Common.{Fresh, Reply, Sched, Who, common_steps, handed, later}
-use Rattle.vt_laws_turns.proofs.Common.{played, reply_text, schedule_who, turn_of_line, turns_text}
+use Rattle.vt_spec.proofs.Common.{Fresh, Reply, Sched, Who, common_steps, later}
+use Rattle.vt_laws_turns.proofs.Common.{played, reply_text, turn_of_line, turns_text}
 use Rattle.vt_laws_turns.specs.Commits.{TextsAreOfCommits, replies, text_of_replies, turn_given, turns_given}
 use Rattle.vt_laws_turns.proofs.played.Turning.{replies_are_of_commits}
 
@@ -18,8 +18,7 @@ text_of_one (Some reply) = grind (arith, common_steps)
 plays : (number : ℕ) (sched : Sched ℕ) (lines : List (List ℕ)) (refused : List Bool)
     → played number sched lines refused ≡ text_of_replies (replies sched (turns_given number lines refused))
 plays number sched [] refused = refl
-plays number sched (line ∷ lines) refused =
-    by (schedule_who line) (handed number refused) (λ next. plays (number + 1) next lines (later refused))
+plays number sched (line ∷ lines) refused = by _ _ (λ next. plays (number + 1) next lines (later refused))
   where
     by : (who : Option Who) (fresh : Option (Fresh ℕ))
         → ((next : Sched ℕ) → played (number + 1) next lines (later refused)

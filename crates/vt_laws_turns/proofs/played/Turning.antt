@@ -1,6 +1,6 @@
 -- What one turn does.
-use Rattle.std.proofs.Common.{arith, ◌≡◌, refl, sym, subst, ◌∙◌, ◌⊎◌, inl, inr, ⊎_elim, ℕ, nat_eq, Bool, true, false, true≢false, List, [], ◌∷◌, ◌++◌, Option, Some, None, Ok, Result, map, find, ◌+◌, nat_le, option_to_list, slice_get}
-use Rattle.vt_spec.proofs.Common.{Call, Calls, Fresh, Item, Progress, Queued, Route, Sched, Someone, Task, TaskName, Turned, Who, World, call_turn, call_turn_of, common_steps, entry_rules, first_of_list, first_turn, first_turn_by, found_passes, is_failing, is_overtaken, item_turn, later_turn, looks_of, most_restarts, next_word, none_is_some, queue_of, queue_turn, restarted, routes, same_name, same_task_name, shortened, task_called, turn, turn_under_way, unless, word_walked_by, words_of}
+use Rattle.std.proofs.Common.{arith, ◌≡◌, refl, sym, subst, ◌∙◌, ◌⊎◌, inl, inr, ⊎_elim, ℕ, nat_eq, Bool, true, false, true≢false, List, [], ◌∷◌, ◌++◌, Option, Some, None, Ok, Result, map, ◌+◌, nat_le, option_to_list}
+use Rattle.vt_spec.proofs.Common.{Call, Calls, Fresh, Item, Progress, Queued, Route, Sched, Someone, Task, TaskName, Turned, Who, World, call_turn, call_turn_of, common_steps, entry_rules, first_of_list, first_turn, first_turn_by, found_passes, is_failing, is_overtaken, item_turn, later_turn, looks_of, most_restarts, next_word, none_is_some, queue_of, queue_turn, restarted, routes, same_name, same_task_name, shortened, task_called, turn, turn_under_way, unless, word_walked_by}
 use Rattle.vt_laws_turns.proofs.Common.{Deny, run_whole}
 use Rattle.vt_laws_turns.specs.Commits.{Commit, FailedAllocationsAnswerS5, RepliesAreOfCommits, Turn, UnansweredTurnsChangeNothing, commit_by, commit_of, commits, committed, replies_of, run_item, world_after}
 
@@ -52,8 +52,7 @@ module _ (sched : Sched ℕ) (name : TaskName) (line : ℕ) (call : Call) (given
   later_by : (stale : Bool) (task : Task ℕ) (progress : Progress ℕ) → task.name ≡ name → progress.task ≡ name
       → Done (later_turn nat_eq stale sched task line call given progress)
   later_by true task progress e f = again (nat_le most_restarts progress.restarts) task progress e
-  later_by false task progress e f = next progress (routes nat_eq (looks_of nat_eq sched.world) task call)
-      (slice_get (words_of (routes nat_eq (looks_of nat_eq sched.world) task call)) progress.walked) f
+  later_by false task progress e f = next progress (routes nat_eq (looks_of nat_eq sched.world) task call) _ f
 
   under_way_by : (task : Task ℕ) (progress : Option (Progress ℕ)) → task.name ≡ name
       → ((p : Progress ℕ) → progress ≡ Some p → p.task ≡ name)
@@ -64,8 +63,7 @@ module _ (sched : Sched ℕ) (name : TaskName) (line : ℕ) (call : Call) (given
   called : (task : Option (Task ℕ)) → ((t : Task ℕ) → task ≡ Some t → t.name ≡ name)
       → Done (call_turn_of nat_eq sched name line call given task)
   called None e = whole
-  called (Some t) e = under_way_by t (find (λ progress. same_name name progress.task) sched.under_way) (e t refl)
-      (λ p h. sym (same_task_name name p.task
+  called (Some t) e = under_way_by t _ (e t refl) (λ p h. sym (same_task_name name p.task
       (found_passes (λ progress. same_name name progress.task) sched.under_way p h)))
 
 -- so does each turn
@@ -130,8 +128,7 @@ replies_are_of_commits sched (given ∷ rest) =
 
 -- a turn without a reply
 pub unanswered_turns_change_nothing : UnansweredTurnsChangeNothing
-unanswered_turns_change_nothing sched given none =
-    by (queue_of sched.queues given.0) (turn nat_eq sched given.0 given.1) (turn_is sched given.0 given.1) none
+unanswered_turns_change_nothing sched given none = by _ _ (turn_is sched given.0 given.1) none
   where
     by : (items : List Queued) (turned : Turned ℕ) → Turns sched given.0 given.1 items turned → turned.reply ≡ None
         → (turned.sched.world ≡ sched.world) × (turned.sched.queues ≡ sched.queues)

@@ -60,9 +60,8 @@ module _ (sched : Sched ℕ) (task : Task ℕ) (line : ℕ) (call : Call) (fresh
       → TurnKind sched task line call fresh turned → IsAnsweredOrAt turned task.name (p.restarts + 1) 1
   restart p at few (Begins e walked) = none_is_some p (sym e ∙ at.under_way)
   restart p at few (GoesOn q found current walked) = cc (at.numbers, one_found p q at.under_way found)
-  restart p at few (Restarts q found stale fewer walked) =
-      subst (λ (r : Progress ℕ). IsAnsweredOrAt turned task.name (r.restarts + 1) 1) (one_found q p found at.under_way)
-      (walked_at (first_progress nat_eq sched.world task (q.restarts + 1)) refl walked)
+  restart p at few (Restarts q found stale fewer walked) = subst (λ (r : Progress ℕ). IsAnsweredOrAt turned task.name
+      (r.restarts + 1) 1) (one_found q p found at.under_way) (walked_at _ refl walked)
   restart p at few (Whole q found stale many is) = inl (ap (λ (t : Turned ℕ). is_some t.reply) is)
 
   run_whole_then : (p : Progress ℕ) → IsUnderWay sched task p true → most_restarts ≤ p.restarts
@@ -71,23 +70,19 @@ module _ (sched : Sched ℕ) (task : Task ℕ) (line : ℕ) (call : Call) (fresh
 
 pub calls_begin : CallsBegin
 calls_begin sched task line call fresh next none =
-    begin sched task line call fresh (turn nat_eq sched (Someone task.name) (Some fresh)) none
-    (turn_of_call sched task line call fresh next)
+    begin sched task line call fresh _ none (turn_of_call sched task line call fresh next)
 
 pub calls_go_on : CallsGoOn
 calls_go_on sched task line call fresh progress next at =
-    go_on sched task line call fresh (turn nat_eq sched (Someone task.name) (Some fresh)) progress at
-    (turn_of_call sched task line call fresh next)
+    go_on sched task line call fresh _ progress at (turn_of_call sched task line call fresh next)
 
 pub calls_restart : CallsRestart
 calls_restart sched task line call fresh progress next at few =
-    restart sched task line call fresh (turn nat_eq sched (Someone task.name) (Some fresh)) progress at few
-    (turn_of_call sched task line call fresh next)
+    restart sched task line call fresh _ progress at few (turn_of_call sched task line call fresh next)
 
 pub then_calls_are_run_whole : ThenCallsAreRunWhole
 then_calls_are_run_whole sched task line call fresh progress next at many =
-    run_whole_then sched task line call fresh (turn nat_eq sched (Someone task.name) (Some fresh)) progress at many
-    (turn_of_call sched task line call fresh next)
+    run_whole_then sched task line call fresh _ progress at many (turn_of_call sched task line call fresh next)
 
 -- Over a schedule
 
@@ -99,8 +94,7 @@ restarts_of found = unwrap_or (option_map (λ (p : Progress ℕ). p.restarts) fo
 found_without : (name other : TaskName) (under_way : List (Progress ℕ)) → same_name name other ≡ false
     → under_way_of (without_progress other under_way) name ≡ under_way_of under_way name
 found_without name other [] e = refl
-found_without name other (p ∷ rest) e =
-    by (same_name other p.task) (same_name name p.task) refl refl (found_without name other rest e)
+found_without name other (p ∷ rest) e = by _ (same_name name p.task) refl refl (found_without name other rest e)
   where
     by : (b c : Bool) → same_name other p.task ≡ b → same_name name p.task ≡ c
         → under_way_of (without_progress other rest) name ≡ under_way_of rest name
@@ -129,9 +123,8 @@ module _ (sched : Sched ℕ) (is : IsSched sched) (name : TaskName) where
   own_turn : (fresh : Option (Fresh ℕ)) (turned : Turned ℕ) → turned.reply ≡ None
       → Shape sched (Someone name) fresh turned → restarts_of (under_way_of sched.under_way name) + cond finds 1 0
       ≤ restarts_of (under_way_of turned.sched.under_way name)
-  own_turn fresh turned none (Idle e idle) =
-      subst (λ (t : Turned ℕ). restarts_of (under_way_of sched.under_way name) + cond finds 1 0
-      ≤ restarts_of (under_way_of t.sched.under_way name)) (sym idle) (by (under_way_of sched.under_way name) refl)
+  own_turn fresh turned none (Idle e idle) = subst (λ (t : Turned ℕ). restarts_of (under_way_of sched.under_way name)
+      + cond finds 1 0 ≤ restarts_of (under_way_of t.sched.under_way name)) (sym idle) (by _ refl)
     where
       by : (found : Option (Progress ℕ)) → under_way_of sched.under_way name ≡ found
           → restarts_of (under_way_of sched.under_way name) + cond finds 1 0
@@ -152,9 +145,8 @@ module _ (sched : Sched ℕ) (is : IsSched sched) (name : TaskName) where
       let same : name ≡ task.name = ap name_in w in
       let called : task_called sched.world name ≡ Some task = cc (same, next.called) in
       let after : restarts_of (under_way_of turned.sched.under_way name) ≡ before.restarts =
-      ap (λ (t : Turned ℕ). restarts_of (under_way_of t.sched.under_way name)) further.is
-      ∙ ap restarts_of (found_first name (one_further nat_eq sched.world further.met before)
-      (without_progress before.task sched.under_way) (named sched task before at ∙ sym same)) in
+      ap (λ (t : Turned ℕ). restarts_of (under_way_of t.sched.under_way name)) further.is ∙ ap restarts_of
+      (found_first name _ (without_progress before.task sched.under_way) (named sched task before at ∙ sym same)) in
       subst (λ n. restarts_of (under_way_of sched.under_way name) + cond finds 1 0 ≤ n) (sym after) (by same called at)
     where
       name_in : Who → TaskName
@@ -197,8 +189,7 @@ module _ (sched : Sched ℕ) (is : IsSched sched) (name : TaskName) where
           ≤ restarts_of (under_way_of turned.sched.under_way name)
       by true e =
           let w : who ≡ Someone name = sym (same_whos (Someone name) who e) in
-          own_turn fresh turned (unanswered (first_of_list (queue_of sched.queues who)) turned.reply refl refl w)
-          (subst (λ one. Shape sched one fresh turned) w shape)
+          own_turn fresh turned (unanswered _ _ refl refl w) (subst (λ one. Shape sched one fresh turned) w shape)
       by false e = subst (λ found. restarts_of (under_way_of sched.under_way name) + 0 ≤ restarts_of found)
           (sym (other_turn who fresh turned e shape)) (omega arith)
 
@@ -216,18 +207,15 @@ bounded [] sched name is none = by (under_way_of sched.under_way name) refl
         → restarts_of found + 0 ≤ most_restarts
     by None e = omega arith
     by (Some p) e =
-        let few = is.restarts p (contains_from_among sched.under_way p
-        (found_among (λ (q : Progress ℕ). same_name name q.task) sched.under_way p e)) in
+        let few = is.restarts p (contains_from_among sched.under_way p (found_among _ sched.under_way p e)) in
         omega (arith, few)
 bounded (given ∷ rest) sched name is none =
     let turned : Turned ℕ = turn nat_eq sched given.0 given.1 in
     let made : List Commit = option_to_list (commit_of sched given) in
-    let parts = both_none (items_of (Someone name) made) (items_of (Someone name) (commits turned.sched rest))
-    (cc (more_items (Someone name) made (commits turned.sched rest))) in
+    let parts = both_none _ _ (cc (more_items (Someone name) made (commits turned.sched rest))) in
     let now = one_turn sched is name given.0 given.1 turned (turn_shape sched given.0 given.1) parts.0 in
     let later = bounded rest turned.sched name (turns_keep_schedulers sched given is) parts.1 in
-    sum (restarts_of (under_way_of sched.under_way name)) (cond (finds_overtaken name sched given) 1 0)
-    (restarts_of (under_way_of turned.sched.under_way name)) (restarts_in name turned.sched rest) now later
+    sum _ (cond (finds_overtaken name sched given) 1 0) _ (restarts_in name turned.sched rest) now later
   where
     sum : (a b c d : ℕ) → a + b ≤ c → c + d ≤ most_restarts → a + (b + d) ≤ most_restarts
     sum a b c d h k = omega (arith, h, k)

@@ -1,6 +1,6 @@
 -- Each turn keeps the conditions of a scheduler's state.
-use Rattle.std.proofs.Common.{◌≡◌, refl, sym, ap, subst, ◌∙◌, ⊎_elim, ℕ, suc, nat_eq, Bool, true, false, true≢false, cond, not, List, [], ◌∷◌, ◌≤◌, Option, Some, filter, map, length, arith, Contains}
-use Rattle.vt_spec.proofs.Common.{Among, Fresh, Progress, Queue, Queued, Sched, Someone, Task, TaskName, Turned, Who, World, among-from_filter, among_from_contains, common_steps, contains_from_among, first_of_list, found_among, found_passes, holds_of, most_restarts, one_further, queue_of, same_name, same_name-swapped, same_task_name, same_who, shortened, turn, without_progress}
+use Rattle.std.proofs.Common.{◌≡◌, refl, sym, ap, subst, ◌∙◌, ⊎_elim, ℕ, suc, Bool, true, false, true≢false, cond, not, List, [], ◌∷◌, ◌≤◌, Option, Some, filter, map, length, arith, Contains}
+use Rattle.vt_spec.proofs.Common.{Among, Fresh, Progress, Queue, Queued, Sched, Someone, Task, TaskName, Turned, Who, World, among-from_filter, among_from_contains, common_steps, contains_from_among, first_of_list, found_among, found_passes, holds_of, most_restarts, queue_of, same_name, same_name-swapped, same_task_name, same_who, shortened, without_progress}
 use Rattle.vt_laws_turns.specs.Restarts.{IsSched, SchedulersBegin, ScriptsBegin, TurnsKeepSchedulers, all_under_way_of, has_call_first, is_call}
 use Rattle.vt_laws_turns.proofs.TurnShapes.{Before, Shape, is_task_call, turn_shape}
 use Rattle.vt_laws_turns.proofs.TurnShapes.Before.{Again, AtStart, OnWay}
@@ -114,14 +114,11 @@ module _ (sched : Sched ℕ) (is : IsSched sched) where
   by_shape who fresh turned (CallDone name w line call f outcome e) =
       subst (λ (t : Turned ℕ). IsSched t.sched) (sym e) (call_done name outcome.world)
   by_shape who fresh turned (Further task w line call given g next before at further) =
-      subst (λ (t : Turned ℕ). IsSched t.sched) (sym further.is)
-      (goes_on task.name (one_further nat_eq sched.world further.met before)
-      (named sched task before at) (few task before at)
-      (ap (holds_of (λ (queued : Queued). is_call queued.item)) next.first))
+      subst (λ (t : Turned ℕ). IsSched t.sched) (sym further.is) (goes_on task.name _ (named sched task before at)
+      (few task before at) (ap (holds_of (λ (queued : Queued). is_call queued.item)) next.first))
 
 pub turns_keep_schedulers : TurnsKeepSchedulers
-turns_keep_schedulers sched given is =
-    by_shape sched is given.0 given.1 (turn nat_eq sched given.0 given.1) (turn_shape sched given.0 given.1)
+turns_keep_schedulers sched given is = by_shape sched is given.0 given.1 _ (turn_shape sched given.0 given.1)
 
 pub schedulers_begin : SchedulersBegin
 schedulers_begin world queues = grind (arith, common_steps, among_from_contains)

@@ -1,6 +1,6 @@
 -- What calls that write and that set attributes are granted: an edit of a file on a mount of theirs.
 use Rattle.std.proofs.Common.{arith, ◌≡◌, refl, ℕ, nat_eq, eqb-true, Bool, true, List, [], ◌∷◌, Option, Some, None, Ok, flat_map, length, IfOk, nat_lt}
-use Rattle.vt_spec.proofs.Common.{Change, FileTree, Here, Location, Looks, Node, Permit, Place, SetAttr, SetBytes, SetMark, Task, TaskName, ToChange, World, admin_rules, and_then, attr_at, attr_permit, attr_rules, attr_with_mode, attr_with_owner, changed, changed_node, chmod_permit, chown_permit, common_steps, directory_walk, entries-node_with_attr, entries-node_with_bytes, entries-node_with_mark, entries_in, file_mode, file_walk, file_word_rules, is_among, largest_file, looks_of, make_permit, make_rules, may_chown, named_in, new_file, object_walk, opaque_permit, opaque_rules, owns, part_of, rewrite_rules, targets_in, unless, unnumbered, used_filesystems, walk_end, write_permit, written_permit, ⊤}
+use Rattle.vt_spec.proofs.Common.{Change, FileTree, Here, Location, Looks, Node, Permit, Place, SetAttr, SetBytes, SetMark, Task, TaskName, ToChange, World, admin_rules, and_then, attr_at, attr_permit, attr_rules, attr_with_mode, attr_with_owner, changed, changed_node, chmod_permit, chown_permit, common_steps, directory_walk, entries-node_with_attr, entries-node_with_bytes, entries-node_with_mark, entries_in, file_mode, file_word_rules, is_among, largest_file, looks_of, make_permit, make_rules, may_chown, named_in, new_file, object_walk, opaque_permit, opaque_rules, owns, part_of, rewrite_rules, targets_in, unless, unnumbered, used_filesystems, walk_end, write_permit, written_permit, ⊤}
 use Rattle.vt_spec.specs.declared.attributes.Attr.{Attr}
 use Rattle.vt_laws_members.proofs.Common.{E6}
 use Rattle.vt_laws_members.proofs.judging.Common.{FoundAt, HereAt, IsMember, JudgesAlike, PlaceAt, directory_agrees, file_agrees, judges, object_agrees}
@@ -76,11 +76,8 @@ module _ {world : World ℕ} {names : List TaskName} {task : Task ℕ} (member :
 
   pub writes_edit : (path bytes : List ℕ) → IfOk (write_permit nat_eq one task path bytes) Edited
   unfolding write_permit
-  writes_edit path bytes = of_walk IsPlaced Edited (file_walk nat_eq one task path)
-      (λ place. unless (file_word_rules place) (written_permit nat_eq one task place bytes place.object))
-      (file_agrees alike.walks alike.directory alike.rules.removed path).1
-      (λ place at. of_rules Edited (file_word_rules place) (written_permit nat_eq one task place bytes place.object)
-      (written_there place bytes place.object at.1))
+  writes_edit path bytes = of_walk IsPlaced Edited _ _ (file_agrees alike.walks alike.directory alike.rules.removed
+      path).1 (λ place at. of_rules Edited (file_word_rules place) _ (written_there place bytes place.object at.1))
 
   attr_set : (here : Location ℕ) (allowed : Bool) (attr : Attr) → On here.mount
       → IfOk (attr_permit nat_eq one here allowed attr) Edited

@@ -52,8 +52,7 @@ module _ (world : World ℕ) (names : List TaskName) (h : Filesystem ℕ → Fil
 
   pub lowers_later : ((x : Filesystem ℕ) → Among x world.filesystems → lowers_in (h x) ≡ lowers_in x)
       → own_lowers nat_eq later names ≡ own_lowers nat_eq world names
-  lowers_later lowering i =
-      flat_map (λ k. found lowers_in k (λ x m e. lowering x m) i) (used_directly nat_eq world names)
+  lowers_later lowering i = flat_map (λ k. found _ k (λ x m e. lowering x m) i) (used_directly nat_eq world names)
 
 -- The filesystems that they use keep their numbers and layers, and no other changes.
 module _ (world : World ℕ) (names : List TaskName) (h : Filesystem ℕ → Filesystem ℕ)

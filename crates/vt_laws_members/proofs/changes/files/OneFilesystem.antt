@@ -37,5 +37,4 @@ module _ (world : World ℕ) (names : List TaskName) (is : IsWorld nat_eq world)
       (shown_how world names from.0 x from.2)
 
   pub there_in_part : Among old world.filesystems → Among old part.filesystems
-  there_in_part there =
-      among-filter_map (part_of_filesystem nat_eq world names) world.filesystems old old there (cc old_used)
+  there_in_part there = among-filter_map _ world.filesystems old old there (cc old_used)

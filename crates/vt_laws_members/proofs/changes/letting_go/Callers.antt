@@ -152,9 +152,8 @@ module _ {world : World ℕ} {names : List TaskName} {name : TaskName} {call : C
       → ran name call world fresh (Some task) ≡ with_tasks world name Done (map replaced world.tasks)
       → ran name call part other (Some task) ≡ with_tasks part name Done (map replaced part.tasks)
       → EndsAlike world names name call fresh other
-  moved_alike fresh other stays own one two =
-      let_go_alike world names names name call it task called fresh other Done stays (map replaced world.tasks)
-      (map replaced part.tasks) one two (record {
+  moved_alike fresh other stays own one two = let_go_alike world names names name call it task called fresh other Done
+      stays _ (map replaced part.tasks) one two (record {
         own = λ n. cc (of_set world.tasks, own n);
         roots = roots_left;
         places = places_left;

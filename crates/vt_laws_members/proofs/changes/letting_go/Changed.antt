@@ -99,8 +99,7 @@ module _ {world : World ℕ} {names : List TaskName} (sealing : IsSealed world n
         ground_is m n l.0.mount (eqb-true l.0.mount m.number l.2) (it.roots l.0 l.1)
 
     pub ground_whole : (m : Mount ℕ) → IsGround m → (owns old m || stands old m) ≡ true
-    ground_whole m ground = ⊎_elim (λ own. or_left (owns old m) (stands old m) own)
-        (λ stood. or_right (owns old m) (stands old m) stood.1) ground
+    ground_whole m ground = ⊎_elim (λ own. or_left (owns old m) _ own) (λ stood. or_right (owns old m) _ stood.1) ground
 
     whole_was : (m : Mount ℕ) → Among m world.mounts → (owns new m || stands new m) ≡ true
         → (owns old m || stands old m) ≡ true
@@ -111,9 +110,8 @@ module _ {world : World ℕ} {names : List TaskName} (sealing : IsSealed world n
         → ((owns old m || stands old m) ≡ true) ⊎ (at old m ≡ true)
     at_was m n h =
         let l = any_among (λ (k : Location ℕ). nat_eq k.mount m.number) (locations new) h in
-        ⊎_elim (λ was. inr (any_from_among (λ (k : Location ℕ). nat_eq k.mount m.number) (locations old) l.0 was l.2))
-        (λ theirs. inl (ground_whole m (ground_is m n l.0.mount (eqb-true l.0.mount m.number l.2) theirs)))
-        (it.places l.0 l.1)
+        ⊎_elim (λ was. inr (any_from_among _ _ l.0 was l.2)) (λ theirs. inl
+        (ground_whole m (ground_is m n l.0.mount (eqb-true l.0.mount m.number l.2) theirs))) (it.places l.0 l.1)
 
     kept_by : (m : Mount ℕ) → Among m world.mounts
         → then_some (keep world names old m) (keep world names new) ≡ keep world names new m
@@ -129,12 +127,11 @@ module _ {world : World ℕ} {names : List TaskName} (sealing : IsSealed world n
     mounted_same i = map (λ (m : Mount ℕ). m.filesystem) (filter (λ m. owned_same m i) world.mounts)
 
     direct_was : (n : ℕ) → Among n (used_directly nat_eq later set) → Among n (used_directly nat_eq world names)
-    direct_was n m = ⊎_elim (λ shown. among-append_left (mounted old) (map shows (locations old)) n
-        (subst (Among n) mounted_same shown)) (λ placed. let l = among-from_map shows (locations new) n placed in ⊎_elim
+    direct_was n m = ⊎_elim (λ shown. among-append_left (mounted old) _ n (subst (Among n) mounted_same shown))
+        (λ placed. let l = among-from_map shows (locations new) n placed in ⊎_elim
         (λ was. among-append_right (mounted old) (map shows (locations old)) n
-        (rw l.2 (among-map shows (locations old) l.0 was))) (λ theirs. rw l.2
-        (theirs_directly world names sealing.is l.0 theirs)) (it.places l.0 l.1))
-        (among-append (mounted new) (map shows (locations new)) n m)
+        (rw l.2 (among-map shows (locations old) l.0 was))) (λ theirs. rw l.2 (theirs_directly world names sealing.is
+        l.0 theirs)) (it.places l.0 l.1)) (among-append (mounted new) (map shows (locations new)) n m)
 
     pub sees_less : SeeLess world names set tasks change
     sees_less = record {

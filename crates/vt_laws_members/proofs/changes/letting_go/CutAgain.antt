@@ -12,9 +12,7 @@ filter_in p q r (x ∷ xs) same none = grind (arith, common_steps, none, filter_
 
 among_both : (used chosen : List ℕ) (n : ℕ) → is_among nat_eq n (filter (λ k. is_among nat_eq k used) chosen)
     ≡ (is_among nat_eq n chosen && is_among nat_eq n used)
-among_both used chosen n = same_truth (is_among nat_eq n (filter (λ k. is_among nat_eq k used) chosen))
-    (is_among nat_eq n chosen && is_among nat_eq n used)
-    (λ h. let from = among-from_filter (λ k. is_among nat_eq k used) chosen n
+among_both used chosen n = same_truth _ _ (λ h. let from = among-from_filter (λ k. is_among nat_eq k used) chosen n
     (among_numbers (filter (λ k. is_among nat_eq k used) chosen) n h) in
     and_from (is_among nat_eq n chosen) (is_among nat_eq n used) (is_among_numbers chosen n from.0) from.1)
     (λ h. let both = and_parts (is_among nat_eq n chosen) (is_among nat_eq n used) h in
@@ -54,8 +52,7 @@ module _ (files : FileTree ℕ) (chosen : List ℕ) (top : ℕ) where
           → cond r None (when (has_entry_to nat_eq files.tree (parent_in d (files.tree.node d)) d)
           (parent_in d (files.tree.node d))) ≡ Some b
       by p f true e = none_is_some b e
-      by true f false e = entry (parent_in d (files.tree.node d))
-          (has_entry_to nat_eq cut.tree (parent_in d (files.tree.node d)) d) refl e
+      by true f false e = entry (parent_in d (files.tree.node d)) _ refl e
       by false f false e = none_is_some b (cc)
 
   chain_was : (n d : ℕ) → reaches top n (named_parent nat_eq cut.tree) d ≡ true
@@ -97,10 +94,8 @@ module _ (files : FileTree ℕ) (chosen : List ℕ) (top : ℕ) where
           cut.numbers h in
           let both = and_parts (has_entry_to nat_eq cut.tree at.0 object)
           (is_directory_under nat_eq cut top at.0) at.2 in
-          any_from_among (λ d. has_entry_to nat_eq files.tree d object && is_directory_under nat_eq files top d)
-          files.numbers at.0 (among-from_filter (λ n. is_among nat_eq n chosen) files.numbers at.0 at.1).0
-          (and_from (has_entry_to nat_eq files.tree at.0 object) (is_directory_under nat_eq files top at.0)
-          (entry_was at.0 object both.0) (directory_was at.0 both.1))
+          any_from_among _ files.numbers at.0 (among-from_filter (λ n. is_among nat_eq n chosen) files.numbers at.0
+          at.1).0 (and_from _ _ (entry_was at.0 object both.0) (directory_was at.0 both.1))
 
 -- Lower layers in a filesystem of this number
 module _ (number : ℕ) (lowers : List (Layer ℕ)) where
@@ -126,11 +121,8 @@ module _ (number : ℕ) (lowers : List (Layer ℕ)) where
     all_under : (layer : Layer ℕ) → Among layer lowers → nat_eq number layer.filesystem ≡ true → (object : ℕ)
         → is_some (whole.tree.node object) ≡ true → is_under nat_eq whole layer.directory object ≡ true
         → is_among nat_eq object chosen ≡ true
-    all_under layer at on object there under =
-        has.all object (among_numbers whole.numbers object (has.listed object ∙ there))
-        (any_from_among (λ (l : Layer ℕ). nat_eq number l.filesystem && is_under nat_eq whole l.directory object)
-        lowers layer at (and_from (nat_eq number layer.filesystem)
-        (is_under nat_eq whole layer.directory object) on under))
+    all_under layer at on object there under = has.all object (among_numbers whole.numbers object
+        (has.listed object ∙ there)) (any_from_among _ lowers layer at (and_from _ _ on under))
 
     pub lies_alike : (object : ℕ) → Among object whole.numbers → is_among nat_eq object chosen ≡ true
         → lies_under part object ≡ lies_under whole object
@@ -172,9 +164,7 @@ module _ (number : ℕ) (lowers : List (Layer ℕ)) where
     left = filter (lies_under whole) whole.numbers
 
     same_numbers : filter (lies_under part) part.numbers ≡ left
-    same_numbers =
-        filter_in (lies_under part) (lies_under whole) (λ n. is_among nat_eq n chosen) whole.numbers lies_alike
-        (λ n m e. none n m e (lies_under whole n) refl)
+    same_numbers = filter_in (lies_under part) _ _ whole.numbers lies_alike (λ n m e. none n m e _ refl)
       where
         none : (n : ℕ) → Among n whole.numbers → is_among nat_eq n chosen ≡ false → (b : Bool) → lies_under whole n ≡ b
             → b ≡ false

@@ -47,8 +47,7 @@ module _ {world : World ℕ} {names set : List TaskName} {gone : List ℕ} (it :
   shape m = shape_kept it.regroups t_part part gone m
 
   was : (y : Mount ℕ) → Among y living.mounts → (z : Mount ℕ) × Among z part.mounts × (y ≡ after z)
-  was y n =
-      among-from_map after part.mounts y (among-from_filter (mount_lives nat_eq after_part) after_part.mounts y n).0
+  was y n = among-from_map after _ y (among-from_filter (mount_lives nat_eq after_part) after_part.mounts y n).0
 
   one_living : OneNumberEach living
   one_living = grind (arith, common_steps, pair-filter, pair-map, shape, part_one_number)
@@ -101,8 +100,7 @@ module _ {world : World ℕ} {names set : List TaskName} {gone : List ℕ} (it :
   stood_so : (y : Mount ℕ) → Among y living.mounts → is_at nat_eq (roots_and_directories new) y ≡ true
       → (is_own world names new y ≡ true) ⊎ (y.mount_point ≡ None)
   stood_so y n h = ⊎_elim inl (λ none. inr (nowhere_pointed after_part leaves.kept_there y
-      (among-from_filter (mount_lives nat_eq after_part) after_part.mounts y n).0 none))
-      ((alone y.filesystem).mounts y n refl)
+      (among-from_filter (mount_lives nat_eq after_part) after_part.mounts y n).0 none)) ((alone _).mounts y n refl)
 
   pub ended_part_ready : Ready living set (used_filesystems nat_eq after_world set) (own_lowers nat_eq after_world set)
   ended_part_ready = record {

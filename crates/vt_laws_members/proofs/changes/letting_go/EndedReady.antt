@@ -1,5 +1,5 @@
 -- Where mounts of theirs are detached, the world is ready to be swept.
-use Rattle.std.proofs.Common.{arith, ◌≡◌, refl, sym, ap, ◌∙◌, ◌⊎◌, inl, inr, ⊎_elim, ℕ, nat_eq, true, true≢false, List, Option, Some, None, filter, not, eq-eqb, eqb-true}
+use Rattle.std.proofs.Common.{arith, ◌≡◌, refl, sym, ◌∙◌, ◌⊎◌, inl, inr, ⊎_elim, ℕ, nat_eq, true, true≢false, List, Option, Some, None, filter, not, eq-eqb, eqb-true}
 use Rattle.vt_spec.proofs.Common.{Among, Location, Mount, Task, TaskName, World, all_locations, among-filter, among-flat_map, among-from_filter, among-from_flat_map, among-from_map, among-map, among_numbers, and_parts, any_among, any_from_among, common_steps, is_at, is_member_task, is_own_namespace, locations, locations_of, members, mount_at, mount_lives, no_outsider_on, none_among, or_cases, or_right, outsiders, own_lowers, pair-filter, roots_and_directories, used_alone, used_filesystems, wholly_locked, without_dead_mounts}
 use Rattle.vt_laws_members.proofs.Common.{OneNumberEach, found_itself, is_own, lowers_same, nowhere_stands, used_are_free, used_same}
 use Rattle.vt_laws_members.proofs.changes.letting_go.Changed.{mount_under}
@@ -28,8 +28,7 @@ module _ {world : World ℕ} {names set : List TaskName} {gone : List ℕ} (it :
   living = without_dead_mounts nat_eq after_world
 
   was : (y : Mount ℕ) → Among y living.mounts → (m : Mount ℕ) × Among m world.mounts × (y ≡ after m)
-  was y n =
-      among-from_map after world.mounts y (among-from_filter (mount_lives nat_eq after_world) after_world.mounts y n).0
+  was y n = among-from_map after _ y (among-from_filter (mount_lives nat_eq after_world) after_world.mounts y n).0
 
   located_lives : (m : Mount ℕ) (l : Location ℕ) → Among m world.mounts → Among l (all_locations after_world)
       → l.mount ≡ m.number → Among (after m) living.mounts
@@ -65,8 +64,7 @@ module _ {world : World ℕ} {names set : List TaskName} {gone : List ℕ} (it :
         → (is_own world names new y ≡ true) ⊎ (y.namespace ≡ None)
     mounts_own y n e =
         let from = was y n in
-        rw from.2 (by_mount from.0 from.1 (sym (shape from.0).filesystem ∙ ap (λ (q : Mount ℕ). q.filesystem)
-        (sym from.2) ∙ e) from.0.namespace refl)
+        rw from.2 (by_mount from.0 from.1 (cc ((shape from.0).filesystem)) from.0.namespace refl)
 
     shows : (l : Location ℕ) → Among l (all_locations living) → Among l (locations (outsiders world names))
         → (mount_at nat_eq living l).filesystem ≡ (mount_at nat_eq world l).filesystem

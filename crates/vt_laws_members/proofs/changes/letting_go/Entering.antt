@@ -57,8 +57,7 @@ module _ {world : World ℕ} {names : List TaskName} {name called_so : TaskName}
   member = caller_in it called
 
   pub space_own : is_own_namespace nat_eq world names space ≡ true
-  space_own =
-      any_from_among (λ (t : Task ℕ). nat_eq space t.namespace) theirs target target_in (eq-eqb space space refl)
+  space_own = any_from_among _ theirs target target_in (eq-eqb space space refl)
 
   -- The root of the namespace
   abbrev is_root : Mount ℕ → Bool
@@ -173,9 +172,8 @@ module _ {world : World ℕ} {names : List TaskName} {name called_so : TaskName}
         → list_any (λ (t : Task ℕ). nat_eq n t.namespace) (map replaced list) ≡ true
     entered n list within all h =
         let at = any_among (λ (t : Task ℕ). nat_eq n t.namespace) list h in
-        ⊎_elim (λ its. any_from_among (λ (t : Task ℕ). nat_eq n t.namespace) (map replaced list) (replaced other_task)
-        (among-map replaced list other_task (all other_task other_in)) (cc (other_same, its.1, at.2)))
-        (λ same. any_from_among (λ (t : Task ℕ). nat_eq n t.namespace) (map replaced list) (replaced at.0)
+        ⊎_elim (λ its. any_from_among _ _ (replaced other_task) (among-map replaced list other_task
+        (all other_task other_in)) (cc (other_same, its.1, at.2))) (λ same. any_from_among _ _ (replaced at.0)
         (among-map replaced list at.0 at.1) (cc at.2)) (replaced_how it task called mine refl at.0 (within at.0 at.1))
 
   -- It stays in its namespace

@@ -64,8 +64,7 @@ module _ {world : World ℕ} {names : List TaskName} {name : TaskName} (it : IsC
   stays_on = stays it task called
 
   theirs_ends : is_own_namespace nat_eq world names k ≡ true
-  theirs_ends =
-      any_from_among (λ (t : Task ℕ). nat_eq k t.namespace) old task (member it task called).among (eq-eqb k k refl)
+  theirs_ends = any_from_among _ old task (member it task called).among (eq-eqb k k refl)
 
   abbrev gone : List ℕ
   gone = numbers_in world k
@@ -91,8 +90,7 @@ module _ {world : World ℕ} {names : List TaskName} {name : TaskName} (it : IsC
   still n apart h =
       let at = any_among (λ (t : Task ℕ). nat_eq n t.namespace) (filter stays_on old)
       (still_in n apart old (in_world it task called) h) in
-      any_from_among (λ (t : Task ℕ). nat_eq n t.namespace) (filter (is_member_task set) rest) at.0
-      (old_new it task called at.0 at.1) at.2
+      any_from_among _ (filter (is_member_task set) rest) at.0 (old_new it task called at.0 at.1) at.2
 
   mounts_stay : (m : Mount ℕ) → Among m world.mounts → is_going nat_eq gone m.number ≡ false
       → is_own world names old m ≡ true → is_own world names (filter (is_member_task set) rest) m ≡ true

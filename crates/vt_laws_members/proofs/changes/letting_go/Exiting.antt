@@ -44,8 +44,7 @@ module _ {world : World ℕ} {names : List TaskName} {name : TaskName} (it : IsC
   source_placed kind g e p = grind (arith, common_steps, true≢false, none_is_some)
 
   pub part_keeps : list_any (lost_a_group nat_eq (record its_part { tasks = its_rest })) its_part.mounts ≡ false
-  part_keeps =
-      none_from_among (lost_a_group nat_eq its_part) its_part.mounts (λ y m. by y m (source_of y.propagation) refl)
+  part_keeps = none_from_among (lost_a_group nat_eq its_part) its_part.mounts (λ y m. by y m _ refl)
     where
       above : (g : ℕ) → Hears world names it.is.mounts apart.events g → Living world names it.is.mounts apart.events g
           → (b : Bool) (o : Option ℕ) → world.master g ≡ o → is_lost_group nat_eq its_part (cond b o None) ≡ false
@@ -143,11 +142,10 @@ module _ {world : World ℕ} {names : List TaskName} {name : TaskName} (it : IsC
 
   -- No namespace ends
   world_stays : namespaces_ended nat_eq (record world { tasks = rest }) ≡ record world { tasks = rest }
-  world_stays = none_ends (record world { tasks = rest }) it.is.namespaces.mounts_listed
-      (list_all_from_among (has_tasks nat_eq (record world { tasks = rest })) world.namespaces
-      (λ n m. entered n.number world.tasks (λ t k. k) there
-      (among_from_list_all (has_tasks nat_eq world) world.namespaces it.is.namespaces.namespaces_live n m)))
-      (none_lost world it.is.mounts)
+  world_stays = none_ends _ it.is.namespaces.mounts_listed (list_all_from_among
+      (has_tasks nat_eq (record world { tasks = rest })) world.namespaces
+      (λ n m. entered n.number world.tasks (λ t k. k) there (among_from_list_all (has_tasks nat_eq world)
+      world.namespaces it.is.namespaces.namespaces_live n m))) (none_lost world it.is.mounts)
 
   part_stays : namespaces_ended nat_eq (record part { tasks = rest_too }) ≡ record part { tasks = rest_too }
   part_stays = none_ends (record part { tasks = rest_too }) (part_listed it task called)

@@ -1,6 +1,6 @@
 -- The filesystems that nothing uses are in no part.
-use Rattle.std.proofs.Common.{arith, ◌≡◌, refl, sym, ap, ◌∙◌, inl, inr, ⊎_elim, ℕ, nat_eq, Bool, true, false, cond, true≢false, List, [], ◌∷◌, ◌++◌, Some, None, filter, find, flat_map, ◌&&◌, ◌||◌, eq-eqb, eqb-true, unwrap_or}
-use Rattle.vt_spec.proofs.Common.{Among, FileTree, Filesystem, Layer, TaskName, World, among-append, among-from_filter, among_from_contains, among_numbers, and_from, and_parts, any_among, any_from_among, change_layers, common_steps, false_from_ne_true, filesystem_lives, filesystem_numbered, has_layer_on, is_among, is_mounted, list_any, no_filesystem, only_among, or_cases, or_left, or_right, own_lowers, pair-filter, part_of, used_directly, used_filesystems, when, without_dead_filesystems}
+use Rattle.std.proofs.Common.{arith, ◌≡◌, refl, sym, ap, ◌∙◌, inl, inr, ⊎_elim, ℕ, nat_eq, Bool, true, false, cond, true≢false, List, [], ◌∷◌, Some, None, filter, find, ◌&&◌, ◌||◌, eq-eqb, eqb-true, unwrap_or}
+use Rattle.vt_spec.proofs.Common.{Among, FileTree, Filesystem, Layer, TaskName, World, among-append, among-from_filter, among_from_contains, among_numbers, and_from, and_parts, any_among, any_from_among, common_steps, false_from_ne_true, filesystem_lives, filesystem_numbered, has_layer_on, is_among, is_mounted, list_any, no_filesystem, only_among, or_cases, or_left, or_right, own_lowers, pair-filter, part_of, used_directly, used_filesystems, when, without_dead_filesystems}
 use Rattle.vt_laws_members.proofs.Common.{SeesTheSame, among-from_each_once, changed_of, filter_map_filtered, lower_of, lowers_same, part_same, shown_of, used_same}
 use Rattle.vt_laws_members.proofs.changes.letting_go.CutAgain.{lies_under}
 use Rattle.vt_laws_members.proofs.changes.letting_go.Ready.{Alone, OverlaysMounted, Ready, direct_mounted}
@@ -27,11 +27,8 @@ module _ (a : World ℕ) (set : List TaskName) (used : List ℕ) (lowers : List 
 
   layer_alive : (number : ℕ) (merged : Filesystem ℕ) → Among merged a.filesystems → Among merged.number direct
       → has_layer_on nat_eq number merged ≡ true → alive number ≡ true
-  layer_alive number merged m at has = or_right (is_mounted nat_eq a number) _
-      (any_from_among (λ other. has_layer_on nat_eq number other
-      && is_mounted nat_eq a other.number) a.filesystems merged m
-      (and_from (has_layer_on nat_eq number merged) (is_mounted nat_eq a merged.number) has
-      (direct_mounted a set used lowers it merged.number at)))
+  layer_alive number merged m at has = or_right (is_mounted nat_eq a number) _ (any_from_among _ a.filesystems merged m
+      (and_from (has_layer_on nat_eq number merged) _ has (direct_mounted a set used lowers it merged.number at)))
 
   lower_alive : (number : ℕ) → list_any (λ (layer : Layer ℕ). nat_eq number layer.filesystem) lowers_there ≡ true
       → alive number ≡ true
@@ -46,8 +43,7 @@ module _ (a : World ℕ) (set : List TaskName) (used : List ℕ) (lowers : List 
   used_alive : (number : ℕ) → Among number used_there → alive number ≡ true
   used_alive number m = ⊎_elim (direct_alive number) (λ changed. let of = changed_of a set number changed in
       layer_alive number of.0 of.1 of.2 (has_layer number of.0 of.3 of.4 (eq-eqb number of.3.filesystem of.5)))
-      (among-append direct _ number
-      (among-from_each_once (direct ++ flat_map (λ n. change_layers (filesystem_numbered nat_eq a n)) direct) number m))
+      (among-append direct _ number (among-from_each_once _ number m))
 
   abbrev pub living : World ℕ
   living = without_dead_filesystems nat_eq a

@@ -1,6 +1,6 @@
 -- The groups that a sealed set hears are in its part, with their masters.
-use Rattle.std.proofs.Common.{arith, ◌≡◌, sym, ap, subst, ◌∙◌, ⊎_elim, ℕ, nat_eq, Bool, true, true≢false, List, Some, None, is_some, length, not, ◌||◌, ◌&&◌, eqb-true}
-use Rattle.vt_spec.proofs.Common.{Among, HasLivingGroups, Mount, Propagation, Task, TaskName, World, among-filter, among-filter_map, among-from_filter, among-from_filter_map, among_from_all, among_from_list_all, and_parts, any_from_among, common_steps, groups_up, holds_of, is_among_numbers, is_at, is_member_of, is_nowhere_or_attached, is_own_mount, is_private, list_any, members, mounts_of, none_is_some, or_left, own_mounts, part_of, roots_and_directories, source_of}
+use Rattle.std.proofs.Common.{arith, ◌≡◌, sym, ap, subst, ◌∙◌, ⊎_elim, ℕ, nat_eq, Bool, true, true≢false, List, Some, None, is_some, not, ◌||◌, ◌&&◌, eqb-true}
+use Rattle.vt_spec.proofs.Common.{Among, HasLivingGroups, Mount, Propagation, Task, TaskName, World, among-filter, among-filter_map, among-from_filter, among-from_filter_map, among_from_all, among_from_list_all, and_parts, any_from_among, common_steps, groups_up, holds_of, is_among_numbers, is_member_of, is_nowhere_or_attached, is_own_mount, is_private, list_any, members, mounts_of, none_is_some, or_left, own_mounts, part_of, source_of}
 use Rattle.vt_laws_members.proofs.Common.{Hears, IsApart, IsSealed, Living, along_chain, apart_if_sealed, filter_both, heard_above, is_own, keep, kept_how, kept_whole, own_member, start_hears}
 use Rattle.vt_laws_members.proofs.judging.Common.{own_whole, part_mount}
 
@@ -35,8 +35,7 @@ module _ {world : World ℕ} {names : List TaskName} (sealing : IsSealed world n
   above_heard g lower e heard = heard_above world names sealing.is.mounts apart.events g lower e heard
 
   pub up_heard : (g x : ℕ) → IsHeard g → Among x (groups_up world g) → IsHeard x
-  up_heard g x heard m = along_chain world.master IsHeard above_heard (length world.mounts) g x heard
-      (is_among_numbers (groups_up world g) x m)
+  up_heard g x heard m = along_chain _ IsHeard above_heard _ g x heard (is_among_numbers (groups_up world g) x m)
 
   pub master_same : (g : ℕ) → IsHeard g → part.master g ≡ world.master g
   master_same g heard =
@@ -72,12 +71,10 @@ module _ {world : World ℕ} {names : List TaskName} (sealing : IsSealed world n
   own_in n own m = grind (arith, common_steps, true≢false, eqb-true)
 
   pub own_kept : (m : Mount ℕ) → is_own world names old m ≡ true → keep world names old m ≡ Some m
-  own_kept m own = kept_whole world names old m
-      (or_left (is_own world names old m) (is_at nat_eq (roots_and_directories old) m) own)
+  own_kept m own = kept_whole world names old m (or_left (is_own world names old m) _ own)
 
   -- the mounts of a namespace of theirs are in the part
   pub space_in_part : (n : ℕ) → list_any (λ (t : Task ℕ). nat_eq n t.namespace) old ≡ true
       → mounts_of nat_eq part n ≡ mounts_of nat_eq world n
-  space_in_part n own = filter_both (keep world names old) (its_in n) (its_in n) world.mounts
-      (λ m at h. (own_kept m (own_in n own m h), h)) (λ m y at h e. ⊎_elim (λ same. cc) (λ stub. cc stub.0)
-      (kept_how world names old m y e))
+  space_in_part n own = filter_both _ (its_in n) (its_in n) world.mounts (λ m at h. (own_kept m (own_in n own m h), h))
+      (λ m y at h e. ⊎_elim (λ same. cc) (λ stub. cc stub.0) (kept_how world names old m y e))

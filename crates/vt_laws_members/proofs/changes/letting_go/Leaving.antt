@@ -41,8 +41,7 @@ module _ {world : World ℕ} {names : List TaskName} {name : TaskName} (it : IsC
   member = caller_in it called
 
   pub its_name : name ≡ task.name
-  its_name =
-      same_task_name name task.name (found_passes (λ (t : Task ℕ). same_name name t.name) world.tasks task called)
+  its_name = same_task_name name _ (found_passes (λ (t : Task ℕ). same_name name t.name) world.tasks task called)
 
   -- who has its name is the caller
   pub is_task : (t : Task ℕ) → Among t world.tasks → same_name name t.name ≡ true → task ≡ t
@@ -109,8 +108,7 @@ module _ {world : World ℕ} {names : List TaskName} {name : TaskName} (it : IsC
       let from = among-from_filter_map (keep world names old) world.mounts y m in
       ⊎_elim (λ same. (
         rw (← same) from.1,
-        ⊎_elim (λ own. own)
-            (λ none. none_is_some n (cc)) (part_mount world names it.is from.0 y from.1 from.2),
+        ⊎_elim (λ own. own) (λ none. cc) (part_mount world names it.is from.0 y from.1 from.2),
       )) (λ stub. none_is_some n (cc stub.0))
       (kept_how world names old from.0 y from.2)
 

@@ -98,21 +98,16 @@ module _ {world : World ℕ} {names : List TaskName} (is : IsWorld nat_eq world)
   changed_in n = change_layers (filesystem_numbered nat_eq world n)
 
   pub used_was : (n : ℕ) → is_among nat_eq n used ≡ true → is_among nat_eq n used_before ≡ true
-  used_was n h = is_among_numbers used_before n
-      (among-each_once (used_directly nat_eq world names ++ flat_map changed_in (used_directly nat_eq world names)) n
-      (⊎_elim (λ m. among-append_left (used_directly nat_eq world names)
-      (flat_map changed_in (used_directly nat_eq world names)) n (less.direct n m))
-      (λ m. let from = among-from_flat_map changed_in direct n m in
+  used_was n h = is_among_numbers used_before n (among-each_once _ n
+      (⊎_elim (λ m. among-append_left _ _ n (less.direct n m)) (λ m. let from = among-from_flat_map _ direct n m in
       among-append_right (used_directly nat_eq world names) (flat_map changed_in (used_directly nat_eq world names)) n
       (among-flat_map changed_in (used_directly nat_eq world names) from.0 n (less.direct from.0 from.1) from.2))
-      (among-append direct (flat_map changed_in direct) n
-      (among-from_each_once (direct ++ flat_map changed_in direct) n (among_numbers used n h)))))
+      (among-append direct (flat_map changed_in direct) n (among-from_each_once _ n (among_numbers used n h)))))
 
   pub lower_was : (layer : Layer ℕ) → Among layer lowers → Among layer lowers_before
   lower_was layer m =
       let from = among-from_flat_map (lowers_in world) direct layer m in
-      among-flat_map (lowers_in world) (used_directly nat_eq world names) from.0 layer
-      (less.direct from.0 from.1) from.2
+      among-flat_map (lowers_in world) _ from.0 layer (less.direct from.0 from.1) from.2
 
   abbrev has_lower : List (Layer ℕ) → ℕ → Bool
   has_lower layers n = list_any (λ (layer : Layer ℕ). nat_eq n layer.filesystem) layers
@@ -147,8 +142,7 @@ module _ {world : World ℕ} {names : List TaskName} (is : IsWorld nat_eq world)
 
   -- what was not shown is not shown
   none_shown : (x : Filesystem ℕ) → was_shown x ≡ None → None ≡ part_of_filesystem nat_eq one set x
-  none_shown x e = by (is_among nat_eq x.number used_before) refl (has_lower lowers_before x.number) refl
-      (is_among nat_eq x.number used) refl (has_lower lowers x.number) refl
+  none_shown x e = by _ refl _ refl (is_among nat_eq x.number used) refl (has_lower lowers x.number) refl
     where
       by : (a : Bool) → is_among nat_eq x.number used_before ≡ a → (b : Bool) → has_lower lowers_before x.number ≡ b
           → (c : Bool) → is_among nat_eq x.number used ≡ c → (d : Bool) → has_lower lowers x.number ≡ d

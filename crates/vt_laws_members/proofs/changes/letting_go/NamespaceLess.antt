@@ -219,8 +219,7 @@ module _ {world : World ℕ} {names set : List TaskName} {gone : List ℕ} (it :
   whole_alike : (m : Mount ℕ) → Among m world.mounts → (o : Option ℕ) → m.namespace ≡ o
       → (owns old m || stands old m) ≡ true → (owns old m ≡ true)
       ⊎ ((is_private m.propagation ≡ true) × (m.mount_point ≡ None)) → after_part m ≡ after m
-  whole_alike m n o e whole (inl own) = mount_alike it.go it.regroups m
-      (among-filter (is_own_mount nat_eq world names) world.mounts m n own)
+  whole_alike m n o e whole (inl own) = mount_alike it.go it.regroups m (among-filter _ world.mounts m n own)
   whole_alike m n o e whole (inr alone) = private_alike it.regroups t_part t_world part world gone m alone.0 alone.1
 
   -- what is kept of a mount that is no more than shown to a descriptor
@@ -315,9 +314,7 @@ module _ {world : World ℕ} {names set : List TaskName} {gone : List ℕ} (it :
   pub place_shown : (l : Location ℕ) → Among l (locations new)
       → (m : Mount ℕ) × Among m world.mounts × (l.mount ≡ m.number) × (y : Mount ℕ) × (keep world names old m ≡ Some y)
   place_shown l m = ⊎_elim (λ before. let on = placed_old l before in
-      let shown = shown_at world names on.0
-      (any_from_among (λ (p : Location ℕ). nat_eq p.mount on.0.number) (locations old) l
-      before (eq-eqb l.mount on.0.number on.2)) in
+      let shown = shown_at world names on.0 (any_from_among _ _ l before (eq-eqb l.mount on.0.number on.2)) in
       (on.0, on.1, on.2, shown.0, shown.1)) (λ on. (
         on.0,
         on.1,
@@ -355,9 +352,8 @@ module _ {world : World ℕ} {names set : List TaskName} {gone : List ℕ} (it :
       let from = among-from_map after world.mounts y.0 own.0 in
       let was = own_before from.0 (cc (from.2, own.1)) in
       let is_in = member_was it.regroups t_world world gone group from.0 (cc (from.2, y.2)) in
-      master_alike it.go it.regroups group (heard_by_own it.sealing from.0
-      (among-filter (is_own_mount nat_eq world names) world.mounts from.0 from.1 was.1) group
-      (source_from_group from.0.propagation group (member_group group from.0 is_in)))
+      master_alike it.go it.regroups group (heard_by_own it.sealing from.0 (among-filter _ world.mounts from.0 from.1
+      was.1) group (source_from_group from.0.propagation group (member_group group from.0 is_in)))
 
   abbrev spaces : List (Task ℕ) → Namespace ℕ → Bool
   spaces ts n = list_any (λ (t : Task ℕ). nat_eq n.number t.namespace) ts

@@ -17,9 +17,7 @@ module _ (world : World ℕ) (names : List TaskName) (is : IsWorld nat_eq world)
   shown_number x y e = grind (arith, common_steps, shown_how)
 
   pub numbers_in_part : any_pair (λ (x y : Filesystem ℕ). nat_eq x.number y.number) part.filesystems ≡ false
-  numbers_in_part =
-      numbers_kept (λ (f : Filesystem ℕ). f.number) shown (λ x y e. (shown_number x y e).0) world.filesystems
-      is.files.one_filesystem
+  numbers_in_part = numbers_kept _ shown (λ x y e. (shown_number x y e).0) world.filesystems is.files.one_filesystem
 
   pub plain_in_part : (y merged : Filesystem ℕ) → Among y part.filesystems → Among merged part.filesystems
       → has_layer_on nat_eq y.number merged ≡ true → y.overlay ≡ None

@@ -13,8 +13,7 @@ module _ (world : World ℕ) (names : List TaskName) where
   share_less : (x y u z : Mount ℕ) → kept x ≡ Some y → kept u ≡ Some z → share_a_mount_point nat_eq x u ≡ false
       → share_a_mount_point nat_eq y z ≡ false
   share_less x y u z e f apart_so = ⊎_elim (λ same. ⊎_elim (λ too. cc) (λ stub. cc (stub.0, none y.mount_point))
-      (kept_how world names (members world names) u z f)) (λ stub. cc stub.0)
-      (kept_how world names (members world names) x y e)
+      (kept_how world names (members world names) u z f)) (λ stub. cc stub.0) (kept_how world names _ x y e)
     where
       none : (o : Option (Location ℕ)) → (is_some o && same_option (same_location nat_eq) o None) ≡ false
       none None = refl
@@ -24,16 +23,14 @@ module _ (world : World ℕ) (names : List TaskName) where
       → any_pair (share_a_mount_point nat_eq) (filter_map kept list) ≡ false
   one_child_kept [] e = refl
   one_child_kept (x ∷ rest) e =
-      let parts = or_parts (list_any (share_a_mount_point nat_eq x) rest)
-      (any_pair (share_a_mount_point nat_eq) rest) e in
+      let parts = or_parts _ (any_pair (share_a_mount_point nat_eq) rest) e in
       by (kept x) refl parts.0 (one_child_kept rest parts.1)
     where
       by : (o : Option (Mount ℕ)) → kept x ≡ o → list_any (share_a_mount_point nat_eq x) rest ≡ false
           → any_pair (share_a_mount_point nat_eq) (filter_map kept rest) ≡ false
           → any_pair (share_a_mount_point nat_eq) (cons_option o (filter_map kept rest)) ≡ false
       by None f none later = later
-      by (Some y) f none later = or_from (list_any (share_a_mount_point nat_eq y) (filter_map kept rest))
-          (any_pair (share_a_mount_point nat_eq) (filter_map kept rest))
+      by (Some y) f none later = or_from _ (any_pair (share_a_mount_point nat_eq) (filter_map kept rest))
           (none_from_among (share_a_mount_point nat_eq y) (filter_map kept rest) (λ z m.
           let from = among-from_filter_map kept rest z m in
           share_less x y from.0 z f from.2 (none_among (share_a_mount_point nat_eq x) rest none from.0 from.1))) later

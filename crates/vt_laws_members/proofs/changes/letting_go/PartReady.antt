@@ -68,9 +68,7 @@ module _ {world : World ℕ} {names set : List TaskName} (left : Retasks world n
     where
       by : (m : Mount ℕ) → Among m world.mounts → Among l (locations old) ⊎ IsTheirs world names left.is.mounts l.mount
           → l.mount ≡ m.number → (y : Mount ℕ) × (kept m ≡ Some y)
-      by m n (inl before) e =
-          shown_at world names m (any_from_among (λ (k : Location ℕ). nat_eq k.mount m.number) (locations old) l before
-          (eq-eqb l.mount m.number e))
+      by m n (inl before) e = shown_at world names m (any_from_among _ _ l before (eq-eqb l.mount m.number e))
       by m n (inr theirs) e = (
         m,
         kept_whole world names old m (ground_whole left.sealing set left.tasks change left.lets m
@@ -87,8 +85,7 @@ module _ {world : World ℕ} {names set : List TaskName} (left : Retasks world n
   )) (λ stub. none_is_some l (ap (λ (k : Mount ℕ). k.mount_point) stub.0 ∙ point)) (kept_how world names old m y e)
 
   own_whole : (k : Mount ℕ) → Among k world.mounts → is_own world names old k ≡ true → Among k part.mounts
-  own_whole k n own = among-filter_map kept world.mounts k k n (kept_whole world names old k
-      (or_left (is_own world names old k) (is_at nat_eq (roots_and_directories old) k) own))
+  own_whole k n own = among-filter_map kept world.mounts k k n (kept_whole world names old k (or_left _ _ own))
 
   parents_so : (y : Mount ℕ) (l : Location ℕ) → Among y living.mounts → y.mount_point ≡ Some l
       → (n : ℕ) × (y.namespace ≡ Some n) × (k : Mount ℕ) × Among k living.mounts × (l.mount ≡ k.number)

@@ -15,8 +15,7 @@ pub numbers_kept : {A : Type 0} (key : A → ℕ) (k : A → Option A) → ((x y
     → any_pair (λ x y. nat_eq (key x) (key y)) (filter_map k list) ≡ false
 numbers_kept key k same [] e = refl
 numbers_kept {A} key k same (x ∷ rest) e =
-    let parts = or_parts (list_any (λ y. nat_eq (key x) (key y)) rest)
-    (any_pair (λ y z. nat_eq (key y) (key z)) rest) e in
+    let parts = or_parts (list_any (λ y. nat_eq (key x) (key y)) rest) _ e in
     by (k x) refl parts.0 (numbers_kept key k same rest parts.1)
   where
     by : (o : Option A) → k x ≡ o → list_any (λ y. nat_eq (key x) (key y)) rest ≡ false
@@ -124,23 +123,20 @@ module _ (a : World ℕ) (set : List TaskName) (used : List ℕ) (lowers : List 
           let same : l.0.mount ≡ m.number = sym (eqb-true m.number l.0.mount l.2) in
           let on : shows l.0 ≡ number = cc (mount_is m at l.0 same) in
           let its = none.locations l.0 l.1 on in (
-            shown_at a set m (any_from_among (λ (k : Location ℕ). nat_eq k.mount m.number)
-                (locations members_of) l.0 its (eq-eqb l.0.mount m.number same)),
+            shown_at a set m (any_from_among _ (locations members_of) l.0 its (eq-eqb l.0.mount m.number same)),
             among-append_right mounted_there (map shows (locations members_of)) number
                 (rw (← on) (among-map shows (locations members_of) l.0 its)),
           )
 
   -- what they use directly is mounted
   pub direct_mounted : (number : ℕ) → Among number (used_directly nat_eq a set) → is_mounted nat_eq a number ≡ true
-  direct_mounted number m = ⊎_elim (λ shown. let at = among-from_map (λ (x : Mount ℕ). x.filesystem)
-      (own_mounts nat_eq a set) number shown in mounted at.0 (among-from_filter (is_own_mount nat_eq a set) a.mounts
-      at.0 at.1).0 (sym at.2)) (λ located. let l = among-from_map shows (locations members_of) number located in let on
-      = it.located l.0 l.1 in mounted on.0 on.1 (cc (mount_is on.0 on.1 l.0 on.2, l.2)))
-      (among-append mounted_there (map shows (locations members_of)) number m)
+  direct_mounted number m = ⊎_elim (λ shown. let at = among-from_map _ (own_mounts nat_eq a set) number shown in mounted
+      at.0 (among-from_filter (is_own_mount nat_eq a set) a.mounts at.0 at.1).0 (sym at.2))
+      (λ located. let l = among-from_map shows _ number located in let on = it.located l.0 l.1 in mounted on.0 on.1
+      (cc (mount_is on.0 on.1 l.0 on.2, l.2))) (among-append mounted_there (map shows (locations members_of)) number m)
     where
       mounted : (x : Mount ℕ) → Among x a.mounts → x.filesystem ≡ number → is_mounted nat_eq a number ≡ true
-      mounted x n e =
-          any_from_among (λ (k : Mount ℕ). nat_eq number k.filesystem) a.mounts x n (eq-eqb number x.filesystem (sym e))
+      mounted x n e = any_from_among _ a.mounts x n (eq-eqb number x.filesystem (sym e))
 
   -- an overlay without others is one that they use
   pub overlay_used : OverlaysMounted a set → (merged : Filesystem ℕ) → Among merged a.filesystems

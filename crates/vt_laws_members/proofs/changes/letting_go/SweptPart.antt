@@ -29,8 +29,7 @@ by_test false list x = refl
 only_alike : (one other : List ℕ) (x : Filesystem ℕ) → ((n : ℕ) → is_among nat_eq n one ≡ is_among nat_eq n other)
     → only_used_of nat_eq one x ≡ only_used_of nat_eq other x
 only_alike one other x same = by_test (list_all (λ n. is_among nat_eq n one) x.files.numbers) one x
-    ∙ (λ i. only_by (list_all (λ n. same n i) x.files.numbers) (λ n. same n i) x)
-    ∙ sym (by_test (list_all (λ n. is_among nat_eq n other) x.files.numbers) other x)
+    ∙ (λ i. only_by (list_all (λ n. same n i) x.files.numbers) (λ n. same n i) x) ∙ sym (by_test _ other x)
 
 -- a filesystem that loses nothing
 named_stays : (b : World ℕ) (x : Filesystem ℕ) → AllNamed x → only_used_of nat_eq (used_in nat_eq b x) x ≡ x

@@ -56,10 +56,9 @@ module _ (b : World ℕ) (x : Filesystem ℕ) (object : ℕ) where
   on_it layer = nat_eq x.number layer.filesystem
 
   place : (l : Location ℕ) → Among l places → IsPlace b l
-  place l m = ⊎_elim (λ two. ⊎_elim (λ task. by_task task)
-      (λ root. let at = among-from_map root_of b.mounts l root in by_root at.0 at.1 at.2)
-      (among-append (all_locations b) roots l two))
-      (λ point. let at = among-from_filter_map (λ (k : Mount ℕ). k.mount_point) b.mounts l point in
+  place l m = ⊎_elim (λ two. ⊎_elim (λ task. by_task task) (λ root. let at = among-from_map root_of _ l root in by_root
+      at.0 at.1 at.2) (among-append (all_locations b) roots l two)) (λ point. let at = among-from_filter_map
+      (λ (k : Mount ℕ). k.mount_point) b.mounts l point in
       by_point at.0 at.1 at.2) (among-append (all_locations b ++ roots) points l m)
 
   from_placed : Among object placed → IsUsed b x object
@@ -76,10 +75,9 @@ module _ (b : World ℕ) (x : Filesystem ℕ) (object : ℕ) where
       by_layer of.0 at.0 of.1 of.2 on.1 at.2
 
   pub why : Among object (used_in nat_eq b x) → IsUsed b x object
-  why m = ⊎_elim (λ root. as_root root) (λ more. ⊎_elim (λ three. ⊎_elim
-      (λ two. ⊎_elim (λ n. by_name n) from_placed (among-append named placed object two))
-      from_layers (among-append (named ++ placed) layers object three))
-      (λ o. let of = among-from_flat_map (objects_of_overlay nat_eq x.number) b.filesystems object o in
+  why m = ⊎_elim (λ root. as_root root) (λ more. ⊎_elim (λ three. ⊎_elim (λ two. ⊎_elim (λ n. by_name n) from_placed
+      (among-append named placed object two)) from_layers (among-append (named ++ placed) layers object three))
+      (λ o. let of = among-from_flat_map _ b.filesystems object o in
       by_object of.0 of.1 of.2) (among-append (named ++ placed ++ layers) objects object more)) m
 
   to_place : (l : Location ℕ) → IsPlace b l → Among l places
@@ -160,9 +158,8 @@ module _ {a : World ℕ} {set : List TaskName} {used_now : List ℕ} {lowers : L
   module _ (mounted : OverlaysMounted a set) (x : Filesystem ℕ) (alone : Alone a set x.number) (object : ℕ) where
     merged_there : (merged : Filesystem ℕ) → Among merged a.filesystems → has_layer_on nat_eq x.number merged ≡ true
         → Among merged part.filesystems
-    merged_there merged m has = shown_used merged m (used_directly_used a set merged.number
-        (overlay_used a set used_now lowers it mounted merged m (layered_overlay x.number merged has)
-        (alone.overlays merged m has)))
+    merged_there merged m has = shown_used merged m (used_directly_used a set _ (overlay_used a set used_now lowers it
+        mounted merged m (layered_overlay x.number merged has) (alone.overlays merged m has)))
 
     to_part : IsUsed a x object → IsUsed part x object
     to_part (as_root e) = as_root e
@@ -171,14 +168,12 @@ module _ {a : World ℕ} {set : List TaskName} {used_now : List ℕ} {lowers : L
         let its = alone.itself.locations l m on in
         by_place l (by_task its) (located a set l its ∙ on) e
     to_part (by_place l (by_root m n r) on e) =
-        let shows : m.filesystem ≡ x.number = cc (mount_is a set used_now lowers it m n l
-        (ap (λ (p : Location ℕ). p.mount) r)) in
+        let shows : m.filesystem ≡ x.number = cc (mount_is a set used_now lowers it m n l (cc)) in
         let shown = (seen_alone a set used_now lowers it x.number alone.itself m n shows).0 in
         let same = same_of m shown.0 shown.1 in
         let there = in_part m shown.0 n shown.1 in
-        by_place l (by_root shown.0 there (r ∙ sym same.2)) (cc (
-          at_part shown.0 there l
-              (ap (λ (p : Location ℕ). p.mount) (r ∙ sym same.2)),
+        by_place l (by_root shown.0 there (cc)) (cc (
+          at_part shown.0 there l (cc),
           same.1,
         )) e
     to_part (by_place l (by_point m n point) on e) =
@@ -190,8 +185,7 @@ module _ {a : World ℕ} {set : List TaskName} {used_now : List ℕ} {lowers : L
         (alone.itself.mounts up.2 up.3 (cc))
     to_part (by_layer merged layer m n on e) =
         by_layer merged layer (merged_there merged m (has_layer x.number merged layer n on)) n on e
-    to_part (by_object merged m o) =
-        by_object merged (merged_there merged m (objects_layered x.number object merged o)) o
+    to_part (by_object merged m o) = by_object merged (merged_there merged m (objects_layered _ object merged o)) o
 
     from_part : IsUsed part x object → IsUsed a x object
     from_part (as_root e) = as_root e

@@ -1,5 +1,5 @@
 -- What a call of theirs that only looks is granted: to look at what is on mounts of theirs, or at an open file.
-use Rattle.std.proofs.Common.{◌≡◌, refl, sym, inr, ℕ, nat_eq, Bool, true, false, cond, find, true≢false, List, [], ◌∷◌, Option, Some, None, Ok, Err, Result, IfOk, ok_or, option_to_list, ◌==◌}
+use Rattle.std.proofs.Common.{◌≡◌, refl, sym, inr, ℕ, nat_eq, Bool, true, false, cond, find, true≢false, List, [], ◌∷◌, Option, Some, None, Ok, Err, Result, IfOk, ok_or, option_to_list}
 use Rattle.vt_spec.proofs.Common.{Allowed, Among, Bind, Call, Chdir, Chmod, Chown, Chroot, Close, Descriptor, Drop, Exec, Exit, Fork, Here, Judgement, Lazy, LinkTo, ListMounts, Location, Looks, Ls, Lstat, MakeWhiteout, Mkdir, MountOverlay, MountPlain, MoveMount, Opaque, OpenFile, Permit, PivotRoot, Pread, Pwrite, Read, Readlink, Remount, Rename, Rmdir, Rules, SetType, Setns, Stat, Stop, SymlinkAt, Task, TaskName, ToList, ToListMounts, ToRead, ToReadPart, ToStat, Umask, Umount, Unlink, Unshare, World, Write, among-flat_map, among-map, and_then, denial, descriptor_numbered, directory_walk, exec_permit, exec_rules, found_among, is_among, judge, list_permit, list_rules, locations, locations_of, looks_of, lstat_permit, members, object_walk, only_looks, part_of, pread_permit, read_permit, read_rules, readlink_permit, readlink_rules, stat_permit, symlink_walk, unless, used_filesystems, walk_end, ⊤}
 use Rattle.vt_laws_members.proofs.Common.{S4}
 use Rattle.vt_laws_members.proofs.judging.Common.{HereAt, IsMember, JudgesAlike, directory_agrees, judges, object_agrees, symlink_agrees}
@@ -73,8 +73,7 @@ module _ {world : World ℕ} {names : List TaskName} {task : Task ℕ} (member :
           → IfOk (and_then (ok_or (find (λ (d : Descriptor ℕ). d.reads) (option_to_list o)) (denial S4))
           (λ d. Ok (ToReadPart d.location offset size))) Looked
       by None e = tt
-      by (Some descriptor) e = which descriptor (found_among (λ (d : Descriptor ℕ). number == d.number)
-          task.descriptors descriptor e) descriptor.reads
+      by (Some descriptor) e = which descriptor (found_among _ task.descriptors descriptor e) descriptor.reads
 
   pub looked : (overfills : Permit ℕ → Bool) (set : List TaskName) (name : TaskName) (call : Call)
       → only_looks call ≡ true → IfOk (judge nat_eq one overfills task call) Looked × (left set name call ≡ set)

@@ -1,7 +1,7 @@
 -- The list of mounts of a namespace of theirs is the same in the part.
 use Rattle.std.proofs.Common.{arith, ◌≡◌, refl, sym, ap, subst, ◌∙◌, ⊎_elim, ℕ, nat_eq, Bool, true, List, Option, Some, None, map, eq-eqb, option_and_then, option_map}
 use Rattle.vt_spec.proofs.Common.{Among, IsWorld, Location, Mount, Private, Propagation, Shared, Slave, Spot, Task, TaskName, Unbindable, World, among-filter, among-from_filter, any_from_among, common_steps, files_at, filesystem_numbered, filesystems_seen, groups_in_type, groups_seen, groups_shown, holds_of, is_overlay, map_alike, members, mount_at, mount_line, mount_lines, mount_point_spot, mounts_of, number_among, part_of, path_down, spot_of, type_line}
-use Rattle.vt_laws_members.proofs.Common.{filter_kept, flat_map_alike, found, is_mount, is_one_of, is_own, keep, kept_how, numbered}
+use Rattle.vt_laws_members.proofs.Common.{filter_kept, flat_map_alike, found, is_mount, is_one_of, is_own, kept_how, numbered}
 use Rattle.vt_laws_mounts.proofs.mounts.MountPointSpots.{numbered_found, spot_on}
 use Rattle.vt_laws_members.proofs.judging.Common.{IsTheirs, filesystem_alike, in_own, mount_alike, own_theirs, own_whole, parent_theirs, same_found, theirs_used}
 
@@ -21,9 +21,8 @@ module _ (world : World ℕ) (names : List TaskName) (is : IsWorld nat_eq world)
 
   -- the mounts of their namespace
   pub mounts_alike : mounts_of nat_eq part task.namespace ≡ mounts_of nat_eq world task.namespace
-  mounts_alike = filter_kept (keep world names theirs) inside (λ x e. own_whole world names is x
-      (in_own world names is task member x e)) (λ x y e f. ⊎_elim (λ same. cc) (λ stub. cc stub.0)
-      (kept_how world names theirs x y e)) world.mounts
+  mounts_alike = filter_kept _ inside (λ x e. own_whole world names is x (in_own world names is task member x e))
+      (λ x y e f. ⊎_elim (λ same. cc) (λ stub. cc stub.0) (kept_how world names theirs x y e)) world.mounts
 
   abbrev Listed : List (Mount ℕ)
   Listed = mounts_of nat_eq world task.namespace

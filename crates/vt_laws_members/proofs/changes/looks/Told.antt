@@ -1,6 +1,6 @@
 -- Calls of theirs that only look are answered in the part as in the world.
 use Rattle.std.proofs.Common.{inl, inr, arith, ◌≡◌, refl, sym, subst, ℕ, nat_eq, true, List, Option, Some, None, Ok, Err, IfOk, ok_or}
-use Rattle.vt_spec.proofs.Common.{Allowed, Among, Call, Fresh, Judgement, Location, Outcome, Permit, Task, TaskName, ToList, ToListMounts, ToRead, ToReadPart, ToStat, World, after, apply, call_outcome, common_steps, contains_from_among, denial, filesystems_changed_by, finished, is_among, judge_in, locations, members, mount_at, node_at, overfills, part_of, policy, same_name, task_called}
+use Rattle.vt_spec.proofs.Common.{Allowed, Among, Call, Fresh, Judgement, Location, Outcome, Permit, Task, TaskName, ToList, ToListMounts, ToRead, ToReadPart, ToStat, World, after, apply, call_outcome, common_steps, contains_from_among, denial, filesystems_changed_by, finished, is_among, judge_in, locations, members, mount_at, node_at, part_of, policy, same_name, task_called}
 use Rattle.vt_laws_members.proofs.Common.{cases_Option, IsSealed, S2, found, located}
 use Rattle.vt_laws_members.proofs.judging.Common.{a_member, called_alike, caller_in, located_used, members_are_judged_by_their_part, sealing_of, walks}
 use Rattle.vt_laws_members.specs.Judging.{is_theirs}
@@ -73,11 +73,11 @@ ended_alike names name call {one = one} {second = second} is is_too alike =
     rw is_too (subst (λ o. EndAlike (grown names name call o.answer) o second) (sym is) alike)
 
 pub looks_end_alike : LooksEndAlike
-looks_end_alike world names name call it looks fresh other = elim (cases_Option (task_called world name)) [
-  | inl e ↦ also None e (record { answer = refl; part = sym (part_again world names it.is) })
+looks_end_alike world names name call it looks fresh other = elim (cases_Option _) [
+  | inl e ↦ also None e
+      (record { answer = refl; part = sym (part_again world names it.is) })
   | inr its ↦ let member = caller_in it its.1 in
-      let granted = looked member
-      (overfills nat_eq fresh world its.0) names name call looks in
+      let granted = looked member _ names name call looks in
       let judged : judge_in nat_eq fresh world its.0 call ≡ judge_in nat_eq other part its.0 call =
       members_are_judged_by_their_part world names its.0 call (record {
         is = it.is;
@@ -85,10 +85,8 @@ looks_end_alike world names name call it looks fresh other = elim (cases_Option 
         member = contains_from_among (members world names) its.0 member.among;
         among_them = it.among_them;
       }) fresh other in
-      also (Some its.0) its.1 (ended_alike names name call (looking world fresh its.0)
-      (cc (looking part other its.0))
-      (looks_by (sealing_of it) its.0 member.among fresh other name call granted.1
-      (judge_in nat_eq fresh world its.0 call) granted.0))
+      also (Some its.0) its.1 (ended_alike names name call (looking world fresh its.0) (cc (looking part other its.0))
+      (looks_by (sealing_of it) its.0 member.among fresh other name call granted.1 _ granted.0))
 ]
   where
     part : World ℕ

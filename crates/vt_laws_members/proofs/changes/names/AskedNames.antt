@@ -1,5 +1,5 @@
 -- What a granted call of theirs that makes, gives or takes a name asks of a plain tree.
-use Rattle.std.proofs.Common.{arith, ◌≡◌, refl, sym, ap, subst, ◌∙◌, ⊎_elim, ℕ, nat_eq, eq-eqb, true, false, true≢false, List, Some, is_some, map, ◌&&◌}
+use Rattle.std.proofs.Common.{arith, ◌≡◌, refl, sym, ap, subst, ◌∙◌, ⊎_elim, ℕ, nat_eq, eq-eqb, true, false, true≢false, List, Some, is_some, map}
 use Rattle.vt_spec.proofs.Common.{Call, Change, CopyUp, FileTree, Filesystem, IsTree, ListsNumbers, TaskName, World, among_numbers, changed, common_steps, filesystem_at, is_among, is_overlay, mount_at, or_cases, task_called, used_alone, used_filesystems, wholly_locked, with_files}
 use Rattle.vt_laws_trees.specs.Trees.{IsProper}
 use Rattle.vt_laws_trees.proofs.trees.ChangesKeepTrees.{changes_keep_numbers, changes_keep_trees}
@@ -18,9 +18,8 @@ module _ (world : World ℕ) (old : Filesystem ℕ) {files : FileTree ℕ} (plai
   lost = map (λ inode. (old.number, inode)) unnamed
 
   lost_name : (inode : ℕ) → is_among nat_eq inode unnamed ≡ true → is_inode_among old.number inode lost ≡ true
-  lost_name inode is = any_from_among (λ (loser : Inode). nat_eq old.number loser.0 && nat_eq inode loser.1) lost
-      (old.number, inode) (among-map (λ k. (old.number, k)) unnamed inode (among_numbers unnamed inode is))
-      (cc (eq-eqb old.number old.number refl, eq-eqb inode inode refl))
+  lost_name inode is = any_from_among _ lost (old.number, inode) (among-map (λ k. (old.number, k)) unnamed inode
+      (among_numbers unnamed inode is)) (cc (eq-eqb old.number old.number refl, eq-eqb inode inode refl))
 
   pub tree_changes : (after : World ℕ) → ChangesFilesystem after lost old (with_files old files)
   tree_changes after =

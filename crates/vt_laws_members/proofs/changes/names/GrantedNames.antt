@@ -1,6 +1,6 @@
 -- Where a granted call of theirs makes, gives or takes a name: in a directory on a mount of theirs.
 use Rattle.std.proofs.Common.{◌≡◌, subst, ℕ, nat_eq, Bool, true, false, ◌∷◌, [], List, Option, Some, Ok, Result, IfOk}
-use Rattle.vt_spec.proofs.Common.{AddName, Call, Change, CopyUp, Fresh, Location, Looks, Make, Move, Permit, Place, Remove, SetAttr, SetBytes, SetMark, Stop, Task, TaskName, World, is_among, is_copied_up, judge_in, looks_of, none_is_some, overfills, part_of, same_Some, used_filesystems, when, ⊤, Serves, task_called}
+use Rattle.vt_spec.proofs.Common.{AddName, Call, Change, CopyUp, Fresh, Location, Looks, Make, Move, Permit, Place, Remove, SetAttr, SetBytes, SetMark, Stop, Task, TaskName, World, is_among, judge_in, looks_of, none_is_some, overfills, part_of, same_Some, used_filesystems, when, ⊤, Serves, task_called}
 use Rattle.vt_laws_members.proofs.judging.Common.{IsMember, IsTheirs, JudgesAlike, PlaceAt, caller_in, file_agrees, judges, new_agrees, new_leaf_agrees, old_agrees, old_leaf_agrees, theirs_from}
 use Rattle.vt_laws_members.proofs.Common.{IsGranted, calls_are_granted, change_asked, changes_mark, changes_mode, changes_owner, creates, creates_exclusively, makes_directory, makes_hard_link, makes_symlink, makes_whiteout, opens, opens_existing, overwrites_file, removes_directory, renames, unlinks, writes_new_file, writes_part}
 use Rattle.vt_laws_trees.specs.Calls.Inodes.{written_if_some}
@@ -94,16 +94,13 @@ module _ {world : World ℕ} {names : List TaskName} {task : Task ℕ} (member :
   names_theirs asked permit (changes_mode path mode here walk passed) = of here.location _ (λ none. absurd none)
   names_theirs asked permit (changes_owner path uid gid here walk passed) = of here.location _ (λ none. absurd none)
   names_theirs asked permit (changes_mark path mark here admin walk passed) = of here.location _ (λ none. absurd none)
-  names_theirs asked permit (opens path access here few walk passed) =
-      opened here.location (is_copied_up nat_eq world here.location access)
-  names_theirs asked permit (opens_existing path access mode place file few walk named is_there passed) =
-      opened file (is_copied_up nat_eq world file access)
+  names_theirs asked permit (opens path access here few walk passed) = opened here.location _
+  names_theirs asked permit (opens_existing path access mode place file few walk named is_there passed) = opened file _
   names_theirs asked permit (creates path access mode place few walk named missing passed) =
       placed _ place _ (file_agrees alike.walks alike.directory alike.rules.removed path).1 walk
   names_theirs asked permit (creates_exclusively path access mode place few walk named passed) =
       placed _ place _ (new_agrees alike.walks alike.directory alike.rules.removed path).1 walk
-  names_theirs asked permit (writes_part number offset bytes descriptor found passed) =
-      written descriptor.location offset bytes
+  names_theirs asked permit (writes_part number offset bytes descriptor found passed) = written _ offset bytes
   names_theirs asked permit granted = λ made e. none_is_some made e
 
   -- the directory is on a mount of theirs
@@ -111,8 +108,7 @@ module _ {world : World ℕ} {names : List TaskName} {task : Task ℕ} (member :
       → (location : Location ℕ) (change : Change ℕ) → change_asked fresh world permit ≡ Some (location, change)
       → Names change → On location.mount
   granted_theirs call permit judged location change asks comes = names_theirs call permit
-      (calls_are_granted nat_eq one (overfills nat_eq fresh world task) task call permit judged) (location, change) asks
-      comes
+      (calls_are_granted nat_eq one _ task call permit judged) (location, change) asks comes
 
 abbrev pub naming_of : {world : World ℕ} {names : List TaskName} {name : TaskName} {call : Call}
     (it : IsCallOfTheirs world names name call) (task : Task ℕ) → task_called world name ≡ Some task

@@ -62,11 +62,9 @@ pub upper_in_use : (w : World ℕ) (names : List TaskName) (number : ℕ) (overl
     → Among number (used_directly nat_eq w names)
     → is_among nat_eq upper.filesystem (used_filesystems nat_eq w names) ≡ true
 upper_in_use w names number overlay upper overlaid has direct = is_among_numbers (used_filesystems nat_eq w names)
-    upper.filesystem (among-each_once (used_directly nat_eq w names ++ flat_map
-    (λ n. change_layers (filesystem_numbered nat_eq w n)) (used_directly nat_eq w names)) upper.filesystem
-    (among-append_right (used_directly nat_eq w names) (flat_map (λ n. change_layers (filesystem_numbered nat_eq w n))
-    (used_directly nat_eq w names)) upper.filesystem (among-flat_map
-    (λ n. change_layers (filesystem_numbered nat_eq w n)) (used_directly nat_eq w names) number upper.filesystem direct
+    upper.filesystem (among-each_once _ upper.filesystem (among-append_right (used_directly nat_eq w names)
+    (flat_map (λ n. change_layers (filesystem_numbered nat_eq w n)) (used_directly nat_eq w names)) upper.filesystem
+    (among-flat_map _ (used_directly nat_eq w names) number upper.filesystem direct
     (rw overlaid (among-map (λ (l : Layer ℕ). l.filesystem) (option_to_list overlay.upper ++ option_to_list
     overlay.work) upper (among-append_left (option_to_list overlay.upper) (option_to_list overlay.work) upper
     (subst (λ o. Among upper (option_to_list o)) (sym has) (inl refl))))))))
@@ -172,8 +170,7 @@ module _ {world : World ℕ} {names : List TaskName} (it : OverlayChange world n
 
   pub unused_kept : (x : Filesystem ℕ) → is_among nat_eq x.number (used_filesystems nat_eq world names) ≡ false
       → step x ≡ x
-  unused_kept x unused =
-      step_kept x (unused_apart number merged_used x unused) (unused_apart it.upper.filesystem layer_used x unused)
+  unused_kept x unused = step_kept x (unused_apart number merged_used x unused) (unused_apart _ layer_used x unused)
 
   -- the overlay is there afterwards
   is_later : (w : World ℕ) → Among merged w.filesystems → Among merged_later (with_filesystems w step).filesystems

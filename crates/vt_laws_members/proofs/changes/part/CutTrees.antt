@@ -50,8 +50,7 @@ module _ (files : FileTree ℕ) (chosen : List ℕ) (tree : IsTree files.tree) (
 
   in_cut : (object : ℕ) → is_some (files.tree.node object) ≡ true → is_among nat_eq object chosen ≡ true
       → Among object cut.numbers
-  in_cut object there e = among-filter (λ n. is_among nat_eq n chosen) files.numbers object
-      (among_numbers files.numbers object (listed object ∙ there)) e
+  in_cut object there e = among-filter _ files.numbers object (among_numbers _ object (listed object ∙ there)) e
 
   -- a directory under it is kept
   directory_kept : (d : ℕ) → IsDirectory files.tree d → is_directory_under nat_eq files top d ≡ true
@@ -64,8 +63,7 @@ module _ (files : FileTree ℕ) (chosen : List ℕ) (tree : IsTree files.tree) (
 
   parent_how : (d b : ℕ) → named_parent nat_eq files.tree d ≡ Some b
       → (parent_in d (files.tree.node d) ≡ b) × (has_entry_to nat_eq files.tree b d ≡ true)
-  parent_how d b e =
-      by (nat_eq d files.tree.root) (has_entry_to nat_eq files.tree (parent_in d (files.tree.node d)) d) refl e
+  parent_how d b e = by (nat_eq d files.tree.root) _ refl e
     where
       by : (p q : Bool) → has_entry_to nat_eq files.tree (parent_in d (files.tree.node d)) d ≡ q
           → cond p None (when q (parent_in d (files.tree.node d))) ≡ Some b
@@ -172,8 +170,7 @@ module _ (files : FileTree ℕ) (chosen : List ℕ) (tree : IsTree files.tree) (
           let above : reaches top n (named_parent nat_eq files.tree) b ≡ true = ⊎_elim (λ same. cc) (λ later. later)
           (or_cases (nat_eq top object) (reaches top n (named_parent nat_eq files.tree) b) g) in
           let directory = entered b object how.1 in
-          named_by b object directory (directory_kept b directory (more top (named_parent nat_eq files.tree) n
-          (length files.numbers) b less above)) how.1
+          named_by b object directory (directory_kept b directory (more top _ n _ b less above)) how.1
 
       long : (n : ℕ) → n ≤ length files.numbers → reaches top n (named_parent nat_eq files.tree) object ≡ true
           → Among object (named_in cut)

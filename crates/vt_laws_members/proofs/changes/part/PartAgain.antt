@@ -33,8 +33,7 @@ module _ (chosen : List ℕ) (files : FileTree ℕ) (there : (n : ℕ) → is_am
         same n true e =
             cc (is_among_numbers cut.numbers n (among-filter (λ k. is_among nat_eq k chosen) files.numbers n (there n
             e) e))
-        same n false e =
-            none_kept (is_among nat_eq n cut.numbers) (cond (is_among nat_eq n chosen) (files.tree.node n) None) (cc)
+        same n false e = none_kept (is_among nat_eq n cut.numbers) _ (cc)
 
 module _ (world : World ℕ) (names : List TaskName) (is : IsWorld nat_eq world) where
   abbrev part : World ℕ
@@ -115,12 +114,9 @@ module _ (world : World ℕ) (names : List TaskName) (is : IsWorld nat_eq world)
     pub in_chosen : (layer : Layer ℕ) → Among layer lowers → nat_eq x.number layer.filesystem ≡ true → (object : ℕ)
         → is_some (x.files.tree.node object) ≡ true → is_under nat_eq x.files layer.directory object ≡ true
         → is_among nat_eq object chosen ≡ true
-    in_chosen layer at on object there under =
-        is_among_numbers chosen object (among-filter (lies_in_own_lower nat_eq world names x.number) x.files.numbers
-        object (among_numbers x.files.numbers object (listed object ∙ there))
-        (any_from_among (lies_in_layer nat_eq world x.number object) lowers layer at
-        (and_from (nat_eq x.number layer.filesystem) (is_under nat_eq (filesystem_numbered nat_eq world x.number).files
-        layer.directory object) on (cc itself))))
+    in_chosen layer at on object there under = is_among_numbers chosen object (among-filter _ x.files.numbers object
+        (among_numbers x.files.numbers object (listed object ∙ there))
+        (any_from_among _ lowers layer at (and_from (nat_eq x.number layer.filesystem) _ on (cc itself))))
 
     -- each inode lies in a lower layer of theirs in the part, too
     lies_again : (object : ℕ) → Among object chosen → lies_in_own_lower nat_eq part names x.number object ≡ true

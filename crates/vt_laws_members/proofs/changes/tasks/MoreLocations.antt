@@ -13,13 +13,11 @@ module _ (world : World ℕ) (tasks : List (Task ℕ)) (change : ℕ) (is : AllI
     located_too : (number : ℕ) → is_located nat_eq world number ≡ true → is_located nat_eq later number ≡ true
     located_too number h =
         let at = any_among (λ (l : Location ℕ). nat_eq number l.mount) (all_locations world) h in
-        any_from_among (λ (l : Location ℕ). nat_eq number l.mount) (flat_map locations_of tasks) at.0
-        (more at.0 at.1) at.2
+        any_from_among _ (flat_map locations_of tasks) at.0 (more at.0 at.1) at.2
 
     lives_too : (mount : Mount ℕ) → mount_lives nat_eq world mount ≡ true → mount_lives nat_eq later mount ≡ true
-    lives_too mount h = ⊎_elim (or_left (is_some mount.namespace) (is_located nat_eq later mount.number))
-        (λ at. or_right (is_some mount.namespace) (is_located nat_eq later mount.number) (located_too mount.number at))
-        (or_cases (is_some mount.namespace) (is_located nat_eq world mount.number) h)
+    lives_too mount h = ⊎_elim (or_left (is_some mount.namespace) _) (λ at. or_right (is_some mount.namespace) _
+        (located_too mount.number at)) (or_cases (is_some mount.namespace) (is_located nat_eq world mount.number) h)
 
     abbrev within : ℕ → Location ℕ → Bool
     within filesystem location = nat_eq filesystem (mount_at nat_eq world location).filesystem
@@ -27,9 +25,7 @@ module _ (world : World ℕ) (tasks : List (Task ℕ)) (change : ℕ) (is : AllI
     found_too : (filesystem object : ℕ) → Among object (located_in nat_eq world filesystem)
         → Among object (located_in nat_eq later filesystem)
     found_too filesystem object m =
-        let from = among-from_map (λ (l : Location ℕ). l.node) (filter (within filesystem)
-        (all_locations world ++ map root_of world.mounts ++ filter_map (λ (mount : Mount ℕ). mount.mount_point)
-        world.mounts)) object m in
+        let from = among-from_map (λ (l : Location ℕ). l.node) _ object m in
         let in_it = among-from_filter (within filesystem) (all_locations world ++ map root_of world.mounts ++ filter_map
         (λ (mount : Mount ℕ). mount.mount_point) world.mounts) from.0 from.1 in
         rw from.2 (among-map (λ (l : Location ℕ). l.node) (filter (within filesystem)
@@ -41,13 +37,10 @@ module _ (world : World ℕ) (tasks : List (Task ℕ)) (change : ℕ) (is : AllI
             ++ filter_map (λ (mount : Mount ℕ). mount.mount_point) world.mounts)
             → Among location (flat_map locations_of tasks ++ map root_of world.mounts
             ++ filter_map (λ (mount : Mount ℕ). mount.mount_point) world.mounts)
-        wider location n = ⊎_elim (λ first.
-            among-append_left (flat_map locations_of tasks ++ map root_of world.mounts)
-            (filter_map (λ (mount : Mount ℕ). mount.mount_point) world.mounts) location (⊎_elim
-            (λ at. among-append_left (flat_map locations_of tasks) (map root_of world.mounts) location
-            (more location at)) (among-append_right (flat_map locations_of tasks) (map root_of world.mounts) location)
-            (among-append (all_locations world) (map root_of world.mounts) location first)))
-            (among-append_right (flat_map locations_of tasks ++ map root_of world.mounts)
+        wider location n = ⊎_elim (λ first. among-append_left _ _ location
+            (⊎_elim (λ at. among-append_left _ _ _ (more location at)) (among-append_right (flat_map locations_of tasks)
+            (map root_of world.mounts) location) (among-append (all_locations world) (map root_of world.mounts) location
+            first))) (among-append_right (flat_map locations_of tasks ++ map root_of world.mounts)
             (filter_map (λ (mount : Mount ℕ). mount.mount_point) world.mounts) location)
             (among-append (all_locations world ++ map root_of world.mounts)
             (filter_map (λ (mount : Mount ℕ). mount.mount_point) world.mounts) location n)
@@ -71,14 +64,11 @@ module _ (world : World ℕ) (tasks : List (Task ℕ)) (change : ℕ) (is : AllI
             → Among object (named_in filesystem.files ++ located_in nat_eq later filesystem.number
             ++ layers_in nat_eq world filesystem.number
             ++ flat_map (objects_of_overlay nat_eq filesystem.number) world.filesystems)
-        by n = ⊎_elim
-            (λ three. among-append_left (named ++ located_in nat_eq later filesystem.number ++ layered) merged object
-            (⊎_elim (λ two. among-append_left (named ++ located_in nat_eq later filesystem.number) layered object
+        by n = ⊎_elim (λ three. among-append_left _ merged object (⊎_elim (λ two. among-append_left _ layered object
             (⊎_elim (among-append_left named (located_in nat_eq later filesystem.number) object)
             (λ at. among-append_right named (located_in nat_eq later filesystem.number) object
-            (found_too filesystem.number object at))
-            (among-append named (located_in nat_eq world filesystem.number) object two)))
-            (among-append_right (named ++ located_in nat_eq later filesystem.number) layered object)
+            (found_too filesystem.number object at)) (among-append named (located_in nat_eq world filesystem.number)
+            object two))) (among-append_right (named ++ located_in nat_eq later filesystem.number) layered object)
             (among-append (named ++ located_in nat_eq world filesystem.number) layered object three)))
             (among-append_right (named ++ located_in nat_eq later filesystem.number ++ layered) merged object)
             (among-append (named ++ located_in nat_eq world filesystem.number ++ layered) merged object n)

@@ -76,8 +76,7 @@ module _ {world : World ℕ} {names : List TaskName} {task : Task ℕ} (member :
   pub opens_theirs : (path : List ℕ) (access : Access) (how : Creation)
       → IfOk (open_permit nat_eq one task path access how) Opens
   unfolding open_permit
-  opens_theirs path access how =
-      of_rules Opens (descriptor_rules task) (open_by_permit nat_eq one task path access how) (opens_by path access how)
+  opens_theirs path access how = of_rules Opens (descriptor_rules task) _ (opens_by path access how)
 
 -- One more descriptor
 module _ (new : Descriptor ℕ) where
@@ -155,16 +154,14 @@ module _ {world : World ℕ} (names : List TaskName) (name : TaskName) (is : IsW
       at in ⊎_elim (λ root. inr (subst (λ x. Among location (locations_of x)) its.1 (inl root)))
       (λ rest. ⊎_elim (λ directory. inr (subst (λ x. Among location (locations_of x)) its.1 (inr (inl directory))))
       (λ open_file. ⊎_elim inl (λ old. inr (subst (λ x. Among location (locations_of x)) its.1 (inr (inr old))))
-      (was_there descriptor task.descriptors location open_file)) rest) here) (λ same. inr (rw (← same) at))
-      (replaced_how t m)
+      (was_there descriptor _ location open_file)) rest) here) (λ same. inr (rw (← same) at)) (replaced_how t m)
 
   stay_its : (t : Task ℕ) → Among t world.tasks → (location : Location ℕ) → Among location (locations_of t)
       → Among location (locations_of (replaced t))
   stay_its t m location at = ⊎_elim (λ its. let here : Among location (locations_of task) = subst
       (λ x. Among location (locations_of x)) (sym its.1) at in subst (λ x. Among location (locations_of x)) (sym its.0)
       (⊎_elim (λ root. inl root) (λ rest. ⊎_elim (λ directory. inr (inl directory))
-      (λ old. inr (inr (stays_there descriptor task.descriptors location old))) rest) here)) (λ same. rw same at)
-      (replaced_how t m)
+      (λ old. inr (inr (stays_there descriptor _ location old))) rest) here)) (λ same. rw same at) (replaced_how t m)
 
   -- in a world with some of these tasks, where the file's mount is whole in the part, and its filesystem used
   module _ (w : World ℕ) (within : (t : Task ℕ) → Among t w.tasks → Among t world.tasks)
@@ -218,11 +215,9 @@ module _ {world : World ℕ} (names : List TaskName) (name : TaskName) (is : IsW
         → is_at nat_eq (locations (members ended names)) m ≡ is_at nat_eq (locations old) m
     at_same m n none = same_truth (is_at nat_eq (locations (members ended names)) m) (is_at nat_eq (locations old) m)
         (λ h. let at = any_among (λ (l : Location ℕ). nat_eq l.mount m.number) (locations (members ended names)) h in
-        ⊎_elim (λ same. cc (whole m n (sym (ap (λ (l : Location ℕ). nat_eq l.mount m.number) same) ∙ at.2)))
-        (λ before. any_from_among (λ (l : Location ℕ). nat_eq l.mount m.number) (locations old) at.0 before at.2)
+        ⊎_elim (λ same. cc (whole m n (cc))) (λ before. any_from_among _ (locations old) at.0 before at.2)
         (were at.0 at.1)) (λ h. let at = any_among (λ (l : Location ℕ). nat_eq l.mount m.number) (locations old) h in
-        any_from_among (λ (l : Location ℕ). nat_eq l.mount m.number) (locations (members ended names)) at.0
-        (stay at.0 at.1) at.2)
+        any_from_among _ (locations (members ended names)) at.0 (stay at.0 at.1) at.2)
 
     kept_by : (m : Mount ℕ) → keep w names (members ended names) m
         ≡ cond (is_own w names old m || is_at nat_eq (roots_and_directories old) m) (Some m)
@@ -241,9 +236,8 @@ module _ {world : World ℕ} (names : List TaskName) (name : TaskName) (is : IsW
 
     used_same : (n : ℕ) → Among n (mounted ++ map shows (locations (members ended names)))
         → Among n (mounted ++ map shows (locations old))
-    used_same n m = ⊎_elim (among-append_left mounted (map shows (locations old)) n)
-        (λ at. let l = among-from_map shows (locations (members ended names)) n at in
-        ⊎_elim (λ same. subst (λ k. Among k (mounted ++ map shows (locations old))) (sym (l.2 ∙ ap shows same)) used)
+    used_same n m = ⊎_elim (among-append_left mounted _ n) (λ at. let l = among-from_map shows _ n at in
+        ⊎_elim (λ same. subst (λ k. Among k (mounted ++ map shows (locations old))) (cc) used)
         (λ before. among-append_right mounted (map shows (locations old)) n
         (subst (λ k. Among k (map shows (locations old))) (sym l.2) (among-map shows (locations old) l.0 before)))
         (were l.0 l.1)) (among-append mounted (map shows (locations (members ended names))) n m)

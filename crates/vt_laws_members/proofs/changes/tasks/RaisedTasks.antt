@@ -21,9 +21,7 @@ module _ (before : World ℕ) (name : TaskName) (tasks : List (Task ℕ)) where
 
   pub all_themselves : (list : List (Mount ℕ)) → same_list (same_mount nat_eq before left) list list ≡ true
   all_themselves [] = refl
-  all_themselves (mount ∷ list) =
-      and_from (same_mount nat_eq before left mount mount) (same_list (same_mount nat_eq before left) list list)
-      (same_mount_itself mount) (all_themselves list)
+  all_themselves (mount ∷ list) = and_from _ _ (same_mount_itself mount) (all_themselves list)
 
   namespace_kept : (namespace : Namespace ℕ) → raised_namespace nat_eq before left namespace ≡ namespace
   namespace_kept namespace = cc (all_themselves (mounts_of nat_eq before namespace.number))

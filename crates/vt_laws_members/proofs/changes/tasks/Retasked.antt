@@ -37,9 +37,8 @@ module _ (world : World ℕ) (names set : List TaskName) (tasks : List (Task ℕ
   module _ (alike : SeeAlike) where
     used_same : (n : ℕ) → is_among nat_eq n (used_filesystems nat_eq later set)
         ≡ is_among nat_eq n (used_filesystems nat_eq world names)
-    used_same n = spread (used_directly nat_eq later set) ∙ (λ i. alike.direct (nat_eq n) i
-        || alike.direct (λ k. list_any (nat_eq n) (change_layers (filesystem_numbered nat_eq world k))) i)
-        ∙ sym (spread (used_directly nat_eq world names))
+    used_same n = spread (used_directly nat_eq later set) ∙ (λ i. alike.direct (nat_eq n) i || alike.direct
+        (λ k. list_any (nat_eq n) (change_layers (filesystem_numbered nat_eq world k))) i) ∙ sym (spread _)
       where
         spread : (direct : List ℕ) → list_any (nat_eq n)
             (each_once nat_eq (direct ++ flat_map (λ k. change_layers (filesystem_numbered nat_eq world k)) direct))

@@ -71,8 +71,7 @@ pub only_task : (tasks : List (Task ℕ)) → any_pair (λ (a b : Task ℕ). sam
     → (a b : Task ℕ) → Among a tasks → Among b tasks → a.name ≡ b.name → a ≡ b
 only_task [] one a b m n e = absurd m
 only_task (first ∷ rest) one a b m n e =
-    let parts = or_parts (list_any (λ (x : Task ℕ). same_name first.name x.name) rest)
-    (any_pair (λ (x y : Task ℕ). same_name x.name y.name) rest) one in
+    let parts = or_parts _ (any_pair (λ (x y : Task ℕ). same_name x.name y.name) rest) one in
     ⊎_elim (λ here. ⊎_elim (λ too. cc) (λ later. absurd (differ b later parts.0 (cc))) n)
     (λ later. ⊎_elim (λ here. absurd (differ a later parts.0 (cc))) (λ too. only_task rest parts.1 a b later too e) n) m
   where
@@ -136,9 +135,8 @@ module _ {world : World ℕ} {names : List TaskName} {name : TaskName} {call : C
       → ran name call world fresh (Some task) ≡ with_tasks world name answer (map replaced world.tasks)
       → ran name call part other (Some task) ≡ with_tasks part name answer (map replaced part.tasks)
       → EndsAlike world names name call fresh other
-  rights_end answer fresh other stays one two =
-      tasks_end_alike world names names name call it task found fresh other answer stays (map replaced world.tasks)
-      (map replaced part.tasks) one two (leaves world (λ t m. m)) (leaves part in_world)
+  rights_end answer fresh other stays one two = tasks_end_alike world names names name call it task found fresh other
+      answer stays _ (map replaced part.tasks) one two (leaves world (λ t m. m)) (leaves part in_world)
       (cc (replaced_members both_named world.tasks, replaced_members both_named part.tasks, same_members world names))
     where
       replaced_members : ((t : Task ℕ) → (both t).name ≡ t.name) → (tasks : List (Task ℕ))
@@ -186,8 +184,7 @@ idle_end_alike world names name call it task found fresh other answer stays one 
     (among-from_filter (is_member_task names) world.tasks t m).0 e)))
   where
     alone : (t : Task ℕ) → Among t world.tasks → t.name ≡ task.name → t ≡ task
-    alone t m e = only_task world.tasks it.is.tasks.one_task t task m
-        (found_among (λ (x : Task ℕ). same_name name x.name) world.tasks task found) e
+    alone t m e = only_task world.tasks it.is.tasks.one_task t task m (found_among _ world.tasks task found) e
 
 -- a rename of two names of one object, and a write of no bytes
 pub renames_of_one_end_alike : RenamesOfOneEndAlike

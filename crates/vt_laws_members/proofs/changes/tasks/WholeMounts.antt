@@ -1,6 +1,6 @@
 -- A mount of theirs is whole in the part.
 use Rattle.std.proofs.Common.{arith, ◌≡◌, sym, ap, subst, ◌∙◌, ⊎_elim, ℕ, nat_eq, eqb-true, true, List, Some, ◌||◌}
-use Rattle.vt_spec.proofs.Common.{Among, IsWorld, Location, Mount, TaskName, World, among-from_filter_map, common_steps, is_at, members, mount_at, or_left, or_right, part_of, roots_and_directories, same_Some, used_directly}
+use Rattle.vt_spec.proofs.Common.{Among, IsWorld, Location, Mount, TaskName, World, among-from_filter_map, common_steps, is_at, members, mount_at, or_left, or_right, part_of, roots_and_directories, used_directly}
 use Rattle.vt_laws_members.proofs.Common.{is_own, keep, kept_how, kept_whole, numbered, same_directly, same_members}
 use Rattle.vt_laws_members.proofs.judging.Common.{IsTheirs, same_mount, theirs_directly}
 
@@ -12,8 +12,7 @@ module _ (world : World ℕ) (names : List TaskName) (is : IsWorld nat_eq world)
   whole_is : (is_own world names (members world names) ground.0
       || is_at nat_eq (roots_and_directories (members world names)) ground.0) ≡ true
   whole_is = ⊎_elim (or_left (is_own world names (members world names) ground.0) _)
-      (λ stood. or_right (is_own world names (members world names) ground.0)
-      (is_at nat_eq (roots_and_directories (members world names)) ground.0) stood.1) ground.3
+      (λ stood. or_right (is_own world names (members world names) ground.0) _ stood.1) ground.3
 
   ground_is : (m : Mount ℕ) → Among m world.mounts → nat_eq file.mount m.number ≡ true → ground.0 ≡ m
   ground_is m n e = grind (arith, common_steps, numbered, eqb-true)
@@ -30,8 +29,7 @@ module _ (world : World ℕ) (names : List TaskName) (is : IsWorld nat_eq world)
       let from = among-from_filter_map (keep world names (members world names)) world.mounts m n in
       let same : from.0.number ≡ m.number = sym (kept_number from.0 m from.2) in
       let its = whole_in_world from.0 from.1 (cc) in
-      let it_is : from.0 ≡ m = same_Some from.0 m (sym (kept_whole world names (members world names) from.0 its) ∙
-      from.2) in
+      let it_is : from.0 ≡ m = cc (kept_whole world names (members world names) from.0 its) in
       ap (λ tasks. is_own world names tasks m || is_at nat_eq (roots_and_directories tasks) m)
       (same_members world names) ∙ subst (λ x. (is_own world names (members world names) x || is_at nat_eq
       (roots_and_directories (members world names)) x) ≡ true) it_is its

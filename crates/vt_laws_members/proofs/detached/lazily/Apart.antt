@@ -102,10 +102,8 @@ module _ {world : World ℕ} {names : List TaskName} {gone : List ℕ} (go : The
   hears_not : (P : ℕ → Type 0) (y z : Mount ℕ) → ((g : ℕ) → group_of y.propagation ≡ Some g → P g)
       → ((g : ℕ) → master_of here y.propagation ≡ Some g → P g)
       → ((g : ℕ) → P g → is_member_of nat_eq g z ≡ true → ⊥) → receives_events_of nat_eq here y z ≡ false
-  hears_not P y z grouped mastered never = or_from (holds_of (λ g. is_member_of nat_eq g z) (group_of y.propagation))
-      (holds_of (λ g. is_member_of nat_eq g z) (master_of here y.propagation))
-      (none_held z (group_of y.propagation) (λ g e. never g (grouped g e)))
-      (none_held z (master_of here y.propagation) (λ g e. never g (mastered g e)))
+  hears_not P y z grouped mastered never = or_from _ _ (none_held z (group_of y.propagation)
+      (λ g e. never g (grouped g e))) (none_held z (master_of here y.propagation) (λ g e. never g (mastered g e)))
 
   abbrev IsOther : ℕ → Bool
   IsOther n = not (is_own_namespace nat_eq world names n)

@@ -1,7 +1,7 @@
 -- What an unmount event of a mount of theirs detaches is theirs, and the same in the part, as soon as mounts have their
 -- invariants and share no events with others.
 use Rattle.std.proofs.Common.{inr, arith, ◌≡◌, refl, sym, ap, subst, ◌∙◌, ⊎_elim, inl, ℕ, nat_eq, Bool, true, false, true≢false, not, List, [], ◌∷◌, Option, Some, None, map, option_map, unwrap_or, filter_map}
-use Rattle.vt_spec.proofs.Common.{cases_Bool, Among, Location, Mount, MountInvariants, Task, TaskName, World, among-filter, among-from_filter, among-from_filter_map, among-from_map, among_from_list_all, and_parts, child_at, children, common_steps, contains_from_among, found_among, found_passes, goes_at, going, going_at, going_from, group_of, holds_of, is_at, is_own_mount, is_own_namespace, is_shared, may_go, members, mount_at, mount_numbered, none_is_some, or_left, other_mounts, own_mounts, part_of, receivers, receivers_of, receives, roots_and_directories, same_Some, shares_no_events, source_of, stands_at, stands_on, then_some, when}
+use Rattle.vt_spec.proofs.Common.{cases_Bool, Among, Location, Mount, MountInvariants, Task, TaskName, World, among-filter, among-from_filter, among-from_filter_map, among-from_map, among_from_list_all, and_parts, child_at, children, common_steps, contains_from_among, found_among, found_passes, goes_at, going, going_at, going_from, group_of, holds_of, is_own_mount, is_own_namespace, is_shared, may_go, members, mount_at, mount_numbered, none_is_some, or_left, other_mounts, own_mounts, part_of, receivers, receivers_of, receives, same_Some, shares_no_events, source_of, stands_at, stands_on, then_some, when}
 use Rattle.vt_laws_members.proofs.Common.{filter_both, filter_map_same, is_own, keep, kept_how, kept_whole, namespace_below, no_event_of_theirs_reaches_others, numbered, same_child, stands_there, their_groups_receive_alike}
 use Rattle.vt_laws_sealed.specs.Part.Groups.{SharesNoEvents}
 use Rattle.vt_laws_members.proofs.judging.Grounds.{IsTheirs, child_theirs, its_mount, own_by, parent_theirs, same_mount, stands_itself, theirs_whole}
@@ -35,8 +35,7 @@ module _ (world : World ℕ) (names : List TaskName) (invariants : MountInvarian
   -- Children
 
   own_whole : (mount : Mount ℕ) → owns mount ≡ true → kept mount ≡ Some mount
-  own_whole mount own = kept_whole world names theirs mount
-      (or_left (owns mount) (is_at nat_eq (roots_and_directories theirs) mount) own)
+  own_whole mount own = kept_whole world names theirs mount (or_left (owns mount) _ own)
 
   own_theirs : (mount : Mount ℕ) → Among mount world.mounts → owns mount ≡ true → On mount.number
   own_theirs mount m own = (mount, m, refl, inl own)
@@ -48,9 +47,8 @@ module _ (world : World ℕ) (names : List TaskName) (invariants : MountInvarian
       child_theirs world names invariants at.0 child (subst On at.2 own) m at.1
 
   children_alike : (number : ℕ) → On number → children nat_eq part.mounts number ≡ children nat_eq world.mounts number
-  children_alike number own = filter_both kept (stands_on nat_eq number) (stands_on nat_eq number) world.mounts
-      (λ x m h. (own_whole x (child_own number x own m h), h)) (λ x y m h e. ⊎_elim (λ same. cc) (λ stub. cc stub.0)
-      (kept_how world names theirs x y e))
+  children_alike number own = filter_both kept _ _ world.mounts (λ x m h. (own_whole x (child_own number x own m h), h))
+      (λ x y m h e. ⊎_elim (λ same. cc) (λ stub. cc stub.0) (kept_how world names theirs x y e))
 
   -- Receivers
 
@@ -87,8 +85,7 @@ module _ (world : World ℕ) (names : List TaskName) (invariants : MountInvarian
           → unwrap_or (option_map (receivers nat_eq part) o) [] ≡ unwrap_or (option_map (receivers nat_eq world) o) []
       by None e = refl
       by (Some group) e = their_groups_receive_alike world names mount group apart
-          (contains_from_among (own_mounts nat_eq world names) mount
-          (among-filter (is_own_mount nat_eq world names) world.mounts mount m own)) e
+          (contains_from_among (own_mounts nat_eq world names) mount (among-filter _ world.mounts mount m own)) e
 
   -- What an event detaches
 
@@ -193,9 +190,7 @@ module _ (world : World ℕ) (names : List TaskName) (invariants : MountInvarian
           → Among number (going_from nat_eq world mount point b)
           → (gone : Mount ℕ) × Among gone world.mounts × (owns gone ≡ true) × (gone.number ≡ number)
       which point e true at =
-          let from = among-from_map (λ (gone : Mount ℕ). gone.number)
-          (filter_map (goes_at nat_eq world point.node) (receivers_of nat_eq world
-          (mount_at nat_eq world point))) number at in
+          let from = among-from_map (λ (gone : Mount ℕ). gone.number) _ number at in
           let gone = among-from_filter_map (goes_at nat_eq world point.node)
           (receivers_of nat_eq world (mount_at nat_eq world point)) from.0 from.1 in
           let below = below_own mount point m own e in

@@ -35,8 +35,7 @@ module _ (master : ℕ → Option ℕ) where
   chain_same zero zero source le ends = refl
   chain_same zero (suc m) source le ends = chain_ends master m source (no_master source ends)
   chain_same (suc n) zero source le ends = absurd (omega (arith, le))
-  chain_same (suc n) (suc m) source le ends =
-      by (master source) refl (λ next ends. chain_same n m next (omega (arith, le)) ends)
+  chain_same (suc n) (suc m) source le ends = by _ refl (λ next ends. chain_same n m next (omega (arith, le)) ends)
     where
       by : (o : Option ℕ) → master source ≡ o → ((next : ℕ) → Ends n next → chain m master next ≡ chain n master next)
           → chain (suc m) master source ≡ chain (suc n) master source

@@ -68,8 +68,7 @@ module _ (world : World ℕ) (first second : List ℕ) where
   fall_further : (a b c : ℕ) (place below : Location ℕ) → down place ≡ Some below
       → FallAlike a (suc b) c below → FallAlike (length world.mounts) b c below
       → FallAlike (suc a) (suc b) (suc c) place
-  fall_further a b c place below e goes stays =
-      by (is_going nat_eq first place.mount) refl (is_going nat_eq second place.mount) refl
+  fall_further a b c place below e goes stays = by (is_going nat_eq first place.mount) refl _ refl
     where
       through : (gone : List ℕ) (goes : Bool) → is_going nat_eq gone place.mount ≡ goes
           → mount_point_of_parent nat_eq world gone place ≡ (if goes then Some below else None)
@@ -202,8 +201,7 @@ module _ (world : World ℕ) (first second : List ℕ) where
 
       none : has_members nat_eq firstly.mounts group ≡ false → has_members nat_eq at_once.mounts group ≡ false
       none e = none_from_among (is_member_of nat_eq group) at_once.mounts
-          (λ x m. let from = among-from_map (after_going nat_eq world (first ++ second)) world.mounts x m in let mount =
-          from.0 in cc (
+          (λ x m. let from = among-from_map _ world.mounts x m in let mount = from.0 in cc (
             from.2,
             goes_at_once mount.number,
             still (is_going nat_eq first mount.number)
@@ -228,8 +226,7 @@ module _ (world : World ℕ) (first second : List ℕ) where
 
     -- the heir of a group is the heir of its master, where the group has no members in the end
     heir_by_master : (group : ℕ) → LivesAt group → SameHeir (world.master group) → SameHeir (Some group)
-    heir_by_master group life above =
-        by (has_members nat_eq firstly.mounts group) refl (has_members nat_eq at_once.mounts group) refl
+    heir_by_master group life above = by (has_members nat_eq firstly.mounts group) refl _ refl
       where
         by : (b : Bool) → has_members nat_eq firstly.mounts group ≡ b
             → (c : Bool) → has_members nat_eq at_once.mounts group ≡ c → SameHeir (Some group)

@@ -196,5 +196,4 @@ module _ {world : World ℕ} {names : List TaskName} (sealing : IsSealed world n
       let next_too = next part (part_mounts sealing) number now_part mount rest way_too in
       let its = owned mount (inl refl) in
       let both = event_alike go it it_there mount its.0 its.1 next_way.kept next_too.kept in
-      events_alike number rest (unmounted_if_there nat_eq now mount) (unmounted_if_there nat_eq now_part mount) both.0
-      next_way next_too both.1 both.2 both.3 (λ m n. owned m (inr n))
+      events_alike number rest _ _ both.0 next_way next_too both.1 both.2 both.3 (λ m n. owned m (inr n))

@@ -23,8 +23,7 @@ module _ {a : World ℕ} {set : List TaskName} (used : List ℕ) (old : Filesyst
   layered_as x m = swap_overlaid old files x (one x m)
 
   apart : (x : Filesystem ℕ) → is_among nat_eq x.number used ≡ false → nat_eq old.number x.number ≡ false
-  apart x unused =
-      false_from_ne_true (nat_eq old.number x.number) (λ e. true≢false (cc (eqb-true old.number x.number e)))
+  apart x unused = false_from_ne_true _ (λ e. true≢false (cc (eqb-true old.number x.number e)))
 
   moved_or_kept : (x : Filesystem ℕ) (b : Bool) → nat_eq old.number x.number ≡ b
       → (swap old files x ≡ x) ⊎ Alone a set x.number

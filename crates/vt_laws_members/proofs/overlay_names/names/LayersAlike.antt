@@ -75,8 +75,7 @@ kind_alike [] [] same depth path seen e = none_is_some seen e
 kind_alike [] (other ∷ others) none depth path seen e = absurd none
 kind_alike (one ∷ ones) [] none depth path seen e = absurd none
 kind_alike (one ∷ ones) (other ∷ others) same depth path seen e =
-    by ((view_of other).leads path) refl (cuts (view_of other) path) e
-    (kind_alike ones others same.2 (depth + 1) path seen)
+    by _ refl (cuts (view_of other) path) e (kind_alike ones others same.2 (depth + 1) path seen)
   where
     first : (object : ℕ) → (view_of other).leads path ≡ Some object → (white : Bool)
         → when (not white) (record { layer = depth; object = object }) ≡ Some seen → (n : ℕ) × (seen.layer ≡ depth + n)
@@ -140,8 +139,7 @@ module _ (one other : Stack ℕ) (directory_same : one.directory ≡ other.direc
   pub made_same : (fresh : Fresh ℕ) (merge : Merge ℕ) (change : Change ℕ)
       → merge_changed nat_eq fresh one merge change ≡ merge_changed nat_eq fresh other merge change
   made_same fresh merge (Make directory name number node) =
-      ap (λ b. made (copied_up nat_eq (evens fresh) merge directory) b)
-      (hides_same (copied_up nat_eq (evens fresh) merge directory) directory name)
+      cc (hides_same (copied_up nat_eq (evens fresh) merge directory) directory name)
     where
       made : Merge ℕ → Bool → Merge ℕ
       made copied b = record {
@@ -157,8 +155,7 @@ module _ (one other : Stack ℕ) (directory_same : one.directory ≡ other.direc
       copied : Merge ℕ
       copied = copied_up nat_eq (evens fresh) merge directory
   made_same fresh merge (Move from old to new object) =
-      ap (λ b. moved b (name_left nat_eq (odds (odds fresh)) one copied freed from old)) (hides_same copied to new)
-      ∙ ap (moved (hides_directory nat_eq other copied to new)) (left_same (odds (odds fresh)) copied freed from old)
+      cc (hides_same copied to new, left_same (odds (odds fresh)) copied freed from old)
     where
       copied : Merge ℕ
       copied = copied_up nat_eq (evens (odds fresh)) (copied_up nat_eq (evens fresh) merge object) to

@@ -26,9 +26,8 @@ module _ {world : World ℕ} {names : List TaskName} (sealing : IsSealed world n
     (direct : Among number (used_directly nat_eq world names)) where
   free : (n : ℕ) → is_among nat_eq n (used_filesystems nat_eq world names) ≡ true
       → (wholly_locked nat_eq world names n ≡ true → ⊥) → used_alone nat_eq world names n ≡ true
-  free n used whole = ⊎_elim (λ h. h) (λ locked. absurd (whole locked))
-      (or_cases (used_alone nat_eq world names n) (wholly_locked nat_eq world names n)
-      (used_are_free world names sealing.sealed_off n (among_numbers (used_filesystems nat_eq world names) n used)))
+  free n used whole = ⊎_elim (λ h. h) (λ locked. absurd (whole locked)) (or_cases (used_alone nat_eq world names n)
+      (wholly_locked nat_eq world names n) (used_are_free world names sealing.sealed_off n (among_numbers _ n used)))
 
   -- an overlay is no layer
   no_layer : wholly_locked nat_eq world names number ≡ true → ⊥

@@ -61,11 +61,10 @@ module _ {world : World ℕ} {names : List TaskName} {name : TaskName} {call : C
   file_used = among-append_right (map (λ mount. mount.filesystem) (own_mounts nat_eq
       (record world { tasks = map replaced world.tasks }) names)) (map shows
       (locations (members (record world { tasks = map replaced world.tasks }) names))) (shows file)
-      (among-map shows (locations (members (record world { tasks = map replaced world.tasks }) names)) file
-      (rw (of_set it task found mine stands world.tasks) (among-flat_map locations_of (map replaced theirs)
-      (replaced task) file (among-map replaced theirs task member.among)
-      (subst (λ (t : Task ℕ). Among file (locations_of t)) (sym mine_there)
-      (inr (inr (among-map at_file mine.descriptors _ (new_inserted _ task.descriptors))))))))
+      (among-map shows _ file (rw (of_set it task found mine stands world.tasks)
+      (among-flat_map locations_of (map replaced theirs) (replaced task) file
+      (among-map replaced theirs task member.among) (subst (λ (t : Task ℕ). Among file (locations_of t))
+      (sym mine_there) (inr (inr (among-map at_file mine.descriptors _ (new_inserted _ task.descriptors))))))))
     where
       shows : Location ℕ → ℕ
       shows l = (mount_at nat_eq world l).filesystem

@@ -1,5 +1,5 @@
 -- Where the change numbers of filesystems of a set are raised last, the part has them raised.
-use Rattle.std.proofs.Common.{arith, ◌≡◌, refl, sym, ap, ◌∙◌, ℕ, nat_eq, eqb-true, Bool, true, false, cond, true≢false, List, filter, map}
+use Rattle.std.proofs.Common.{arith, ◌≡◌, refl, ◌∙◌, ℕ, nat_eq, eqb-true, Bool, true, false, cond, List, filter, map}
 use Rattle.vt_spec.proofs.Common.{Among, Filesystem, Layer, Namespace, TaskName, World, any_among, change_layers, common_steps, is_among, is_member_task, is_own_namespace, list_any, numbers_raised, part_of, raised, raised_if_changed, raised_namespace, raised_task, settled, used_filesystems, without_dead_mounts}
 use Rattle.vt_laws_members.proofs.Common.{with_filesystems}
 use Rattle.vt_laws_members.proofs.changes.files.FilesChanged.{lowers_in, part_with_layers}
@@ -28,8 +28,7 @@ module _ (w : World ℕ) {set : List TaskName} {used : List ℕ} {lowers : List 
           → cond b (record x { change = raised x.change }) x ≡ x
       by true e =
           let at = any_among (λ n. nat_eq n x.number) numbers e in
-          absurd (true≢false (sym (theirs at.0 at.1) ∙ ap (λ n. is_among nat_eq n used) (eqb-true at.0 x.number at.2)
-          ∙ ap (is_among nat_eq x.number) (sym (used_of_settled w set used lowers ready)) ∙ unused))
+          cc (theirs at.0 at.1, eqb-true at.0 x.number at.2, used_of_settled w set used lowers ready)
       by false e = refl
 
   -- the part of the world after the last step

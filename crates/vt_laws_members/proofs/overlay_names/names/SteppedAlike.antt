@@ -32,9 +32,8 @@ module _ {before : World ℕ} (in_use : AllInUse before) (private_ones : Detache
       ≡ record (with_filesystems (part_of nat_eq (settled nat_eq changed) set) (raised_if_changed nat_eq numbers)) {
         tasks = filter (is_member_task set) (map (raised_task name) tasks);
       }
-  part_of_raised = raised_part changed ready numbers theirs before name
-      ∙ (λ i. record (with_filesystems (part_of nat_eq (settled nat_eq changed) set)
-      (raised_if_changed nat_eq numbers)) {
+  part_of_raised = raised_part changed ready _ theirs before name ∙ (λ i. record
+      (with_filesystems (part_of nat_eq (settled nat_eq changed) set) (raised_if_changed nat_eq numbers)) {
         namespaces = filter (λ (n : Namespace ℕ). is_own_namespace nat_eq changed set n.number)
             (ap (λ (w : World ℕ). w.namespaces) (swept_raised before in_use private_ones name tasks) i);
         tasks = filter (is_member_task set) (map (raised_task name) tasks);

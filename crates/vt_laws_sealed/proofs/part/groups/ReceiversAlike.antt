@@ -121,8 +121,7 @@ module _ (world : World ℕ) (names : List TaskName) (is : MountInvariants nat_e
           → holds_of (λ source. is_among nat_eq group (groups_up part source)) o
           ≡ holds_of (λ source. is_among nat_eq group (groups_up world source)) o
       by None e = refl
-      by (Some source) e = ap (is_among nat_eq group)
-          (same_up source (own, m, start_hears world source own.propagation e)
+      by (Some source) e = ap (is_among nat_eq group) (same_up source (own, m, start_hears world source _ e)
           (among_from_all (HasLivingGroups nat_eq world) world.mounts is.groups own there source e))
 
   -- a mount is theirs, in another namespace, or in none and private
@@ -153,13 +152,11 @@ module _ (world : World ℕ) (names : List TaskName) (is : MountInvariants nat_e
   -- the receivers of a group of theirs
   pub same_receivers : (group : ℕ) → OwnHears group → Living group
       → receivers nat_eq part group ≡ receivers nat_eq world group
-  same_receivers group heard lives =
-      filter_both kept (receives nat_eq part group) (receives nat_eq world group) world.mounts (λ x m h.
-      ⊎_elim (λ own. (
-        ap (λ b. cond (b || is_at nat_eq (roots_and_directories theirs) x) (Some x)
-            (when (is_at nat_eq (locations theirs) x) (seen_by_descriptor x))) own.1,
-        same_receives group x own.0 m ∙ h,
-      )) (λ not_own. absurd (true≢false (sym h ∙ ⊎_elim (λ other. none_receives group x heard lives other m)
+  same_receivers group heard lives = filter_both kept _ _ world.mounts (λ x m h. ⊎_elim (λ own. (
+    ap (λ b. cond (b || is_at nat_eq (roots_and_directories theirs) x) (Some x)
+        (when (is_at nat_eq (locations theirs) x) (seen_by_descriptor x))) own.1,
+    same_receives group x own.0 m ∙ h,
+  )) (λ not_own. absurd (true≢false (sym h ∙ ⊎_elim (λ other. none_receives group x heard lives other m)
       (λ none. no_source world group x none) not_own))) (place_of x m)) (λ x y m h e. ⊎_elim
       (λ same. ap (receives nat_eq part group) (sym same) ∙ ⊎_elim (λ own. same_receives group x own.0 m ∙ h)
       (λ not_own. ⊎_elim (λ other. none_in_part group x heard lives other)

@@ -1,6 +1,6 @@
 -- What is wholly locked is locked, and an outsider changes no file of a sealed set.
 use Rattle.std.proofs.Common.{arith, ◌≡◌, refl, sym, ap, subst, ◌∙◌, ⊎_elim, ℕ, zero, suc, nat_eq, true, false, true≢false, List, [], ◌∷◌, ◌++◌, Some, None, is_some, ◌||◌, ◌&&◌, eqb-true}
-use Rattle.vt_spec.proofs.Common.{Among, Change, FileTree, Filesystem, Fresh, IsTree, Layer, ListsNumbers, Location, TaskName, World, all_named, among-append_right, among-flat_map, among-from_flat_map, among_from_list_all, among_numbers, and_from, and_parts, and_true_left, any_among, any_from_among, changed, common_steps, entry_from, false_from_ne_true, filesystem_at, filesystem_changed, filesystem_numbered, is_among, is_among_numbers, is_locked, is_locked_at, is_lower_root, is_under, layers_of, led-append, lies_in_layer, lies_or_counts_under, list_all, list_any, live_layers, mount_at, named_in, no_outsider_on, node_at, of_overlay, or_cases, or_left, overlays, own_lowers, part_of, sealed, targets_in, used_alone, used_filesystems, wholly_locked, with_change, with_files}
+use Rattle.vt_spec.proofs.Common.{Among, Change, FileTree, Filesystem, Fresh, IsTree, Layer, ListsNumbers, Location, TaskName, World, all_named, among-append_right, among-flat_map, among-from_flat_map, among_from_list_all, among_numbers, and_from, and_parts, and_true_left, any_among, any_from_among, changed, common_steps, entry_from, false_from_ne_true, filesystem_at, filesystem_changed, filesystem_numbered, is_among, is_among_numbers, is_locked, is_locked_at, is_lower_root, is_under, layers_of, led-append, list_all, list_any, live_layers, mount_at, named_in, no_outsider_on, node_at, of_overlay, or_cases, or_left, overlays, own_lowers, part_of, sealed, targets_in, used_alone, used_filesystems, wholly_locked, with_change, with_files}
 use Rattle.vt_laws_sealed.proofs.Common.{Led, ReachedIn, is_reached_in, led_on, led_under, number_of_filesystem}
 use Rattle.vt_laws_sealed.specs.Part.Locked.{OthersChangeWhatIsNotUsed, OthersChangesLeaveThePart, WhollyLockedIsLocked}
 use Rattle.vt_laws_sealed.proofs.part.part.UnusedFilesystems.{unused_filesystems_may_change}
@@ -45,21 +45,16 @@ module _ (world : World ℕ) (names : List TaskName) (number : ℕ)
       let found = any_among (λ (merged : Filesystem ℕ). is_lower_root nat_eq number files.tree.root merged
       && used_alone nat_eq world names merged.number) (overlays world) both.0 in
       let layer = layer_there found.0 (and_true_left (is_lower_root nat_eq number files.tree.root found.0) _ found.2) in
-      any_from_among (lies_or_counts_under nat_eq world number object) (live_layers world) layer.0
-      (among-flat_map (of_overlay [] layers_of) (overlays world) found.0 layer.0 found.1 layer.1)
-      (or_left (lies_in_layer nat_eq world number object layer.0) _
-      (and_from (nat_eq number layer.0.filesystem) _ layer.2
-      (subst (λ d. is_under nat_eq files d object ≡ true) (eqb-true files.tree.root layer.0.directory layer.3)
-      (under object there))))
+      any_from_among _ (live_layers world) layer.0 (among-flat_map (of_overlay [] layers_of) (overlays world) found.0
+      layer.0 found.1 layer.1) (or_left _ _ (and_from _ _ layer.2 (subst (λ d. is_under nat_eq files d object ≡ true)
+      (eqb-true files.tree.root layer.0.directory layer.3) (under object there))))
     where
       under : (object : ℕ) → is_some (files.tree.node object) ≡ true
           → is_under nat_eq files files.tree.root object ≡ true
       under object there =
-          let named = among_from_list_all
-          (λ number. nat_eq number files.tree.root || is_among nat_eq number (named_in files)) files.numbers
-          (and_parts (list_any (λ (merged : Filesystem ℕ). is_lower_root nat_eq number files.tree.root merged
-          && used_alone nat_eq world names merged.number) (overlays world)) (all_named nat_eq files) h).1
-          object (among_numbers files.numbers object (listed object ∙ there)) in
+          let named = among_from_list_all _ files.numbers (and_parts (list_any (λ (merged : Filesystem ℕ). is_lower_root
+          nat_eq number files.tree.root merged && used_alone nat_eq world names merged.number) (overlays world))
+          (all_named nat_eq files) h).1 object (among_numbers files.numbers object (listed object ∙ there)) in
           ⊎_elim (λ root. subst (λ o. is_under nat_eq files files.tree.root o ≡ true)
           (sym (eqb-true object files.tree.root root)) (root_under files tree listed))
           (λ name. named_under files tree listed object (among_numbers (named_in files) object name))
@@ -81,13 +76,11 @@ module _ (world : World ℕ) (names : List TaskName) (location : Location ℕ) (
       → no_outsider_on nat_eq world names number ≡ false
       → is_some (node_at nat_eq world location) ≡ true → is_locked_at nat_eq world location ≡ false
       → is_among nat_eq number (used_filesystems nat_eq world names) ≡ false
-  not_used tree listed there node free = false_from_ne_true _ (λ used.
-      ⊎_elim (λ alone. true≢false (sym (and_true_left (no_outsider_on nat_eq world names number) _ alone) ∙ there))
+  not_used tree listed there node free = false_from_ne_true _ (λ used. ⊎_elim
+      (λ alone. true≢false (sym (and_true_left (no_outsider_on nat_eq world names number) _ alone) ∙ there))
       (λ whole. true≢false (sym (all_locked world names number tree listed whole location.node node) ∙ free))
       (or_cases (used_alone nat_eq world names number) (wholly_locked nat_eq world names number)
-      (among_from_list_all (λ f. used_alone nat_eq world names f || wholly_locked nat_eq world names f)
-      (used_filesystems nat_eq world names) fourth number
-      (among_numbers (used_filesystems nat_eq world names) number used))))
+      (among_from_list_all _ (used_filesystems nat_eq world names) fourth number (among_numbers _ number used))))
 
   pub outsiders_change_leaves : (fresh : Fresh ℕ) (change : Change ℕ)
       → IsTree (filesystem_numbered nat_eq world number).files.tree

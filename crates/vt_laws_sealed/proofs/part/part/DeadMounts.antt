@@ -43,8 +43,7 @@ module _ (world : World ℕ) (names : List TaskName) where
   root_at x e =
       let found = any_among (λ (l : Location ℕ). nat_eq l.mount x.number) (roots_and_directories theirs) e in
       let task = among-from_flat_map (λ (t : Task ℕ). t.root ∷ t.directory ∷ []) theirs found.0 found.1 in
-      any_from_among (λ (l : Location ℕ). nat_eq l.mount x.number) (locations theirs) found.0
-      (among-flat_map locations_of theirs task.0 found.0 task.1
+      any_from_among _ (locations theirs) found.0 (among-flat_map locations_of theirs task.0 found.0 task.1
       (⊎_elim (λ root. inl root) (λ rest. ⊎_elim (λ directory. inr (inl directory)) (λ none. absurd none) rest) task.2))
       found.2
 
@@ -59,5 +58,4 @@ module _ (world : World ℕ) (names : List TaskName) where
   sees_the_same = grind (arith, common_steps, mounts_kept)
 
 pub dead_mounts_are_in_no_part : DeadMountsAreInNoPart
-dead_mounts_are_in_no_part world names =
-    part_same world (without_dead_mounts nat_eq world) names (sees_the_same world names)
+dead_mounts_are_in_no_part world names = part_same world _ names (sees_the_same world names)

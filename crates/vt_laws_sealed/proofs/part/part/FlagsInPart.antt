@@ -128,9 +128,8 @@ module _ (world : World ℕ) (names : List TaskName) (one : OneNumberEach world)
   same_shown = ap shown_by same_directly
 
   same_masters : part_of_master nat_eq later names ≡ part_of_master nat_eq world names
-  same_masters =
-      ap (λ l. λ (group : ℕ). cond (list_any (is_member_of nat_eq group) l) (world.master group) None) own_later
-      ∙ (λ i group. cond (any_set group (own_mounts nat_eq world names) own_there i) (world.master group) None)
+  same_masters = ap (λ l. λ (group : ℕ). cond (list_any (is_member_of nat_eq group) l) (world.master group) None)
+      own_later ∙ (λ i group. cond (any_set group _ own_there i) (world.master group) None)
     where
       any_set : (group : ℕ) (list : List (Mount ℕ)) → ((x : Mount ℕ) → Among x list → Among x world.mounts)
           → list_any (is_member_of nat_eq group) (map set list) ≡ list_any (is_member_of nat_eq group) list

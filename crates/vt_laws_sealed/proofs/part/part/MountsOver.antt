@@ -117,11 +117,9 @@ module _ (world : World ℕ) (names : List TaskName) (is : MountInvariants nat_e
           let among = found_among (stands_at nat_eq a) world.mounts c f in
           let whole = child_whole a c own among (found_passes (stands_at nat_eq a) world.mounts c f) in
           goes_on a (root_of c) goes (ap (option_map root_of) (same_child a own) ∙ goes)
-          (subst (λ k. Among k there) (sym (ap key_of f))
-          (among-map (λ (mount : Mount ℕ). suc mount.number) part.mounts c
-          (among-filter_map kept world.mounts c c among whole.1))) (later (root_of c) whole.0
-          (sym (ap (up world) (ap (last_or a) (chain_goes_on (up world) n a (root_of c) goes)
-          ∙ last_of_chain (up world) n (root_of c) a)) ∙ e))
+          (subst (λ k. Among k there) (sym (ap key_of f)) (among-map _ _ c (among-filter_map kept world.mounts c c among
+          whole.1))) (later (root_of c) whole.0 (sym (ap (up world) (ap (last_or a)
+          (chain_goes_on (up world) n a (root_of c) goes) ∙ last_of_chain (up world) n (root_of c) a)) ∙ e))
 
   -- the mounts over a location on a whole mount
   pub same_over : (here : Location ℕ) → IsWhole here.mount
@@ -129,9 +127,8 @@ module _ (world : World ℕ) (names : List TaskName) (is : MountInvariants nat_e
   same_over here own =
       let size : length there ≡ length part.mounts = length-map part.mounts (λ (mount : Mount ℕ). suc mount.number) in
       let less : length part.mounts ≤ length world.mounts = length-filter_map kept world.mounts in
-      sym (chains_alike (up world) (up part) key there by_key (length world.mounts) (length part.mounts) here
-      (way (length world.mounts) here own (ap (option_map root_of) (topmost_is_free world here is)))
-      (omega (arith, size, less)) (omega (arith, size)))
+      sym (chains_alike _ (up part) key there by_key _ _ here (way (length world.mounts) here own
+      (ap (option_map root_of) (topmost_is_free world here is))) (omega (arith, size, less)) (omega (arith, size)))
 
 pub mounts_over_are_those_of_the_part : MountsOverAreThoseOfThePart
 mounts_over_are_those_of_the_part world names mount here is there on stands =

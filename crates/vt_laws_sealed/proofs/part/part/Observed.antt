@@ -25,11 +25,8 @@ module _ (world later : World ℕ) (names : List TaskName) (same : SeesTheSame w
   direct = used_directly nat_eq world names
 
   pub used_same : used_filesystems nat_eq later names ≡ used_filesystems nat_eq world names
-  used_same = ap (λ d. each_once nat_eq
-      (d ++ flat_map (λ n. change_layers (filesystem_numbered nat_eq later n)) d)) directly_same
-      ∙ ap (λ l. each_once nat_eq (direct ++ l))
-      (flat_map_alike (λ n. change_layers (filesystem_numbered nat_eq later n))
-      (λ n. change_layers (filesystem_numbered nat_eq world n)) direct
+  used_same = ap (λ d. each_once nat_eq (d ++ flat_map (λ n. change_layers (filesystem_numbered nat_eq later n)) d))
+      directly_same ∙ ap (λ l. each_once nat_eq (direct ++ l)) (flat_map_alike _ _ direct
       (λ n m. ap change_layers (same.direct n (contains_from_among direct n m))))
 
   pub lowers_same : own_lowers nat_eq later names ≡ own_lowers nat_eq world names

@@ -1,6 +1,6 @@
 -- The part and the footholds of others decide whether a set of tasks is sealed off.
 use Rattle.std.proofs.Common.{◌≡◌, refl, sym, ap, subst, ◌∙◌, ◌⊎◌, inl, inr, ⊎_elim, ℕ, nat_eq, Bool, true, false, cond, true≢false, List, [], ◌∷◌, Option, Some, None, map, find, not, ◌||◌, ◌&&◌, eq-eqb, eqb-true, arith, unwrap_or}
-use Rattle.vt_spec.proofs.Common.{Among, Filesystem, IsWorld, Layer, Location, Mount, Overlay, Task, TaskName, World, all_locations, all_named, among-append_left, among-append_right, among-filter, among-filter_map, among-flat_map, among-from_filter, among-from_filter_map, among-from_flat_map, among-map, among_from_contains, among_from_list_all, among_numbers, and_from, and_parts, any_among, any_from_among, common_steps, contains_from_among, filesystem_lives, filesystem_numbered, found_among, has_layer_on, is_among, is_among_numbers, is_directory_node, is_located, is_lower_root, is_member_task, is_mounted, is_overlay, is_own_namespace, layers_of, list_all, list_all_from_among, list_any, locations, locations_of, members, mount_at, mount_lives, mount_numbered, no_filesystem, no_outsider_on, not-true, of_overlay, or_cases, or_left, or_right, other_mounts, outsiders, overlay_or, overlays, own_lowers, own_mounts, part_of, part_of_filesystem, part_of_lower, same_truth, sealed, used_alone, used_directly, used_filesystems, when, wholly_locked}
+use Rattle.vt_spec.proofs.Common.{Among, Filesystem, IsWorld, Layer, Location, Mount, Overlay, Task, TaskName, World, all_locations, all_named, among-append_left, among-append_right, among-filter, among-filter_map, among-flat_map, among-from_filter, among-from_filter_map, among-from_flat_map, among-map, among_from_contains, among_from_list_all, among_numbers, and_from, and_parts, any_among, any_from_among, common_steps, contains_from_among, filesystem_numbered, found_among, has_layer_on, is_among, is_among_numbers, is_directory_node, is_located, is_lower_root, is_member_task, is_mounted, is_overlay, is_own_namespace, layers_of, list_all, list_all_from_among, list_any, locations, locations_of, members, mount_at, mount_lives, mount_numbered, no_filesystem, no_outsider_on, not-true, of_overlay, or_cases, or_left, or_right, other_mounts, outsiders, overlay_or, overlays, own_lowers, own_mounts, part_of, part_of_filesystem, part_of_lower, same_truth, sealed, used_alone, used_directly, used_filesystems, when, wholly_locked}
 use Rattle.vt_laws_sealed.proofs.Common.{all_in_use, found_filesystem, found_itself}
 use Rattle.vt_laws_sealed.specs.Part.Seals.{FewerFootholdsSealToo, IsApart, SealedIsByPartAndFootholds, TheirOverlaysAreInThePart, is_locked_whole, is_sealed_by}
 use Rattle.vt_laws_sealed.proofs.part.part.PartOfPart.{found, same_used, shown_how, used_directly_used}
@@ -24,17 +24,13 @@ module _ (world : World ℕ) (names : List TaskName) (is : IsWorld nat_eq world)
       by location task there at here true member =
           among-append_right (map (λ (m : Mount ℕ). m.filesystem) (own_mounts nat_eq world names)) _ filesystem
           (subst (λ f. Among f (map (λ (l : Location ℕ). (mount_at nat_eq world l).filesystem)
-          (locations (members world names)))) here (among-map (λ (l : Location ℕ). (mount_at nat_eq world l).filesystem)
-          (locations (members world names)) location (among-flat_map locations_of (members world names) task location
+          (locations (members world names)))) here (among-map _ _ location (among-flat_map locations_of _ task location
           (among-filter (is_member_task names) world.tasks task there member) at)))
       by location task there at here false member = absurd (true≢false
-          (sym (any_from_among (λ (l : Location ℕ). nat_eq filesystem (mount_at nat_eq world l).filesystem)
-          (locations (outsiders world names)) location
-          (among-flat_map locations_of (outsiders world names) task location
+          (sym (any_from_among _ _ location (among-flat_map locations_of (outsiders world names) task location
           (among-filter (λ t. not (is_member_task names t)) world.tasks task there (ap not member)) at)
-          (eq-eqb filesystem _ (sym here)))
-          ∙ not-true _ (and_parts (not (list_any (λ (m : Mount ℕ). nat_eq filesystem m.filesystem)
-          (other_mounts nat_eq world names))) _ alone).1))
+          (eq-eqb filesystem _ (sym here))) ∙ not-true _ (and_parts (not
+          (list_any (λ (m : Mount ℕ). nat_eq filesystem m.filesystem) (other_mounts nat_eq world names))) _ alone).1))
 
   -- a mount is in their namespaces, in others, or in none, with a location on it
   mounted_by : (filesystem : ℕ) (mount : Mount ℕ) → Among mount world.mounts → mount.filesystem ≡ filesystem
@@ -42,8 +38,7 @@ module _ (world : World ℕ) (names : List TaskName) (is : IsWorld nat_eq world)
   mounted_by filesystem mount there shows alone = by mount.namespace refl
     where
       by : (o : Option ℕ) → mount.namespace ≡ o → Among filesystem (used_directly nat_eq world names)
-      by None none = located_by mount.number filesystem mount
-          (found_itself world.mounts is.mounts.one_number mount there) shows alone
+      by None none = located_by _ filesystem mount (found_itself _ is.mounts.one_number mount there) shows alone
           (cc (among_from_list_all (mount_lives nat_eq world) world.mounts (all_in_use world is).mounts mount there))
       by (Some namespace) at = which (is_own_namespace nat_eq world names namespace) refl
         where
@@ -75,9 +70,8 @@ module _ (world : World ℕ) (names : List TaskName) (is : IsWorld nat_eq world)
       by (Some overlay) e =
           let at = any_among (λ (layer : Layer ℕ). nat_eq merged.number layer.filesystem) (layers_of overlay)
           (cc) in
-          true≢false
-          (sym overlaid ∙ ap is_overlay (sym (found_filesystem world.filesystems is.files.one_filesystem merged there))
-          ∙ ap (λ n. is_overlay (filesystem_numbered nat_eq world n)) (eqb-true merged.number at.0.filesystem at.2)
+          true≢false (sym overlaid ∙ ap is_overlay (sym (found_filesystem _ is.files.one_filesystem merged there)) ∙ ap
+          (λ n. is_overlay (filesystem_numbered nat_eq world n)) (eqb-true merged.number at.0.filesystem at.2)
           ∙ layer_plain other other_there at.0 (subst (Among at.0) (sym (ap (overlay_or [] layers_of) e)) at.1))
 
   overlay_mounted : (merged : Filesystem ℕ) → Among merged world.filesystems → is_overlay merged ≡ true
@@ -85,11 +79,9 @@ module _ (world : World ℕ) (names : List TaskName) (is : IsWorld nat_eq world)
   overlay_mounted merged there overlaid = ⊎_elim (λ mounted. mounted) (λ layered.
       let at = any_among (λ (other : Filesystem ℕ). has_layer_on nat_eq merged.number other
       && is_mounted nat_eq world other.number) world.filesystems layered in
-      absurd (no_layer merged at.0 there at.1 overlaid
-      (and_parts (has_layer_on nat_eq merged.number at.0) (is_mounted nat_eq world at.0.number) at.2).0))
-      (or_cases (is_mounted nat_eq world merged.number) _
-      (among_from_list_all (filesystem_lives nat_eq world) world.filesystems
-      (all_in_use world is).filesystems merged there))
+      absurd (no_layer merged at.0 there at.1 overlaid (and_parts (has_layer_on nat_eq merged.number at.0)
+      (is_mounted nat_eq world at.0.number) at.2).0)) (or_cases (is_mounted nat_eq world merged.number) _
+      (among_from_list_all _ world.filesystems (all_in_use world is).filesystems merged there))
 
   -- one on which no other is
   pub overlay_without_others : (merged : Filesystem ℕ) → Among merged (overlays world)
@@ -112,11 +104,10 @@ module _ (world : World ℕ) (names : List TaskName) (is : IsWorld nat_eq world)
       → used_alone nat_eq world names merged.number ≡ true → Among merged (overlays (part_of nat_eq world names))
   overlay_in_part merged there alone =
       let from = among-from_filter is_overlay world.filesystems merged there in
-      among-filter is_overlay (part_of nat_eq world names).filesystems merged
-      (among-filter_map (part_of_filesystem nat_eq world names) world.filesystems merged merged from.0
-      (ap (λ b. cond b (Some merged) (when (list_any (λ layer. nat_eq merged.number layer.filesystem)
-      (own_lowers nat_eq world names)) (part_of_lower nat_eq world names merged))) (overlay_used merged there alone)))
-      from.1
+      among-filter is_overlay _ merged (among-filter_map (part_of_filesystem nat_eq world names) world.filesystems
+      merged merged from.0 (ap (λ b. cond b (Some merged) (when (list_any
+      (λ layer. nat_eq merged.number layer.filesystem) (own_lowers nat_eq world names))
+      (part_of_lower nat_eq world names merged))) (overlay_used merged there alone))) from.1
 
   -- an overlay of the part is one of the world, with its layers
   from_part : (merged : Filesystem ℕ) → Among merged (overlays (part_of nat_eq world names))
@@ -134,9 +125,7 @@ module _ (world : World ℕ) (names : List TaskName) (is : IsWorld nat_eq world)
       → is_overlay (filesystem_numbered nat_eq world number) ≡ false
   lower_plain number has =
       let at = any_among (λ (layer : Layer ℕ). nat_eq number layer.filesystem) (own_lowers nat_eq world names) has in
-      let from = among-from_flat_map
-      (λ n. of_overlay [] (λ (overlay : Overlay ℕ). overlay.lowers) (filesystem_numbered nat_eq world n))
-      (used_directly nat_eq world names) at.0 at.1 in
+      let from = among-from_flat_map _ (used_directly nat_eq world names) at.0 at.1 in
       ap (λ n. is_overlay (filesystem_numbered nat_eq world n)) (eqb-true number at.0.filesystem at.2)
       ∙ by from.0 (find (λ (f : Filesystem ℕ). nat_eq from.0 f.number) world.filesystems) refl at.0 from.2
     where
@@ -153,8 +142,7 @@ module _ (world : World ℕ) (names : List TaskName) (is : IsWorld nat_eq world)
       by number None e layer m =
           absurd (subst (λ o. Among layer (of_overlay [] (λ (overlay : Overlay ℕ). overlay.lowers)
           (unwrap_or o (no_filesystem number)))) e m)
-      by number (Some merged) e layer m = layer_plain merged (found_among
-          (λ (f : Filesystem ℕ). nat_eq number f.number) world.filesystems merged e) layer
+      by number (Some merged) e layer m = layer_plain merged (found_among _ world.filesystems merged e) layer
           (layered merged layer (subst (λ o. Among layer (of_overlay [] (λ (overlay : Overlay ℕ). overlay.lowers)
           (unwrap_or o (no_filesystem number)))) e m))
 
@@ -164,11 +152,9 @@ module _ (world : World ℕ) (names : List TaskName) (is : IsWorld nat_eq world)
   part_overlay_used merged there =
       let whole = from_part merged there in
       let from = among-from_filter is_overlay world.filesystems whole.0 whole.1 in
-      subst (λ n. Among n (used_filesystems nat_eq world names)) whole.2
-      (⊎_elim (among_numbers (used_filesystems nat_eq world names) whole.0.number)
-      (λ lower. absurd (true≢false (sym from.1
-      ∙ ap is_overlay (sym (found_filesystem world.filesystems is.files.one_filesystem whole.0 from.0))
-      ∙ lower_plain whole.0.number lower))) whole.4)
+      subst (λ n. Among n (used_filesystems nat_eq world names)) whole.2 (⊎_elim (among_numbers _ whole.0.number)
+      (λ lower. absurd (true≢false (sym from.1 ∙ ap is_overlay (sym (found_filesystem world.filesystems
+      is.files.one_filesystem whole.0 from.0)) ∙ lower_plain whole.0.number lower))) whole.4)
 
   -- wholly locked: by the part and the footholds
   abbrev locks : ℕ → Filesystem ℕ → Bool
@@ -182,16 +168,13 @@ module _ (world : World ℕ) (names : List TaskName) (is : IsWorld nat_eq world)
 
   same_locks : (filesystem : ℕ) → list_any (locks filesystem) (overlays (part_of nat_eq world names))
       ≡ list_any (locks filesystem) (overlays world)
-  same_locks filesystem = same_truth (list_any (locks filesystem) (overlays (part_of nat_eq world names)))
-      (list_any (locks filesystem) (overlays world))
+  same_locks filesystem = same_truth _ (list_any (locks filesystem) (overlays world))
       (λ h. let at = any_among (locks filesystem) (overlays (part_of nat_eq world names)) h in
       let whole = from_part at.0 at.1 in
-      any_from_among (locks filesystem) (overlays world) whole.0 whole.1
-      (locks_by_overlay filesystem whole.0 at.0 whole.2 whole.3 ∙ at.2))
-      (λ h. let at = any_among (locks filesystem) (overlays world) h in
-      any_from_among (locks filesystem) (overlays (part_of nat_eq world names)) at.0
-      (overlay_in_part at.0 at.1 (and_parts (is_lower_root nat_eq filesystem
-      (filesystem_numbered nat_eq world filesystem).files.tree.root at.0)
+      any_from_among _ (overlays world) whole.0 whole.1 (locks_by_overlay filesystem whole.0 at.0 whole.2 whole.3
+      ∙ at.2)) (λ h. let at = any_among (locks filesystem) (overlays world) h in
+      any_from_among (locks filesystem) _ at.0 (overlay_in_part at.0 at.1
+      (and_parts (is_lower_root nat_eq filesystem (filesystem_numbered nat_eq world filesystem).files.tree.root at.0)
       (used_alone nat_eq world names at.0.number) at.2).1) at.2)
 
   locked_by_part : (filesystem : ℕ) → Among filesystem (used_filesystems nat_eq world names)
@@ -199,10 +182,9 @@ module _ (world : World ℕ) (names : List TaskName) (is : IsWorld nat_eq world)
       ≡ wholly_locked nat_eq world names filesystem
   locked_by_part filesystem m =
       ap (λ (f : Filesystem ℕ). list_any (λ merged. is_lower_root nat_eq filesystem f.files.tree.root merged
-      && used_alone nat_eq world names merged.number) (overlays (part_of nat_eq world names))
-      && all_named nat_eq f.files)
-      (found world names filesystem (is_among_numbers (used_filesystems nat_eq world names) filesystem m))
-      ∙ ap (λ b. b && all_named nat_eq (filesystem_numbered nat_eq world filesystem).files) (same_locks filesystem)
+      && used_alone nat_eq world names merged.number) (overlays (part_of nat_eq world names)) && all_named nat_eq
+      f.files) (found world names filesystem (is_among_numbers (used_filesystems nat_eq world names) filesystem m)) ∙ ap
+      (λ b. b && all_named nat_eq (filesystem_numbered nat_eq world filesystem).files) (same_locks _)
 
   abbrev free_or_locked : ℕ → Bool
   free_or_locked filesystem = used_alone nat_eq world names filesystem || wholly_locked nat_eq world names filesystem
@@ -216,8 +198,7 @@ module _ (world : World ℕ) (names : List TaskName) (is : IsWorld nat_eq world)
   used_by_part = grind (arith, common_steps, same_used, same_all, locked_by_part)
 
 pub their_overlays_are_in_the_part : TheirOverlaysAreInThePart
-their_overlays_are_in_the_part world names merged is there alone =
-    contains_from_among (overlays (part_of nat_eq world names)) merged
+their_overlays_are_in_the_part world names merged is there alone = contains_from_among _ merged
     (overlay_in_part world names is merged (among_from_contains (overlays world) merged there) alone)
 
 pub sealed_is_by_part_and_footholds : SealedIsByPartAndFootholds

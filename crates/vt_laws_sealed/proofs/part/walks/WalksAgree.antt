@@ -110,8 +110,7 @@ module _ (one other : Looks ℕ) (task : Task ℕ) (Own : ℕ → Type 0) (alike
 
   pub same_filesystems : (list : List (Location ℕ)) → Each OnOwn list
       → filesystems_of nat_eq one list ≡ filesystems_of nat_eq other list
-  same_filesystems list h = map_each OnOwn (λ l. (mount_at one l).filesystem) (λ l. (mount_at other l).filesystem) list
-      (λ l own. ap (λ (m : Mount ℕ). m.filesystem) (alike.mount l own)) h
+  same_filesystems list h = map_each OnOwn _ _ list (λ l own. ap (λ (m : Mount ℕ). m.filesystem) (alike.mount l own)) h
 
   pub one_each : (here : Location ℕ) → Own here.mount → (list : List (Location ℕ)) → Each OnOwn list
       → Each OnOwn (here ∷ list)
@@ -154,11 +153,9 @@ module _ (one other : Looks ℕ) (task : Task ℕ) (Own : ℕ → Type 0) (alike
   same_met here own DotDot =
       let top : Location ℕ = last_or here (hops nat_eq one task here) in
       let top_own : Own top.mount = last_each OnOwn (hops nat_eq one task here) here own (alike.hopped here own) in
-      same_filesystems (hops nat_eq one task here ++ entered_upward nat_eq one task top)
-      (both_each (hops nat_eq one task here) (entered_upward nat_eq one task top) (alike.hopped here own)
-      (entered_each top top_own))
-      ∙ ap (λ e. filesystems_of nat_eq other (hops nat_eq one task here ++ e)) (same_entered top top_own)
-      ∙ ap (λ h. filesystems_of nat_eq other (h ++ entered_upward nat_eq other task (last_or here h)))
+      same_filesystems _ (both_each (hops nat_eq one task here) _ (alike.hopped here own) (entered_each top top_own))
+      ∙ ap (λ e. filesystems_of nat_eq other (hops nat_eq one task here ++ e)) (same_entered top top_own) ∙ ap
+      (λ h. filesystems_of nat_eq other (h ++ entered_upward nat_eq other task (last_or here h)))
       (alike.hops_alike here own)
   same_met here own (Named name) =
       let by = over_by here own (entry_named name (entries_in (one.node here))) in
@@ -182,13 +179,11 @@ module _ (one other : Looks ℕ) (task : Task ℕ) (Own : ℕ → Type 0) (alike
   word_agrees here own word =
       let step = stepped_agrees here.location own word in (
         ap (λ s. word_by here.left (s ∷ here.steps) (search_rules nat_eq one task here.location)
-            (stepped nat_eq one task here.location word)) (same_met here.location own word)
-            ∙ ap (λ r. word_by here.left (steps_with nat_eq other task here word) r
-            (stepped nat_eq one task here.location word)) (same_search here.location own)
-            ∙ ap (word_by here.left (steps_with nat_eq other task here word)
+            (stepped nat_eq one task here.location word)) (same_met here.location own word) ∙ ap
+            (λ r. word_by here.left (steps_with nat_eq other task here word) r (stepped nat_eq one task here.location
+            word)) (same_search _ own) ∙ ap (word_by here.left (steps_with nat_eq other task here word)
             (search_rules nat_eq other task here.location)) step.0,
-        word_own here.left (steps_with nat_eq one task here word) (search_rules nat_eq one task here.location)
-            (stepped nat_eq one task here.location word) step.1,
+        word_own here.left (steps_with nat_eq one task here word) (search_rules nat_eq one task here.location) _ step.1,
       )
 
   -- walks of texts that agree
@@ -206,18 +201,16 @@ module _ (one other : Looks ℕ) (task : Task ℕ) (Own : ℕ → Type 0) (alike
       → Agree HereOwn (words_walked nat_eq one task f here list) (words_walked nat_eq other task g here list)
   words_agree f g agree here own [] = (refl, own)
   words_agree f g agree here own (word ∷ prefix) =
-      then_agree HereOwn HereOwn (words_walked nat_eq one task f here prefix)
-      (words_walked nat_eq other task g here prefix)
-      (λ reached. then_walk (word_walked nat_eq one task reached (last_word word)) (λ next.
-      if_symlink next (symlink_text (one.node next.location)) (f reached.location next)))
-      (λ reached. then_walk (word_walked nat_eq other task reached (last_word word)) (λ next.
-      if_symlink next (symlink_text (other.node next.location)) (g reached.location next)))
-      (words_agree f g agree here own prefix) (λ reached there.
-      then_agree HereOwn HereOwn (word_walked nat_eq one task reached (last_word word))
-      (word_walked nat_eq other task reached (last_word word))
+      then_agree HereOwn HereOwn (words_walked nat_eq one task f here prefix) (words_walked nat_eq other task g here
+      prefix) (λ reached. then_walk (word_walked nat_eq one task reached (last_word word))
+      (λ next. if_symlink next (symlink_text (one.node next.location)) (f reached.location next)))
+      (λ reached. then_walk (word_walked nat_eq other task reached (last_word word))
+      (λ next. if_symlink next (symlink_text (other.node next.location)) (g reached.location next)))
+      (words_agree f g agree here own prefix) (λ reached there. then_agree HereOwn HereOwn
+      (word_walked nat_eq one task reached (last_word word)) (word_walked nat_eq other task reached (last_word word))
       (λ next. if_symlink next (symlink_text (one.node next.location)) (f reached.location next))
       (λ next. if_symlink next (symlink_text (other.node next.location)) (g reached.location next))
-      (word_agrees reached there (last_word word)) (λ next after.
+      (word_agrees reached there _) (λ next after.
       let by = symlink_by f g agree reached.location there next after (symlink_text (one.node next.location)) in (
         cc (by.0, alike.node next.location after),
         by.1,
@@ -241,13 +234,11 @@ module _ (one other : Looks ℕ) (task : Task ℕ) (Own : ℕ → Type 0) (alike
         cc (alike.mount symlink.location own, same_start),
         unless_agree HereOwn symlink.steps (follow_rules nat_eq one symlink text)
             (symlink_start nat_eq one task directory symlink text) start_own,
-      ) (λ start there. then_agree HereOwn HereOwn
-      (words_walked nat_eq one task (symlink_walked nat_eq depth one task) start (reverse (words text)))
-      (words_walked nat_eq other task (symlink_walked nat_eq depth other task) start (reverse (words text)))
-      (λ reached. walk_unless reached.steps (slash_rules nat_eq one text reached.location) reached)
-      (λ reached. walk_unless reached.steps (slash_rules nat_eq other text reached.location) reached)
-      (words_agree (symlink_walked nat_eq depth one task) (symlink_walked nat_eq depth other task) (texts_agree depth)
-      start there (reverse (words text))) (λ reached after. (
+      ) (λ start there. then_agree HereOwn HereOwn (words_walked nat_eq one task (symlink_walked nat_eq depth one task)
+      start (reverse (words text))) (words_walked nat_eq other task (symlink_walked nat_eq depth other task) start
+      (reverse (words text))) (λ reached. walk_unless reached.steps (slash_rules nat_eq one text reached.location)
+      reached) (λ reached. walk_unless reached.steps (slash_rules nat_eq other text reached.location) reached)
+      (words_agree _ _ (texts_agree depth) start there (reverse (words text))) (λ reached after. (
         ap (λ n. walk_unless reached.steps
             ((cond (ends_in_slash text) (not (is_directory_node n)) false, W3) ∷ []) reached)
             (alike.node reached.location after),

@@ -1,7 +1,7 @@
 -- A pivot raises the change number of its namespace, so other tasks of a namespace whose number is what it was are what
 -- they were.
 use Rattle.std.proofs.Common.{◌≡◌, refl, sym, ap, subst, ⊎_elim, ℕ, nat_eq, Bool, true, false, true≢false, cond, ◌||◌, List, [], ◌∷◌, Some, None, Ok, eqb-true, eq-eqb, is_some, arith}
-use Rattle.vt_spec.proofs.Common.{Among, Call, Fresh, Location, Mount, PivotRoot, Task, TaskName, ToPivot, World, among-filter, among-from_filter, among-map, child_at, common_steps, filesystems_changed_by, holds_of, is_located, judge_in, mount_at, mount_lives, mount_numbered, mounts_of, nat_eq_itself, none_is_some, number-mount_in, numbers_raised, pivoted, pivoted_mount, policy, settled, stands_at, task_called}
+use Rattle.vt_spec.proofs.Common.{Among, Call, Fresh, Location, Mount, PivotRoot, Task, TaskName, ToPivot, World, among-filter, among-from_filter, among-map, child_at, common_steps, filesystems_changed_by, holds_of, is_located, judge_in, mount_at, mount_numbered, mounts_of, nat_eq_itself, none_is_some, number-mount_in, numbers_raised, pivoted, pivoted_mount, policy, settled, stands_at, task_called}
 use Rattle.vt_laws_turns.proofs.Common.{MayPivot, all_permits_fit, call_is_judged_then_applied, found_there, name_found, other_tasks_stay, stands_at_its_place}
 use Rattle.vt_laws_trees.specs.Calls.Tasks.{Pivots}
 use Rattle.vt_laws_worlds.proofs.kept.MountsKeptAttaching.{own_there}
@@ -62,13 +62,9 @@ module _ {world : World ℕ} {fresh : Fresh ℕ} (given : IsCallIn world fresh) 
   in_namespace m e = cc (may.own_root)
 
   among_later : Among moved (mounts_of nat_eq (settled nat_eq left) caller.namespace)
-  among_later =
-      among-filter (λ (m : Mount ℕ). holds_of (nat_eq caller.namespace) m.namespace) (settled nat_eq left).mounts moved
-      (among-filter (mount_lives nat_eq left) left.mounts moved
-      (among-map (pivoted_mount nat_eq root_mount new_mount put) world.mounts root_mount
-      (found_there world.mounts caller.root.mount (own_there world caller caller.root.mount may.own_root)))
-      (ap (λ o. is_some o || is_located nat_eq left moved.number) (in_namespace moved moved_is)))
-      (cc (in_namespace moved moved_is, nat_eq_itself caller.namespace))
+  among_later = among-filter _ _ moved (among-filter _ _ moved (among-map _ world.mounts root_mount
+      (found_there _ _ (own_there world caller _ may.own_root))) (ap (λ o. is_some o || is_located nat_eq left
+      moved.number) (in_namespace moved moved_is))) (cc (in_namespace moved moved_is, nat_eq_itself caller.namespace))
 
   -- so the namespace has not the mounts that it had
   pub pivots_raise : mounts_of nat_eq (policy nat_eq fresh world name call).world caller.namespace

@@ -1,6 +1,6 @@
 -- Mounts that a granted call leaves show what they showed.
 use Rattle.std.proofs.Common.{inl, inr, ◌≡◌, ap, subst, ◌∙◌, ℕ, nat_eq, true, false, Some, Ok, map}
-use Rattle.vt_spec.proofs.Common.{cases_Bool, Among, Call, Fresh, IsWorld, Mount, MountOverlay, Outcome, Permit, Serves, Task, World, among-from_filter, among-map, among_from_contains, apply, call_outcome, evens, is_among_numbers, judge_in, looks_of, mount_lives, mount_numbered, odds, overfills, overlay_at, overlay_filesystem, settled, task_called}
+use Rattle.vt_spec.proofs.Common.{cases_Bool, Among, Call, Fresh, IsWorld, Mount, MountOverlay, Outcome, Permit, Serves, Task, World, among-from_filter, among-map, among_from_contains, apply, call_outcome, is_among_numbers, judge_in, looks_of, mount_lives, mount_numbered, odds, overfills, settled, task_called}
 use Rattle.vt_laws_turns.proofs.Common.{IsGranted, KeepsWhatIsSeen, all_mounts_kept, all_permits_fit, call_is_judged_then_applied, calls_are_granted, found_itself, is_mount, mounting_leaves_a_world, mounts_overlay, mounts_overlayfs, permits_keep_what_is_seen}
 use Rattle.vt_laws_mounts.specs.Mounts.Invariants.{OneNumberEach}
 use Rattle.vt_laws_worlds.proofs.worlds.SeenMounts.{mounted_seen}
@@ -13,8 +13,7 @@ pub show_alike : (world middle later : World ℕ) → OneNumberEach world → On
 show_alike world middle later one_before one_after seen left one other c d e =
     let was : Among one world.mounts = among_from_contains world.mounts one c in
     let is_there : is_mount world one.number ≡ true =
-    is_among_numbers (map (λ (m : Mount ℕ). m.number) world.mounts) one.number
-    (among-map (λ (m : Mount ℕ). m.number) world.mounts one was) in
+    is_among_numbers (map (λ (m : Mount ℕ). m.number) world.mounts) one.number (among-map _ world.mounts one was) in
     let before : mount_numbered nat_eq world one.number ≡ one = found_itself world.mounts one_before one was in
     let after : mount_numbered nat_eq middle one.number ≡ other = ap (mount_numbered nat_eq middle) e
     ∙ found_itself middle.mounts one_after other (left other (among_from_contains later.mounts other d)) in
@@ -54,17 +53,14 @@ module _ {world : World ℕ} {fresh : Fresh ℕ} {task : Task ℕ} (call : Call)
       → IsGranted nat_eq (looks_of nat_eq world) (overfills nat_eq fresh world task) task asked given
       → mounts_overlay asked ≡ true → KeepsWhatIsSeen world (apply nat_eq fresh world task given).world
   mounting asked given (mounts_overlayfs path words wanted here places admin end walked layered passed) e =
-      mounted_seen world (odds fresh) here.location
-      (overlay_filesystem nat_eq (evens fresh) world (overlay_at (looks_of nat_eq world) task places)) wanted
+      mounted_seen world (odds fresh) here.location _ wanted
   mounting asked given other e = cc
 
   pub permit_shown : Shown permit
-  permit_shown = elim (cases_Bool (mounts_overlay call)) [
+  permit_shown = elim (cases_Bool _) [
     | inl e ↦ (
       subst (λ (o : Outcome ℕ). OneNumberEach o.world) outcome (mounted_world call e).mounts.one_number,
-      mounting call permit
-          (calls_are_granted nat_eq (looks_of nat_eq world) (overfills nat_eq fresh world task) task call permit
-          granted) e,
+      mounting call permit (calls_are_granted nat_eq (looks_of nat_eq world) _ task call permit granted) e,
     )
     | inr e ↦ others e
   ]

@@ -1,5 +1,5 @@
 -- The sweep leaves a filesystem what it was, but for inodes that nothing uses.
-use Rattle.std.proofs.Common.{arith, ◌≡◌, refl, ◌∙◌, inl, inr, ⊎_elim, ℕ, nat_eq, Bool, true, false, cond, List, Option, Some, None, sym, subst, not, option_map}
+use Rattle.std.proofs.Common.{arith, ◌≡◌, refl, ◌∙◌, inl, inr, ⊎_elim, ℕ, nat_eq, Bool, true, false, cond, List, Option, Some, None, sym, subst, option_map}
 use Rattle.vt_spec.proofs.Common.{Among, Filesystem, Overlay, World, among-from_filter, among-from_map, common_steps, filesystem_lives, is_among, is_overlay, only_used, only_used_by, real_among, settled, without_dead_filesystems, without_dead_in, without_dead_mounts}
 use Rattle.vt_laws_turns.specs.Frames.Unraised.{IsLeftOrGone, KeepsFilesystem, KeepsOverlay}
 
@@ -52,15 +52,12 @@ pub swept_stays : (world : World ℕ) (f : Filesystem ℕ) → Among f (settled 
 swept_stays world f m =
     let lives : World ℕ = without_dead_filesystems nat_eq (without_dead_mounts nat_eq world) in
     let merged : World ℕ = without_dead_in nat_eq is_overlay lives in
-    let last = among-from_map
-    (λ (x : Filesystem ℕ). only_used nat_eq merged (not (is_overlay x)) x) merged.filesystems f m in
-    let first = among-from_map (λ (x : Filesystem ℕ). only_used nat_eq lives (is_overlay x) x) lives.filesystems
-    last.0 last.1 in
+    let last = among-from_map _ merged.filesystems f m in
+    let first = among-from_map _ lives.filesystems last.0 last.1 in
     let was = among-from_filter (filesystem_lives nat_eq (without_dead_mounts nat_eq world)) world.filesystems first.0
     first.1 in (
       first.0,
       was.0,
-      stays_on first.0 last.0 f
-          (subst (Stays first.0) (sym first.2) (only_used_stays lives (is_overlay first.0) first.0))
-          (subst (Stays last.0) (sym last.2) (only_used_stays merged (not (is_overlay last.0)) last.0)),
+      stays_on first.0 last.0 f (subst (Stays first.0) (sym first.2) (only_used_stays lives (is_overlay first.0)
+          first.0)) (subst (Stays last.0) (sym last.2) (only_used_stays merged _ last.0)),
     )

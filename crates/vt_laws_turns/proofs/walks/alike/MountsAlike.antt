@@ -55,17 +55,14 @@ module _ {world later : World ℕ} (is : MountInvariants nat_eq world) (are : Mo
   -- what stands at a location
   same_child : (here : Location ℕ) → IsOwn here.mount
       → child_at nat_eq later.mounts here ≡ child_at nat_eq world.mounts here
-  same_child here (mount, m, n, number, kind) = ⊎_elim (λ e.
-      sym (find_where (stands_at nat_eq here) within later.mounts
-      (λ c there at. is_within c (child_namespace later are mount c here n number there at ∙ e)))
-      ∙ ap (find (stands_at nat_eq here)) same ∙ find_where (stands_at nat_eq here) within world.mounts
-      (λ c there at. is_within c (child_namespace world is mount c here m number there at ∙ e))) (λ none.
-      find_none (stands_at nat_eq here) later.mounts (λ c there. false_from_ne_true (stands_at nat_eq here c) (λ at.
-      placed_inside later are c there here (stands_there here c at)
-      (child_namespace later are mount c here n number there at ∙ none))) ∙ sym
-      (find_none (stands_at nat_eq here) world.mounts (λ c there.
-      false_from_ne_true (stands_at nat_eq here c) (λ at.
-      placed_inside world is c there here (stands_there here c at)
+  same_child here (mount, m, n, number, kind) = ⊎_elim (λ e. sym (find_where (stands_at nat_eq here) within later.mounts
+      (λ c there at. is_within c (child_namespace later are mount c here n number there at ∙ e))) ∙ ap
+      (find (stands_at nat_eq here)) same ∙ find_where (stands_at nat_eq here) within world.mounts
+      (λ c there at. is_within c (child_namespace world is mount c here m number there at ∙ e)))
+      (λ none. find_none (stands_at nat_eq here) later.mounts (λ c there. false_from_ne_true (stands_at nat_eq here c)
+      (λ at. placed_inside later are c there here (stands_there here c at) (child_namespace later are mount c here n
+      number there at ∙ none))) ∙ sym (find_none (stands_at nat_eq here) world.mounts
+      (λ c there. false_from_ne_true _ (λ at. placed_inside world is c there here (stands_there here c at)
       (child_namespace world is mount c here m number there at ∙ none))))) kind
 
   child_own : (here : Location ℕ) (child : Mount ℕ) → IsOwn here.mount → child_at nat_eq world.mounts here ≡ Some child
@@ -106,10 +103,8 @@ module _ {world later : World ℕ} (is : MountInvariants nat_eq world) (are : Mo
       by None None f g e = refl
       by None (Some d) f g e = absurd (omega (arith, e))
       by (Some c) None f g e = absurd (omega (arith, e))
-      by (Some c) (Some d) f g e = ap (λ x. Some (root_of x))
-          (sym (itself world is c (found_among (stands_at nat_eq a) world.mounts c f))
-          ∙ ap (mount_numbered nat_eq world) (ap pred e)
-          ∙ itself world is d (found_among (stands_at nat_eq b) world.mounts d g))
+      by (Some c) (Some d) f g e = ap (λ x. Some (root_of x)) (sym (itself world is c (found_among _ world.mounts c f))
+          ∙ ap (mount_numbered nat_eq world) (ap pred e) ∙ itself world is d (found_among _ world.mounts d g))
 
   way : (n : ℕ) (a : Location ℕ) → IsOwn a.mount → up world (last_or a (chain n (up world) a)) ≡ None
       → Way (up world) (up later) key there a
@@ -125,17 +120,14 @@ module _ {world later : World ℕ} (is : MountInvariants nat_eq world) (are : Mo
       by (Some c) f rest =
           let goes : up world a ≡ Some (root_of c) = ap (option_map root_of) f in
           let child = child_own a c own f in
-          goes_on a (root_of c) goes (cc (same_child a own, goes))
-          (subst (λ k. Among k there) (sym (ap key_of f))
-          (among-map (λ (mount : Mount ℕ). suc mount.number) (mounts_of nat_eq world namespace) c child.1))
-          (rest (root_of c) child.0 (sym (ap (up world) (ap (last_or a) (chain_goes_on (up world) n a (root_of c) goes)
-          ∙ last_of_chain (up world) n (root_of c) a)) ∙ e))
+          goes_on a (root_of c) goes (cc (same_child a own, goes)) (subst (λ k. Among k there) (sym (ap key_of f))
+          (among-map _ _ c child.1)) (rest (root_of c) child.0 (sym (ap (up world)
+          (ap (last_or a) (chain_goes_on (up world) n a _ goes) ∙ last_of_chain (up world) n (root_of c) a)) ∙ e))
 
   -- the mounts over a location
   pub same_over : (here : Location ℕ) → IsOwn here.mount
       → mounts_over nat_eq later.mounts here ≡ mounts_over nat_eq world.mounts here
-  same_over here own =
-      sym (chains_alike (up world) (up later) key there by_key (length world.mounts) (length later.mounts) here
+  same_over here own = sym (chains_alike (up world) (up later) key there by_key (length world.mounts) _ here
       (way (length world.mounts) here own (ap (option_map root_of) (topmost_is_free world here is))) few few_later)
 
   pub over_own : (here : Location ℕ) → IsOwn here.mount → (l : Location ℕ)
@@ -167,11 +159,8 @@ module _ {world later : World ℕ} (is : MountInvariants nat_eq world) (are : Mo
           later_too (mount_numbered nat_eq world point.mount) found above,
           number-mount_in world.mounts point.mount,
           inl above,
-        )) (λ none. none_is_some namespace (cc))
-            (found_or_none world.mounts point.mount),
-        subst (λ k. Among (suc k) there) at
-            (among-map (λ (x : Mount ℕ). suc x.number) (mounts_of nat_eq world namespace) mount
-            (among-filter within world.mounts mount m (is_within mount f))),
+        )) (λ none. none_is_some namespace (cc)) (found_or_none _ point.mount),
+        subst (λ k. Among (suc k) there) at (among-map _ _ mount (among-filter within _ mount m (is_within mount f))),
       )) (λ none. absurd (placed_inside world is mount m point placed none)) kind
 
   -- `..` goes on from mount points
@@ -223,5 +212,4 @@ module _ {world later : World ℕ} (is : MountInvariants nat_eq world) (are : Mo
     pub same_hops : (here : Location ℕ) → IsOwn here.mount
         → hops nat_eq (looks_of nat_eq later) task here ≡ hops nat_eq (looks_of nat_eq world) task here
     same_hops here own = sym (chains_alike (hop_in world) (hop_in later) hop_key there by_hop_key (length world.mounts)
-        (length later.mounts) here
-        (hop_way own.0.number (stands_itself world is own.0 own.1) here (sym own.3) own) few few_later)
+        _ here (hop_way own.0.number (stands_itself world is own.0 own.1) here (sym own.3) own) few few_later)

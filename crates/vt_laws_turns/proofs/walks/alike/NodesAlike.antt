@@ -63,8 +63,7 @@ module _ {world later : World ℕ} (trees : TreeInvariants nat_eq world) (later_
   listed_in : (w : World ℕ) → TreeInvariants nat_eq w → (d : ℕ)
       → is_some ((filesystem_numbered nat_eq w number).files.tree.node d) ≡ true
       → Among d (filesystem_numbered nat_eq w number).files.numbers
-  listed_in w invariants d there = ⊎_elim
-      (λ numbers. among_numbers (filesystem_numbered nat_eq w number).files.numbers d (numbers d ∙ there))
+  listed_in w invariants d there = ⊎_elim (λ numbers. among_numbers _ d (numbers d ∙ there))
       (λ none. absurd (true≢false (sym there ∙ ap (λ (f : Filesystem ℕ). is_some (f.files.tree.node d)) none.0)))
       (numbered_all (λ (f : Filesystem ℕ). ListsNumbers nat_eq f.files) number w.filesystems invariants.numbers)
 

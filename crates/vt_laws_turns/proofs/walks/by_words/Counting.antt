@@ -1,6 +1,6 @@
 -- One word is one step, so after as many words as a walk has steps nothing is left of it.
 use Rattle.std.proofs.Common.{◌≡◌, refl, ap, ◌∙◌, cond, ℕ, suc, nat_eq, Bool, true, false, true≢false, not, List, [], ◌∷◌, ◌-◌, ◌≤◌, length, Option, Some, None, Ok, Err, Result, arith}
-use Rattle.vt_spec.proofs.Common.{Dot, DotDot, Here, LastWord, Location, Looks, Named, NoWord, Place, Rules, Stop, Task, and_then, common_steps, entered, entered_mounts, filesystems_of, follow_rules, is_empty_list, is_no_word, last_word, most_symlinks, object_named, placed, search_rules, stepped, steps_at, steps_with, stopped_by, symlink_start, symlink_there, then_walk, unless, walk_unless, word_walked}
+use Rattle.vt_spec.proofs.Common.{Dot, DotDot, Here, LastWord, Location, Looks, Named, NoWord, Place, Rules, Stop, Task, and_then, common_steps, entered, entered_mounts, filesystems_of, follow_rules, is_empty_list, is_no_word, last_word, most_symlinks, object_named, placed, search_rules, stepped, steps_at, steps_with, stopped_by, symlink_start, then_walk, unless, walk_unless, word_walked}
 use Rattle.vt_laws_turns.proofs.Common.{Deny}
 use Rattle.vt_laws_turns.specs.Walks.Walkers.{Last, Pending, Walk, Walker, all_words, arrived, ended, first_words, gone_on, has_no_word, last_of, last_step, one_word, opened}
 use Rattle.vt_laws_turns.specs.Walks.Walkers.Last.{AsFile, AsName, AsOthers, NotFollowed}
@@ -181,22 +181,15 @@ module _ (looks : Looks ℕ) (task : Task ℕ) where
   last_steps here AsOthers count same few some = absurd (true≢false some)
   last_steps here (NotFollowed NoWord) count same few some = absurd (true≢false some)
   last_steps here (NotFollowed Dot) count same few some =
-      here_then (suc count) (word_walked nat_eq looks task here Dot) (λ next. Ok (Reaches next))
-      (word_steps here Dot count few same) (λ next fewer is. is)
+      here_then (suc count) _ (λ next. Ok (Reaches next)) (word_steps here Dot count few same) (λ next fewer is. is)
   last_steps here (NotFollowed DotDot) count same few some =
-      here_then (suc count) (word_walked nat_eq looks task here DotDot) (λ next. Ok (Reaches next))
-      (word_steps here DotDot count few same) (λ next fewer is. is)
-  last_steps here (NotFollowed (Named name)) count same few some =
-      here_then (suc count) (word_walked nat_eq looks task here (Named name)) (λ next. Ok (Reaches next))
+      here_then (suc count) _ (λ next. Ok (Reaches next)) (word_steps here DotDot count few same) (λ next fewer is. is)
+  last_steps here (NotFollowed (Named name)) count same few some = here_then (suc count) _ (λ next. Ok (Reaches next))
       (word_steps here (Named name) count few same) (λ next fewer is. is)
-  last_steps here (AsName word slash) count same few some =
-      place_then (suc count) (placed nat_eq looks task here word slash) (λ place. Ok (Names place))
+  last_steps here (AsName word slash) count same few some = place_then (suc count) _ (λ place. Ok (Names place))
       (placed_steps here word slash count same some) (λ place is. is)
-  last_steps here (AsFile word slash) count same few some =
-      place_then (suc count) (placed nat_eq looks task here word slash)
-      (λ place. opened nat_eq looks task here place slash (symlink_there nat_eq looks place))
-      (placed_steps here word slash count same some)
-      (λ place is. opened_steps here place slash (suc count) is few (symlink_there nat_eq looks place))
+  last_steps here (AsFile word slash) count same few some = place_then (suc count) _ _
+      (placed_steps here word slash count same some) (λ place is. opened_steps here place slash (suc count) is few _)
 
   pub one_word_steps : (walker : Walker ℕ) → IsHalfDone walker
       → HasSteps (suc (length walker.here.steps)) (one_word nat_eq looks task walker)

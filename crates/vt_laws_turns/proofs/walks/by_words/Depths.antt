@@ -118,13 +118,10 @@ module _ (looks : Looks ℕ) (task : Task ℕ) where
       → least ≤ length here.steps → (list : List (List ℕ))
       → Same most least (words_walked nat_eq looks task f here list) (words_walked nat_eq looks task g here list)
   words_same most f g alike here least few long [] = (refl, (few, long))
-  words_same most f g alike here least few long (word ∷ prefix) =
-      same_then most least (words_walked nat_eq looks task f here prefix) (words_walked nat_eq looks task g here prefix)
-      _ _ (words_same most f g alike here least few long prefix) (λ reached fewer longer.
-      same_then most least (word_walked nat_eq looks task reached (last_word word))
-      (word_walked nat_eq looks task reached (last_word word)) _ _
-      (refl, word_within most least reached (last_word word) fewer longer) (λ next few_left many.
-      symlink_by most f g alike reached.location next least few_left many (symlink_text (looks.node next.location))))
+  words_same most f g alike here least few long (word ∷ prefix) = same_then most least _ _ _ _
+      (words_same most f g alike here least few long prefix) (λ reached fewer longer. same_then most least _ _ _ _
+      (refl, word_within most least reached (last_word word) fewer longer) (λ next few_left many. symlink_by most f g
+      alike reached.location next least few_left many (symlink_text (looks.node next.location))))
 
   pub start_long : (directory : Location ℕ) (symlink : Here ℕ) (text : List ℕ) (least : ℕ)
       → least ≤ length symlink.steps → least ≤ length (symlink_start nat_eq looks task directory symlink text).steps
@@ -139,13 +136,9 @@ module _ (looks : Looks ℕ) (task : Task ℕ) where
       (start : Here ℕ) (least : ℕ) → start.left ≤ less → least ≤ length start.steps
       → Same most least (text_walked f text start) (text_walked g text start)
   text_same less most fewer f g alike text start least few long =
-      let s = same_then less least (words_walked nat_eq looks task f start (reverse (words text)))
-      (words_walked nat_eq looks task g start (reverse (words text)))
-      (λ reached. walk_unless reached.steps (slash_rules nat_eq looks text reached.location) reached)
-      (λ reached. walk_unless reached.steps (slash_rules nat_eq looks text reached.location) reached)
-      (words_same less f g alike start least few long (reverse (words text))) (λ reached few_left longer.
-      unless_same less least reached.steps (slash_rules nat_eq looks text reached.location) reached few_left longer
-      longer) in
+      let s = same_then less least (words_walked nat_eq looks task f start (reverse (words text))) _ _ _
+      (words_same less f g alike start least few long (reverse (words text))) (λ reached few_left longer. unless_same
+      less least reached.steps (slash_rules nat_eq looks text reached.location) reached few_left longer longer) in
       (s.0, within_more less most least (text_walked f text start) fewer s.1)
 
   -- a symlink followed in two ways that are alike where one symlink less is left
@@ -182,12 +175,10 @@ module _ (looks : Looks ℕ) (task : Task ℕ) where
   pub texts_same : (most d e : ℕ) → most ≤ d → most ≤ e
       → FollowAlike most (symlink_walked nat_eq (suc d) looks task) (symlink_walked nat_eq (suc e) looks task)
   texts_same zero d e deep deeper directory symlink text least few long =
-      symlink_same zero (symlink_walked nat_eq d looks task) (symlink_walked nat_eq e looks task)
-      (λ less same. absurd (omega (arith, same))) directory symlink text least few long
+      symlink_same zero _ _ (λ less same. absurd (omega (arith, same))) directory symlink text least few long
   texts_same (suc most) zero e deep deeper directory symlink text least few long = absurd (omega (arith, deep))
   texts_same (suc most) (suc d) zero deep deeper directory symlink text least few long = absurd (omega (arith, deeper))
-  texts_same (suc most) (suc d) (suc e) deep deeper directory symlink text least few long =
-      symlink_same (suc most) (symlink_walked nat_eq (suc d) looks task) (symlink_walked nat_eq (suc e) looks task)
-      (λ less same. subst (λ n. FollowAlike n (symlink_walked nat_eq (suc d) looks task)
-      (symlink_walked nat_eq (suc e) looks task)) (ap pred same)
+  texts_same (suc most) (suc d) (suc e) deep deeper directory symlink text least few long = symlink_same (suc most) _
+      (symlink_walked nat_eq (suc e) looks task) (λ less same. subst (λ n. FollowAlike n
+      (symlink_walked nat_eq (suc d) looks task) (symlink_walked nat_eq (suc e) looks task)) (ap pred same)
       (texts_same most d e (omega (arith, deep)) (omega (arith, deeper)))) directory symlink text least few long

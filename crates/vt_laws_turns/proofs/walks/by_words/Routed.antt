@@ -1,6 +1,6 @@
 -- The rules that a call asks of where a walk ends add no word to it.
-use Rattle.std.proofs.Common.{◌≡◌, refl, ap, ◌∙◌, ℕ, nat_eq, Bool, true, false, not, List, [], ◌∷◌, ◌++◌, ◌&&◌, Option, Some, None, Ok, Err, Result, map, reverse, is_some, arith, option_to_list}
-use Rattle.vt_spec.proofs.Common.{Bind, Chdir, Chmod, Chown, Chroot, Creation, Exclusive, Exec, Here, Lazy, LinkTo, Looks, Ls, Lstat, MakeWhiteout, Mkdir, MountOverlay, MountPlain, MoveMount, NoCreation, Opaque, OpenFile, OrCreate, OverlayWords, PivotRoot, Place, Read, Readlink, Remount, Rename, Rmdir, Route, Rules, SetType, Stat, Stop, SymlinkAt, Task, Umount, Unlink, Write, common_steps, destination_walk, directory_walk, file_walk, is_directory_there, new_leaf_walk, new_walk, object_walk, old_leaf_walk, old_walk, place_walk, rename_new_walk, source_walk, symlink_walk, then_walk, walk_unless, work_walked}
+use Rattle.std.proofs.Common.{◌≡◌, refl, ap, ◌∙◌, ℕ, nat_eq, Bool, true, false, not, List, [], ◌∷◌, ◌&&◌, Option, Some, None, Ok, Err, Result, map, reverse, is_some, arith}
+use Rattle.vt_spec.proofs.Common.{Bind, Chdir, Chmod, Chown, Chroot, Creation, Exclusive, Exec, Here, Lazy, LinkTo, Looks, Ls, Lstat, MakeWhiteout, Mkdir, MountOverlay, MountPlain, MoveMount, NoCreation, Opaque, OpenFile, OrCreate, OverlayWords, PivotRoot, Place, Read, Readlink, Remount, Rename, Rmdir, Route, Rules, SetType, Stat, Stop, SymlinkAt, Task, Umount, Unlink, Write, common_steps, destination_walk, directory_walk, file_walk, is_directory_there, new_leaf_walk, new_walk, object_walk, old_leaf_walk, old_walk, place_walk, rename_new_walk, source_walk, symlink_walk, then_walk, walk_unless}
 use Rattle.vt_laws_turns.proofs.Common.{W3, W6, here_route, is_directory_at, layer_routes, new_name_rules, open_route, path_walked, place_route}
 use Rattle.vt_laws_turns.specs.Walks.ByWords.{Aim, names, reaches, steps_of, whole_walk}
 use Rattle.vt_laws_turns.specs.Walks.ByWords.Aim.{File, InDirectory, Object, Symlink, Words}
@@ -111,8 +111,7 @@ module _ (looks : Looks ℕ) (task : Task ℕ) where
       → map (λ (route : Route ℕ). route.steps) (layer_routes nat_eq looks task options)
       ≡ map (λ (w : Way). met_for w.aim w.path) (layer_ways options)
   options_met None = refl
-  options_met (Some words) =
-      layers_met (words.lowers ++ option_to_list words.upper ++ option_to_list (work_walked words))
+  options_met (Some words) = layers_met _
 
   single : {a b : List (List ℕ)} → a ≡ b → a ∷ [] ≡ b ∷ []
   single e = ap (λ s. s ∷ []) e
