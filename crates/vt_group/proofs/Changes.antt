@@ -1,21 +1,14 @@
 -- A mount gets another type: which groups still have members, and what is left to regroup.
 use Rattle.std.proofs.Common.{◌≡◌, ℕ, Bool, true, false, cond, ◌||◌, List, [], ◌∷◌, map, nat_eq, nat_lt, Option, Some, None, is_some, refl, sym, ap, subst, ◌∙◌, arith, true≢false, ne_eqb, eq-eqb, lt-ltb, inl, inr, ⊎_elim, ◌⊎◌, eqb-true, ltb-true, ltb-false, IfSome, Contains, if◌then◌else◌, unwrap_or, nat_cmp, Less, Equal, Greater}
-use Rattle.vt_spec.proofs.Common.{Among, HasLivingGroups, Lives, Mount, Private, Propagation, Shared, Slave, Unbindable, World, among-from_map, among-map, among_from_all, among_from_contains, and_from, and_parts, any_among, any_from_among, eqb-false, group_of, has_master, has_members, has_no_master, holds_of, insert_entry, is_among_numbers, is_member_of, list_all, lookup, match_ordering, regrouped, remove_entry, same_Some, source_of, with_master}
+use Rattle.vt_spec.proofs.Common.{Among, HasLivingGroups, Lives, Mount, Private, Propagation, Shared, Slave, World, among-from_map, among-map, among_from_all, among_from_contains, and_from, and_parts, any_among, any_from_among, eqb-false, group_of, has_master, has_members, has_no_master, holds_of, insert_entry, is_among_numbers, is_member_of, list_all, lookup, match_ordering, regrouped, remove_entry, same_Some, source_of, with_master}
 use Rattle.vt_group.specs.Grouping.{Grouping, Has, HasGroup, HasMount, LacksGroup, are_rising, below, peers_of, propagation_in, retyped_if, with_propagation}
 use Rattle.vt_group.specs.Steps.{ended_if_lost, retyped}
-use Rattle.vt_laws_mounts.proofs.GroupsUp.{live_members, master_has_members}
+use Rattle.vt_laws_mounts.proofs.GroupsUp.{group_shared, live_members, master_has_members}
 use Rattle.vt_group.proofs.Peers.{lookup-among, lookup-peer, numbers-retyped, peers-left, peers-set, retyped_other, retyped_same}
 use Rattle.vt_group.proofs.Regrouping.{regrouped-has}
 use Rattle.vt_laws_mounts.proofs.GroupsKept.{member_shared, shared_member}
 use Rattle.vt_laws_mounts.specs.Mounts.Attaching.{numbers_of}
 use Rattle.vt_laws_mounts.specs.Mounts.Receivers.{AllGroupsLive}
-
--- a type with a group of its own is shared in it
-pub group_shared : (kind : Propagation ℕ) (group : ℕ) → group_of kind ≡ Some group → kind ≡ Shared group
-group_shared (Shared own) group e = ap Shared (same_Some own group e)
-group_shared (Slave above) group e = absurd (true≢false (sym (ap is_some e)))
-group_shared Private group e = absurd (true≢false (sym (ap is_some e)))
-group_shared Unbindable group e = absurd (true≢false (sym (ap is_some e)))
 
 -- Living groups
 module _ (members : ℕ → Bool) (master : ℕ → Option ℕ) where

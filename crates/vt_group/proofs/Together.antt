@@ -8,8 +8,8 @@ use Rattle.vt_group.specs.Laws.{shown}
 use Rattle.vt_group.specs.Steps.{retyped as retyped_groups}
 use Rattle.vt_group.specs.Together.{as_private, as_slave, changed_if, with_changed}
 use Rattle.vt_group.proofs.Alike.{has_alike, key_of, keys_of}
-use Rattle.vt_group.proofs.Changes.{group_shared, slave_regroups}
-use Rattle.vt_laws_mounts.proofs.GroupsUp.{live_members}
+use Rattle.vt_group.proofs.Changes.{slave_regroups}
+use Rattle.vt_laws_mounts.proofs.GroupsUp.{group_shared, live_members}
 use Rattle.vt_group.proofs.Peers.{lookup-among, retyped_other, retyped_same}
 use Rattle.vt_group.proofs.Showing.{shows_types}
 use Rattle.vt_group.proofs.Stepping.{OnlyLoses, between_live, steps_together}

@@ -4,7 +4,7 @@ pub mod PropagationAbove
 pub mod PropagationAttaching
 pub mod PropagationCopies
 pub mod PropagationHeard
-pub mod PropagationHearing
+pub mod PropagationImages
 pub mod PropagationPremises
 pub mod PropagationTypes
 pub mod PropagationUp

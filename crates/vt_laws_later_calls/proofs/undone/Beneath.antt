@@ -11,7 +11,7 @@ use Rattle.vt_laws_mounts.proofs.mounts.MountsAttached.{found_attached, push_kee
 use Rattle.vt_laws_mounts.proofs.propagation.PropagationAttaching.{copies_are_new, each_is_copied, first_stands_on_its_part, is_copy, serve_images}
 use Rattle.vt_laws_mounts.proofs.propagation.PropagationCopies.{copies, push}
 use Rattle.vt_laws_mounts.proofs.propagation.PropagationHeard.{copies_hear_as_their_origins, groups_after, only_part}
-use Rattle.vt_laws_mounts.proofs.propagation.PropagationHearing.{old_up, old_up_after}
+use Rattle.vt_laws_mounts.proofs.propagation.PropagationImages.{old_up, old_up_after}
 use Rattle.vt_laws_mounts.proofs.ends.UnmountingGoes.{what_goes_is_named}
 use Rattle.vt_spec.proofs.Worlds.{master-regrouped_by}
 

@@ -1,7 +1,6 @@
 -- New mounts have numbers of their own.
 use Rattle.std.proofs.Common.{◌≡◌, refl, sym, ap, subst, ◌∙◌, true, false, suc, nat_eq, ℕ, Bool, List, [], arith, eqb-true, flat_map, inl, inr, length, map, option_map, true≢false, unwrap_or, ⊎_elim, ◌&&◌, ◌++◌, ◌+◌, ◌<◌, ◌∷◌, Some, None, Option, eq-eqb, filter, ◌/◌, if◌then◌else◌, slice_get, ◌*◌}
 use Rattle.vt_spec.proofs.Common.{Among, Copies, Fresh, Graft, Location, Mount, Namespace, Serves, Twig, World, among-append, among-append_left, among-flat_map, among-from_filter, among-from_flat_map, among-from_map, among-map, and_parts, any_among, any_pair, attached_by, common_steps, copied_mount, copies_at, copies_from, copy_at, evens, evens-distinct, false_from_ne_true, graft_of, group_of, has_members, holds_of, index_from, index_in_rows, index_of, index_of_group, is_among_numbers, is_destination, is_member_of, list_any, mount_at, mounts_of, nat_eq_false_turned, none_among, none_from_among, not-true, number-mount_in, numbers_by, numbers_in_use, odds, odds-distinct, odds-no_evens, or_from, or_parts, pair-filter, pair-map, parts_of, receivers, receivers_of, receives, same_Some, served-distinct, slice_get_within, takes_part, twig_of, used_by_filesystem, used_by_mount}
-use Rattle.vt_laws_mounts.proofs.GroupsKept.{member_shared}
 use Rattle.vt_laws_mounts.proofs.mounts.MountsReplaced.{pair_by_numbers}
 use Rattle.std.proofs.lemmas.Nat.{div-mul-add}
 use Rattle.vt_laws_mounts.specs.Mounts.Attaching.{OneNumberAMount, numbers_of}

@@ -1,9 +1,9 @@
 -- Groups up the masters: hearing by the way up, and the nearest that passes a test.
-use Rattle.std.proofs.Common.{arith, ◌≡◌, refl, sym, ap, subst, ◌∙◌, true, false, zero, suc, nat_eq, ℕ, Bool, List, None, Option, Some, [], cond, find, is_some, true≢false, ⊎_elim, ◌∷◌, eqb-true}
-use Rattle.vt_spec.proofs.Common.{Among, Lives, Mount, Private, Propagation, Receives, Shared, Slave, Unbindable, World, any_among, chain, chain_ends, chain_goes_on, common_steps, further_down, groups_up, has_master, has_no_master, is_among, member, or_cases, receives, same_Some, slave, source_of}
+use Rattle.std.proofs.Common.{arith, ◌≡◌, refl, subst, true, false, zero, suc, nat_eq, ℕ, Bool, List, None, Option, Some, [], find, is_some, true≢false, ⊎_elim, ◌∷◌, eqb-true}
+use Rattle.vt_spec.proofs.Common.{Among, Lives, Mount, Receives, World, any_among, chain, chain_ends, chain_goes_on, common_steps, further_down, groups_up, has_master, has_no_master, is_among, member, receives, same_Some, slave, some_from_is_some, source_of}
 use Rattle.vt_laws_mounts.specs.Mounts.Receivers.{GroupsLive}
 use Rattle.vt_laws_mounts.proofs.GroupsKept.{member_shared}
-use Rattle.vt_laws_mounts.proofs.GroupsUp.{LivesIn, Up, live_members, way_up}
+use Rattle.vt_laws_mounts.proofs.GroupsUp.{LivesIn, Up, first_step, live_members, way_up}
 use Rattle.vt_laws_mounts.proofs.GroupsUp.Up.{above, here}
 use Rattle.vt_laws_mounts.proofs.mounts.Receivers.{receives_completely}
 
@@ -12,26 +12,36 @@ module _ (master : ℕ → Option ℕ) where
   up_further group lower next (here it) way = way
   up_further group lower next (above it step other e up) way = above it step next e (up_further step other next up way)
 
-  -- masters that come to an end do not come back
-  pub no_loop : (members : ℕ → Bool) (group : ℕ) → Lives members master group → (next : ℕ) → master group ≡ Some next
-      → Up master next group → ⊥
-  no_loop members group (has_no_master it has f) next e way = true≢false (sym (ap is_some e) ∙ ap is_some f)
-  no_loop members group (has_master it step has f later) next e way =
-      by step it (subst (λ n. Up master n it) (same_Some next step (sym e ∙ f)) way) refl refl (no_loop _ step later)
-    where
-      by : (from to : ℕ) → Up master from to → from ≡ step → to ≡ it
-          → ((after : ℕ) → master step ≡ Some after → Up master after step → ⊥) → ⊥
-      by from to (here same) p q loop = loop step (ap master (sym p ∙ q) ∙ f) (here step)
-      by from to (above same after end g up) p q loop = loop after (ap master (sym p) ∙ g)
-          (up_further after it step (subst (Up master after) q up) (above it step step f (here step)))
+  -- Up the masters of a living group
+
+  next_lives : (members : ℕ → Bool) (group next : ℕ) → Lives members master group → master group ≡ Some next
+      → Lives members master next
+  next_lives members group next (has_no_master it has f) e = absurd cc
+  next_lives members group next (has_master it step has f later) e =
+      subst (Lives members master) (same_Some step next cc) later
 
   pub lives_up : (members : ℕ → Bool) (group other : ℕ) → Lives members master group → Up master group other
       → Lives members master other
   lives_up members group other life (here it) = life
-  lives_up members group other (has_no_master it has f) (above same next end e way) =
-      absurd (true≢false (sym (ap is_some e) ∙ ap is_some f))
-  lives_up members group other (has_master it step has f later) (above same next end e way) =
-      lives_up _ next end (subst (Lives members master) (same_Some step next (sym f ∙ e)) later) way
+  lives_up members group other life (above it next end e way) =
+      lives_up members next end (next_lives members it next life e) way
+
+  -- what holds of a group if it holds of its master holds of each living group
+  pub by_masters : (members : ℕ → Bool) (P : ℕ → Type 0)
+      → ((group : ℕ) → Lives members master group → ((next : ℕ) → master group ≡ Some next → P next) → P group)
+      → (group : ℕ) → Lives members master group → P group
+  by_masters members P each group (has_no_master it has f) = each it (has_no_master it has f) (λ next e. absurd cc)
+  by_masters members P each group (has_master it step has f later) =
+      each it (has_master it step has f later)
+      (λ next e. subst P (same_Some step next cc) (by_masters members P each step later))
+
+  -- a living group does not come up its own master
+  pub no_loop : (members : ℕ → Bool) (group : ℕ) → Lives members master group → (next : ℕ) → master group ≡ Some next
+      → Up master next group → ⊥
+  no_loop members = by_masters members (λ group. (next : ℕ) → master group ≡ Some next → Up master next group → ⊥)
+      (λ group life later next e way. ⊎_elim (λ same. later next e next (cc (same, e)) (here next))
+      (λ t. later next e t.0 t.1 (up_further t.0 group next t.2 (above group next next e (here next))))
+      (first_step master next group way))
 
   -- the nearest group up the masters that passes a test
   pub data Nearest (test : ℕ → Bool) : ℕ → ℕ → Type 0 where
@@ -49,41 +59,26 @@ module _ (master : ℕ → Option ℕ) where
 
   pub found_nearest : (test : ℕ → Bool) (n group near : ℕ) → find test (chain n master group) ≡ Some near
       → Nearest test group near
-  found_nearest test zero group near e = by _ refl
+  found_nearest test zero group near e = grind (arith, common_steps, itself)
+  found_nearest test (suc n) group near e = by _ refl (found_nearest test n)
     where
-      by : (b : Bool) → test group ≡ b → Nearest test group near
-      by true f = subst (Nearest test group)
-          (same_Some group near (sym (ap (λ b. cond b (Some group) None) f) ∙ e)) (itself group f)
-      by false f = absurd (true≢false (sym (ap is_some (sym (ap (λ b. cond b (Some group) None) f) ∙ e))))
-  found_nearest test (suc n) group near e = by _ refl _ refl (found_nearest test n)
-    where
-      by : (b : Bool) → test group ≡ b → (up : Option ℕ) → master group ≡ up
+      by : (up : Option ℕ) → master group ≡ up
           → ((next end : ℕ) → find test (chain n master next) ≡ Some end → Nearest test next end)
           → Nearest test group near
-      by true f None g later = subst (Nearest test group) (same_Some group near
-          (sym (ap (find test) (chain_ends master n group g) ∙ ap (λ b. cond b (Some group) None) f) ∙ e))
-          (itself group f)
-      by false f None g later = absurd (true≢false (sym (ap is_some
-          (sym (ap (find test) (chain_ends master n group g) ∙ ap (λ b. cond b (Some group) None) f) ∙ e))))
-      by true f (Some next) g later = subst (Nearest test group) (same_Some group near
-          (sym (ap (find test) (chain_goes_on master n group next g)
-          ∙ ap (λ b. cond b (Some group) (find test (chain n master next))) f) ∙ e)) (itself group f)
-      by false f (Some next) g later = further group next near f g (later next near
-          (sym (ap (find test) (chain_goes_on master n group next g)
-          ∙ ap (λ b. cond b (Some group) (find test (chain n master next))) f) ∙ e))
+      by None f later = grind (arith, common_steps, chain_ends master n group f, itself)
+      by (Some next) f later =
+          let goes_on : test group ≡ false → find test (chain n master next) ≡ Some near → Nearest test group near =
+          λ fails found. further group next near fails f (later next near found) in
+          grind (arith, common_steps, chain_goes_on master n group next f, itself, goes_on)
 
--- what is on a list and passes, or one before it, is found
+-- where a group of a list passes a test, one is found
 pub finds_some : (test : ℕ → Bool) (groups : List ℕ) (group : ℕ) → is_among nat_eq group groups ≡ true
     → test group ≡ true → (near : ℕ) × (find test groups ≡ Some near)
-finds_some test [] group m has = absurd (true≢false (sym m))
-finds_some test (first ∷ rest) group m has = by _ refl (finds_some test rest)
+finds_some test groups group m has = some_from_is_some (find test groups) (is_found groups m)
   where
-    by : (b : Bool) → test first ≡ b → ((other : ℕ) → is_among nat_eq other rest ≡ true → test other ≡ true
-        → (near : ℕ) × (find test rest ≡ Some near)) → (near : ℕ) × (find test (first ∷ rest) ≡ Some near)
-    by true e later = (first, ap (λ b. cond b (Some first) (find test rest)) e)
-    by false e later = ⊎_elim (λ same. absurd (true≢false (sym has ∙ ap test (eqb-true group first same) ∙ e)))
-        (λ l. let t = later group l has in (t.0, ap (λ b. cond b (Some first) (find test rest)) e ∙ t.1))
-        (or_cases _ _ m)
+    is_found : (list : List ℕ) → is_among nat_eq group list ≡ true → is_some (find test list) ≡ true
+    is_found [] m = absurd cc
+    is_found (first ∷ rest) m = grind (arith, common_steps, eqb-true, is_found rest)
 
 -- Hearing
 
@@ -93,25 +88,26 @@ climb world mount group other (here it) r = r
 climb world mount group other (above it next end e way) r =
     climb world mount next end way (further_down next it mount e r)
 
+from_source : (world : World ℕ) (mount : Mount ℕ) (source : ℕ) → source_of mount.propagation ≡ Some source
+    → Receives world source mount
+from_source world mount source e =
+    grind (arith, common_steps, member, slave)
+
 -- a mount hears of each group up from its source,
 pub hears : (world : World ℕ) → GroupsLive world → (mount : Mount ℕ) → Among mount world.mounts → (source group : ℕ)
     → source_of mount.propagation ≡ Some source → Up world.master source group
     → receives nat_eq world group mount ≡ true
 hears world live mount m source group e way =
-    receives_completely world live group mount m (climb world mount source group way (by _ refl))
-  where
-    by : (kind : Propagation ℕ) → mount.propagation ≡ kind → Receives world source mount
-    by (Shared own) f =
-        subst (λ s. Receives world s mount) (same_Some own source (sym (ap source_of f) ∙ e)) (member own mount f)
-    by (Slave own) f =
-        subst (λ s. Receives world s mount) (same_Some own source (sym (ap source_of f) ∙ e)) (slave own mount f)
-    by Private f = absurd (true≢false (sym (ap is_some (sym (ap source_of f) ∙ e))))
-    by Unbindable f = absurd (true≢false (sym (ap is_some (sym (ap source_of f) ∙ e))))
+    receives_completely world live group mount m (climb world mount source group way (from_source world mount source e))
 
 -- and of no other
 pub heard : (world : World ℕ) (mount : Mount ℕ) (group : ℕ) → receives nat_eq world group mount ≡ true
     → (source : ℕ) × (source_of mount.propagation ≡ Some source) × Up world.master source group
 heard world mount group h = grind (arith, common_steps, true≢false, way_up)
+
+pub heard_up : (world : World ℕ) (mount : Mount ℕ) (source group : ℕ) → source_of mount.propagation ≡ Some source
+    → receives nat_eq world group mount ≡ true → Up world.master source group
+heard_up world mount source group e h = grind (arith, common_steps, way_up)
 
 -- where groups live, each group up from one is on its list
 pub up_among : (world : World ℕ) → GroupsLive world → (source group : ℕ) → LivesIn world source

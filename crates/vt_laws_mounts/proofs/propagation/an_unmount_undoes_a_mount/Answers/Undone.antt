@@ -19,7 +19,7 @@ use Rattle.vt_laws_mounts.proofs.mounts.MountsReplaced.{found_itself}
 use Rattle.vt_laws_mounts.proofs.propagation.PropagationAttaching.{copies_are_new, each_is_copied, first_stands_on_its_part, is_copy, serve_images}
 use Rattle.vt_laws_mounts.proofs.propagation.PropagationCopies.{copies, push}
 use Rattle.vt_laws_mounts.proofs.propagation.PropagationHeard.{groups_after, only_part}
-use Rattle.vt_laws_mounts.proofs.propagation.PropagationHearing.{old_up, old_up_after}
+use Rattle.vt_laws_mounts.proofs.propagation.PropagationImages.{old_up, old_up_after}
 use Rattle.vt_laws_mounts.proofs.propagation.PropagationUp.{heard, hears, lives_up}
 use Rattle.vt_laws_mounts.proofs.mounts.Receivers.{receives_completely, receives_soundly, receiver_receives}
 use Rattle.vt_laws_mounts.proofs.ends.Unmounting.{root_mounts_stay, unmount_keeps_the_order, what_goes_is_detached, what_stays_keeps, what_stays_keeps_its_place, what_stays_keeps_its_type, groups_keep_their_masters, middle}
