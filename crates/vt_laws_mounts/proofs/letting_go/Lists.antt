@@ -12,13 +12,13 @@ pub use Rattle.vt_spec.proofs.Found.{filter_all}
 pub use Rattle.vt_spec.proofs.Found.{filter_alike}
 
 module _ {A : Type 0} where
-  -- what is found is there and among_from_list_all
+  -- what is found is there and passes
   pub found_in : (test : A → Bool) (xs : List A) (found : A) → find test xs ≡ Some found
       → Among found xs × (test found ≡ true)
   found_in test [] found e = cc
   found_in test (first ∷ rest) found e = grind (arith, common_steps, found_in test rest found)
 
-  -- where nothing among_from_list_all nothing is found
+  -- where nothing passes nothing is found
   pub find_none : (test : A → Bool) (xs : List A) → ((x : A) → Among x xs → test x ≡ false) → find test xs ≡ None
   find_none test [] none = refl
   find_none test (first ∷ rest) none = cc (none first (inl refl), find_none test rest (λ x m. none x (inr m)))
@@ -42,7 +42,7 @@ module _ {A : Type 0} where
       by others false e n next =
           ⊎_elim (λ same. absurd (cc (eq-eqb (number x) (number first) (ap number same)))) next n
 
-  -- a filter that none among_from_list_all leaves nothing
+  -- a filter that nothing passes leaves nothing
   pub nothing_passes : (p : A → Bool) (xs : List A) → ((x : A) → Among x xs → p x ≡ false) → filter p xs ≡ []
   nothing_passes p [] h = refl
   nothing_passes p (y ∷ ys) h = filter_skip p y ys (h y (inl refl)) ∙ nothing_passes p ys (λ x m. h x (inr m))

@@ -1,10 +1,10 @@
 -- The counts of a tree's inodes after each change of the tree, before anything is swept.
 use Rattle.std.proofs.Common.{◌≡◌, ◌≢◌, refl, sym, ap, subst, ◌∙◌, ⊎_elim, ℕ, suc, ◌+◌, ◌-◌, ◌≤◌, nat_eq, Bool, true, false, cond, List, [], ◌∷◌, ◌++◌, length, Option, Some, None, is_some, arith}
-use Rattle.vt_spec.proofs.Common.{Inode, Inodes, Node, common_steps, count_after, directory_is_there, entries-node_with_entry, entries_in, entry_named, eqb_tells, inode_with_node, is_directory_node, is_some-node_with_entry, is_sorted, name_cmp, node_in, node_with_entry, targets_in, unpinned, used_once_less, uses_in, with_changed, with_entry}
+use Rattle.vt_spec.proofs.Common.{Inode, Inodes, Node, common_steps, count_after, directory_is_there, entries-node_with_entry, entries_in, entry_named, eqb_tells, inode_with_node, is_directory_node, is_some-node_with_entry, is_sorted, name_cmp, node_in, node_with_entry, some_from_is_some, targets_in, unpinned, used_once_less, uses_in, with_changed, with_entry}
 use Rattle.std.proofs.lemmas.Bool.Decides.{leb_tells}
 use Rattle.vt_spec.specs.Inodes.{with_inode, with_name}
 use Rattle.vt_laws_mounts.proofs.counts.counting.Counts
-use Rattle.vt_laws_mounts.proofs.counts.counting.Counts.{at_or, counted_changed, counted_pinned, counted_some, one_if-itself, other_if, some_inode}
+use Rattle.vt_laws_mounts.proofs.counts.counting.Counts.{at_or, counted_changed, counted_pinned, counted_some, one_if-itself, other_if}
 use Rattle.vt_laws_mounts.proofs.counts.counting.Entries.{at_place, named_by, named_changed, one_if, one_if_some, part_at, targets, times_put}
 use Rattle.vt_laws_mounts.proofs.counts.counting.Times.{length_removed, removed, times_in, times_removed}
 
@@ -147,7 +147,7 @@ pub unpinned_counts : (uses left : ℕ → ℕ) (node : ℕ → Option (Node ℕ
     → ((n : ℕ) → one_if n place + left n ≡ uses n) → (left place ≡ 0 → targets_in (node place) ≡ [])
     → Counts.IsCounted left node (unpinned nat_eq inodes place)
 unpinned_counts uses left node inodes place counted less empty =
-    let found = some_inode (inodes.inode place) (counted_some uses node inodes counted place
+    let found = some_from_is_some (inodes.inode place) (counted_some uses node inodes counted place
     (let l = less place in let one = one_if-itself place in omega arith)) in
     unpinned_here left place counted less empty found.0 found.1
 
@@ -211,7 +211,7 @@ module _ (base : ℕ → ℕ) (node : ℕ → Option (Node ℕ)) (numbers : List
       (with_name nat_eq inodes directory name object)
   linked directory name object is free there = record {
     counted =
-        let inode = some_inode (inodes_on.inode object)
+        let inode = some_from_is_some (inodes_on.inode object)
         (counted_some uses node_on inodes_on counted_on object object_used) in
         other_uses (λ n. one_if n object + uses n) (uses_of base node_on numbers) node_on
         (with_name nat_eq inodes directory name object) more (counted_pinned counted_on object inode.1);

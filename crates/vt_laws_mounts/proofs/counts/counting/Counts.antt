@@ -34,11 +34,6 @@ apart_one number other none same =
     let one : one_if number other ≡ 1 = ap (λ b. cond b 1 0) (eq-eqb number other same) in
     omega arith
 
--- an inode that is there
-pub some_inode : (o : Option (Inode ℕ)) → is_some o ≡ true → (inode : Inode ℕ) × (o ≡ Some inode)
-some_inode None e = cc
-some_inode (Some inode) e = (inode, refl)
-
 module _ {uses : ℕ → ℕ} {node : ℕ → Option (Node ℕ)} {inodes : Inodes ℕ} (counted : IsCounted uses node inodes)
     (place : ℕ) {inode : Inode ℕ} (is : inodes.inode place ≡ Some inode) where
   here_uses : inode.uses ≡ uses place

@@ -1,6 +1,6 @@
 -- Inodes that get some uses and lose some.
 use Rattle.std.proofs.Common.{◌≡◌, refl, sym, ap, subst, ◌∙◌, ⊎_elim, inl, inr, ℕ, ◌+◌, ◌≤◌, nat_eq, eqb-true, Bool, true, false, true≢false, cond, not, ◌&&◌, ◌||◌, List, [], ◌∷◌, ◌++◌, map, filter, find, flat_map, Option, None, is_some, unwrap_or, arith}
-use Rattle.vt_spec.proofs.Common.{Filesystem, Inodes, Node, World, and_parts, common_steps, eqb_tells, filesystem_numbered, folded, holds_of, is_among, is_some-node_in, layers_in, layers_of, list_all, located_in, named_in, no_filesystem, node_in, node_in-none, objects_of_overlay, or-false, overlay_or, targets_in, used_in, uses_in-none}
+use Rattle.vt_spec.proofs.Common.{Filesystem, Inodes, Node, World, and_parts, common_steps, eqb_tells, filesystem_numbered, folded, holds_of, is_among, is_some-node_in, layers_in, layers_of, list_all, located_in, named_in, no_filesystem, node_in, node_in-none, objects_of_overlay, or-false, overlay_or, some_from_is_some, targets_in, used_in, uses_in-none}
 use Rattle.vt_spec.specs.Inodes as Trees
 use Rattle.vt_laws_mounts.specs.LettingGo.Counts.{inode_uses, times}
 use Rattle.vt_laws_mounts.specs.LettingGo.InUse.{HasTrees, InodesInUse, IsListedTree, has_upper_in, is_inode_used}
@@ -8,7 +8,7 @@ use Rattle.vt_laws_mounts.specs.LettingGo.OneByOne.{Inode, is_inode_among, let_g
 use Rattle.vt_laws_mounts.proofs.letting_go.sweeps.InUse.{unused_are_empty}
 use Rattle.vt_laws_mounts.proofs.letting_go.Lists.{Among, all_from_among, among-from_map, among_from_all, among_from_list_all, flat_map-filter, flat_map-map, flat_map_alike}
 use Rattle.vt_laws_mounts.proofs.counts.counting.Counts
-use Rattle.vt_laws_mounts.proofs.counts.counting.Counts.{counted_pinned, counted_some, some_inode}
+use Rattle.vt_laws_mounts.proofs.counts.counting.Counts.{counted_pinned, counted_some}
 use Rattle.vt_laws_mounts.proofs.counts.counting.Entries.{one_if}
 use Rattle.vt_laws_mounts.proofs.counts.counting.Times.{among_times, as_long, times_filter, times_in}
 use Rattle.vt_laws_mounts.specs.Counts.BesideOverlays.{HasNoUpperIn, UsesAreExchangedBesideOverlays}
@@ -18,7 +18,7 @@ use Rattle.vt_laws_mounts.proofs.counts.Listed.{no_repeats}
 use Rattle.vt_laws_mounts.proofs.counts.using.Swept.{found_is, found_number, no_objects_in, start_counts, there_if_counted, there_if_some}
 use Rattle.vt_laws_mounts.proofs.counts.changing.TreeCounts.{other_uses, unpinned_counts}
 
--- one if the test among_from_list_all
+-- one if the test passes
 abbrev pub one_when : Bool → ℕ
 one_when b = cond b 1 0
 
@@ -38,7 +38,7 @@ module _ (k : ℕ) (node : ℕ → Option (Node ℕ)) where
           (cond (nat_eq k first.0 && nat_eq n first.1) 1 0 + times (is_inode k n) rest)) node
           (folded (pinned_if k) (cond b (Trees.pinned nat_eq inodes first.1) inodes) rest)
       by true e later =
-          let inode = some_inode _ (counted_some uses node inodes counted _ (used first (inl refl) e)) in
+          let inode = some_from_is_some _ (counted_some uses node inodes counted _ (used first (inl refl) e)) in
           other_uses _ _ node _ (λ n. let here : cond (nat_eq k first.0 && nat_eq n first.1) 1 0 ≡ one_if n first.1 = ap
           (λ b. cond (b && nat_eq n first.1) 1 0) e in omega arith) (later (λ n. one_if n first.1 + uses n)
           (Trees.pinned nat_eq inodes first.1) (counted_pinned counted first.1 inode.1)

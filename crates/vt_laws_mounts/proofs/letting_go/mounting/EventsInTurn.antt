@@ -11,7 +11,7 @@ use Rattle.vt_laws_mounts.proofs.letting_go.mounting.MountsSwept.{IsAttached, Li
 use Rattle.vt_laws_mounts.proofs.letting_go.mounting.TakenInTurn.{one_sweep_for_mounts_with_overlays, one_sweep_in_turn}
 use Rattle.vt_laws_mounts.proofs.letting_go.sweeps.InUse.{one_sweep_is_enough}
 
--- A search that among_from_list_all over what another test skips finds the same.
+-- A search that passes over what another test skips finds the same.
 module _ {A : Type 0} (p q : A → Bool) where
   find_less : (xs : List A) → ((x : A) → Among x xs → q x ≡ false → p x ≡ false) → find p (filter q xs) ≡ find p xs
   find_less [] h = refl
