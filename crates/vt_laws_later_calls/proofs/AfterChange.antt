@@ -1,7 +1,7 @@
 -- The world that a granted call leaves which changed a tree: mounts are as they were, and each inode is as the change
 -- left it, or is gone.
-use Rattle.std.proofs.Common.{arith, ◌≡◌, refl, sym, ap, subst, ◌∙◌, inl, inr, ◌⊎◌, ⊎_elim, true≢false, ℕ, nat_eq, eqb-true, Bool, true, false, cond, ◌||◌, ◌++◌, List, [], ◌∷◌, map, find, Some, None, is_some, unwrap_or}
-use Rattle.vt_spec.proofs.Common.{cases_Bool, Answer, Call, Change, Credentials, FileTree, Filesystem, Fresh, IsWorld, Location, TaskName, World, apply, changed, common_steps, denial, entries_in, entry_named, files_at, filesystem_numbered, filesystems_changed, folded, is_among, is_directory_node, is_overlay, mount_at, no_filesystem, node_allows, node_at, numbers_raised, parent_in, policy, raised, settled, symlink_text, with_change}
+use Rattle.std.proofs.Common.{arith, ◌≡◌, refl, sym, ap, subst, ◌∙◌, inl, inr, ◌⊎◌, ⊎_elim, true≢false, ℕ, nat_eq, eqb-true, Bool, true, false, cond, ◌++◌, List, [], ◌∷◌, map, Some, None, is_some}
+use Rattle.vt_spec.proofs.Common.{cases_Bool, Answer, Call, Change, Credentials, FileTree, Filesystem, Fresh, IsWorld, Location, TaskName, World, apply, changed, common_steps, denial, entries_in, entry_named, files_at, filesystem_numbered, filesystems_changed, folded, is_among, is_directory_node, is_overlay, mount_at, node_allows, node_at, numbers_raised, parent_in, policy, raised, settled, symlink_text, with_change}
 use Rattle.vt_laws_later_calls.proofs.Common.{Deny, FilesBy, Inode, IsFileTree, IsListedTree, IsPlain, MayChange, W6, change_of, changes_keep_numbers, changes_keep_trees, file_changes_let_go, given_changes_are_proper, inodes_lost, is_plain, let_go_all_inodes, let_go_in, let_go_in_of, mounts-with_change, names_lost, namespace_if, number_if, numbered, numbers_raised_are, plain_numbered, raising_numbers_keeps_world, same_files, settling_leaves_a_world, task_if, uppers_of, without_inode_of, worlds_are_settled}
 use Rattle.vt_laws_trees.proofs.calls.inodes.InodesSettled.{settled_holds}
 use Rattle.vt_laws_later_calls.proofs.Changed.{files_changed, files_other}
@@ -17,15 +17,7 @@ mapped_root : (change : Filesystem ℕ → Filesystem ℕ) → ((f : Filesystem 
     → (numbered number (map change list)).files.tree.root ≡ (numbered number list).files.tree.root
 mapped_root change same root number [] = refl
 mapped_root change same root number (first ∷ rest) =
-    cc (same first, by (nat_eq number first.number) (mapped_root change same root number rest))
-  where
-    by : (b : Bool) → (numbered number (map change rest)).files.tree.root ≡ (numbered number rest).files.tree.root
-        → (unwrap_or (cond b (Some (change first))
-        (find (λ (f : Filesystem ℕ). nat_eq number f.number) (map change rest))) (no_filesystem number)).files.tree.root
-        ≡ (unwrap_or (cond b (Some first) (find (λ (f : Filesystem ℕ). nat_eq number f.number) rest))
-        (no_filesystem number)).files.tree.root
-    by true later = root first
-    by false later = later
+    grind (arith, common_steps, same, root, mapped_root change same root number rest)
 
 -- What is let go of
 module _ (chosen : Filesystem ℕ → Bool) where
@@ -66,16 +58,7 @@ pub listed : (number : ℕ) (list : List (Filesystem ℕ)) (object : ℕ)
     → is_some ((numbered number list).files.tree.node object) ≡ true
     → is_among nat_eq number (map (λ (f : Filesystem ℕ). f.number) list) ≡ true
 listed number [] object there = cc
-listed number (first ∷ rest) object there = by (nat_eq number first.number) there (listed number rest object)
-  where
-    by : (b : Bool)
-        → is_some ((unwrap_or (cond b (Some first) (find (λ (f : Filesystem ℕ). nat_eq number f.number) rest))
-        (no_filesystem number)).files.tree.node object) ≡ true
-        → (is_some ((numbered number rest).files.tree.node object) ≡ true
-        → is_among nat_eq number (map (λ (f : Filesystem ℕ). f.number) rest) ≡ true)
-        → (b || is_among nat_eq number (map (λ (f : Filesystem ℕ). f.number) rest)) ≡ true
-    by true e later = refl
-    by false e later = later e
+listed number (first ∷ rest) object there = grind (arith, common_steps, listed number rest object)
 
 -- what is raised shows the same
 pub raised_files : (before : World ℕ) (name : TaskName) (changes : List ℕ) (world : World ℕ) (number : ℕ)

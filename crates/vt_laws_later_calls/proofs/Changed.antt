@@ -15,16 +15,7 @@ found_other : (new : Filesystem ℕ) (list : List (Filesystem ℕ)) (number : �
     → numbered number (replaced_by new list) ≡ numbered number list
 found_other new [] number other = refl
 found_other new (first ∷ rest) number other =
-    by (nat_eq new.number first.number) refl (found_other new rest number other)
-  where
-    inside : (c : Bool) → numbered number (replaced_by new rest) ≡ numbered number rest
-        → found_among number c first (replaced_by new rest) ≡ found_among number c first rest
-    inside true later = refl
-    inside false later = later
-
-    by : (b : Bool) → nat_eq new.number first.number ≡ b → numbered number (replaced_by new rest) ≡ numbered number rest
-        → numbered number (cond b new first ∷ replaced_by new rest) ≡ numbered number (first ∷ rest)
-    by b e later = grind (arith, common_steps, inside, nat_eq_false_turned, eqb-true)
+    grind (arith, common_steps, nat_eq_false_turned, eqb-true, found_other new rest number other)
 
 module _ (fresh : Fresh ℕ) (world : World ℕ) (plain : IsPlain world) (at : Location ℕ) (change : Change ℕ) where
   abbrev pub shown : ℕ

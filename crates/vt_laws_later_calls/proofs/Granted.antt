@@ -1,5 +1,5 @@
 -- What a granted call of the machine leaves.
-use Rattle.std.proofs.Common.{arith, ◌≡◌, refl, sym, ap, ◌∙◌, ℕ, nat_eq, Bool, true, false, cond, not, List, [], ◌∷◌, ◌||◌, Option, Some, None, Result, Ok, Err, find, is_ok, map, ok_or, option_map}
+use Rattle.std.proofs.Common.{arith, ◌≡◌, refl, sym, ap, ◌∙◌, ℕ, nat_eq, true, false, not, List, [], ◌∷◌, ◌||◌, Option, Some, None, Result, Ok, Err, find, is_ok, map, ok_or, option_map}
 use Rattle.vt_spec.proofs.Common.{Answer, Call, Fresh, IsWorld, Judgement, Outcome, Permit, Serves, Task, TaskName, World, after, answer-finished_by, apply, common_steps, denial, filesystems_changed, filesystems_changed_by, finished, judge_in, looks_of, numbers_raised, only_looks, overfills, policy, raised_task, same_name, settled, task_called}
 use Rattle.vt_laws_later_calls.proofs.Common.{Deny, IsGranted, IsPlain, S2, mounts_overlay, names_few_groups, policy_judges_then_applies}
 use Rattle.vt_laws_rules.proofs.given.Inversion.{calls_are_granted}
@@ -96,12 +96,4 @@ called_raised name reader task tasks e = cc (found_raised tasks)
     found_raised : (list : List (Task ℕ)) → find (λ (t : Task ℕ). same_name reader t.name) (map (raised_task name) list)
         ≡ option_map (raised_task name) (find (λ (t : Task ℕ). same_name reader t.name) list)
     found_raised [] = refl
-    found_raised (t ∷ list) = cc (same t, by (same_name reader t.name) (found_raised list))
-      where
-        by : (b : Bool) → find (λ (t : Task ℕ). same_name reader t.name) (map (raised_task name) list)
-            ≡ option_map (raised_task name) (find (λ (t : Task ℕ). same_name reader t.name) list)
-            → cond b (Some (raised_task name t))
-            (find (λ (t : Task ℕ). same_name reader t.name) (map (raised_task name) list))
-            ≡ option_map (raised_task name) (cond b (Some t) (find (λ (t : Task ℕ). same_name reader t.name) list))
-        by true later = refl
-        by false later = later
+    found_raised (t ∷ list) = grind (arith, common_steps, same, found_raised list)

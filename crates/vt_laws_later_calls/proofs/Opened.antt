@@ -43,15 +43,7 @@ called_replaced world name task new called own = go world.tasks called
     go : (list : List (Task ℕ)) → find (λ (t : Task ℕ). same_name name t.name) list ≡ Some task
         → find (λ (t : Task ℕ). same_name name t.name) (map (replaced_if_called new) list) ≡ Some new
     go [] e = cc
-    go (t ∷ list) e = by (same_name name t.name) refl (go list)
-      where
-        test : same_name new.name t.name ≡ same_name name t.name
-        test = cc
-
-        by : (b : Bool) → same_name name t.name ≡ b → (find (λ (t : Task ℕ). same_name name t.name) list ≡ Some task
-            → find (λ (t : Task ℕ). same_name name t.name) (map (replaced_if_called new) list) ≡ Some new)
-            → find (λ (t : Task ℕ). same_name name t.name) (map (replaced_if_called new) (t ∷ list)) ≡ Some new
-        by b f later = grind (arith, common_steps, test, itself)
+    go (t ∷ list) e = grind (arith, common_steps, own, itself, go list)
 
 -- where a walk ended
 pub walk_ended : {A : Type 0} (walk : Result A (Stop ℕ)) (a : A) → walk_end walk ≡ Ok a → walk ≡ Ok a

@@ -1,6 +1,6 @@
 -- Walks in what a call left: they lead where they led, or stop where what it left stops them.
-use Rattle.std.proofs.Common.{◌≡◌, refl, sym, ap, subst, ◌∙◌, inl, inr, ◌⊎◌, ℕ, zero, suc, ◌-◌, ◌==◌, ◌≤◌, nat_eq, Bool, true, false, cond, not, List, [], ◌∷◌, reverse, Option, Some, None, Result, Ok, Err, arith}
-use Rattle.vt_spec.proofs.Common.{Follow, Here, LastWord, Location, Looks, NoneFails, Rules, Stop, Task, and_then, and_then-Ok, common_steps, denial, ends_in_slash, execute_right, follow_rules, if_symlink, last_word, may, not-false, passed, passing, same_ok, search_rules, slash_rules, start_of, stepped, steps_with, stopped_by, symlink_start, symlink_text, symlink_walked, then_walk, unless, walk_unless, word_walked, words, words_walked}
+use Rattle.std.proofs.Common.{◌≡◌, refl, sym, ap, subst, ◌∙◌, inl, inr, ◌⊎◌, ℕ, zero, suc, ◌-◌, ◌==◌, ◌≤◌, nat_eq, true, false, List, [], ◌∷◌, reverse, Option, Some, None, Result, Ok, Err, arith}
+use Rattle.vt_spec.proofs.Common.{Follow, Here, LastWord, Location, Looks, NoneFails, Rules, Stop, Task, and_then, and_then-Ok, common_steps, denial, execute_right, follow_rules, if_symlink, last_word, may, not-false, passed, passing, same_ok, search_rules, slash_rules, start_of, stepped, steps_with, stopped_by, symlink_start, symlink_text, symlink_walked, then_walk, unless, walk_unless, word_walked, words, words_walked}
 use Rattle.vt_laws_later_calls.proofs.Common.{Deny, W4, is_directory_at, mount_at, mounter_may}
 
 -- Walks that may be refused
@@ -195,13 +195,7 @@ module _ {looks later : Looks ℕ} {task reader : Task ℕ} {Refused : Deny → 
   -- a slash asks for a directory, as before
   pub slash_too : (text : List ℕ) (here : Location ℕ) → Known here → NoneFails (slash_rules nat_eq looks text here)
       → NoneFails (slash_rules nat_eq later text here)
-  slash_too text here known pass = (by (ends_in_slash text) (is_directory_at looks here) refl pass.0, tt)
-    where
-      by : (slash is : Bool) → is_directory_at looks here ≡ is → cond slash (not is) false ≡ false
-          → cond slash (not (is_directory_at later here)) false ≡ false
-      by false is same e = refl
-      by true true same e = ap not (leads.directory here known same)
-      by true false same e = cc
+  slash_too text here known pass = (grind (arith, common_steps, leads.directory here known, pass.0), tt)
 
   -- a path or text begins where it began
   pub start_same : (mine directory : Location ℕ) (text : List ℕ) → mine ≡ directory

@@ -152,24 +152,13 @@ module _ {world later : World ℕ} {task reader : Task ℕ} {Refused : Deny → 
 
   hop_known : (a b : Location ℕ) → IsFoundDirectory world it.is task a → hop nat_eq world task a ≡ Some b
       → IsFoundDirectory world it.is task b
-  hop_known a b found e = by (same_location nat_eq a task.root) (nat_eq a.node (mount_at nat_eq world a).root) e
-    where
-      by : (p q : Bool) → cond p None (cond q (mount_at nat_eq world a).mount_point None) ≡ Some b
-          → IsFoundDirectory world it.is task b
-      by true q h = none_is_not None b refl h
-      by false true h = place_found world it.is task a.mount b found.0 h
-      by false false h = none_is_not None b refl h
+  hop_known a b found e = place_found world it.is task a.mount b found.0 (grind (arith, common_steps, none_is_not))
 
   hop_known_later : (a b : Location ℕ) → IsFoundDirectory later it.is_later reader a → hop nat_eq later reader a
       ≡ Some b
       → IsFoundDirectory later it.is_later reader b
-  hop_known_later a b found e = by (same_location nat_eq a reader.root) (nat_eq a.node (mount_at nat_eq later a).root) e
-    where
-      by : (p q : Bool) → cond p None (cond q (mount_at nat_eq later a).mount_point None) ≡ Some b
-          → IsFoundDirectory later it.is_later reader b
-      by true q h = none_is_not None b refl h
-      by false true h = place_found later it.is_later reader a.mount b found.0 h
-      by false false h = none_is_not None b refl h
+  hop_known_later a b found e =
+      place_found later it.is_later reader a.mount b found.0 (grind (arith, common_steps, none_is_not))
 
   -- where `..` goes on from
   abbrev top : Location ℕ → Location ℕ

@@ -1,6 +1,6 @@
 -- Directories of a tree that are not lost are not lost where the names that lead to them stay.
-use Rattle.std.proofs.Common.{◌≡◌, refl, sym, ap, subst, ◌∙◌, ⊎_elim, ℕ, zero, suc, nat_eq, eqb-true, eq-eqb, Bool, true, false, not, ◌||◌, List, [], ◌∷◌, ◌++◌, length, Option, Some, None, is_some}
-use Rattle.vt_spec.proofs.Common.{FileTree, IsDirectory, IsReached, IsTree, Tree, chain, directory_from_entry, directory_used, entry_at, found, is_among, is_directory_under, is_removed, led, led-append, named_parent, none_is_not, reached_named, same_Some}
+use Rattle.std.proofs.Common.{◌≡◌, refl, sym, ap, subst, ◌∙◌, ⊎_elim, ℕ, zero, suc, nat_eq, eqb-true, eq-eqb, Bool, true, false, not, ◌||◌, List, [], ◌∷◌, ◌++◌, length, Option, Some, None, is_some, arith}
+use Rattle.vt_spec.proofs.Common.{FileTree, IsDirectory, IsReached, IsTree, Tree, chain, directory_from_entry, directory_used, entry_at, found, is_among, is_directory_under, is_removed, led, led-append, named_parent, none_is_not, reached_named, same_Some, common_steps}
 use Rattle.vt_laws_later_calls.proofs.Common.{IsFileTree, led_directory, not_removed_reached, parent_named, parent_reached, under_seen}
 
 -- The names that lead to a directory from what lies above it
@@ -21,11 +21,7 @@ module _ (tree : Tree ℕ) (conditions : IsTree tree) where
   pub under_led : (most top d : ℕ) → IsDirectory tree d → IsReached tree d
       → is_among nat_eq top (chain most (named_parent nat_eq tree) d) ≡ true
       → (names : List (List ℕ)) × (led tree top names ≡ Some d)
-  under_led zero top d is reached h = ([], by (nat_eq top d) refl h)
-    where
-      by : (b : Bool) → nat_eq top d ≡ b → (b || false) ≡ true → Some top ≡ Some d
-      by true e g = ap Some (eqb-true top d e)
-      by false e g = cc
+  under_led zero top d is reached h = ([], grind (arith, common_steps, eqb-true))
   under_led (suc most) top d is reached h =
       by (named_parent nat_eq tree d) refl h (λ p p_is p_reached g. under_led most top p p_is p_reached g)
     where

@@ -1,6 +1,6 @@
 -- An inode that is there is there after a call that takes no use away, unless it is a whiteout of an upper layer.
-use Rattle.std.proofs.Common.{arith, ◌≡◌, refl, sym, ap, subst, ◌∙◌, ◌⊎◌, inl, inr, ⊎_elim, true≢false, ℕ, nat_eq, eq-eqb, Bool, true, false, cond, List, [], ◌∷◌, ◌++◌, find, Option, Some, None, Ok, is_some, unwrap_or}
-use Rattle.vt_spec.proofs.Common.{Call, Change, CopyUp, Filesystem, Fresh, IsWorld, Location, Permit, Serves, SetType, Task, ToChange, TypeWord, World, all_from_among, apply, call_outcome, common_steps, filesystem_at, filesystem_numbered, is_kind_in, judge_in, list_any, looks_of, no_filesystem, none_from_not_some, none_is_some, settled, task_called, when, with_change, ⊤}
+use Rattle.std.proofs.Common.{arith, ◌≡◌, refl, sym, ap, subst, ◌∙◌, ◌⊎◌, inl, inr, ⊎_elim, true≢false, ℕ, nat_eq, eq-eqb, Bool, true, false, List, [], ◌∷◌, ◌++◌, Option, Some, None, Ok, is_some}
+use Rattle.vt_spec.proofs.Common.{Call, Change, CopyUp, Filesystem, Fresh, IsWorld, Location, Permit, Serves, SetType, Task, ToChange, TypeWord, World, all_from_among, apply, call_outcome, common_steps, filesystem_at, filesystem_numbered, is_kind_in, judge_in, list_any, looks_of, none_from_not_some, none_is_some, settled, task_called, when, with_change, ⊤}
 use Rattle.vt_laws_later_calls.proofs.Common.{cases_Option, IsFor, White, change_asked, changes_no_mount, has_upper_in, inode_in, none_among, numbered, numbered_anyhow, numbers_left, permits_are_for_their_calls, takes_a_name}
 use Rattle.vt_laws_worlds.proofs.overlay_permits.kept.KeptOverlays.{permits_make_their_change}
 use Rattle.vt_laws_worlds.proofs.overlay_permits.through.CallsThrough.{as_permitted}
@@ -31,18 +31,7 @@ found_among_more : (more list : List (Filesystem ℕ)) (filesystem number : ℕ)
     → is_some ((numbered filesystem (list ++ more)).files.tree.node number) ≡ true
 found_among_more more [] filesystem number there = cc
 found_among_more more (first ∷ rest) filesystem number there =
-    by (nat_eq filesystem first.number) there (found_among_more more rest filesystem number)
-  where
-    by : (b : Bool)
-        → is_some ((unwrap_or (cond b (Some first) (find (λ (f : Filesystem ℕ). nat_eq filesystem f.number) rest))
-        (no_filesystem filesystem)).files.tree.node number) ≡ true
-        → (is_some ((numbered filesystem rest).files.tree.node number) ≡ true
-        → is_some ((numbered filesystem (rest ++ more)).files.tree.node number) ≡ true)
-        → is_some ((unwrap_or (cond b (Some first)
-        (find (λ (f : Filesystem ℕ). nat_eq filesystem f.number) (rest ++ more)))
-        (no_filesystem filesystem)).files.tree.node number) ≡ true
-    by true there later = there
-    by false there later = later there
+    grind (arith, common_steps, found_among_more more rest filesystem number)
 
 -- types are set, or not
 typing_or : (call : Call)

@@ -1,6 +1,6 @@
 -- What is left where inodes of plain trees are looked at: mounts, groups, filesystems, and every other inode.
-use Rattle.std.proofs.Common.{arith, ◌≡◌, refl, ◌∙◌, ◌⊎◌, inl, inr, ⊎_elim, ℕ, nat_eq, eqb-true, Bool, true, false, cond, List, [], ◌∷◌, find, map, Option, Some, None, unwrap_or}
-use Rattle.vt_spec.proofs.Common.{Among, Filesystem, Node, World, and_parts, common_steps, contains_from_among, no_filesystem}
+use Rattle.std.proofs.Common.{arith, ◌≡◌, refl, ◌∙◌, ◌⊎◌, inl, inr, ⊎_elim, ℕ, eqb-true, List, [], ◌∷◌, map, Option, None}
+use Rattle.vt_spec.proofs.Common.{Among, Filesystem, Node, World, and_parts, common_steps, contains_from_among}
 use Rattle.vt_laws_later_calls.proofs.Common.{Inode, inode_in, is_plain, let_go_in, let_go_in_of, let_go_plain, numbered}
 use Rattle.vt_laws_later_calls.specs.Whiteouts.{LeavesAllBut}
 
@@ -34,18 +34,7 @@ module _ (world : World ℕ) (inode : Inode) where
     in_list : (list : List (Filesystem ℕ)) → StaysOrGoes ((numbered filesystem list).files.tree.node number)
         ((numbered filesystem (map change list)).files.tree.node number)
     in_list [] = inl refl
-    in_list (first ∷ rest) = rw (same_number first) (by (nat_eq filesystem first.number) refl (in_list rest))
-      where
-        by : (b : Bool) → nat_eq filesystem first.number ≡ b
-            → StaysOrGoes ((numbered filesystem rest).files.tree.node number)
-            ((numbered filesystem (map change rest)).files.tree.node number)
-            → StaysOrGoes ((unwrap_or (cond b (Some first)
-            (find (λ (f : Filesystem ℕ). nat_eq filesystem f.number) rest))
-            (no_filesystem filesystem)).files.tree.node number) ((unwrap_or (cond b (Some (change first))
-            (find (λ (f : Filesystem ℕ). nat_eq filesystem f.number) (map change rest)))
-            (no_filesystem filesystem)).files.tree.node number)
-        by true e later = in_one first (eqb-true filesystem first.number e)
-        by false e later = later
+    in_list (first ∷ rest) = grind (arith, common_steps, eqb-true, same_number, in_one, in_list rest)
 
 -- one after the other
 numbers_stay : (list : List Inode) (world : World ℕ)

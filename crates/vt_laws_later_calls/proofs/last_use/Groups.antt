@@ -1,6 +1,6 @@
 -- A group ends with its last member.
-use Rattle.std.proofs.Common.{arith, ◌≡◌, refl, sym, ap, ◌∙◌, ◌⊎◌, inl, inr, ⊎_elim, ℕ, nat_eq, eqb-true, eq-eqb, Bool, true, false, cond, not, ◌||◌, ◌&&◌, List, [], ◌∷◌, ◌++◌, Option, Some, None, option_to_list, nat_lt}
-use Rattle.vt_spec.proofs.Common.{cases_Bool, HasLivingGroups, Lives, Mount, MountInvariants, Private, Propagation, Shared, Slave, Unbindable, World, common_steps, group_of, has_master, has_members, has_no_master, holds_of, is_lost_group, is_member_of, list_all, list_any, lost_a_group, or_false_left, regrouped, source_of, then_some, with_mounts, without_dead_groups}
+use Rattle.std.proofs.Common.{arith, ◌≡◌, refl, sym, ap, ◌∙◌, ◌⊎◌, inl, inr, ⊎_elim, ℕ, nat_eq, eqb-true, eq-eqb, Bool, true, false, cond, List, [], ◌∷◌, ◌++◌, Option, Some, None, option_to_list, nat_lt}
+use Rattle.vt_spec.proofs.Common.{cases_Bool, HasLivingGroups, Lives, Mount, MountInvariants, Shared, World, common_steps, has_master, has_members, has_no_master, is_member_of, list_all, list_any, lost_a_group, or_false_left, regrouped, source_of, with_mounts, without_dead_groups}
 use Rattle.vt_laws_later_calls.proofs.Common.{AllInUse, Among, GroupsInUseBut, among-append, among-append_left, among-append_right, among_from_all, any_among, any_from_among, group_is_looked_up, groups_go_one_by_one, here, list_all_from_among, live_members, member_count, member_shared, no_loop, none_from_among, times, without_master}
 use Rattle.vt_laws_mounts.specs.LettingGo.Groups.{GroupsLiveBut, OneGroupIsHandedOn, hand_on, is_group_or_lives}
 use Rattle.vt_laws_later_calls.specs.LastUse.{GroupGoesWithItsLastMember, GroupIsHandedOnWithItsLastMember}
@@ -17,21 +17,7 @@ unlost : (world : World ℕ) (mount : Mount ℕ)
     → ((group : ℕ) → source_of mount.propagation ≡ Some group → (has_members nat_eq world.mounts group ≡ true)
     × (list_all (has_members nat_eq world.mounts) (option_to_list (world.master group)) ≡ true))
     → lost_a_group nat_eq world mount ≡ false
-unlost world mount live = by (source_of mount.propagation) refl
-  where
-    master : (o : Option ℕ) → list_all (has_members nat_eq world.mounts) (option_to_list o) ≡ true
-        → is_lost_group nat_eq world o ≡ false
-    master None h = refl
-    master (Some above) h = ap not (only (has_members nat_eq world.mounts above) h)
-      where
-        only : (b : Bool) → (b && true) ≡ true → b ≡ true
-        only true e = refl
-        only false e = e
-
-    by : (o : Option ℕ) → source_of mount.propagation ≡ o
-        → (is_lost_group nat_eq world o || is_lost_group nat_eq world (then_some o world.master)) ≡ false
-    by None e = refl
-    by (Some group) e = let both = live group e in cc (both.0, master (world.master group) both.1)
+unlost world mount live = grind (arith, common_steps, live)
 
 -- where groups live, no mount has lost one
 pub none_lost : (world : World ℕ) → MountInvariants nat_eq world
@@ -51,13 +37,7 @@ module _ (world : World ℕ) (front back : List (Mount ℕ)) (old new : Mount �
   after = with_mounts world (front ++ (new ∷ back))
 
   new_is_none : (other : ℕ) → is_member_of nat_eq other new ≡ false
-  new_is_none other = by new.propagation is
-    where
-      by : (kind : Propagation ℕ) → source_of kind ≡ None → holds_of (nat_eq other) (group_of kind) ≡ false
-      by (Shared own) e = cc
-      by (Slave master) e = refl
-      by Private e = refl
-      by Unbindable e = refl
+  new_is_none other = grind (arith, common_steps)
 
   old_is_one : (other : ℕ) → is_member_of nat_eq other old ≡ nat_eq other group
   old_is_one other = cc

@@ -1,5 +1,5 @@
 -- An inode goes with its last use.
-use Rattle.std.proofs.Common.{◌≡◌, refl, sym, ap, subst, ◌∙◌, ℕ, nat_eq, eqb-true, eq-eqb, Bool, true, false, true≢false, cond, not, ◌||◌, ◌&&◌, ◌+◌, [], ◌∷◌, ◌++◌, find, map, Option, Some, None, is_some, option_map, unwrap_or, arith, nat_lt}
+use Rattle.std.proofs.Common.{◌≡◌, refl, sym, ap, subst, ◌∙◌, ℕ, nat_eq, eqb-true, eq-eqb, Bool, true, false, true≢false, cond, not, ◌&&◌, ◌+◌, [], ◌∷◌, ◌++◌, find, map, Option, Some, None, is_some, option_map, unwrap_or, arith, nat_lt}
 use Rattle.vt_spec.proofs.Common.{Filesystem, Overlay, World, and-false, and-true, and_parts, any_pair, common_steps, filesystem_numbered, is_overlay, list_all, map_alike, no_filesystem, of_overlay, overlay_or, without_dead_inodes}
 use Rattle.vt_laws_later_calls.proofs.Common.{Among, HasTrees, Inode, InodesInUse, InodesInUseBut, RealsAreThere, UppersArePlain, all_from_among, among-from_map, among_from_all, among_from_list_all, flat_map_none, found_by, inode_is_looked_up, inode_uses, inodes_stay, is_inode, is_inode_used, is_plain, is_used_or_among, let_go_in, let_go_in_of, let_go_inode, let_go_plain, list_all_from_among, map_same, uppers_in, uppers_of, uppers_of_inode, uppers_of_inode_in, used_while_counted, without_inode_at, without_real}
 use Rattle.vt_laws_mounts.proofs.letting_go.Lists.{found_in}
@@ -76,12 +76,7 @@ module _ {world after : World ℕ} {inode : Inode} (in_use : InodesInUse world)
   other_inodes =
       all_from_among (λ f. list_all (is_used_or_among (inode ∷ []) after f) f.files.numbers ≡ true) after.filesystems
       (λ f m. list_all_from_among (is_used_or_among (inode ∷ []) after f) f.files.numbers
-      (λ number n. by f m number n (is_inode f.number number inode) refl))
-    where
-      by : (f : Filesystem ℕ) → Among f after.filesystems → (number : ℕ) → Among number f.files.numbers → (b : Bool)
-          → is_inode f.number number inode ≡ b → ((b || false) || is_inode_used after f number) ≡ true
-      by f m number n true e = refl
-      by f m number n false e = others_used f m number n e
+      (λ number n. grind (arith, common_steps, others_used f m number n)))
 
   -- while it has another use, all are used
   all_used : nat_lt 1 (inode_uses world (filesystem_numbered nat_eq world inode.0) inode.1) ≡ true → InodesInUse after

@@ -1,5 +1,5 @@
 -- The whole sweep, where the last location on a mount is left, and its filesystem goes.
-use Rattle.std.proofs.Common.{◌≡◌, refl, sym, ap, subst, ◌∙◌, inl, inr, ⊎_elim, ℕ, nat_eq, eqb-true, eq-eqb, Bool, true, false, true≢false, cond, not, ◌||◌, ◌&&◌, ◌+◌, List, [], ◌∷◌, ◌++◌, filter, find, map, Some, is_some, arith, nat_lt}
+use Rattle.std.proofs.Common.{◌≡◌, refl, sym, ap, subst, ◌∙◌, inl, inr, ⊎_elim, ℕ, nat_eq, eqb-true, eq-eqb, Bool, true, false, true≢false, cond, not, ◌||◌, ◌&&◌, ◌+◌, List, [], ◌∷◌, ◌++◌, filter, find, map, is_some, arith, nat_lt}
 use Rattle.vt_spec.proofs.Common.{Filesystem, IsWorld, Location, Mount, Task, World, all_locations, common_steps, filesystem_numbered, filter_alike, is_among, is_member_of, is_nowhere_or_attached, is_overlay, list_all, mount_at, nat_eq-swapped, no_filesystem, or_parts, settled, without_dead_filesystems, without_dead_groups, without_dead_in, without_dead_inodes, without_dead_mounts}
 use Rattle.vt_laws_later_calls.proofs.Common.{AllInUse, Among, Exchanges, GroupsInUse, InodesInUse, MountsStand, all_from_among, all_in_use, among-append, among-append_left, among-append_right, among-from_filter, among-from_map, among_from_all, among_from_list_all, among_numbers, any-filter, exchanges_follow, found_by, groups_stay, inode_at, inode_uses, inodes_stay, is_inode_used, is_mount_used, list_all_from_among, locations_are_uses, locations_of_worlds_stand, mount_uses, mounts_of_worlds_stand, mounts_showing, none_among, nowhere_parts, others_use_nothing, private_is_no_member, root_inode, used_while_counted, with_tasks, without_filesystem, without_mount}
 use Rattle.vt_laws_mounts.specs.LettingGo.Keeping.{LocationsStand}
@@ -17,16 +17,7 @@ found_beside : (filesystems : List (Filesystem ℕ)) (k gone : ℕ) → nat_eq k
     ≡ find (λ (f : Filesystem ℕ). nat_eq k f.number) filesystems
 found_beside [] k gone differs = refl
 found_beside (first ∷ rest) k gone differs =
-    by (nat_eq first.number gone) refl (nat_eq k first.number) refl (found_beside rest k gone differs)
-  where
-    others : List (Filesystem ℕ)
-    others = filter (λ f. not (nat_eq f.number gone)) rest
-
-    by : (b : Bool) → nat_eq first.number gone ≡ b → (c : Bool) → nat_eq k first.number ≡ c
-        → find (λ (f : Filesystem ℕ). nat_eq k f.number) others ≡ find (λ (f : Filesystem ℕ). nat_eq k f.number) rest
-        → find (λ (f : Filesystem ℕ). nat_eq k f.number) (cond (not b) (first ∷ others) others)
-        ≡ cond c (Some first) (find (λ (f : Filesystem ℕ). nat_eq k f.number) rest)
-    by b e c h later = grind (arith, common_steps, true≢false, eqb-true)
+    grind (arith, common_steps, true≢false, eqb-true, found_beside rest k gone differs)
 
 module _ {world : World ℕ} (tasks : List (Task ℕ)) (front back : List (Location ℕ)) (location : Location ℕ)
     (whole : IsWorld nat_eq world) (plain : IsPlain world) (before : all_locations world ≡ front ++ (location ∷ back))

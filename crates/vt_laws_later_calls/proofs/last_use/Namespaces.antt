@@ -1,5 +1,5 @@
 -- A namespace ends with its last task.
-use Rattle.std.proofs.Common.{arith, ◌≡◌, refl, sym, ap, ◌∙◌, ℕ, nat_eq, eqb-true, eq-eqb, Bool, true, false, cond, ◌||◌, List, ◌∷◌, ◌++◌, nat_lt}
+use Rattle.std.proofs.Common.{arith, ◌≡◌, refl, ap, ◌∙◌, ℕ, nat_eq, eqb-true, eq-eqb, Bool, true, false, cond, ◌||◌, List, ◌∷◌, ◌++◌, nat_lt}
 use Rattle.vt_spec.proofs.Common.{MountInvariants, Namespace, NamespaceInvariants, Task, World, common_steps, has_tasks, list_any, namespaces_ended, nat_eq-swapped, regrouped_by}
 use Rattle.vt_laws_later_calls.proofs.Common.{Among, among_from_list_all, list_all_from_among, no_namespace_ends, one_namespace_ends, with_tasks, without_namespace}
 use Rattle.vt_laws_later_calls.specs.LastUse.{NamespaceEndsWithItsLastTask, task_count}
@@ -30,21 +30,11 @@ module _ {world : World ℕ} (front back : List (Task ℕ)) (task : Task ℕ) (m
       → namespaces_ended nat_eq after ≡ cond b after (without_namespace after task.namespace)
   namespace_left true has = no_namespace_ends after namespaces.mounts_listed
       (list_all_from_among (has_tasks nat_eq after) world.namespaces
-      (λ namespace m. by namespace m (nat_eq task.namespace namespace.number) refl))
+      (λ namespace m. grind (arith, common_steps, eqb-true, entered_as_before namespace m)))
       ∙ ap (λ lost. regrouped_by nat_eq lost after) (none_lost world mounts)
-    where
-      by : (namespace : Namespace ℕ) → Among namespace world.namespaces → (b : Bool)
-          → nat_eq task.namespace namespace.number ≡ b → has_tasks nat_eq after namespace ≡ true
-      by namespace m true e = ap is_entered (sym (eqb-true task.namespace namespace.number e)) ∙ has
-      by namespace m false e = entered_as_before namespace m e
   namespace_left false none = one_namespace_ends after task.namespace namespaces.mounts_listed none
       (list_all_from_among (λ namespace. nat_eq task.namespace namespace.number || has_tasks nat_eq after namespace)
-      world.namespaces (λ namespace m. by namespace m (nat_eq task.namespace namespace.number) refl))
-    where
-      by : (namespace : Namespace ℕ) → Among namespace world.namespaces → (b : Bool)
-          → nat_eq task.namespace namespace.number ≡ b → (b || has_tasks nat_eq after namespace) ≡ true
-      by namespace m true e = refl
-      by namespace m false e = entered_as_before namespace m e
+      world.namespaces (λ namespace m. grind (arith, common_steps, entered_as_before namespace m)))
 
 pub namespace_ends_with_its_last_task : NamespaceEndsWithItsLastTask
 namespace_ends_with_its_last_task world front back task mounts namespaces before =

@@ -31,25 +31,18 @@ module _ (world after : World ℕ) (front back : List (Mount ℕ)) (mount : Moun
     layered_as_before : (number : ℕ) → is_layered after number ≡ is_layered world number
     layered_as_before number = cc (any_alike (λ merged. has_layer_on nat_eq number merged && is_mounted nat_eq after
         merged.number) (λ merged. has_layer_on nat_eq number merged && is_mounted nat_eq world merged.number)
-        world.filesystems (λ merged m. by merged m (nat_eq merged.number mount.filesystem) refl))
-      where
-        by : (merged : Filesystem ℕ) → Among merged world.filesystems → (b : Bool)
-            → nat_eq merged.number mount.filesystem ≡ b
-            → (has_layer_on nat_eq number merged && is_mounted nat_eq after merged.number)
-            ≡ (has_layer_on nat_eq number merged && is_mounted nat_eq world merged.number)
-        by merged m b e = grind (arith, common_steps, no_layer, its_own, mounted_as_before)
+        world.filesystems (λ merged m. grind (arith, common_steps, no_layer, its_own, mounted_as_before)))
 
     other_filesystems : FilesystemsInUseBut (mount.filesystem ∷ []) after
     other_filesystems =
         cc (list_all_from_among (λ filesystem. is_among nat_eq filesystem.number (mount.filesystem ∷ []) ||
-        filesystem_lives nat_eq after filesystem) world.filesystems (λ f m. by f (nat_eq f.number mount.filesystem) refl
-        (among_from_list_all (filesystem_lives nat_eq world) world.filesystems in_use f m)))
-      where
-        by : (f : Filesystem ℕ) (b : Bool) → nat_eq f.number mount.filesystem ≡ b
-            → filesystem_lives nat_eq world f ≡ true → ((b || false) || filesystem_lives nat_eq after f) ≡ true
-        by f true e lives = refl
-        by f false e lives = (λ i. mounted_as_before world after front back mount before left f.number e i
-            || layered_as_before f.number i) ∙ lives
+        filesystem_lives nat_eq after filesystem) world.filesystems (λ f m. grind (
+          arith,
+          common_steps,
+          mounted_as_before world after front back mount before left f.number,
+          layered_as_before f.number,
+          among_from_list_all (filesystem_lives nat_eq world) world.filesystems in_use f m,
+        )))
 
     pub plain_left : without_dead_filesystems nat_eq after
         ≡ cond (nat_lt 1 (mounts_showing world mount.filesystem) || is_layered world mount.filesystem) after

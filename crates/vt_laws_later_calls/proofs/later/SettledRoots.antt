@@ -1,5 +1,5 @@
 -- A filesystem that something is in when what nothing uses is gone has the root that it had.
-use Rattle.std.proofs.Common.{arith, ◌≡◌, refl, sym, ap, ◌∙◌, inl, inr, true≢false, ℕ, nat_eq, eqb-true, Bool, true, false, cond, not, List, [], ◌∷◌, find, map, Option, Some, None, is_some, option_map, unwrap_or}
+use Rattle.std.proofs.Common.{arith, ◌≡◌, refl, sym, ap, ◌∙◌, inl, inr, true≢false, ℕ, nat_eq, eqb-true, Bool, true, false, not, List, [], ◌∷◌, find, map, Option, Some, None, is_some, option_map, unwrap_or}
 use Rattle.vt_spec.proofs.Common.{Among, Filesystem, World, among-from_filter, any_pair, common_steps, filesystem_lives, filesystem_numbered, is_overlay, no_filesystem, only_used, same_Some, settled, without_dead_filesystems, without_dead_in, without_dead_mounts}
 use Rattle.vt_laws_later_calls.proofs.Common.{cases_Option, found_filesystem}
 
@@ -12,25 +12,13 @@ looked_up-map : (change : Filesystem ℕ → Filesystem ℕ) → ((f : Filesyste
     (list : List (Filesystem ℕ)) → looked_up number (map change list) ≡ option_map change (looked_up number list)
 looked_up-map change same number [] = refl
 looked_up-map change same number (first ∷ rest) =
-    cc (same first, by (nat_eq number first.number) (looked_up-map change same number rest))
-  where
-    by : (b : Bool) → looked_up number (map change rest) ≡ option_map change (looked_up number rest)
-        → cond b (Some (change first)) (looked_up number (map change rest))
-        ≡ option_map change (cond b (Some first) (looked_up number rest))
-    by true later = refl
-    by false later = later
+    grind (arith, common_steps, same, looked_up-map change same number rest)
 
 -- what is found has the number, and is one of the list
 looked_up_is : (number : ℕ) (list : List (Filesystem ℕ)) (f : Filesystem ℕ) → looked_up number list ≡ Some f
     → Among f list × (number ≡ f.number)
 looked_up_is number [] f e = cc
-looked_up_is number (first ∷ rest) f e = by (nat_eq number first.number) refl e (looked_up_is number rest f)
-  where
-    by : (b : Bool) → nat_eq number first.number ≡ b → cond b (Some first) (looked_up number rest) ≡ Some f
-        → (looked_up number rest ≡ Some f → Among f rest × (number ≡ f.number))
-        → Among f (first ∷ rest) × (number ≡ f.number)
-    by true g h later = let same : first ≡ f = same_Some first f h in (inl (cc), cc (eqb-true number first.number g))
-    by false g h later = let found = later h in (inr found.0, found.1)
+looked_up_is number (first ∷ rest) f e = grind (arith, common_steps, eqb-true, same_Some, looked_up_is number rest f)
 
 module _ (world : World ℕ) (one : any_pair (λ (a b : Filesystem ℕ). nat_eq a.number b.number) world.filesystems
     ≡ false) where

@@ -1,6 +1,6 @@
 -- A stack of mounts with one mount more.
 use Rattle.std.proofs.Common.{inr, ◌≡◌, refl, sym, ap, subst, ◌∙◌, inl, true≢false, ℕ, suc, nat_eq, nat_lt, eq-eqb, Bool, true, false, cond, ◌&&◌, ◌<◌, ◌≤◌, List, [], ◌∷◌, ◌++◌, None, Some, Ok, map, arith}
-use Rattle.vt_spec.proofs.Common.{Among, Done, Filesystem, Fresh, IsWorld, Mount, MountFlags, MountPlain, Namespace, Serves, Task, TaskName, ToMountPlain, World, among-append_right, child_at, common_steps, denial, denied, entries_in, entry_named, execute_right, filesystem_numbered, find-append, granted, is_directory_at, is_directory_node, is_removed_at, most_mounts, mount_at, mount_numbered, nat_eq_false_turned, nat_tests, new_directory, node_allows, node_at, numbers_raised, policy, raised, raised_if_changed, raised_namespace, raised_task, root_attr, root_of, same_mounts_in, same_name, settled, stands_at, topmost, unless}
+use Rattle.vt_spec.proofs.Common.{Among, Done, Filesystem, Fresh, IsWorld, Mount, MountFlags, MountPlain, Namespace, Serves, Task, TaskName, ToMountPlain, World, among-append_right, child_at, common_steps, denial, denied, entries_in, entry_named, execute_right, filesystem_numbered, find-append, granted, is_directory_at, is_directory_node, is_removed_at, most_mounts, mount_at, mount_numbered, nat_eq_false_turned, nat_tests, new_directory, node_allows, node_at, numbers_raised, policy, raised, raised_if_changed, raised_namespace, raised_task, root_attr, root_of, same_name, settled, stands_at, topmost, unless}
 use Rattle.vt_laws_later_calls.proofs.Common.{cases_Option, IsPlain, M9, all_in_use, calls_keep_worlds, found-append, found_filesystem, found_in, found_itself, locations_of_worlds_stand, mounts_of_worlds_stand, new_mounts_of_trees_keep_all, place_attached, plain_numbered, root_found, same_location_itself, stands_there, topmost_is_free}
 use Rattle.vt_laws_later_calls.proofs.Granted.{called_raised}
 use Rattle.vt_laws_later_calls.proofs.limits.AddedMount.{added_filesystem, added_mount, attached_is_mount, master-new_mount, other_number}
@@ -29,12 +29,7 @@ pub numbers-raised_namespaces : (before left : World ℕ) (namespaces : List (Na
     ≡ map (λ namespace. namespace.number) namespaces
 numbers-raised_namespaces before left [] = refl
 numbers-raised_namespaces before left (namespace ∷ rest) =
-    λ i. by (same_mounts_in nat_eq before left namespace.number) i ∷ numbers-raised_namespaces before left rest i
-  where
-    by : (b : Bool) → (cond b namespace (record namespace { change = raised namespace.change })).number
-        ≡ namespace.number
-    by true = refl
-    by false = refl
+    grind (arith, common_steps, numbers-raised_namespaces before left rest)
 
 -- of a task whose change number is raised nothing else changes
 pub raised_task_is : (name : TaskName) (task : Task ℕ)

@@ -1,6 +1,6 @@
 -- The topmost mount of a stack, unmounted: the stack is as it was before that mount.
-use Rattle.std.proofs.Common.{◌≡◌, refl, sym, ap, subst, ◌∙◌, ℕ, suc, nat_eq, eq-eqb, Bool, true, false, cond, not, ◌||◌, ◌<◌, List, [], ◌∷◌, Option, Some, Ok, is_some, map, map-id}
-use Rattle.vt_spec.proofs.Common.{Done, Filesystem, Fresh, Here, Judgement, Location, Mount, MountFlags, Namespace, Permit, Serves, Task, TaskName, ToUnmount, Umount, World, all_locations, and_then, granted, holds_of, is_busy, judge_in, locations_of, looks_of, most_mounts, mount_at, mount_numbered, numbers_raised, policy, raised, raised_task, same_name, settled, umount_permit, umount_rules, unless, unmounted, walk_end}
+use Rattle.std.proofs.Common.{◌≡◌, refl, sym, ap, subst, ◌∙◌, ℕ, suc, nat_eq, eq-eqb, false, not, ◌||◌, ◌<◌, List, [], ◌∷◌, Option, Some, Ok, is_some, map, map-id, arith}
+use Rattle.vt_spec.proofs.Common.{Done, Filesystem, Fresh, Here, Judgement, Location, Mount, MountFlags, Namespace, Permit, Serves, Task, TaskName, ToUnmount, Umount, World, all_locations, and_then, granted, holds_of, is_busy, judge_in, locations_of, looks_of, most_mounts, mount_at, mount_numbered, numbers_raised, policy, raised_task, settled, umount_permit, umount_rules, unless, unmounted, walk_end, common_steps}
 use Rattle.vt_laws_later_calls.proofs.Common.{AllInUse, K1, M10, M2, M7, M8, all_in_use, counted, directory_walk, flat_map-map, in_use_later}
 use Rattle.vt_laws_later_calls.proofs.limits.AddedMount.{added_mount}
 use Rattle.vt_laws_later_calls.proofs.limits.PathWalks.{HasOneWord, directory_is_walked, end_of_one, one_word_leads}
@@ -26,12 +26,8 @@ module _ {world : World ℕ} {name : TaskName} {path word : List ℕ} (one : Has
 
   -- tasks use the locations that they used
   same_locations : all_locations (record world { tasks = stacked.tasks }) ≡ all_locations world
-  same_locations = flat_map-map (raised_task name) locations_of world.tasks (λ task. by task (same_name name task.name))
-    where
-      by : (task : Task ℕ) (b : Bool)
-          → locations_of (cond b (record task { change = raised task.change }) task) ≡ locations_of task
-      by task true = refl
-      by task false = refl
+  same_locations =
+      flat_map-map (raised_task name) locations_of world.tasks (λ task. grind (arith, common_steps))
 
   -- the world before, with the tasks and namespaces of now
   abbrev pub world_given_back : World ℕ

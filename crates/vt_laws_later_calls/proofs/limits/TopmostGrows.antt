@@ -1,5 +1,5 @@
 -- The topmost mount over a place once one more mount is stacked there.
-use Rattle.std.proofs.Common.{◌≡◌, refl, ap, ℕ, zero, suc, nat_eq, Bool, true, false, cond, List, [], ◌∷◌, ◌++◌, Option, None, Some, length, option_map, arith, length-append}
+use Rattle.std.proofs.Common.{◌≡◌, ap, ℕ, zero, suc, nat_eq, Bool, true, false, cond, List, [], ◌∷◌, ◌++◌, Option, None, Some, length, option_map, arith, length-append}
 use Rattle.vt_spec.proofs.Common.{Location, Mount, chain, chain_ends, chain_goes_on, child_at, common_steps, find-append, last_or, none_is_some, root_of, stands_at, topmost}
 
 -- a chain that ended goes on by one step
@@ -13,12 +13,8 @@ module _ {A : Type 0} (step : A → Option A) {grown : A → Option A} {end next
     -- wherever it began
     pub chain_grows : (n : ℕ) (a d e : A) → last_or d (chain n step a) ≡ end → last_or e (chain (suc n) grown a) ≡ next
     chain_grows zero a d e is = one_more_step zero a e is
-    chain_grows (suc n) a d e is = by (step a) refl (chain_grows n)
-      where
-        by : (o : Option A) → step a ≡ o
-            → ((b f g : A) → last_or f (chain n step b) ≡ end → last_or g (chain (suc n) grown b) ≡ next)
-            → last_or e (chain (suc (suc n)) grown a) ≡ next
-        by o found later = grind (arith, common_steps, one_more_step, chain_ends, chain_goes_on, kept)
+    chain_grows (suc n) a d e is =
+        grind (arith, common_steps, one_more_step, chain_ends, chain_goes_on, kept, chain_grows n)
 
 module _ (mounts : List (Mount ℕ)) (new : Mount ℕ) (top : Location ℕ) where
   abbrev step_up : List (Mount ℕ) → Location ℕ → Option (Location ℕ)

@@ -112,14 +112,7 @@ find_named : (f : Task ℕ → Task ℕ) → ((t : Task ℕ) → (f t).name ≡ 
     → find (λ (t : Task ℕ). same_name name t.name) (map f tasks)
     ≡ option_map f (find (λ (t : Task ℕ). same_name name t.name) tasks)
 find_named f names name [] = refl
-find_named f names name (t ∷ tasks) = cc (names t, by (same_name name t.name) (find_named f names name tasks))
-  where
-    by : (b : Bool) → find (λ (x : Task ℕ). same_name name x.name) (map f tasks)
-        ≡ option_map f (find (λ (x : Task ℕ). same_name name x.name) tasks)
-        → cond b (Some (f t)) (find (λ (x : Task ℕ). same_name name x.name) (map f tasks))
-        ≡ option_map f (cond b (Some t) (find (λ (x : Task ℕ). same_name name x.name) tasks))
-    by true later = refl
-    by false later = later
+find_named f names name (t ∷ tasks) = grind (arith, common_steps, names, find_named f names name tasks)
 
 -- what the list of mounts answers
 abbrev answer_by : World ℕ → Option (Task ℕ) → Result Answer Deny

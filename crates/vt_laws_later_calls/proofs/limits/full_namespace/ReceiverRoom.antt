@@ -1,7 +1,7 @@
 -- Whether a mount in the first namespace has room: it comes to the shared mount, and to its peer in the other
 -- namespace.
 use Rattle.std.proofs.Common.{inl, inr, arith, ◌≡◌, refl, sym, ap, subst, ◌∙◌, true≢false, ℕ, suc, nat_eq, nat_lt, eqb-true, Bool, true, false, cond, not, ◌&&◌, ◌||◌, ◌+◌, ◌*◌, List, [], ◌∷◌, ◌++◌, Option, None, Some, Ok, filter, is_some, length, map, codes, option_to_list}
-use Rattle.vt_spec.proofs.Common.{cases_Bool, Among, Directory, Filesystem, IsWorld, Location, Mount, Namespace, Task, World, among-append_right, and_parts, chain_ends, chain_goes_on, child_at, common_steps, filesystem_numbered, groups_up, holds_of, is_among, is_directory_node, is_directory_under, is_removed, is_removed_at, list_all, list_any, looks_of, most_mounts, most_symlinks, mount_numbered, new_mount_rules, node_at, or-false, parts_of, receivers_of, receives, root_attr, root_of, source_of, stands_at, takes_part, task_called, topmost}
+use Rattle.vt_spec.proofs.Common.{cases_Bool, Among, Directory, Filesystem, IsWorld, Location, Mount, Namespace, Task, World, among-append_right, and_parts, chain_ends, chain_goes_on, child_at, common_steps, filesystem_numbered, holds_of, is_directory_node, is_directory_under, is_removed, is_removed_at, list_all, list_any, looks_of, most_mounts, most_symlinks, mount_numbered, new_mount_rules, node_at, or-false, parts_of, receivers_of, receives, root_attr, root_of, source_of, stands_at, takes_part, task_called, topmost}
 use Rattle.vt_laws_later_calls.proofs.Common.{IsPlain, among_from_list_all, any-map, destination_walk, find_none, is_in, mount_count, nothing_passes, plain_numbered, stands_there, start_among}
 use Rattle.vt_laws_worlds.proofs.worlds.Roots.{child_in}
 use Rattle.vt_laws_later_calls.specs.Limits.Room.{how_many_in, lacks_room, none_fails}
@@ -179,13 +179,8 @@ module _ {first second : Filesystem ℕ} (trees : TwoTrees first second) {world 
 
   -- what was stacked receives nothing
   rest_receives_nothing : filter (receives nat_eq world 18) has.rest ≡ []
-  rest_receives_nothing = nothing_passes (receives nat_eq world 18) has.rest (λ mount m.
-      by (source_of mount.propagation) (and_parts _ _ (among_from_list_all is_other has.rest has.others mount m)).0)
-    where
-      by : (source : Option ℕ) → not (is_some source) ≡ true
-          → holds_of (λ one. is_among nat_eq 18 (groups_up world one)) source ≡ false
-      by None e = refl
-      by (Some group) e = cc
+  rest_receives_nothing = nothing_passes (receives nat_eq world 18) has.rest
+      (λ mount m. grind (arith, common_steps, among_from_list_all is_other has.rest has.others mount m))
 
   -- the shared mount and its peer
   abbrev two_shared : List (Mount ℕ)
@@ -213,11 +208,7 @@ module _ {first second : Filesystem ℕ} (trees : TwoTrees first second) {world 
   first_has_two : mount_count world 1 ≡ 2
   first_has_two = ap (λ mounts. length (filter (is_in 1) mounts)) has.mounts
       ∙ ap (λ list. length (root_mount 0 1 ∷ shared_mount 17 1 0 ∷ list)) (nothing_passes (is_in 1) has.rest (λ mount m.
-      by mount.namespace (and_parts _ _ (among_from_list_all is_other has.rest has.others mount m)).1))
-    where
-      by : (namespace : Option ℕ) → holds_of (nat_eq 39) namespace ≡ true → holds_of (nat_eq 1) namespace ≡ false
-      by None e = refl
-      by (Some number) e = cc (eqb-true 39 number e)
+      grind (arith, common_steps, eqb-true, among_from_list_all is_other has.rest has.others mount m)))
 
   -- there is room just while the other namespace has room for one more
   pub room_of_other : (count : ℕ) → mount_count world 39 ≡ count

@@ -36,15 +36,8 @@ gone_alike : (name : TaskName) (new : Task ℕ) → name ≡ new.name → (tasks
     → filter (λ other. not (same_name name other.name)) (map (replaced_if_called new) tasks)
     ≡ filter (λ other. not (same_name name other.name)) tasks
 gone_alike name new called [] = refl
-gone_alike name new called (old ∷ tasks) = by (same_name new.name old.name) refl (gone_alike name new called tasks)
-  where
-    stays : Task ℕ → Bool
-    stays other = not (same_name name other.name)
-
-    by : (b : Bool) → same_name new.name old.name ≡ b
-        → filter stays (map (replaced_if_called new) tasks) ≡ filter stays tasks
-        → filter stays (cond b new old ∷ map (replaced_if_called new) tasks) ≡ filter stays (old ∷ tasks)
-    by b e rest = grind (arith, common_steps, same_name_itself)
+gone_alike name new called (old ∷ tasks) =
+    grind (arith, common_steps, same_name_itself, gone_alike name new called tasks)
 
 module _ (fresh : Fresh ℕ) (task : Task ℕ) where
   abbrev ended : World ℕ → World ℕ
