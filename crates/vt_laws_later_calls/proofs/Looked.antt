@@ -37,36 +37,29 @@ module _ (world : World ℕ) (fresh : Fresh ℕ) (name : TaskName) {task : Task 
       → (policy nat_eq fresh world name (Lstat path)).answer
       ≡ Ok (Told (stat_line (node_at nat_eq world here.location)))
   unfolding lstat_permit
-  lstat_of here walk = ap (λ o. (by_task (Lstat path) o).answer) called
-      ∙ ap (λ r. answer_of (and_then (walk_end r) (λ (here : Here ℕ). Ok (ToStat here.location)))) walk
+  lstat_of here walk = cc (called)
 
   pub lstat_refused : (stop : Stop ℕ) → symlink_walk nat_eq world task path ≡ Err stop
       → (policy nat_eq fresh world name (Lstat path)).answer ≡ Err stop.deny
   unfolding lstat_permit
-  lstat_refused stop walk = ap (λ o. (by_task (Lstat path) o).answer) called
-      ∙ ap (λ r. answer_of (and_then (walk_end r) (λ (here : Here ℕ). Ok (ToStat here.location)))) walk
+  lstat_refused stop walk = cc (called)
 
   pub stat_of : (here : Here ℕ) → object_walk nat_eq world task path ≡ Ok here
       → (policy nat_eq fresh world name (Stat path)).answer ≡ Ok (Told (stat_line (node_at nat_eq world here.location)))
   unfolding stat_permit
-  stat_of here walk = ap (λ o. (by_task (Stat path) o).answer) called
-      ∙ ap (λ r. answer_of (and_then (walk_end r) (λ (here : Here ℕ). Ok (ToStat here.location)))) walk
+  stat_of here walk = cc (called)
 
   pub stat_refused : (stop : Stop ℕ) → object_walk nat_eq world task path ≡ Err stop
       → (policy nat_eq fresh world name (Stat path)).answer ≡ Err stop.deny
   unfolding stat_permit
-  stat_refused stop walk = ap (λ o. (by_task (Stat path) o).answer) called
-      ∙ ap (λ r. answer_of (and_then (walk_end r) (λ (here : Here ℕ). Ok (ToStat here.location)))) walk
+  stat_refused stop walk = cc (called)
 
   pub readlink_of : (here : Here ℕ) → symlink_walk nat_eq world task path ≡ Ok here
       → is_kind_in Symlink (node_at nat_eq world here.location) ≡ true
       → (policy nat_eq fresh world name (Readlink path)).answer
       ≡ Ok (Bytes (bytes_in (node_at nat_eq world here.location)))
   unfolding readlink_permit
-  readlink_of here walk is = ap (λ o. (by_task (Readlink path) o).answer) called
-      ∙ ap (λ r. answer_of (and_then (walk_end r) (λ (here : Here ℕ).
-      unless (readlink_rules nat_eq world here.location) (Ok (ToRead here.location))))) walk
-      ∙ ap (λ b. answer_of (unless ((not b, E5) ∷ []) (Ok (ToRead here.location)))) is
+  readlink_of here walk is = cc (called)
 
   -- a directory is listed, if it may be read
   pub list_of : IsPlain world → (here : Here ℕ) → directory_walk nat_eq world task path ≡ Ok here
@@ -91,9 +84,7 @@ module _ (world : World ℕ) (fresh : Fresh ℕ) (name : TaskName) {task : Task 
   pub list_refused : (stop : Stop ℕ) → directory_walk nat_eq world task path ≡ Err stop
       → (policy nat_eq fresh world name (Ls path)).answer ≡ Err stop.deny
   unfolding list_permit
-  list_refused stop walk = ap (λ o. (by_task (Ls path) o).answer) called
-      ∙ ap (λ r. answer_of (and_then (walk_end r) (λ (here : Here ℕ).
-      unless (list_rules nat_eq world task here.location) (Ok (ToList here.location))))) walk
+  list_refused stop walk = cc (called)
 
   -- a regular file is read, if it may be
   pub read_of : IsPlain world → (here : Here ℕ) → object_walk nat_eq world task path ≡ Ok here

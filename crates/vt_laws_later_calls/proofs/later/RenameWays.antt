@@ -356,10 +356,10 @@ module _ {world : World ℕ} {fresh : Fresh ℕ} {name : TaskName} {call : Call}
   )) (last_step whole object.node way.0 next way.1)
     where
       at_fs_now : entry_at whole here.node any ≡ Some next
-      at_fs_now = ap (λ n. entry_at (tree_in world n) here.node any) (sym same) ∙ e
+      at_fs_now = cc (same, e)
 
       directory_here : is_directory_node (whole.node here.node) ≡ true
-      directory_here = ap (λ n. is_directory_node (node_in world n here.node)) (sym same) ∙ known.0.1
+      directory_here = cc (same, known.0.1)
 
       moved_here : object.node ≡ next → Inside (mount_at nat_eq world here).root
       moved_here leads =

@@ -349,7 +349,7 @@ module _ {world : World ℕ} {fresh : Fresh ℕ} {place : Location ℕ} {first :
       still : (push_it mount ≡ mount) × ((part : Mount ℕ) → Among part (rest_of parts)
           → stands_at nat_eq (record { mount = part.number; node = place.node }) mount ≡ false)
           → (push_it mount).mount_point ≡ Some (record { mount = receiver.number; node = place.node })
-      still stayed = ap (λ (x : Mount ℕ). x.mount_point) stayed.0 ∙ stands
+      still stayed = cc (stayed.0, stands)
 
       risen : (part : Mount ℕ) × IsPart it part
           × (mount.mount_point ≡ Some (record { mount = part.number; node = place.node }))
