@@ -1,5 +1,5 @@
 -- Tasks keep names of their own: what a fork names is a new name, where tasks have counted their forks.
-use Rattle.std.proofs.Common.{◌≡◌, refl, sym, ap, subst, ◌∙◌, ◌⊎◌, inl, inr, ⊎_elim, ℕ, nat_eq, Bool, true, false, cond, true≢false, filter, not, List, [], ◌∷◌, ◌++◌, ◌+◌, ◌≤◌, ◌||◌, append_assoc, arith, map}
+use Rattle.std.proofs.Common.{◌≡◌, refl, sym, ap, subst, ◌∙◌, ◌⊎◌, inl, inr, ⊎_elim, ℕ, nat_eq, Bool, true, false, cond, true≢false, filter, not, List, [], ◌∷◌, ◌++◌, ◌+◌, ◌≤◌, append_assoc, arith, map}
 use Rattle.vt_spec.proofs.Common.{Among, Credentials, ForksAreCounted, Fresh, Mount, Task, TaskName, World, among-append, among-from_filter, among-from_map, among_from_contains, any_pair, bytes_decides, child_name, child_of, common_steps, contains_from_among, first_task, list_any, name-replaced_if_called, none_among, none_from_among, opening, or_parts, pair-filter, pair-map, pivoted_task, replaced_if_called, same_name, same_task_name}
 
 -- A name that is put together in two ways
@@ -62,7 +62,7 @@ appended_apart (first ∷ rest) new e differ = both (any_appended rest (first_pa
 
     both : list_any (λ (b : Task ℕ). same_name first.name b.name) (rest ++ (new ∷ [])) ≡ false
         → AreNamedApart (rest ++ (new ∷ [])) → AreNamedApart (first ∷ (rest ++ (new ∷ [])))
-    both h k = ap (λ b. b || any_pair (λ (a b : Task ℕ). same_name a.name b.name) (rest ++ (new ∷ []))) h ∙ k
+    both h k = cc
 
 -- Forks are counted, in a list of tasks
 abbrev AreCounted : List (Task ℕ) → Type 0

@@ -1,6 +1,6 @@
 -- The opening world has the invariants.
-use Rattle.std.proofs.Common.{arith, ◌≡◌, refl, sym, ap, ◌∙◌, ℕ, nat_eq, eq-eqb, true, false, [], ◌||◌, ◌&&◌, is_some, option_to_list}
-use Rattle.vt_spec.proofs.Common.{All-cons, All-head, All-nil, All-weaker, Filesystem, Fresh, HasOwnParents, IsTree, ListsNumbers, Mount, MountInvariants, NamespaceInvariants, Stands, TaskInvariants, TreeInvariants, World, and_from, at_root, common_steps, directory_is_there, filesystem_numbered, first_mount, is_directory_at, is_directory_node, list_all, mount_at, mount_numbered, new_plain, node_at, opening, root_of}
+use Rattle.std.proofs.Common.{arith, ◌≡◌, refl, ap, ◌∙◌, ℕ, nat_eq, eq-eqb, true, false, [], ◌||◌, ◌&&◌, is_some, option_to_list}
+use Rattle.vt_spec.proofs.Common.{All-cons, All-head, All-nil, All-weaker, Filesystem, Fresh, HasOwnParents, IsTree, ListsNumbers, Mount, MountInvariants, NamespaceInvariants, Stands, TaskInvariants, TreeInvariants, World, and_from, at_root, common_steps, directory_is_there, first_mount, is_directory_at, list_all, mount_at, mount_numbered, new_plain, node_at, opening, root_of}
 use Rattle.vt_spec.specs.Machine.World.{first_location}
 use Rattle.vt_laws_mounts.specs.LettingGo.InUse.{AllInUse}
 use Rattle.vt_laws_mounts.proofs.letting_go.sweeps.InUse.{nothing_goes}
@@ -83,9 +83,7 @@ module _ (fresh : Fresh ℕ) where
   tasks = grind (arith, common_steps, opening_has_small_tasks, opening_counts_forks, located, seen)
 
   roots : MountsShow first_world
-  roots = ap (λ b. (b && true) && true) (ap (λ (m : Mount ℕ). is_directory_node
-      ((filesystem_numbered nat_eq first_world m.filesystem).files.tree.node (fresh 3))) (sym found_mount)
-      ∙ root_is_directory)
+  roots = cc (found_mount, root_is_directory)
 
   in_use : AllInUse first_world
   in_use = grind (arith, common_steps, mounts, itself, or_left)

@@ -1,6 +1,6 @@
 -- A permit leaves no descriptor open for writing in an overlay without an upper layer.
 use Rattle.std.proofs.Common.{arith, Bool, List, None, Ok, Option, Some, [], ap, false, inr, is_some, map, nat_eq, not, option_map, refl, subst, sym, true, ⊎_elim, ℕ, ◌&&◌, ◌+◌, ◌++◌, ◌==◌, ◌∙◌, ◌∷◌, ◌≡◌}
-use Rattle.vt_spec.proofs.Common.{Access, Among, Call, Change, Descriptor, Filesystem, Fresh, IsWorld, Location, Looks, Mount, Outcome, Overlay, Permit, Task, TaskName, ToClose, ToEnterNamespace, ToExit, ToFork, ToOpen, ToOpenNew, ToPivot, ToSetCredentials, ToSetDirectory, ToSetRoot, ToSetUmask, ToUnshare, World, after, all_locations, among-append, among-flat_map, among-from_filter, among-from_map, among-map, among_from_list_all, and_parts, apply, call_outcome, child_of, common_steps, evens, has_no_upper, is_located_well, judge_in, list_all_from_among, locations_of, looks_of, mount_at, mount_numbered, numbers_raised, odds, opens_for_writing, overfills, overlay_at, overlay_filesystem, overlay_or, pivoted_task, plain_filesystem, raised_task, replaced_if_called, same_name, settled, with_change, with_descriptor, without_descriptor, ⊤}
+use Rattle.vt_spec.proofs.Common.{Access, Among, Call, Change, Descriptor, Filesystem, Fresh, IsWorld, Location, Looks, Mount, Overlay, Permit, Task, TaskName, ToClose, ToEnterNamespace, ToExit, ToFork, ToOpen, ToOpenNew, ToPivot, ToSetCredentials, ToSetDirectory, ToSetRoot, ToSetUmask, ToUnshare, World, all_locations, among-append, among-flat_map, among-from_filter, among-from_map, among-map, among_from_list_all, and_parts, apply, call_outcome, child_of, common_steps, evens, has_no_upper, is_located_well, judge_in, list_all_from_among, locations_of, looks_of, mount_at, mount_numbered, numbers_raised, odds, opens_for_writing, overfills, overlay_at, overlay_filesystem, overlay_or, pivoted_task, plain_filesystem, raised_task, replaced_if_called, same_name, settled, with_change, with_descriptor, without_descriptor, ⊤}
 use Rattle.vt_laws_trees.proofs.calls.tasks.TasksLeft.{left_tasks, tasks_left}
 use Rattle.vt_laws_worlds.specs.Given.LeftWorlds.{IsGivenToTask}
 use Rattle.vt_laws_worlds.proofs.overlay_permits.kept.KeptOverlays.{permits_make_their_change}
@@ -169,8 +169,7 @@ module _ (world : World ℕ) (fresh : Fresh ℕ) (task : Task ℕ) (permit : Per
   opened_there : (file : Location ℕ) (access : Access) → is_located_well nat_eq world file ≡ true
       → (opens_for_writing access && has_no_upper looks file) ≡ false
       → not (opens_for_writing access && has_no_upper (looks_of nat_eq later) file) ≡ true
-  opened_there file access there refused =
-      ap (λ b. not (opens_for_writing access && b)) (upper_stays file there) ∙ ap not refused
+  opened_there file access there refused = cc (upper_stays file there)
 
   caller_kept : writes later task ≡ true
   caller_kept = kept task (called_there world.tasks task.name task given.called)
@@ -230,5 +229,4 @@ every_call_keeps_writers world fresh name call is serves few well =
   where
     applied : (task : Task ℕ) (permit : Permit ℕ) → judge_in nat_eq fresh world task call ≡ Ok permit
         → (call_outcome nat_eq fresh world task call).world ≡ (apply nat_eq fresh world task permit).world
-    applied task permit judged = ap (λ (o : Outcome ℕ). o.world) (call_is_judged_then_applied fresh world task call
-        ∙ ap (λ j. after world j (apply nat_eq fresh world task)) judged)
+    applied task permit judged = cc (call_is_judged_then_applied fresh world task call)

@@ -152,10 +152,10 @@ module _ (world : World ℕ) (unsettled : IsUnderWay world) where
           by number (at_root it f) same =
               absurd (true≢false (sym (ap is_some e) ∙ ap (λ (x : Mount ℕ). is_some x.mount_point) (sym same)
               ∙ ap is_some f))
-          by number (on_parent it at f g stands) same = ap (λ l. is_some (mount_at nat_eq world l).namespace)
-              (same_Some place at (sym e ∙ ap (λ (x : Mount ℕ). x.mount_point) (sym same) ∙ f))
-              ∙ ap is_some (sym g) ∙ ap (λ (x : Mount ℕ). is_some x.namespace) same
-              ∙ placed_attached world unsettled mount m (ap is_some e)
+          by number (on_parent it at f g stands) same = cc (
+            same_Some place at (sym e ∙ ap (λ (x : Mount ℕ). x.mount_point) (sym same) ∙ f),
+            placed_attached world unsettled mount m (ap is_some e),
+          )
 
       same_place : (place : Location ℕ) → mount.mount_point ≡ Some place → node_at nat_eq after place
           ≡ node_at nat_eq world place

@@ -69,8 +69,7 @@ module _ {world : World ℕ} {fresh : Fresh ℕ} {task : Task ℕ} (call : Call)
   after_call = (call_outcome nat_eq fresh world task call).world
 
   pub applied : call_outcome nat_eq fresh world task call ≡ apply nat_eq fresh world task permit
-  applied = call_is_judged_then_applied fresh world task call
-      ∙ ap (λ j. after world j (apply nat_eq fresh world task)) granted
+  applied = cc (call_is_judged_then_applied fresh world task call, granted)
 
   -- what a permit that fits keeps
   kept_by_call : (Invariant : World ℕ → Type 0) → Invariant (apply nat_eq fresh world task permit).world
@@ -173,7 +172,7 @@ module _ {world : World ℕ} {fresh : Fresh ℕ} (name : TaskName) (call : Call)
       by false e = judged (judge_in nat_eq fresh world task call) refl
         where
           same : policy nat_eq fresh world name call ≡ finished_by nat_eq false world name changed outcome
-          same = it_is ∙ ap (λ b. finished_by nat_eq b world name changed outcome) e
+          same = cc (it_is, e)
 
           judged : (judgement : Judgement ℕ) → judge_in nat_eq fresh world task call ≡ judgement
               → Kept (policy nat_eq fresh world name call).world

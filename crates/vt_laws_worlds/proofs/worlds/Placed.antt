@@ -1,5 +1,5 @@
 -- Where tasks stand, and what they have open, is there in each world that keeps what is seen.
-use Rattle.std.proofs.Common.{arith, ◌≡◌, refl, ap, ◌∙◌, ◌⊎◌, inl, inr, ⊎_elim, ℕ, nat_eq, true, List, map}
+use Rattle.std.proofs.Common.{arith, ◌≡◌, refl, ap, ◌∙◌, inl, inr, ⊎_elim, ℕ, nat_eq, true, List, map}
 use Rattle.vt_spec.proofs.Common.{Among, Descriptor, Location, Task, World, all_locations, among-flat_map, among-from_flat_map, among-from_map, among-map, among_from_list_all, and_from, and_parts, common_steps, has_regular_files_open, is_directory_at, is_directory_seen_in, is_kind_in, is_located_well, list_all_from_among, locations_of, mount_at, node_at, replaced_if_called, stands_on_directories}
 use Rattle.vt_spec.specs.declared.attributes.Kind.TheVariants.{File}
 use Rattle.vt_laws_worlds.specs.Worlds.Tasks.{LocationsAreThere, OpenFilesAreRegular, TasksStandOnDirectories}

@@ -2,7 +2,7 @@
 -- what is seen stays in a change of any filesystem.
 use Rattle.std.proofs.Common.{arith, ◌≡◌, ◌≢◌, refl, sym, ap, subst, ◌∙◌, inl, ⊎_elim, ◌++◌, not, ℕ, ◌+◌, ◌*◌, nat_eq, ne_eqb, eq-eqb, Bool, true, false, true≢false, List, [], ◌∷◌, Option, Some, None, is_some, map, All, option_to_list}
 use Rattle.vt_laws_mounts.proofs.mounts.MountsLeft.{mounts-with_change}
-use Rattle.vt_spec.proofs.Common.{AddName, Among, Change, CopyUp, FileTree, Filesystem, Fresh, Layer, ListsNumbers, Location, Make, Merge, Mount, Move, Node, Overlay, OverlayInvariants, Remove, Serves, SetAttr, SetBytes, SetMark, Stack, World, a_name, all_from_among, among_from_list_all, and_parts, changed, changed_node, common_steps, content_with_parent, copied_content, copied_each, copied_up, copy_named, copy_of, copy_of_node, copy_parent, entries_in, entry_named, evens, evens-distinct, files_at, filesystem_at, filesystem_changed, filesystem_numbered, hides_directory, is_directory_at, is_in_upper, is_overlay, is_plain_layer, kind_of, layers_of, list_all, merge_changed, merge_of, merge_with_moved, merge_with_new, merge_without_name, mount_at, mount_in, name_left_by, node_at, node_with_attr, node_with_bytes, node_with_mark, node_without_entries, odds, odds-distinct, odds-no_evens, of_overlay, overlay_changed, overlay_or, replaced_if_numbered, shown_in_lowers_at, stack_of, upper_directory_named, upper_of, whiteout_of, with_change, with_files, with_filesystem, with_inode, with_mark, with_moved, with_name, without_contents, without_name, without_parent}
+use Rattle.vt_spec.proofs.Common.{AddName, Among, Change, CopyUp, FileTree, Filesystem, Fresh, Layer, ListsNumbers, Location, Make, Merge, Move, Node, Overlay, OverlayInvariants, Remove, Serves, SetAttr, SetBytes, SetMark, Stack, World, a_name, all_from_among, among_from_list_all, and_parts, changed, changed_node, common_steps, content_with_parent, copied_content, copied_each, copied_up, copy_named, copy_of, copy_of_node, copy_parent, entries_in, entry_named, evens, evens-distinct, files_at, filesystem_at, filesystem_changed, filesystem_numbered, hides_directory, is_directory_at, is_in_upper, is_overlay, is_plain_layer, kind_of, layers_of, list_all, merge_changed, merge_of, merge_with_moved, merge_with_new, merge_without_name, mount_at, name_left_by, node_at, node_with_attr, node_with_bytes, node_with_mark, node_without_entries, odds, odds-distinct, odds-no_evens, of_overlay, overlay_changed, overlay_or, replaced_if_numbered, shown_in_lowers_at, stack_of, upper_directory_named, upper_of, whiteout_of, with_change, with_files, with_filesystem, with_inode, with_mark, with_moved, with_name, without_contents, without_name, without_parent}
 use Rattle.vt_laws_trees.proofs.trees.ChangesNodes.{part_stays}
 use Rattle.vt_laws_trees.proofs.trees.TreesOfWorlds.{number_numbered, numbered, numbered_all}
 use Rattle.vt_laws_worlds.proofs.worlds.Seen.{KeepsKind, KeepsWhatIsSeen, kind_seen, same_kind, same_seen, seen_by_nodes, seen_on}
@@ -422,9 +422,7 @@ module _ (fresh : Fresh ℕ) (world : World ℕ) (elsewhere : UppersAreElsewhere
   pub new_inode_seen : kind_seen
       (node_at nat_eq (with_change nat_eq fresh world location Made) (record { mount = location.mount; node = number }))
       ≡ Some (kind_of node.content)
-  new_inode_seen = ap (λ (mounts : List (Mount ℕ)). kind_seen (inode_in (with_change nat_eq fresh world location Made)
-      (mount_in nat_eq mounts location.mount).filesystem number)) (mounts-with_change world fresh location Made)
-      ∙ is_made
+  new_inode_seen = cc (mounts-with_change world fresh location Made, is_made)
 
 -- Upper layers are in plain trees; so they are in worlds with the same filesystems, and no number that is handed in is
 -- an inode's

@@ -1,6 +1,6 @@
 -- What a permit that a call is given leaves is a world, with overlays too.
-use Rattle.std.proofs.Common.{arith, ◌≡◌, refl, sym, ap, subst, ◌∙◌, true≢false, ℕ, nat_eq, Bool, true, false}
-use Rattle.vt_spec.proofs.Common.{Call, Fresh, IsWorld, MountOverlay, Outcome, OverlayInvariants, Permit, Task, World, after, apply, call_outcome, common_steps}
+use Rattle.std.proofs.Common.{arith, ◌≡◌, refl, sym, subst, true≢false, ℕ, nat_eq, Bool, true, false}
+use Rattle.vt_spec.proofs.Common.{Call, Fresh, IsWorld, MountOverlay, OverlayInvariants, Permit, Task, World, apply, call_outcome, common_steps}
 use Rattle.vt_laws_rules.proofs.judged.CallsJudged.{call_is_judged_then_applied}
 use Rattle.vt_laws_trees.specs.Trees.Calls.{mounts_overlay}
 use Rattle.vt_laws_worlds.specs.Worlds.Kept.{IsUnderWay}
@@ -15,8 +15,7 @@ module _ {world : World ℕ} {fresh : Fresh ℕ} {task : Task ℕ} {permit : Per
   IsReady w = IsUnderWay w × OverlayInvariants nat_eq w
 
   applied : (call_outcome nat_eq fresh world task given.call).world ≡ (apply nat_eq fresh world task permit).world
-  applied = ap (λ (o : Outcome ℕ). o.world) (call_is_judged_then_applied fresh world task given.call
-      ∙ ap (λ j. after world j (apply nat_eq fresh world task)) given.judged)
+  applied = cc (call_is_judged_then_applied fresh world task given.call, given.judged)
 
   -- a world is one before the sweep, too
   world_is_ready : (w : World ℕ) → IsWorld nat_eq w → IsReady w

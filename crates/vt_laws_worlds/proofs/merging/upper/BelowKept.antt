@@ -1,6 +1,6 @@
 -- What lower layers show in two overlays over them: where that is the same, and where it is nothing.
 use Rattle.std.proofs.Common.{arith, ◌≡◌, refl, sym, ap, subst, ◌∙◌, true≢false, ℕ, suc, ◌+◌, nat_eq, Bool, true, false, cond, List, [], ◌∷◌, ◌++◌, map, Option, Some, None, is_some, option_and_then, append-nil}
-use Rattle.vt_spec.proofs.Common.{Merge, OpenLayer, SameObject, Shown, Stack, Tree, Upper, View, common_steps, cuts, directory_no_whiteout, hides, hides_directory, is_directory_node, is_directory_shown, is_in_upper, layer_node, led, list_any, node_led, none_from_not_some, number_at_path, prefixes, same_Some, shown, shown_from, shown_over, then_some, upper_object, upper_of, view_of}
+use Rattle.vt_spec.proofs.Common.{Merge, OpenLayer, SameObject, Shown, Stack, Tree, Upper, View, common_steps, cuts, directory_no_whiteout, hides, hides_directory, is_directory_node, is_directory_shown, is_in_upper, layer_node, led, list_any, node_led, none_from_not_some, number_at_path, prefixes, same_Some, shown, shown_from, then_some, upper_object, upper_of, view_of}
 use Rattle.vt_laws_trees.specs.Layers.Layers.Mounted.{IsAlike}
 use Rattle.vt_laws_trees.specs.Layers.Layers.Views.{view_in}
 use Rattle.vt_laws_trees.proofs.layers.layers.ShownDirectories.{AreOpen, ShowsDirectory, append_assoc, last_of, led_is_there, longer_is_not_empty}
@@ -75,8 +75,7 @@ module _ (stack : Stack ℕ) (m : Merge ℕ) (whole : IsWhole stack m) where
   open_leads way shows uncut = by (led m.upper.tree stack.directory way) refl
     where
       low : led m.upper.tree stack.directory way ≡ None → shown (layers_under stack m) way ≡ Some (seen_in way shows)
-      low e = ap (λ o. shown_over view 0 o (cuts view way) (shown_from 1 lowers way)) e
-          ∙ ap (λ b. shown_over view 0 None b (shown_from 1 lowers way)) uncut ∙ shows.is
+      low e = cc (uncut, shows.is)
 
       is_directory : is_directory_node (layer_node (layers_under stack m) (seen_in way shows)) ≡ true
       is_directory = shown_node (layers_under stack m) (seen_in way shows)
@@ -221,7 +220,7 @@ module _ (stack : Stack ℕ) (m later : Merge ℕ) (whole : IsWhole stack m) (wh
       last = last_of (word ∷ rest) (not_empty word rest)
 
       split : (path ++ name ∷ last.0) ++ last.1 ∷ [] ≡ path ++ name ∷ word ∷ rest
-      split = append_assoc path (name ∷ last.0) (last.1 ∷ []) ∙ ap (λ r. path ++ name ∷ r) last.2
+      split = cc (append_assoc path (name ∷ last.0) (last.1 ∷ []), last.2)
 
       none : cuts after (path ++ name ∷ last.0) ≡ false → (seen : Shown ℕ)
           → shown_from 1 (map view_of stack.lowers) ((path ++ name ∷ last.0) ++ last.1 ∷ []) ≡ Some seen → ⊥

@@ -158,8 +158,7 @@ module _ (fresh : Fresh ℕ) {stack : Stack ℕ} {m : Merge ℕ} (whole : IsWhol
           (λ t. none_is_some d (sym (through_free m.files m.files.tree.root d w may.name_is_free.free to t) ∙ leads))
 
       leads_new : number_at_path later.files (to ++ w ∷ []) ≡ Some number
-      leads_new = number_later (to ++ w ∷ []) ∙ ap (λ b. cond b (Some number) (number_at_path m.files (to ++ w ∷ [])))
-          (entry_named_so m.files m.files.tree.root d w to leads)
+      leads_new = cc (number_later (to ++ w ∷ []), entry_named_so m.files m.files.tree.root d w to leads)
 
       under : (word : List ℕ) (rest : List (List ℕ)) → seen_below stack later.upper (to ++ w ∷ word ∷ rest) ≡ None
       under = under_mark stack m later whole whole_later to w d (leads, may.name_is_free.in_directory)

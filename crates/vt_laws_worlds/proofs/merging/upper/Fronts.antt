@@ -143,8 +143,7 @@ module _ (fresh : Fresh ℕ) (distinct : (j k : ℕ) → fresh j ≡ fresh k →
 
       at : (f : List (List ℕ)) → f ≢ path
           → hides (node_led (view_in one_more stack.directory) f) ≡ hides (node_led (view_in before stack.directory) f)
-      at f differs = ap (λ o. hides (then_some o one_more.tree.node)) (other_leads f differs)
-          ∙ by f (led_above stack before f) refl
+      at f differs = cc (other_leads f differs, by f (led_above stack before f) refl)
 
   on_front : (other rest : List (List ℕ)) → other ++ rest ≡ path
       → led_above stack one_more other ≡ Some (unwrap_or (led_above stack upper other) (fresh (length other)))
@@ -245,13 +244,13 @@ module _ (fresh : Fresh ℕ) (distinct : (j k : ℕ) → fresh j ≡ fresh k →
     stands = stands_copied stack fresh distinct merge parent whole unused parent_there
 
     above_now : number_at_path m.files front ≡ Some parent
-    above_now = ap (λ files. number_at_path files front) line.copied.files ∙ above
+    above_now = cc (line.copied.files, above)
 
     leads_later : number_at_path m.files (front ++ name ∷ []) ≡ Some object
-    leads_later = ap (λ files. number_at_path files (front ++ name ∷ [])) line.copied.files ∙ leads
+    leads_later = cc (line.copied.files, leads)
 
     there_now : is_some (m.files.tree.node object) ≡ true
-    there_now = ap (λ files. is_some (files.tree.node object)) line.copied.files ∙ there
+    there_now = cc (line.copied.files, there)
 
     -- its name is the last of the path
     name_is : a_name nat_eq merge.files object ≡ Some (parent, name)
@@ -301,7 +300,7 @@ module _ (fresh : Fresh ℕ) (distinct : (j k : ℕ) → fresh j ≡ fresh k →
     up = named_above stack m line.copied.whole front parent (upper_of m parent) above_now (upper_real m parent stands)
 
     above_is : object_above stack m.upper (without_last (front ++ name ∷ [])) ≡ upper_of m parent
-    above_is = ap (object_above stack m.upper) (without_last_of_longer front name) ∙ ap (λ o. unwrap_or o 0) up
+    above_is = cc (without_last_of_longer front name, up)
 
     up_directory : IsDirectory m.upper.tree (upper_of m parent)
     up_directory = directory_stands stack m line.copied.whole parent (upper_of m parent) (upper_real m parent stands)

@@ -1,6 +1,6 @@
 -- The upper layer's files after a permitted call.
 use Rattle.std.proofs.Common.{arith, ◌≡◌, ◌≢◌, refl, sym, ap, subst, ◌∙◌, true≢false, ℕ, nat_eq, List, flat_map, map, Some, None, unwrap_or, find}
-use Rattle.vt_spec.proofs.Common.{Change, Filesystem, Fresh, IsWorld, Layer, Location, Merge, Overlay, Permit, Task, World, apply, common_steps, filesystem_at, filesystem_changed, filesystem_numbered, filesystems-taken_away, is_directory_node, merge_changed, merge_of, mount_at, mount_tree, mounts_on, no_filesystem, opened, overlay_changed, shown-taken_away, stack_of, taken_away, with_change, with_copy, with_files, with_filesystem, with_merge}
+use Rattle.vt_spec.proofs.Common.{Change, Filesystem, Fresh, IsWorld, Layer, Location, Merge, Overlay, Permit, Task, World, apply, common_steps, filesystem_at, filesystem_changed, filesystem_numbered, filesystems-taken_away, is_directory_node, merge_changed, merge_of, mount_at, mount_tree, mounts_on, no_filesystem, overlay_changed, shown-taken_away, stack_of, taken_away, with_change, with_files, with_filesystem, with_merge}
 use Rattle.vt_laws_rules.proofs.judged.CallsJudged.{call_is_judged_then_applied}
 use Rattle.vt_laws_trees.proofs.layers.layers.LowersWorld.{filesystem_elsewhere, filesystem_there, number_of_filesystem}
 use Rattle.vt_laws_trees.proofs.layers.layers.UpperWorld.{upper_elsewhere}
@@ -42,7 +42,7 @@ module _ {world : World ℕ} (now : World ℕ) (conditions : IsWorld nat_eq worl
   same_numbered n = ap (λ list. unwrap_or (find (λ filesystem. nat_eq n filesystem.number) list) (no_filesystem n)) same
 
   is_before : (filesystem_numbered nat_eq world number).overlay ≡ Some overlay
-  is_before = ap (λ f. f.overlay) (sym (same_numbered number)) ∙ is
+  is_before = cc (same_numbered number, is)
 
   whole : IsWhole (stack_of nat_eq world overlay upper)
       (merge_of nat_eq world (filesystem_numbered nat_eq world number) overlay upper)
@@ -150,9 +150,8 @@ module _ (fresh : Fresh ℕ) {world : World ℕ} (task : Task ℕ) (location : L
       upper_taken conditions (map (λ mount. mount.number)
       (flat_map (mount_tree nat_eq world.mounts) (mounts_on nat_eq world replaced)))
       location overlay upper is has numbers change at new asks
-  after_call numbers permit change (does_open file access copied) new asks = ap (λ b. (filesystem_numbered nat_eq
-      (opened (with_copy nat_eq b fresh world file) task file access).world upper.filesystem).files) copied
-      ∙ upper_by_layers world conditions refl location is has numbers change at new asks
+  after_call numbers permit change (does_open file access copied) new asks =
+      cc (upper_by_layers world conditions refl location is has numbers change at new asks)
   after_call numbers permit change (does_write file offset byte bytes) new asks =
       upper_by_layers world conditions refl location is has numbers change at new asks
 

@@ -139,7 +139,7 @@ module _ {world : World ℕ} (is : IsWorld nat_eq world) (number : ℕ) {overlay
   through location change asks same = by overlay.upper refl
     where
       here : (filesystem_at nat_eq world location).overlay ≡ Some overlay
-      here = ap (λ n. (filesystem_numbered nat_eq world n).overlay) (sym same) ∙ was
+      here = cc (same, was)
 
       made : called_world.filesystems
           ≡ (with_change nat_eq (numbers_left fresh permit) world location change).filesystems
@@ -230,7 +230,7 @@ every_call_uncovers_nothing world fresh name call number overlay is serves few w
 uncovers_itself : (world : World ℕ) (number : ℕ) (overlay : Overlay ℕ)
     → (filesystem_numbered nat_eq world number).overlay ≡ Some overlay → UncoversNothing world world number overlay
 uncovers_itself world number overlay was after path seen now low e =
-    ap (λ (o : Overlay ℕ). shown_in world o path) (same_Some overlay after (sym was ∙ now)) ∙ e
+    cc (same_Some overlay after (sym was ∙ now))
 
 uncovers_both : (a b c : World ℕ) (number : ℕ) (overlay : Overlay ℕ) (stays : LowersStay a b number overlay)
     → UncoversNothing a b number overlay → UncoversNothing b c number stays.after → UncoversNothing a c number overlay

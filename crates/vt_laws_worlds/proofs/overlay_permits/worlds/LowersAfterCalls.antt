@@ -63,9 +63,7 @@ module _ (world later : World ℕ) (new : Filesystem ℕ)
 
   found_still : (number : ℕ) (f : Filesystem ℕ) → looked_up number ≡ Some f
       → filesystem_numbered nat_eq later number ≡ filesystem_numbered nat_eq world number
-  found_still number f e =
-      ap (λ list. unwrap_or (find (λ (f : Filesystem ℕ). nat_eq number f.number) list) (no_filesystem number)) grows
-      ∙ ap (λ o. unwrap_or o (no_filesystem number)) (found_first number new world.filesystems f e ∙ sym e)
+  found_still number f e = cc (grows, found_first number new world.filesystems f e)
 
   pub shown_still : (number inode : ℕ) → is_some (inode_in world number inode) ≡ true
       → filesystem_numbered nat_eq later number ≡ filesystem_numbered nat_eq world number

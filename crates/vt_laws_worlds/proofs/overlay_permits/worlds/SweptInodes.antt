@@ -364,8 +364,7 @@ module _ (world : World ℕ) (files : HasFileTrees world)
 
       swept_is : filesystem_numbered nat_eq second_later layer.filesystem
           ≡ only_used_by nat_eq (list_all (λ n. is_among nat_eq n used) g.files.numbers) used g
-      swept_is =
-          found.is_swept ∙ ap (λ b. only_used nat_eq world b g) (and_true_left (not (is_overlay g)) _ layer_is_plain)
+      swept_is = cc (found.is_swept, and_true_left (not (is_overlay g)) _ layer_is_plain)
 
       directory_is_used : is_among nat_eq layer.directory used ≡ true
       directory_is_used = or_right (nat_eq layer.directory g.files.tree.root) _

@@ -124,7 +124,7 @@ module _ (world : World ℕ) (files : AreTrees world) (are : OverlayInvariants n
         ∙ ap (filesystem_numbered nat_eq world) (number_of_filesystem living number)
 
     was : (filesystem_numbered nat_eq world number).overlay ≡ Some overlay
-    was = sym (ap (λ (f : Filesystem ℕ). f.overlay) same_one) ∙ is
+    was = cc (same_one, is)
 
     -- it is mounted: no overlay has a layer in it
     is_mounted_itself : is_mounted nat_eq world number ≡ true

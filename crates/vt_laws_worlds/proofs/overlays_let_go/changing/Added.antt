@@ -114,7 +114,7 @@ module _ (fresh : Fresh ℕ) (stack : Stack ℕ) (before : Merge ℕ) (fit : IsF
   }
     where
       files_so : later.files ≡ changed nat_eq before.files change
-      files_so = files ∙ ap (λ f. changed nat_eq f change) grown.files
+      files_so = cc (files, grown.files)
 
       there_later : (number : ℕ) → is_some (before.files.tree.node number) ≡ true → Among number later.files.numbers
       there_later number is = subst (λ (f : FileTree ℕ). Among number f.numbers) (sym files_so)

@@ -96,8 +96,7 @@ module _ (fresh : Fresh ℕ) (stack : Stack ℕ) (before : Merge ℕ) (fit : IsF
 
   had_name : (directory : ℕ) (name : List ℕ) (d : ℕ) (n : List ℕ) (k : ℕ) → entry_at before.upper.tree d n ≡ Some k
       → upper_object (before.real directory) ≡ Some d → n ≡ name → HadName (directory, name) k
-  had_name directory name d n k e is same = ap (λ o. then_some o (λ m. entry_at before.upper.tree m name)) is
-      ∙ ap (entry_at before.upper.tree d) (sym same) ∙ e
+  had_name directory name d n k e is same = cc
 
   -- of a new object
   made_had : (directory : ℕ) (name : List ℕ) → is_some (before.files.tree.node directory) ≡ true

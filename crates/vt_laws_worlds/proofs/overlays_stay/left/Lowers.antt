@@ -1,6 +1,6 @@
 -- A given permit leaves the lower layers of overlays.
 use Rattle.std.proofs.Common.{◌≡◌, refl, sym, ap, subst, ◌∙◌, ℕ, nat_eq, true, true≢false, Option, Some, None, is_some}
-use Rattle.vt_spec.proofs.Common.{Fresh, IsWorld, Outcome, Overlay, Permit, Task, World, after, apply, call_outcome, filesystem_numbered, is_overlay, settled}
+use Rattle.vt_spec.proofs.Common.{Fresh, IsWorld, Overlay, Permit, Task, World, apply, call_outcome, filesystem_numbered, is_overlay, settled}
 use Rattle.vt_laws_rules.proofs.judged.CallsJudged.{call_is_judged_then_applied}
 use Rattle.vt_laws_worlds.proofs.given.left.Permits.{given_permits_leave_every_world}
 use Rattle.vt_laws_worlds.proofs.overlay_permits.worlds.EveryCall.{overlays_kept, under}
@@ -17,8 +17,7 @@ module _ {world : World ℕ} (fresh : Fresh ℕ) (task : Task ℕ) (permit : Per
   left = (call_outcome nat_eq fresh world task given.call).world
 
   applied : left ≡ (apply nat_eq fresh world task permit).world
-  applied = ap (λ (o : Outcome ℕ). o.world) (call_is_judged_then_applied fresh world task given.call
-      ∙ ap (λ j. after world j (apply nat_eq fresh world task)) given.judged)
+  applied = cc (call_is_judged_then_applied fresh world task given.call, given.judged)
 
   first : OverlayStays world left number overlay
   first = call_stays world is number overlay was fresh given.serves task given.call permit given.called given.judged
