@@ -73,11 +73,7 @@ lacks_mapped change numbers uppers number (first ∷ list) =
 module _ {A : Type 0} (test wanted : A → Bool) where
   found_never : (list : List A) → ((a : A) → wanted a ≡ true → test a ≡ false) → find wanted (filter test list) ≡ None
   found_never [] none = refl
-  found_never (first ∷ list) none = by _ refl (found_never list none)
-    where
-      by : (b : Bool) → test first ≡ b → find wanted (filter test list) ≡ None
-          → find wanted (cond b (first ∷ filter test list) (filter test list)) ≡ None
-      by b e later = grind (arith, common_steps, true≢false)
+  found_never (first ∷ list) none = grind (arith, common_steps, found_never list none)
 
 -- filesystems go by their numbers
 lacks_filtered : (lives : ℕ → Bool) (number : ℕ) (list : List (Filesystem ℕ))

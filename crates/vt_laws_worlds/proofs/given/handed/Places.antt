@@ -1,10 +1,10 @@
 -- Counts with the numbers of several inodes among them are a supply with room.
-use Rattle.std.proofs.Common.{◌≡◌, refl, ap, true≢false, ℕ, ◌==◌, ◌+◌, ◌*◌, ◌%◌, Bool, true, false, cond, not, ◌&&◌, List, [], ◌∷◌, arith, eq-eqb, ne_eqb, eqb-true}
+use Rattle.std.proofs.Common.{◌≡◌, refl, ap, true≢false, ℕ, ◌==◌, ◌+◌, ◌*◌, ◌%◌, true, false, cond, not, ◌&&◌, List, [], ◌∷◌, arith, eq-eqb, ne_eqb, eqb-true}
 use Rattle.vt_spec.proofs.Common.{and_parts, any_pair, common_steps, list_all, list_any, not-true, or_parts}
 use Rattle.vt_laws_rules.proofs.numbers.Allotments.{kept_lot}
 use Rattle.vt_laws_rules.proofs.numbers.NamedWorlds.{named_is_kept}
-use Rattle.vt_laws_rules.specs.Numbers.{Allotment, is_in_hand, is_kept, is_kept_lot}
-use Rattle.vt_laws_rules.specs.Numbers.Lot.{Kept, New}
+use Rattle.vt_laws_rules.specs.Numbers.{Allotment, is_in_hand, is_kept}
+use Rattle.vt_laws_rules.specs.Numbers.Lot.{Kept}
 use Rattle.vt_laws_trees.proofs.runs.handed.Counts.{counts, counts_from_hand, counts_keep, counts_stay}
 use Rattle.vt_laws_trees.proofs.runs.handed.InodesAllotted.{with_number}
 use Rattle.vt_laws_trees.specs.Runs.Handed.{counts_from, is_counted_before, may_be_given}
@@ -36,14 +36,8 @@ module _ (next : ℕ) (placed : Placed) (rest : List Placed) (before : Supply ne
   with_one = with_number before.allotment placed.0 placed.1 kept
 
   one_from_hand : (number : ℕ) → is_kept with_one number ≡ true → may_be_given number ≡ true
-  one_from_hand number = by _ _ refl
-    where
-      by : (here there : Bool) → (number == before.allotment.new placed.0) ≡ there
-          → is_kept_lot (cond here (New placed.0) (cond there Kept (before.allotment.lot number))) ≡ true
-          → may_be_given number ≡ true
-      by true there second e = cc
-      by false true second e = cc (eqb-true number (before.allotment.new placed.0) second, before.given placed.0)
-      by false false second e = before.from_hand number e
+  one_from_hand number =
+      grind (arith, common_steps, eqb-true, before.allotment.new, before.given, before.from_hand)
 
   one_stays : (number : ℕ) → may_be_given number ≡ true → is_in_hand with_one number ≡ true
   one_stays number given = grind (arith, common_steps)

@@ -1,5 +1,5 @@
 -- What `mount overlay` leaves is a world with all invariants.
-use Rattle.std.proofs.Common.{◌≡◌, refl, sym, ap, subst, ◌∙◌, true≢false, arith, inl, inr, ⊎_elim, ℕ, ◌+◌, ◌*◌, nat_eq, eq-eqb, Bool, true, false, not, cond, List, [], ◌∷◌, ◌++◌, filter, flat_map, map, Option, Some, None, unwrap_or, filter_map, option_map}
+use Rattle.std.proofs.Common.{◌≡◌, refl, sym, ap, subst, ◌∙◌, true≢false, arith, inl, inr, ⊎_elim, ℕ, ◌+◌, ◌*◌, nat_eq, eq-eqb, Bool, true, false, not, List, [], ◌∷◌, ◌++◌, filter, flat_map, map, Option, Some, None, unwrap_or, filter_map, option_map}
 use Rattle.vt_spec.proofs.Common.{Among, Filesystem, Fresh, IsWorld, Location, Merged, MergedInode, Mount, MountFlags, MountInvariants, MountOverlay, Namespace, NamespaceInvariants, Node, OpenLayer, Overlay, OverlayWords, Permit, Serves, Task, TaskInvariants, World, among-append, among-append_left, among-append_right, among-from_flat_map, among-from_map, and_parts, apply, call_outcome, common_steps, cons_option, each_once, evens, evens-distinct, has_its_root, has_too_many, index_from, inode_count, is_directory_node, is_one_inode, is_there, list_all, looks_of, merged_inode, merged_objects, mount_at, mounted, nat_eq_itself, new_mount, no_filesystem, none_from_among, numbers_in_use, odds, open_layer, overfills, overlay_filesystem, overlay_mounted, served-distinct, shown_layers, task_called, used_by_filesystem, used_by_mount, with_new_filesystem, ⊤}
 use Rattle.vt_spec.proofs.Tables.{destination_walk, overlay_at}
 use Rattle.vt_laws_mounts.specs.Mounts.Attached.{IsAttachedAt}
@@ -49,12 +49,8 @@ one_of fresh (first ∷ list) are number (inr m) = one_of fresh list are.1 numbe
 
 filtered_are : (fresh : Fresh ℕ) (test : ℕ → Bool) (list : List ℕ) → AreOf fresh list → AreOf fresh (filter test list)
 filtered_are fresh test [] are = tt
-filtered_are fresh test (number ∷ list) are = by _ (filtered_are fresh test list are.1)
-  where
-    by : (b : Bool) → AreOf fresh (filter test list)
-        → AreOf fresh (cond b (number ∷ filter test list) (filter test list))
-    by true rest = (are.0, rest)
-    by false rest = rest
+filtered_are fresh test (number ∷ list) are =
+    grind (arith, common_steps, filtered_are fresh test list are.1, are.0)
 
 once_are : (fresh : Fresh ℕ) (list : List ℕ) → AreOf fresh list → AreOf fresh (each_once nat_eq list)
 once_are fresh [] are = tt

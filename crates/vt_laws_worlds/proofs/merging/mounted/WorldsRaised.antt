@@ -1,6 +1,6 @@
 -- Change numbers are read by no invariant, of overlays neither.
-use Rattle.std.proofs.Common.{◌≡◌, refl, sym, ap, subst, ◌∙◌, ℕ, nat_eq, Bool, true, false, not, cond, ◌&&◌, ◌||◌, List, [], ◌∷◌, filter, find, flat_map, map, Option, Some, None, is_some, slice_get, unwrap_or, is_ok, ok_or, option_map}
-use Rattle.vt_spec.proofs.Common.{Filesystem, IsMerged, IsReached, IsWorld, Layer, Lower, MountOverlay, Namespace, OpenLayer, Overlay, OverlayInvariants, Real, SameObject, Task, Upper, World, after, all-map, any_pair, call_outcome, denial, filesystem_numbered, filesystems_changed_by, finished, finished_by, has_fit_layers, holds_of, is_directory_node, is_kind_in, is_object_of, is_opaque_in, is_overlay, is_plain_layer, is_under, judge_in, layer_node, layers_of, lies_or_counts_under, list_all, list_any, live_lowers, live_upper_and_work, merged_at, no_filesystem, node_at_path, number_at_path, of_overlay, only_looks, overlay_or, overlays, real_node, real_object, settled, shown, shown_layers, task_called, then_some, upper_and_work}
+use Rattle.std.proofs.Common.{◌≡◌, refl, sym, ap, subst, ◌∙◌, ℕ, nat_eq, Bool, true, false, not, ◌&&◌, ◌||◌, List, [], ◌∷◌, filter, find, flat_map, map, Option, Some, None, is_some, slice_get, unwrap_or, is_ok, ok_or, option_map, arith}
+use Rattle.vt_spec.proofs.Common.{Filesystem, IsMerged, IsReached, IsWorld, Layer, Lower, MountOverlay, Namespace, OpenLayer, Overlay, OverlayInvariants, Real, SameObject, Task, Upper, World, after, all-map, any_pair, call_outcome, denial, filesystem_numbered, filesystems_changed_by, finished, finished_by, has_fit_layers, holds_of, is_directory_node, is_kind_in, is_object_of, is_opaque_in, is_overlay, is_plain_layer, is_under, judge_in, layer_node, layers_of, lies_or_counts_under, list_all, list_any, live_lowers, live_upper_and_work, merged_at, no_filesystem, node_at_path, number_at_path, of_overlay, only_looks, overlay_or, overlays, real_node, real_object, settled, shown, shown_layers, task_called, then_some, upper_and_work, common_steps}
 use Rattle.vt_spec.specs.declared.errors.Rule.TheVariants.{S2}
 use Rattle.vt_spec.specs.declared.attributes.Kind.TheVariants.{White}
 use Rattle.vt_laws_mounts.proofs.letting_go.sweeps.InUse.{nothing_goes}
@@ -50,17 +50,7 @@ module _ (of_filesystem : Filesystem ℕ → ℕ) (of_namespace : Namespace ℕ 
       → (unwrap_or (find (λ f. nat_eq number f.number) (map filesystem_later list)) (no_filesystem number)).overlay
       ≡ (unwrap_or (find (λ f. nat_eq number f.number) list) (no_filesystem number)).overlay
   overlay_in number [] = refl
-  overlay_in number (filesystem ∷ list) = by _ (overlay_in number list)
-    where
-      by : (b : Bool)
-          → (unwrap_or (find (λ f. nat_eq number f.number) (map filesystem_later list)) (no_filesystem number)).overlay
-          ≡ (unwrap_or (find (λ f. nat_eq number f.number) list) (no_filesystem number)).overlay
-          → (unwrap_or (cond b (Some (filesystem_later filesystem))
-          (find (λ f. nat_eq number f.number) (map filesystem_later list))) (no_filesystem number)).overlay
-          ≡ (unwrap_or (cond b (Some filesystem) (find (λ f. nat_eq number f.number) list))
-          (no_filesystem number)).overlay
-      by true rest = refl
-      by false rest = rest
+  overlay_in number (filesystem ∷ list) = grind (arith, common_steps, overlay_in number list)
 
   overlay_same : (number : ℕ) → (filesystem_numbered nat_eq later number).overlay ≡
       (filesystem_numbered nat_eq world number).overlay
@@ -69,14 +59,7 @@ module _ (of_filesystem : Filesystem ℕ → ℕ) (of_namespace : Namespace ℕ 
   filtered : (list : List (Filesystem ℕ))
       → filter is_overlay (map filesystem_later list) ≡ map filesystem_later (filter is_overlay list)
   filtered [] = refl
-  filtered (filesystem ∷ list) = by _ (filtered list)
-    where
-      by : (b : Bool) → filter is_overlay (map filesystem_later list) ≡ map filesystem_later (filter is_overlay list)
-          → cond b (filesystem_later filesystem ∷ filter is_overlay (map filesystem_later list))
-          (filter is_overlay (map filesystem_later list))
-          ≡ map filesystem_later (cond b (filesystem ∷ filter is_overlay list) (filter is_overlay list))
-      by true rest = cc
-      by false rest = rest
+  filtered (filesystem ∷ list) = grind (arith, common_steps, filtered list)
 
   overlays_same : overlays later ≡ map filesystem_later (overlays world)
   overlays_same = filtered world.filesystems

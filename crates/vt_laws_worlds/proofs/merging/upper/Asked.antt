@@ -1,12 +1,12 @@
 -- What is asked well is at some places.
-use Rattle.std.proofs.Common.{◌≡◌, ◌≢◌, refl, sym, ap, ◌∙◌, true≢false, ℕ, nat_eq, eq-eqb, eqb-true, Bool, true, false, List, [], ◌∷◌, ◌++◌, Option, Some, None, is_some, option_and_then}
-use Rattle.vt_spec.proofs.Common.{AddName, CopyUp, Make, Merge, Move, Real, Remove, SameObject, SetAttr, SetBytes, SetMark, Stack, a_name, entry_at, led-append, none_is_some, nothing_is_no_object, number_at_path, same_Some, then_some}
+use Rattle.std.proofs.Common.{◌≡◌, ◌≢◌, refl, sym, ap, ◌∙◌, true≢false, ℕ, nat_eq, eq-eqb, eqb-true, Bool, true, false, List, [], ◌∷◌, ◌++◌, Option, Some, None, is_some, option_and_then, arith}
+use Rattle.vt_spec.proofs.Common.{AddName, CopyUp, Make, Merge, Move, Real, Remove, SetAttr, SetBytes, SetMark, Stack, a_name, entry_at, led-append, none_is_some, nothing_is_no_object, number_at_path, same_Some, common_steps}
 use Rattle.vt_laws_trees.proofs.layers.layers.ShownDirectories.{last_of}
 use Rattle.vt_laws_trees.proofs.layers.layers.ShownNames.{last_name}
 use Rattle.vt_laws_trees.proofs.layers.layers.ShownPaths.{not_empty}
 use Rattle.vt_laws_trees.proofs.layers.layers.UpperLine.{has_entries, is_reached_in, named_so}
 use Rattle.vt_laws_trees.proofs.layers.layers.UpperShown.{has_a_name, way_to}
-use Rattle.vt_laws_trees.specs.Overlays.WhatIsShown.{IsWhole, inode_behind}
+use Rattle.vt_laws_trees.specs.Overlays.WhatIsShown.{IsWhole}
 use Rattle.vt_laws_worlds.specs.Merging.UpperChanges.{IsAt, LeadsToDirectory, Place}
 use Rattle.vt_laws_worlds.specs.Merging.UpperChanges.Place.{Held, Named}
 use Rattle.vt_laws_worlds.specs.Merging.UpperCalls.{AskedChangesHavePlaces}
@@ -17,13 +17,7 @@ module _ (stack : Stack ℕ) (merge : Merge ℕ) (whole : IsWhole stack merge) w
   -- what is there has a real object,
   real_of : (object : ℕ) → is_some (merge.files.tree.node object) ≡ true
       → (real : Real ℕ) × (merge.real object ≡ Some real)
-  real_of object there = by _ refl (whole.shown.real_objects object)
-    where
-      by : (o : Option (Real ℕ)) → merge.real object ≡ o
-          → SameObject (merge.files.tree.node object) (then_some o (inode_behind stack merge))
-          → (real : Real ℕ) × (merge.real object ≡ Some real)
-      by None e same = absurd (nothing_is_no_object _ there same)
-      by (Some real) e same = (real, e)
+  real_of object there = grind (arith, common_steps, nothing_is_no_object)
 
   -- what has no name, and is not the root, has no path,
   no_path : (object : ℕ) → nat_eq object merge.files.tree.root ≡ false → a_name nat_eq merge.files object ≡ None

@@ -1,5 +1,5 @@
 -- What lower layers show in two overlays over them: where that is the same, and where it is nothing.
-use Rattle.std.proofs.Common.{arith, ◌≡◌, refl, sym, ap, subst, ◌∙◌, true≢false, ℕ, suc, ◌+◌, nat_eq, Bool, true, false, cond, List, [], ◌∷◌, ◌++◌, map, Option, Some, None, is_some, option_and_then, append-nil}
+use Rattle.std.proofs.Common.{arith, ◌≡◌, refl, sym, ap, subst, ◌∙◌, true≢false, ℕ, suc, ◌+◌, nat_eq, Bool, true, false, List, [], ◌∷◌, ◌++◌, map, Option, Some, None, is_some, option_and_then, append-nil}
 use Rattle.vt_spec.proofs.Common.{Merge, OpenLayer, SameObject, Shown, Stack, Tree, Upper, View, common_steps, cuts, directory_no_whiteout, hides, hides_directory, is_directory_node, is_directory_shown, is_in_upper, layer_node, led, list_any, node_led, none_from_not_some, number_at_path, prefixes, same_Some, shown, shown_from, then_some, upper_object, upper_of, view_of}
 use Rattle.vt_laws_trees.specs.Layers.Layers.Mounted.{IsAlike}
 use Rattle.vt_laws_trees.specs.Layers.Layers.Views.{view_in}
@@ -124,14 +124,7 @@ module _ (stack : Stack ℕ) (m : Merge ℕ) (whole : IsWhole stack m) where
   pub shown_none : (way : List (List ℕ)) (name : List ℕ)
       → (cuts view way ≡ false → (seen : Shown ℕ) → shown_from 1 lowers (way ++ name ∷ []) ≡ Some seen → ⊥)
       → seen_below stack m.upper (way ++ name ∷ []) ≡ None
-  shown_none way name out =
-      cc (without_last_of_longer way name, by (cuts view way) refl (shown_from 1 lowers (way ++ name ∷ [])) refl)
-    where
-      by : (b : Bool) → cuts view way ≡ b → (o : Option (Shown ℕ)) → shown_from 1 lowers (way ++ name ∷ []) ≡ o
-          → cond b None o ≡ None
-      by true c o e = refl
-      by false c None e = refl
-      by false c (Some seen) e = absurd (out c seen e)
+  shown_none way name out = grind (arith, common_steps, out, without_last_of_longer)
 
   -- nor at a name of what is no directory of the overlay
   pub none_below : (way : List (List ℕ)) (name : List ℕ)
@@ -176,14 +169,7 @@ module _ (stack : Stack ℕ) (m later : Merge ℕ) (whole : IsWhole stack m) (wh
   pub hides_kept : (n : ℕ) → later.real n ≡ m.real n
       → ((u : ℕ) → m.real n ≡ Some (Upper u) → IsAlike (m.upper.tree.node u) (later.upper.tree.node u))
       → HidesAsBefore n
-  hides_kept n real alike = cc (by (m.real n) refl)
-    where
-      by : (r : Option (Rattle.vt_spec.specs.Machine.World.Real ℕ)) → m.real n ≡ r
-          → hides (then_some (upper_object r) later.upper.tree.node)
-          ≡ hides (then_some (upper_object r) m.upper.tree.node)
-      by None e = refl
-      by (Some (Upper u)) e = hiding_alike _ _ (hides_so _ _ (alike u e))
-      by (Some (Rattle.vt_spec.specs.Machine.World.Real.Lower layer path)) e = refl
+  hides_kept n real alike = grind (arith, common_steps, hiding_alike, hides_so, alike)
 
   -- A way is cut alike if its fronts lead to the same inodes, and these hide what they hid.
   pub same_cuts : (way : List (List ℕ)) (to : ℕ) → number_at_path m.files way ≡ Some to

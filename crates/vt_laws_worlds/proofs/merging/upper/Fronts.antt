@@ -101,12 +101,7 @@ module _ (fresh : Fresh ℕ) (distinct : (j k : ℕ) → fresh j ≡ fresh k →
       cc (one_path before.tree tree stack.directory named.0 front parent named.2 leads directory)
 
   other_leads : (other : List (List ℕ)) → other ≢ path → led_above stack one_more other ≡ led_above stack before other
-  other_leads other differs = by _ refl
-    where
-      by : (b : Bool) → names_entry (view_in before stack.directory) parent name other ≡ b
-          → led_above stack one_more other ≡ led_above stack before other
-      by true e = absurd (differs (entry_only other e))
-      by false e = cc (leads_now other)
+  other_leads other differs = grind (arith, common_steps, entry_only, leads_now)
 
   here : led_above stack one_more path ≡ Some copy
   here = cc (leads_now path, entry_named_so before stack.directory parent name front leads)

@@ -1,6 +1,6 @@
 -- What a granted call makes of the upper layer of the overlay that it changes, by layers alone.
-use Rattle.std.proofs.Common.{◌≡◌, refl, ap, ◌∙◌, subst, ℕ, nat_eq, Bool, true, false, [], ◌∷◌, Option, Some, None}
-use Rattle.vt_spec.proofs.Common.{Change, CopyUp, Fresh, Location, Permit, ToChange, ToMake, ToOpen, ToOpenNew, ToRemoveDirectory, ToRename, ToWritePart, World, filesystem_at, filesystem_numbered, is_copied_up, merge_of, mount_at, stack_of, when, ⊤}
+use Rattle.std.proofs.Common.{ap, ◌∙◌, subst, ℕ, nat_eq, [], ◌∷◌, Option, Some, None, arith}
+use Rattle.vt_spec.proofs.Common.{Change, Fresh, Location, Permit, ToChange, ToMake, ToOpen, ToOpenNew, ToRemoveDirectory, ToRename, ToWritePart, World, filesystem_at, filesystem_numbered, merge_of, mount_at, stack_of, ⊤, common_steps}
 use Rattle.vt_laws_trees.proofs.overlays.changes.WholeWorlds.{overlays_are_whole}
 use Rattle.vt_laws_worlds.specs.Merging.UpperCalls.{Does}
 use Rattle.vt_laws_worlds.specs.Merging.UpperCalls.Does.{does_change, does_make, does_open, does_open_new, does_remove, does_rename, does_write}
@@ -24,12 +24,7 @@ does world fresh (ToChange location change) = does_change location change
 does world fresh (ToMake directory name node) = does_make directory name node
 does world fresh (ToRemoveDirectory parent name directory) = does_remove parent name directory
 does world fresh (ToRename from old to new object replaced) = does_rename from old to new object replaced
-does world fresh (ToOpen file access) = by (is_copied_up nat_eq world file access) refl
-  where
-    by : (copies : Bool) → is_copied_up nat_eq world file access ≡ copies
-        → DoesIf world fresh (ToOpen file access) (when copies (file, CopyUp file.node))
-    by true e = does_open file access e
-    by false e = tt
+does world fresh (ToOpen file access) = grind (arith, common_steps, does_open)
 does world fresh (ToOpenNew directory name node access) = does_open_new directory name node access
 does world fresh (ToWritePart file offset []) = tt
 does world fresh (ToWritePart file offset (byte ∷ bytes)) = does_write file offset byte bytes

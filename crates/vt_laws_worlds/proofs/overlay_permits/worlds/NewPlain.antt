@@ -1,6 +1,6 @@
 -- A new plain filesystem beside those that are there keeps the invariants of trees and of overlays.
-use Rattle.std.proofs.Common.{◌≡◌, refl, sym, ap, subst, ◌∙◌, inl, true≢false, eq-eqb, ℕ, nat_eq, Bool, true, false, cond, List, [], ◌∷◌, ◌++◌, find, Option, Some, None, is_some, append-nil, flat_map, unwrap_or}
-use Rattle.vt_spec.proofs.Common.{All-push, Among, Filesystem, Fresh, HasOwnParents, IsMerged, IsReached, IsTree, IsWorld, Layer, ListsNumbers, Overlay, OverlayInvariants, Serves, TreeInvariants, World, and_true_right, any_pair, directory_used, evens, filesystem_numbered, filter-append, is_fit_filesystem, is_overlay, layers_of, nat_eq_false_turned, no_filesystem, of_overlay, overlays, plain_filesystem, upper_and_work, with_new_filesystem}
+use Rattle.std.proofs.Common.{◌≡◌, refl, sym, ap, subst, ◌∙◌, inl, true≢false, eq-eqb, ℕ, nat_eq, Bool, true, false, cond, List, [], ◌∷◌, ◌++◌, find, Option, Some, None, is_some, append-nil, flat_map, unwrap_or, arith}
+use Rattle.vt_spec.proofs.Common.{All-push, Among, Filesystem, Fresh, HasOwnParents, IsMerged, IsReached, IsTree, IsWorld, Layer, ListsNumbers, Overlay, OverlayInvariants, Serves, TreeInvariants, World, and_true_right, any_pair, directory_used, evens, filesystem_numbered, filter-append, is_fit_filesystem, is_overlay, layers_of, nat_eq_false_turned, no_filesystem, of_overlay, overlays, plain_filesystem, upper_and_work, with_new_filesystem, common_steps}
 use Rattle.vt_laws_trees.proofs.trees.ChangesByCalls.{new_tree_is}
 use Rattle.vt_laws_trees.proofs.trees.TreesTasks.{all_appended, and_from}
 use Rattle.vt_laws_trees.proofs.layers.layers.LowersKept.{kept_same}
@@ -15,14 +15,7 @@ pub found_first : (number : ℕ) (last : Filesystem ℕ) (list : List (Filesyste
     → find (λ (f : Filesystem ℕ). nat_eq number f.number) list ≡ Some f
     → find (λ (f : Filesystem ℕ). nat_eq number f.number) (list ++ last ∷ []) ≡ Some f
 found_first number last [] f e = cc
-found_first number last (first ∷ rest) f e = by _ e (found_first number last rest f)
-  where
-    by : (b : Bool) → cond b (Some first) (find (λ (f : Filesystem ℕ). nat_eq number f.number) rest) ≡ Some f
-        → (find (λ (f : Filesystem ℕ). nat_eq number f.number) rest ≡ Some f
-        → find (λ (f : Filesystem ℕ). nat_eq number f.number) (rest ++ last ∷ []) ≡ Some f)
-        → cond b (Some first) (find (λ (f : Filesystem ℕ). nat_eq number f.number) (rest ++ last ∷ [])) ≡ Some f
-    by true e on = e
-    by false e on = on e
+found_first number last (first ∷ rest) f e = grind (arith, common_steps, found_first number last rest f)
 
 module _ (world : World ℕ) (fresh : Fresh ℕ) (conditions : IsWorld nat_eq world)
     (serves : Serves nat_eq world fresh) where
@@ -60,13 +53,7 @@ module _ (world : World ℕ) (fresh : Fresh ℕ) (conditions : IsWorld nat_eq wo
   not_first : (number : ℕ) (list : List (Filesystem ℕ)) → looked_up number list ≡ None
       → looked_up number (list ++ new ∷ []) ≡ looked_up number (new ∷ [])
   not_first number [] e = refl
-  not_first number (first ∷ rest) e = by _ e (not_first number rest)
-    where
-      by : (b : Bool) → cond b (Some first) (looked_up number rest) ≡ None
-          → (looked_up number rest ≡ None → looked_up number (rest ++ new ∷ []) ≡ looked_up number (new ∷ []))
-          → cond b (Some first) (looked_up number (rest ++ new ∷ [])) ≡ looked_up number (new ∷ [])
-      by true e on = cc
-      by false e on = on e
+  not_first number (first ∷ rest) e = grind (arith, common_steps, not_first number rest)
 
   stays_found : (number : ℕ) (f : Filesystem ℕ) → looked_up number world.filesystems ≡ Some f
       → filesystem_numbered nat_eq later number ≡ filesystem_numbered nat_eq world number

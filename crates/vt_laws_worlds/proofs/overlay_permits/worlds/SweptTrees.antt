@@ -1,6 +1,6 @@
 -- A tree without the inodes that nothing uses: names lead where they led.
-use Rattle.std.proofs.Common.{◌≡◌, refl, subst, ◌∙◌, ℕ, nat_eq, Bool, true, false, List, [], ◌∷◌, Option, Some, None, option_and_then}
-use Rattle.vt_spec.proofs.Common.{FileTree, IsReached, Tree, entry_at, found, is_among, led, only_among, then_some}
+use Rattle.std.proofs.Common.{◌≡◌, refl, subst, ◌∙◌, ℕ, nat_eq, Bool, true, false, List, [], ◌∷◌, Option, Some, None, option_and_then, arith}
+use Rattle.vt_spec.proofs.Common.{FileTree, IsReached, Tree, entry_at, found, is_among, led, only_among, then_some, common_steps}
 use Rattle.vt_laws_trees.specs.Trees.{IsFileTree}
 use Rattle.vt_laws_trees.specs.Trees.Settling.{HoldsTree}
 use Rattle.vt_laws_trees.proofs.trees.TreesForgotten.{entry_used}
@@ -47,11 +47,7 @@ module _ (used : List ℕ) (files : FileTree ℕ) (holds : HoldsTree used files)
   -- what a path leads to
   pub node_led_same : (path : List (List ℕ)) (from : ℕ) → IsUsed from
       → then_some (led left from path) left.node ≡ then_some (led files.tree from path) files.tree.node
-  node_led_same path from e = cc (led_same path from, by (led files.tree from path) refl)
-    where
-      by : (o : Option ℕ) → led files.tree from path ≡ o → then_some o left.node ≡ then_some o files.tree.node
-      by None f = refl
-      by (Some number) f = used_node number (led_used path from number e f)
+  node_led_same path from e = grind (arith, common_steps, used_node, led_used, led_same)
 
   pub reached_still : (number : ℕ) → IsReached files.tree number → IsReached left number
   reached_still number way = (way.0, led_same way.0 files.tree.root ∙ way.1)

@@ -1,7 +1,7 @@
 -- What a change of an overlay adds to its tree and to its upper layer: inodes that are there as real objects or by
 -- name.
-use Rattle.std.proofs.Common.{◌≡◌, refl, sym, ap, subst, ◌∙◌, ◌⊎◌, inl, inr, ⊎_elim, true≢false, ℕ, nat_eq, eq-eqb, Bool, true, cond, List, Option, Some, None, is_some}
-use Rattle.vt_spec.proofs.Common.{AddName, Change, CopyUp, FileTree, Fresh, HasName, IsTree, Make, Merge, Move, Real, Remove, SetAttr, SetBytes, SetMark, Shown, Stack, Upper, changed, copied_up, directory_used, entry_at, eqb_tells, evens, hides_directory, merge_changed, merge_with_moved, merge_without_name, name_left_by, odds, shown_in_lowers_at, upper_directory_named, upper_object, upper_of, with_mark, with_moved, without_contents}
+use Rattle.std.proofs.Common.{◌≡◌, refl, sym, ap, subst, ◌∙◌, ◌⊎◌, inl, inr, ⊎_elim, true≢false, ℕ, nat_eq, eq-eqb, Bool, true, cond, List, Option, Some, None, is_some, arith}
+use Rattle.vt_spec.proofs.Common.{AddName, Change, CopyUp, FileTree, Fresh, HasName, IsTree, Make, Merge, Move, Real, Remove, SetAttr, SetBytes, SetMark, Shown, Stack, Upper, changed, copied_up, directory_used, entry_at, eqb_tells, evens, hides_directory, merge_changed, merge_with_moved, merge_without_name, name_left_by, odds, shown_in_lowers_at, upper_directory_named, upper_object, upper_of, with_mark, with_moved, without_contents, common_steps}
 use Rattle.vt_laws_trees.specs.Layers.Layers.ChangesUpper.{IsFitToChange, IsNewBy}
 use Rattle.vt_laws_trees.proofs.layers.layers.CopyingChanges.{moved_with, object_there, removed_with}
 use Rattle.vt_laws_trees.proofs.layers.layers.CopyingEachChange.{among_first, by_evens, in_own_line, then_odd_evens}
@@ -158,11 +158,7 @@ module _ (fresh : Fresh ℕ) (stack : Stack ℕ) (before : Merge ℕ) (fit : IsF
 
       seen_real : (other object : ℕ) → upper_object (copied.real other) ≡ Some object
           → is_some (copied.real other) ≡ true
-      seen_real other object e = by (copied.real other) e
-        where
-          by : (o : Option (Real ℕ)) → upper_object o ≡ Some object → is_some o ≡ true
-          by None f = absurd (true≢false (sym (ap is_some f)))
-          by (Some real) f = refl
+      seen_real other object e = grind (arith, common_steps)
 
       there_later : (other : ℕ) → is_some (before.files.tree.node other) ≡ true
           → Among other (merge_changed nat_eq fresh stack before (Make directory name number node)).files.numbers

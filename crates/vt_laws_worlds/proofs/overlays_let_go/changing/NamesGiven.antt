@@ -1,15 +1,15 @@
 -- What loses its last name in the upper layer where a change gives a name of the overlay: at the most what the upper
 -- layer had at that name before the call.
-use Rattle.std.proofs.Common.{arith, ◌≡◌, refl, sym, ap, subst, ◌∙◌, ◌⊎◌, inl, inr, ⊎_elim, append-nil, true≢false, ℕ, nat_eq, Bool, true, false, cond, not, ◌&&◌, List, [], ◌∷◌, ◌++◌, map, Option, Some, None, is_some, option_to_list, unwrap_or}
+use Rattle.std.proofs.Common.{arith, ◌≡◌, refl, sym, ap, subst, ◌∙◌, ◌⊎◌, inl, inr, ⊎_elim, append-nil, true≢false, ℕ, nat_eq, true, false, not, ◌&&◌, List, [], ◌∷◌, ◌++◌, map, Option, Some, None, is_some, option_to_list, unwrap_or}
 use Rattle.vt_spec.proofs.Common.{AddName, Change, CopyUp, FileTree, Filesystem, Fresh, HasName, IsWorld, Layer, Location, Make, Merge, Move, Overlay, Remove, SetAttr, SetBytes, SetMark, Stack, World, among_from_contains, common_steps, copied_up, directory_used, entries_in, entry_at, entry_named, evens, files_at, filesystem_numbered, is_among, is_overlay, mount_at, named_in, none_is_some, not-true, odds, settled, stack_of, then_some, upper_object, upper_of, with_change, with_descriptor, with_task}
 use Rattle.vt_laws_trees.specs.Trees.{IsProper}
 use Rattle.vt_laws_trees.specs.Layers.Layers.ChangesUpper.{IsFitToChange}
 use Rattle.vt_laws_trees.proofs.layers.layers.CopyingEachChange.{among_second, by_evens, in_own_line, then_odds}
 use Rattle.vt_laws_trees.proofs.layers.layers.CopyingReady.{IsReady}
 use Rattle.vt_laws_mounts.specs.LettingGo.FileChanges.{names_lost}
-use Rattle.vt_laws_mounts.specs.LettingGo.InUse.{IsListedTree, is_inode_used}
+use Rattle.vt_laws_mounts.specs.LettingGo.InUse.{IsListedTree}
 use Rattle.vt_laws_mounts.specs.LettingGo.OneByOne.{Inode, is_inode_among}
-use Rattle.vt_laws_mounts.specs.LettingGo.Overlays.{let_go_all_inodes, let_go_in_of, let_go_merged, let_go_plain, uppers_of, uppers_of_inode_in, without_inode_of}
+use Rattle.vt_laws_mounts.specs.LettingGo.Overlays.{let_go_all_inodes, let_go_in_of, let_go_merged, let_go_plain, uppers_of, uppers_of_inode_in}
 use Rattle.vt_laws_mounts.proofs.letting_go.leaving.FilesChanged.{none_left}
 use Rattle.vt_laws_mounts.proofs.letting_go.Lists.{Among, among-from_filter, among-from_map, among_from_all, any_among, any_from_among, flat_map_none, map_same}
 use Rattle.vt_laws_mounts.proofs.letting_go.Trees.{named_among}
@@ -41,12 +41,7 @@ module _ (number : ℕ) (world : World ℕ) (plain : (f : Filesystem ℕ) → Am
   -- an overlay stays as it is
   stays_in_overlays : (inode : ℕ) (f : Filesystem ℕ) → Among f world.filesystems
       → let_go_in_of is_overlay world (number, inode) f ≡ f
-  stays_in_overlays inode f m = by (is_overlay f) refl
-    where
-      by : (b : Bool) → is_overlay f ≡ b
-          → cond ((b && nat_eq f.number number) && not (is_inode_used world f inode)) (without_inode_of inode f) f ≡ f
-      by true e = ap (λ b. cond (b && not (is_inode_used world f inode)) (without_inode_of inode f) f) (plain f m e)
-      by false e = refl
+  stays_in_overlays inode f m = grind (arith, common_steps, plain)
 
   -- and so do all
   overlays_stay : (list : List ℕ) → let_go_merged world (inodes_of list) ≡ world

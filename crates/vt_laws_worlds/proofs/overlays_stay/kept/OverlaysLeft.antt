@@ -1,5 +1,5 @@
 -- A permit leaves overlays without an upper layer as they are.
-use Rattle.std.proofs.Common.{arith, ◌≡◌, refl, sym, ap, subst, ◌∙◌, ℕ, nat_eq, eqb-true, Bool, true, false, true≢false, cond, List, [], ◌∷◌, ◌++◌, filter, map, Option, Some, None, is_some, All}
+use Rattle.std.proofs.Common.{arith, ◌≡◌, refl, sym, ap, subst, ◌∙◌, ℕ, nat_eq, eqb-true, Bool, true, false, true≢false, List, [], ◌∷◌, ◌++◌, filter, map, Option, Some, None, is_some, All}
 use Rattle.vt_spec.proofs.Common.{Among, Change, CopyUp, Filesystem, Fresh, Layer, Location, Make, Move, Overlay, Permit, Remove, Task, ToChange, ToEnterNamespace, ToExit, ToMake, ToMountOverlay, ToMountPlain, ToOpen, ToOpenNew, ToRemoveDirectory, ToRename, ToSetType, ToUnmount, ToUnmountLazily, ToUnshare, ToWritePart, World, all_from_among, among-filter, among-from_filter, among_from_all, any_pair, apply, changed, common_steps, evens, filesystem_changed, filesystem_numbered, filesystems-taken_away, filesystems-without_replaced, going, is_copied_up, is_overlay, mount_at, mount_numbered, namespace_entered, odds, of_overlay, overlay_changed, overlay_or, plain_filesystem, pwritten, replaced_if_numbered, unshared, with_change, with_copy, with_files, without_mounts_on, without_replaced, without_task}
 use Rattle.vt_laws_mounts.proofs.letting_go.sweeps.OfWorlds.{found_filesystem}
 use Rattle.vt_laws_mounts.proofs.ends.UnmountingEnds.{lazy_is_of_mounts}
@@ -31,13 +31,7 @@ no_upper_of_plain f e = grind (arith, common_steps, true≢false)
 one_more : (list : List (Filesystem ℕ)) (new : Filesystem ℕ) → is_overlay new ≡ false
     → overlays_in (list ++ (new ∷ [])) ≡ overlays_in list
 one_more [] new e = cc
-one_more (first ∷ rest) new e = by _ (one_more rest new e)
-  where
-    by : (b : Bool) → overlays_in (rest ++ (new ∷ [])) ≡ overlays_in rest
-        → cond b (first ∷ overlays_in (rest ++ (new ∷ []))) (overlays_in (rest ++ (new ∷ [])))
-        ≡ cond b (first ∷ overlays_in rest) (overlays_in rest)
-    by true later = cc
-    by false later = later
+one_more (first ∷ rest) new e = grind (arith, common_steps, one_more rest new e)
 
 module _ (world : World ℕ) (fresh : Fresh ℕ) (task : Task ℕ) (none : OverlaysHaveNoUpper world)
     (one : any_pair (λ (a b : Filesystem ℕ). nat_eq a.number b.number) world.filesystems ≡ false) where

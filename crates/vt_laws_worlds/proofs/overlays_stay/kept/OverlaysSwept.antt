@@ -1,5 +1,5 @@
 -- Overlays without an upper layer, after a permit and after the sweep.
-use Rattle.std.proofs.Common.{arith, ◌≡◌, refl, sym, ap, subst, ◌∙◌, inr, ℕ, nat_eq, Bool, true, false, true≢false, cond, not, ◌||◌, List, [], ◌∷◌, filter, is_some}
+use Rattle.std.proofs.Common.{arith, ◌≡◌, refl, sym, ap, subst, ◌∙◌, inr, ℕ, nat_eq, Bool, true, false, true≢false, not, ◌||◌, List, [], ◌∷◌, filter, is_some}
 use Rattle.vt_spec.proofs.Common.{Among, Filesystem, Fresh, IsWorld, Permit, SameFilesystems, Task, World, all_from_among, among-filter, among-from_filter, among-from_map, among_from_all, apply, common_steps, filesystem_lives, has_layer_on, is_among, is_mounted, is_overlay, list_all, list_any, none_among, none_from_among, of_overlay, only_used, only_used_by, overlay_or, used_in, without_dead_in, without_dead_mounts}
 use Rattle.vt_laws_mounts.specs.LettingGo.Keeping.{has_only_named}
 use Rattle.vt_laws_mounts.specs.LettingGo.TreesOverlays.{in_use_of}
@@ -63,12 +63,8 @@ sweeps_keep_names world named = by_overlays _ named_of_plain _ _ (named_overlays
 filters_turned : (p q r : Filesystem ℕ → Bool) (list : List (Filesystem ℕ))
     → ((f : Filesystem ℕ) → Among f list → p f ≡ true → q f ≡ r f) → filter p (filter q list) ≡ filter r (filter p list)
 filters_turned p q r [] same = refl
-filters_turned p q r (first ∷ rest) same = by _ _ _ refl refl refl (filters_turned p q r rest (λ f m. same f (inr m)))
-  where
-    by : (a b c : Bool) → p first ≡ a → q first ≡ b → r first ≡ c → filter p (filter q rest) ≡ filter r (filter p rest)
-        → filter p (cond b (first ∷ filter q rest) (filter q rest))
-        ≡ filter r (cond a (first ∷ filter p rest) (filter p rest))
-    by a b c e f g later = grind (arith, common_steps, true≢false)
+filters_turned p q r (first ∷ rest) same =
+    grind (arith, common_steps, filters_turned p q r rest (λ f m. same f (inr m)))
 
 module _ (world : World ℕ) (fresh : Fresh ℕ) (task : Task ℕ) (permit : Permit ℕ) (is : IsWorld nat_eq world)
     (none : OverlaysHaveNoUpper world) (given : IsGiven fresh world task permit) where

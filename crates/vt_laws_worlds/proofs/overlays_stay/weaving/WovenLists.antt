@@ -1,5 +1,5 @@
 -- Lists of filesystems, woven by their numbers.
-use Rattle.std.proofs.Common.{◌≡◌, refl, sym, ap, subst, ◌∙◌, ℕ, nat_eq, nat_lt, Bool, true, false, true≢false, cond, not, ◌&&◌, List, [], ◌∷◌, filter, find, arith, All, ltb-true}
+use Rattle.std.proofs.Common.{◌≡◌, refl, sym, ap, subst, ◌∙◌, ℕ, nat_eq, nat_lt, Bool, true, false, cond, not, ◌&&◌, List, [], ◌∷◌, filter, find, arith, All, ltb-true}
 use Rattle.vt_spec.proofs.Common.{All-head, All-tail, Filesystem, SameFilesystem, SameFilesystems, all-filter, and_parts, common_steps, list_all}
 use Rattle.vt_laws_trees.proofs.runs.Permuted.{and_swapped}
 use Rattle.vt_laws_worlds.specs.OverlaysStay.Woven.{PlainOnesAreFound, RisingListsAreWoven, WovenListsAreAlike, WovenListsAreFailing, WovenListsAreFiltered, WovenListsArePassing, WovenListsPassAll, are_rising, put_in, woven}
@@ -66,12 +66,7 @@ all_fail test (first ∷ rest) none = cc (
 put_failing : (test : Filesystem ℕ → Bool) (f : Filesystem ℕ) → test f ≡ true → (list : List (Filesystem ℕ))
     → filter (fails test) (put_in f list) ≡ filter (fails test) list
 put_failing test f passes [] = cc
-put_failing test f passes (first ∷ rest) = by _ (put_failing test f passes rest)
-  where
-    by : (b : Bool) → filter (fails test) (put_in f rest) ≡ filter (fails test) rest
-        → filter (fails test) (cond b (first ∷ put_in f rest) (f ∷ first ∷ rest)) ≡ filter (fails test) (first ∷ rest)
-    by true later = cc
-    by false later = cc
+put_failing test f passes (first ∷ rest) = grind (arith, common_steps, put_failing test f passes rest)
 
 pub woven_lists_are_failing : WovenListsAreFailing
 woven_lists_are_failing test plain [] parted = all_fail test plain parted.fail
@@ -83,14 +78,8 @@ woven_lists_are_failing test plain (overlay ∷ rest) parted =
 put_passing : (test : Filesystem ℕ → Bool) (f : Filesystem ℕ) → test f ≡ true → (list : List (Filesystem ℕ))
     → list_all (is_before f) (filter test list) ≡ true → filter test (put_in f list) ≡ f ∷ filter test list
 put_passing test f passes [] before = cc
-put_passing test f passes (first ∷ rest) before = by _ refl _ refl before (put_passing test f passes rest)
-  where
-    by : (b : Bool) → is_before first f ≡ b → (c : Bool) → test first ≡ c
-        → list_all (is_before f) (cond c (first ∷ filter test rest) (filter test rest)) ≡ true
-        → (list_all (is_before f) (filter test rest) ≡ true → filter test (put_in f rest) ≡ f ∷ filter test rest)
-        → filter test (cond b (first ∷ put_in f rest) (f ∷ first ∷ rest))
-        ≡ f ∷ cond c (first ∷ filter test rest) (filter test rest)
-    by b e c g before later = grind (arith, common_steps, true≢false, and_parts, not_both)
+put_passing test f passes (first ∷ rest) before =
+    grind (arith, common_steps, put_passing test f passes rest, and_parts, not_both)
 
 pub woven_lists_are_passing : WovenListsArePassing
 woven_lists_are_passing test plain [] parted rising = none_pass test plain parted.fail
@@ -135,20 +124,11 @@ woven_lists_are_filtered test stays plain overlays parted overlays_rise rising =
 put_tested : (test : Filesystem ℕ → Bool) (f : Filesystem ℕ) (list : List (Filesystem ℕ))
     → list_all test (put_in f list) ≡ (test f && list_all test list)
 put_tested test f [] = refl
-put_tested test f (first ∷ rest) = by _ (put_tested test f rest)
-  where
-    by : (b : Bool) → list_all test (put_in f rest) ≡ (test f && list_all test rest)
-        → list_all test (cond b (first ∷ put_in f rest) (f ∷ first ∷ rest))
-        ≡ (test f && (test first && list_all test rest))
-    by true later = cc (and_swapped (test first) (test f) (list_all test rest))
-    by false later = refl
+put_tested test f (first ∷ rest) =
+    grind (arith, common_steps, put_tested test f rest, and_swapped)
 
 pub woven_lists_pass_all : WovenListsPassAll
-woven_lists_pass_all test plain [] = by _
-  where
-    by : (b : Bool) → b ≡ (b && true)
-    by true = refl
-    by false = refl
+woven_lists_pass_all test plain [] = grind (arith, common_steps)
 woven_lists_pass_all test plain (overlay ∷ rest) = cc (
   put_tested test overlay (woven plain rest),
   woven_lists_pass_all test plain rest,
@@ -185,13 +165,7 @@ woven_lists_are_alike plain (overlay ∷ rest) others (another ∷ more) same sa
 put_passed : (number : ℕ) (f : Filesystem ℕ) → nat_eq number f.number ≡ false → (list : List (Filesystem ℕ))
     → find (λ g. nat_eq number g.number) (put_in f list) ≡ find (λ g. nat_eq number g.number) list
 put_passed number f other [] = cc
-put_passed number f other (first ∷ rest) = by _ (put_passed number f other rest)
-  where
-    by : (b : Bool) → find (λ g. nat_eq number g.number) (put_in f rest) ≡ find (λ g. nat_eq number g.number) rest
-        → find (λ g. nat_eq number g.number) (cond b (first ∷ put_in f rest) (f ∷ first ∷ rest))
-        ≡ find (λ g. nat_eq number g.number) (first ∷ rest)
-    by true later = cc
-    by false later = cc
+put_passed number f other (first ∷ rest) = grind (arith, common_steps, put_passed number f other rest)
 
 pub plain_ones_are_found : PlainOnesAreFound
 plain_ones_are_found plain [] number others = refl

@@ -1,17 +1,12 @@
 -- What is attached at a mount that is in no peer group: only the numbers of copies are taken.
-use Rattle.std.proofs.Common.{eq-eqb, ◌≡◌, sym, subst, ◌∙◌, ℕ, suc, ◌+◌, ◌*◌, ◌<◌, nat_eq, Bool, true, false, cond, not, ◌&&◌, List, [], ◌∷◌, ◌++◌, length, map, filter, filter_map, Option, Some, None, option_map, if◌then◌else◌, arith, unwrap_or}
+use Rattle.std.proofs.Common.{eq-eqb, ◌≡◌, sym, subst, ◌∙◌, ℕ, ◌+◌, ◌*◌, ◌<◌, nat_eq, Bool, true, false, not, ◌&&◌, List, [], ◌∷◌, ◌++◌, length, map, filter, filter_map, Option, Some, None, option_map, if◌then◌else◌, arith, unwrap_or}
 use Rattle.vt_spec.proofs.Common.{Copies, Fresh, Graft, Location, Mount, Propagation, Twig, World, added_mounts, attach, attached_at, common_steps, copies_from, copy_type, folded, group_of, image, index_from, index_in_rows, index_of, is_member_of, is_top, masters_with, mount_at, nearest_image, number-mount_in, receivers, takes_part, then_some, twig_master, twig_of, when, with_moved_mounts}
 
 -- an index in a list is less than its length
 place_bound : (test : Mount ℕ → Bool) (k : ℕ) (list : List (Mount ℕ)) (j : ℕ) → index_from test k list ≡ Some j
     → j < k + length list
 place_bound test k [] j e = cc
-place_bound test k (first ∷ rest) j e = by (test first) e (place_bound test (k + 1) rest j)
-  where
-    by : (b : Bool) → cond b (Some k) (index_from test (k + 1) rest) ≡ Some j
-        → (index_from test (k + 1) rest ≡ Some j → j < (k + 1) + length rest) → j < k + suc (length rest)
-    by true f later = let same : k ≡ j = cc in omega arith
-    by false f later = let low = later f in omega arith
+place_bound test k (first ∷ rest) j e = grind (arith, common_steps, place_bound test (k + 1) rest j)
 
 pub index_bound : (mounts : List (Mount ℕ)) (number : ℕ) → 0 < length mounts
     → index_of nat_eq mounts number < length mounts

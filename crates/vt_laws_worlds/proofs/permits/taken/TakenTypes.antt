@@ -1,6 +1,6 @@
 -- A mount that does not become shared takes no number when its type changes.
-use Rattle.std.proofs.Common.{arith, ◌≡◌, refl, sym, ◌∙◌, ⊎_elim, true≢false, ℕ, zero, suc, nat_eq, Bool, true, false, cond, List, [], ◌∷◌, map, Option, Some, None, find, inl, inr, unwrap_or}
-use Rattle.vt_spec.proofs.Common.{IsWorld, Mount, Private, Propagation, Shared, Slave, ToPrivate, ToShared, ToSlave, ToUnbindable, TypeWord, Unbindable, World, common_steps, group_of, holds_of, is_member_of, master_after, mount_in, named_mounts, no_mount, regrouped, retyped, retyped_mount, stands_on, tree_from, type_after, with_new_groups}
+use Rattle.std.proofs.Common.{arith, ◌≡◌, refl, sym, ◌∙◌, ⊎_elim, true≢false, ℕ, zero, suc, nat_eq, Bool, true, false, cond, List, [], ◌∷◌, map, Option, None, inl, inr}
+use Rattle.vt_spec.proofs.Common.{IsWorld, Mount, Private, Propagation, Shared, Slave, ToPrivate, ToShared, ToSlave, ToUnbindable, TypeWord, Unbindable, World, common_steps, group_of, holds_of, is_member_of, master_after, mount_in, named_mounts, regrouped, retyped, retyped_mount, stands_on, tree_from, type_after, with_new_groups}
 use Rattle.vt_laws_mounts.proofs.letting_go.Lists.{Among, among-from_filter, among-from_flat_map, among_from_list_all, none_from_among}
 use Rattle.vt_laws_worlds.specs.Permits.Taken.{IsUngrouped, is_ungrouped}
 use Rattle.vt_laws_mounts.proofs.letting_go.sweeps.OfWorlds.{all_in_use}
@@ -35,13 +35,8 @@ no_member number Unbindable e = refl
 pub found_is : (mounts : List (Mount ℕ)) → ((mount : Mount ℕ) → Among mount mounts → Ungrouped mount) → (number : ℕ)
     → Ungrouped (mount_in nat_eq mounts number)
 found_is [] all number = refl
-found_is (mount ∷ rest) all number = by _ (found_is rest (λ other among. all other (inr among)) number)
-  where
-    by : (b : Bool) → Ungrouped (mount_in nat_eq rest number)
-        → Ungrouped (unwrap_or (cond b (Some mount) (find (λ (m : Mount ℕ). nat_eq number m.number) rest))
-        (no_mount number))
-    by true later = all mount (inl refl)
-    by false later = later
+found_is (mount ∷ rest) all number =
+    grind (arith, common_steps, found_is rest (λ other among. all other (inr among)) number, all)
 
 module _ (mounts : List (Mount ℕ)) (all : (mount : Mount ℕ) → Among mount mounts → Ungrouped mount) where
   pub tree_is : (depth : ℕ) (top : Mount ℕ) → Ungrouped top → (mount : Mount ℕ)

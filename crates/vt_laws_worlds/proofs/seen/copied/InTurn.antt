@@ -1,6 +1,6 @@
 -- Copies that are planned, and made one in the other.
 use Rattle.std.proofs.Common.{◌≡◌, refl, sym, ap, subst, ◌∙◌, arith, ℕ, zero, suc, true, List, [], ◌∷◌, ◌++◌, map, length, append_assoc, Option, Some, None, is_some, unwrap_or, append-nil}
-use Rattle.vt_spec.proofs.Common.{Fresh, Merge, Node, SameObject, Stack, entry_at, found, map-append, number_at_path, then_some}
+use Rattle.vt_spec.proofs.Common.{Fresh, Merge, Node, SameObject, Stack, entry_at, found, map-append, number_at_path, then_some, common_steps}
 use Rattle.vt_laws_trees.proofs.layers.layers.ShownDirectories.{last_of}
 use Rattle.vt_laws_trees.proofs.layers.layers.ShownNames.{last_name}
 use Rattle.vt_laws_trees.proofs.layers.layers.ShownPaths.{length_longer, not_empty}
@@ -18,14 +18,7 @@ names_of copies = map (λ (copy : Copy). copy.name) copies
 module _ (stack : Stack ℕ) (merge : Merge ℕ) (whole : IsWhole stack merge) where
   seen_leads : (path : List (List ℕ)) (node : Node ℕ) → node_seen stack merge.upper path ≡ Some node
       → (object : ℕ) × (number_at_path merge.files path ≡ Some object)
-  seen_leads path node e = by _ refl (subst (SameObject (then_some (number_at_path merge.files path)
-      merge.files.tree.node)) e (whole.shown.shows path))
-    where
-      by : (o : Option ℕ) → number_at_path merge.files path ≡ o
-          → SameObject (then_some o merge.files.tree.node) (Some node)
-          → (object : ℕ) × (number_at_path merge.files path ≡ Some object)
-      by None l same = absurd same
-      by (Some object) l same = (object, l)
+  seen_leads path node e = grind (arith, common_steps)
 
   before_leads : (path : List (List ℕ)) (name : List ℕ) (object : ℕ)
       → number_at_path merge.files (path ++ name ∷ []) ≡ Some object

@@ -1,6 +1,6 @@
 -- An inode that nothing uses may go before the sweep.
-use Rattle.std.proofs.Common.{◌≡◌, refl, sym, ap, ◌∙◌, ℕ, nat_eq, eqb-true, Bool, true, false, cond, not, ◌&&◌, All}
-use Rattle.vt_spec.proofs.Common.{All-filter, Filesystem, World, and_parts, filesystem_lives, has_layer_on, is_mounted, is_overlay, map_alike, not-true, objects_of_overlay, settled, without_dead_filesystems, without_dead_groups, without_dead_inodes, without_dead_mounts}
+use Rattle.std.proofs.Common.{◌≡◌, refl, sym, ap, ◌∙◌, ℕ, nat_eq, eqb-true, Bool, true, false, cond, not, ◌&&◌, All, arith}
+use Rattle.vt_spec.proofs.Common.{All-filter, Filesystem, World, and_parts, filesystem_lives, has_layer_on, is_mounted, is_overlay, map_alike, not-true, objects_of_overlay, settled, without_dead_filesystems, without_dead_groups, without_dead_inodes, without_dead_mounts, common_steps}
 use Rattle.vt_laws_mounts.specs.LettingGo.InUse.{HasTrees, IsListedTree, UppersArePlain, has_upper_in, is_inode_used}
 use Rattle.vt_laws_mounts.specs.LettingGo.OneByOne.{Inode}
 use Rattle.vt_laws_mounts.specs.LettingGo.Overlays.{RealsAreThere, let_go_in, without_inode_of}
@@ -71,11 +71,7 @@ module _ (chosen : Filesystem ℕ → Bool) (world : World ℕ) (inode : Inode) 
 
     unused : (f : Filesystem ℕ) → Among f (living world).filesystems → (k : ℕ) → went f k ≡ true
         → is_inode_used (living world) f k ≡ false
-    unused f m k e = by _ refl
-      where
-        by : (b : Bool) → is_inode_used (living world) f k ≡ b → is_inode_used (living world) f k ≡ false
-        by false h = h
-        by true h = cc (used_before f k h, went_unused f k e)
+    unused f m k e = grind (arith, common_steps, used_before, went_unused)
 
     pub swept_before : settled nat_eq (let_go_in chosen world inode) ≡ settled nat_eq world
     swept_before = ap (settled nat_eq) let_go_is_less

@@ -182,11 +182,7 @@ module _ (went : Filesystem ℕ → ℕ → Bool) (world : World ℕ) (trees : H
 
   plain_unused : (g : Filesystem ℕ) → Among g second_world.filesystems → is_overlay g ≡ false → (k : ℕ)
       → plain_went g k ≡ true → is_inode_used second_world g k ≡ false
-  plain_unused g m isnt k e = by _ refl
-    where
-      by : (b : Bool) → is_inode_used second_world g k ≡ b → is_inode_used second_world g k ≡ false
-      by false f = f
-      by true f = cc (used_before g k f, unused g (was_there g m isnt) k (sym (ap (λ b. not b && went g k) isnt) ∙ e))
+  plain_unused g m isnt k e = grind (arith, common_steps, used_before, unused, was_there)
 
   objects_second : (number : ℕ)
       → flat_map (objects_of_overlay nat_eq number) (with_less plain_went second_world).filesystems
