@@ -206,10 +206,10 @@ module _ (world : World ℕ) (place : Location ℕ) where
     -- the copies at a part are in its namespace
     copies_counted : (namespace : ℕ) (part : Mount ℕ) → count_in (copies_at nat_eq world new graft parts part) namespace
         ≡ cond (is_in namespace part) (length tree) 0
-    copies_counted namespace part =
-        count-alike (copy_at nat_eq world new graft parts part) part.namespace (λ twig. refl) graft.twigs namespace
-        ∙ ap (λ n. cond (is_in namespace part) n 0)
-        (length-map tree (twig_of new (group_of (mount_at nat_eq world place).propagation)))
+    copies_counted namespace part = cc (
+      count-alike (copy_at nat_eq world new graft parts part) part.namespace (λ twig. refl) graft.twigs namespace,
+      length-map tree (twig_of new (group_of (mount_at nat_eq world place).propagation)),
+    )
 
     -- the copies at several parts
     rest_counted : (namespace : ℕ) (rest : List (Mount ℕ))

@@ -1,5 +1,5 @@
 -- Groups live on through changes of mounts.
-use Rattle.std.proofs.Common.{arith, ◌≡◌, refl, sym, ap, subst, ◌∙◌, true, false, Bool, List, None, Option, Some, [], eq-eqb, eqb-true, filter, find, is_some, length, map, not, true≢false, ℕ, ⊎_elim, ◌++◌, ◌||◌, ◌∷◌, nat_eq, if◌then◌else◌}
+use Rattle.std.proofs.Common.{arith, ◌≡◌, refl, sym, ap, subst, ◌∙◌, true, false, Bool, List, None, Option, Some, [], eq-eqb, eqb-true, filter, find, is_some, length, map, not, true≢false, ℕ, ⊎_elim, ◌++◌, ◌∷◌, nat_eq, if◌then◌else◌}
 use Rattle.vt_spec.proofs.Common.{Among, Lives, Mount, Private, Propagation, Shared, Slave, Unbindable, World, after_going, among-append, among-append_left, among-filter, among-from_filter, among-from_map, among-map, among_from_list_all, and-false, any_among, any_from_among, common_steps, copied_mount, deepest_first, evens, folded, going, group_of, groups_up, has_master, has_members, has_no_master, head_among, heir, holds_of, inherited, is_among, is_going, is_in_ended, is_lost_group, is_member_of, is_nowhere_or_attached, list_any, lost_a_group, mount_at, mount_lives, mount_numbered, mount_tree, mounts_of, none_among, not-false, number-mount_in, numbers_by, odds, or_parts, pivoted, pivoted_mount, regrouped, regrouped_by, replaced_if_same, same_Some, settled, slave_of_heir, source_of, tail_among, then_some, unmounted, unmounted_if_there, unshared, with_flags, with_mount}
 use Rattle.vt_laws_mounts.proofs.GroupsUp.{EndsUp, LivesIn, Up, groups_live_by, lives_in, way_up}
 use Rattle.vt_laws_mounts.proofs.GroupsUp.EndsUp.{at_top, goes_up}
@@ -39,7 +39,7 @@ member_shared group mount h = grind (arith, common_steps, eqb-true, true≢false
 -- and what is shared in a group is a member of it
 pub shared_member : (group : ℕ) (mount : Mount ℕ) → mount.propagation ≡ Shared group
     → is_member_of nat_eq group mount ≡ true
-shared_member group mount e = ap (λ k. holds_of (nat_eq group) (group_of k)) e ∙ eq-eqb group group refl
+shared_member group mount e = cc (eq-eqb group group refl)
 
 -- Inheritance
 module _ (world : World ℕ) where
@@ -143,7 +143,7 @@ taking_away_keeps_groups world gone live = regrouped_live _ (λ mount m source e
         → source_of mount.propagation ≡ Some source
     by mount true e source f = absurd (true≢false (sym (ap is_some f)
         ∙ ap (λ x. is_some (source_of x.propagation)) (going_is_detached world gone mount e)))
-    by mount false e source f = sym (ap (λ x. source_of x.propagation) (staying_is_placed world gone mount e)) ∙ f
+    by mount false e source f = cc (staying_is_placed world gone mount e)
 
 pub unmount_keeps_groups : KeptByUnmount GroupsLive
 unmount_keeps_groups world one live =
@@ -170,9 +170,7 @@ lazy_keeps_groups world one live = lazy_keeps (deepest_first nat_eq world
 members-map : (f : Mount ℕ → Mount ℕ) → ((mount : Mount ℕ) → (f mount).propagation ≡ mount.propagation)
     → (mounts : List (Mount ℕ)) (group : ℕ) → has_members nat_eq (map f mounts) group ≡ has_members nat_eq mounts group
 members-map f same [] group = refl
-members-map f same (mount ∷ mounts) group =
-    ap (λ k. holds_of (nat_eq group) (group_of k) || has_members nat_eq (map f mounts) group) (same mount)
-    ∙ ap (λ b. is_member_of nat_eq group mount || b) (members-map f same mounts group)
+members-map f same (mount ∷ mounts) group = cc (same mount, members-map f same mounts group)
 
 pub pivot_keeps_groups : KeptByPivot GroupsLive
 pivot_keeps_groups world namespace root new put live =

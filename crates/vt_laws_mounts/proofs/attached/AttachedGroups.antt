@@ -105,10 +105,8 @@ module _ {world : World ℕ} {new : Copies ℕ} (place : Location ℕ) (moves : 
   image_in : (origin : Mount ℕ) (group : ℕ) → group_of destination.propagation ≡ Some group → image_of origin group
       ≡ unwrap_or (group_of (type_on_shared (new.image group origin.number) origin.propagation))
       (new.image group origin.number)
-  image_in origin group e = ap
-      (λ b. if b then unwrap_or (group_of (twig origin).propagation) (new.image group origin.number)
-      else new.image group origin.number) (member_by_group place moves serve own destination group e)
-      ∙ ap (λ k. unwrap_or (group_of k) (new.image group origin.number)) (twig_in origin group e)
+  image_in origin group e =
+      cc (member_by_group place moves serve own destination group e, twig_in origin group e)
 
   has_copy : (part origin : Mount ℕ) → Among part parts → Among origin mounts → (group : ℕ)
       → kind_at world new place moves mounts part origin ≡ Shared group → has_members nat_eq after.mounts group ≡ true

@@ -1,6 +1,6 @@
 -- A tree of mounts that is attached stands where it is attached, and what it pushes up stands on it.
-use Rattle.std.proofs.Common.{arith, ◌≡◌, refl, sym, ap, subst, ◌∙◌, true, false, nat_eq, ℕ, Bool, List, None, Option, Some, [], eq-eqb, flat_map, inl, inr, length, map, option_map, suc, true≢false, zero, ⊎_elim, ◌++◌, ◌∷◌, ◌||◌, if◌then◌else◌, unwrap_or}
-use Rattle.vt_spec.proofs.Common.{Among, Copies, Graft, Location, Mount, Stands, Twig, World, all_from_among, among-append, among-append_left, among-append_right, among-flat_map, among-from_filter, among-from_flat_map, among-from_map, among-map, among_from_all, among_from_list_all, at_root, attached_by, chain, chain_ends, chain_goes_on, child_at, common_steps, copies_at, copy_at, copy_number, first_of_list, found_or_none, graft_of, group_of, holds_of, is_top, last_of_chain, last_or, list_any, mount_at, mount_in, mount_numbered, mount_point_on_copy, number-mount_in, on_parent, parts_of, pushed_onto, pushed_up, receiver_stood_on, rest_of, root_of, same_Some, same_location, stands_at, top_of_copies, twig_of}
+use Rattle.std.proofs.Common.{arith, ◌≡◌, refl, sym, ap, subst, ◌∙◌, true, false, nat_eq, ℕ, Bool, List, None, Option, Some, [], eq-eqb, flat_map, inl, inr, length, map, option_map, suc, true≢false, zero, ⊎_elim, ◌++◌, ◌∷◌, if◌then◌else◌, unwrap_or}
+use Rattle.vt_spec.proofs.Common.{Among, Copies, Graft, Location, Mount, Stands, Twig, World, all_from_among, among-append, among-append_left, among-append_right, among-flat_map, among-from_filter, among-from_flat_map, among-from_map, among-map, among_from_all, among_from_list_all, at_root, attached_by, chain, chain_ends, chain_goes_on, child_at, common_steps, copies_at, copy_at, copy_number, first_of_list, found_or_none, graft_of, group_of, holds_of, is_top, last_of_chain, last_or, list_any, mount_at, mount_in, mount_numbered, mount_point_on_copy, number-mount_in, on_parent, parts_of, pushed_onto, pushed_up, receiver_stood_on, rest_of, root_of, same_Some, stands_at, top_of_copies, twig_of}
 use Rattle.vt_laws_mounts.specs.Mounts.Attaching.{OneNumberAMount, is_mount}
 use Rattle.vt_laws_mounts.specs.Mounts.Invariants.{NowhereOrAttached}
 use Rattle.vt_laws_mounts.specs.Mounts.Copies.{ServeAsCopies}
@@ -188,9 +188,7 @@ module _ (world : World ℕ) (new : Copies ℕ) (place : Location ℕ) (mounts :
       at_no_place : (list : List (Mount ℕ))
           → list_any (λ receiver. stands_at nat_eq (place_at receiver) (mount_numbered nat_eq world it)) list ≡ false
       at_no_place [] = refl
-      at_no_place (receiver ∷ list) = ap (λ p. holds_of (same_location nat_eq (place_at receiver)) p
-          || list_any (λ other. stands_at nat_eq (place_at other) (mount_numbered nat_eq world it)) list) e
-          ∙ at_no_place list
+      at_no_place (receiver ∷ list) = cc (e, at_no_place list)
   stands_after nowhere number (on_parent it on e f stands) is =
       let parent_is = stood_on_there world nowhere it on e f in
       by (receiver_stood_on nat_eq tree parts (mount_numbered nat_eq world it)) refl parent_is

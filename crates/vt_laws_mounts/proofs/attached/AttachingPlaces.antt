@@ -23,8 +23,7 @@ beside other place = is_some place && same_option (same_location nat_eq) place o
 -- two places on two mounts
 pub differ_by_mount : (a b : Mount ℕ) (p q : Location ℕ) → a.mount_point ≡ Some p → b.mount_point ≡ Some q
     → nat_eq p.mount q.mount ≡ false → test a b ≡ false
-differ_by_mount a b p q e f differ = ap (beside b.mount_point) e ∙ ap (same_option (same_location nat_eq) (Some p)) f
-    ∙ ap (λ c. c && nat_eq p.node q.node) differ
+differ_by_mount a b p q e f differ = cc
 
 -- what stands at one place has it twice
 pub one_place : (a b : Mount ℕ) → test a b ≡ true
@@ -230,7 +229,7 @@ module _ (world : World ℕ) (new : Copies ℕ) (place : Location ℕ) (mounts :
     where
       placed : (b : Bool) → nat_eq origin.number top.number ≡ b
           → (copy part origin).mount_point ≡ Some (landing part origin.mount_point b)
-      placed b e = ap (λ c. Some (landing part origin.mount_point c)) (top_test origin ∙ e)
+      placed b e = cc (top_test origin)
 
       by : (b : Bool) → nat_eq origin.number top.number ≡ b → (n : ℕ) → Hangs mounts n → n ≡ origin.number
           → CopyPlace part origin
@@ -403,7 +402,7 @@ module _ (world : World ℕ) (new : Copies ℕ) (place : Location ℕ) (mounts :
                 )
 
         by : PushCase a → PushCase b → test (push a) (push b) ≡ false
-        by (stays e f) (stays g h) = ap (λ (z : Mount ℕ). test z (push b)) e ∙ ap (test a) g ∙ differ
+        by (stays e f) (stays g h) = cc (differ)
         by (stays e f) (goes receiver origin r o g h same) = (mixed a b m e _ origin r o h same).0
         by (goes receiver origin r o e f same) (stays g h) = (mixed b a n g _ origin r o f same).1
         by (goes receiver origin r o e f same) (goes other second t u g h same_too) =
@@ -455,7 +454,7 @@ module _ (world : World ℕ) (new : Copies ℕ) (place : Location ℕ) (mounts :
         by origin o (on_copy on parent e f there_is same c) (stays g h) in_copies = at a.mount_point refl
           where
             at : (found : Option (Location ℕ)) → a.mount_point ≡ found → test (push a) (copy part origin) ≡ false
-            at None d = ap (λ (z : Mount ℕ). test z (copy part origin)) g ∙ ap (beside (copy part origin).mount_point) d
+            at None d = cc (g)
             at (Some stands_on) d = ap (λ (z : Mount ℕ). test z (copy part origin)) g
                 ∙ differ_by_mount a (copy part origin) stands_on (place_upon part on) d c
                 (subst (λ q. nat_eq stands_on.mount (new.copy part.number q) ≡ false) same

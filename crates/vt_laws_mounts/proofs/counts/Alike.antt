@@ -101,7 +101,7 @@ any_same_worlds_count_alike one other k inodes same counted = record {
         ∙ sym (named_sum n g.files.tree.node g.files.numbers)
 
     times_alike : (n : ℕ) → times_in n f.files.numbers ≡ times_in n g.files.numbers
-    times_alike n = times_sum n _ ∙ sym (sum_by-IsPermutation _ _ _ alike.files.numbers) ∙ sym (times_sum n _)
+    times_alike n = cc (times_sum n _, sum_by-IsPermutation _ _ _ alike.files.numbers)
 
 pub same_worlds_count_alike : SameWorldsCountAlike
 same_worlds_count_alike one other k inodes same plain counted =

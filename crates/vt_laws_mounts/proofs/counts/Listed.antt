@@ -20,11 +20,7 @@ once_times n (first ∷ rest) e = grind (arith, common_steps, one_if, none_times
 
 pub once_or_none : (n : ℕ) (list : List ℕ) → any_pair nat_eq list ≡ false
     → times_in n list ≡ cond (is_among nat_eq n list) 1 0
-once_or_none n list e = by _ refl
-  where
-    by : (b : Bool) → is_among nat_eq n list ≡ b → times_in n list ≡ cond b 1 0
-    by true f = let some = among_times n list f in let few = once_times n list e in omega arith
-    by false f = none_times n list f
+once_or_none n list e = grind (arith, common_steps, among_times, once_times, none_times)
 
 -- and a list in which each stands once has no repeats
 pub no_repeats : (list : List ℕ) → ((n : ℕ) → times_in n list ≤ 1) → any_pair nat_eq list ≡ false

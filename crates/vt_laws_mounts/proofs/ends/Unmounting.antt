@@ -117,8 +117,7 @@ module _ (world : World ℕ) (gone : List ℕ) where
   place_by_number : (number : ℕ) (place : Location ℕ) → is_going nat_eq gone number ≡ false
       → (before_it number).mount_point ≡ Some place
       → (left number).mount_point ≡ Some (mount_point_left nat_eq world gone place)
-  place_by_number number place e at = ap (λ m. m.mount_point) (taken_staying number (goes_so number false e))
-      ∙ ap (option_map (mount_point_left nat_eq world gone)) at
+  place_by_number number place e at = cc (taken_staying number (goes_so number false e))
 
   pub place_kept : (number : ℕ) (place : Location ℕ) → is_going nat_eq gone number ≡ false
       → (before_it number).mount_point ≡ Some place

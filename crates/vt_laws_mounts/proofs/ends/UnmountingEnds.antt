@@ -1,6 +1,6 @@
 -- Mounts that end with something else, and lazy unmounts.
 use Rattle.std.proofs.Common.{arith, ◌≡◌, refl, sym, ap, subst, ◌∙◌, true, false, Bool, List, None, Some, [], is_some, map, nat_eq, true≢false, ⊎_elim, ◌∷◌, ◌⊎◌, ℕ, inr, inl, filter_map, if◌then◌else◌}
-use Rattle.vt_spec.proofs.Common.{Among, Mount, Private, Propagation, Shared, Slave, Unbindable, World, among-filter, among-filter_map, among-map, child_at, children, common_steps, deepest_first, detached, filter_none, folded, found_or_none, goes_at, going_at, going_from, group_of, head_among, is_among, is_among_numbers, is_going, is_shared, list_any, may_go, mount_at, mount_numbered, mount_tree, number-mount_in, only_cover, receivers, source_of, stands_on, taken_away, unmounted, unmounted_if_there}
+use Rattle.vt_spec.proofs.Common.{Among, Mount, Private, Propagation, Shared, Slave, Unbindable, World, among-filter, among-filter_map, among-map, child_at, children, common_steps, deepest_first, detached, filter_none, folded, found_or_none, goes_at, going_from, group_of, head_among, is_among, is_among_numbers, is_going, is_shared, list_any, may_go, mount_at, mount_numbered, mount_tree, number-mount_in, receivers, source_of, stands_on, taken_away, unmounted, unmounted_if_there}
 use Rattle.vt_laws_mounts.specs.Mounts.Unmounting.{KeepsAllButMounts, KeepsAllButMountPointAndType}
 use Rattle.vt_laws_mounts.specs.Mounts.Ends.{LazyDetachesOrKeeps, LazyIsOfMounts, OthersAreKept, OthersKeepTheirMountPoints, OthersKeepTheirTypes, TakenAreDetached, TheMountItselfGoes}
 use Rattle.vt_laws_mounts.proofs.ends.Unmounting.{all_but_mounts, detached_by_number, going_is_detached, kept_by_number, place_kept, staying_is_placed, taken, type_kept}
@@ -93,8 +93,7 @@ lazy_is_of_mounts world one =
 
 -- The mount itself
 pub the_mount_itself_goes : TheMountItselfGoes
-the_mount_itself_goes world one place one_each at childless =
-    ap (λ ns. is_going nat_eq ns one) (ap (going_at nat_eq world itself) at) ∙ by _ refl
+the_mount_itself_goes world one place one_each at childless = cc (by _ refl)
   where
     itself : Mount ℕ
     itself = mount_numbered nat_eq world one
@@ -113,8 +112,7 @@ the_mount_itself_goes world one place one_each at childless =
     empty list h = filter_none _ list h
 
     may : may_go nat_eq world itself ≡ true
-    may = ap (λ n. only_cover nat_eq itself (children nat_eq world.mounts n)) number
-        ∙ ap (only_cover nat_eq itself) (empty world.mounts childless)
+    may = cc (number, empty world.mounts childless)
 
     itself_among : Among itself world.mounts
     itself_among = ⊎_elim (λ m. m) (λ none. absurd (true≢false (sym (ap is_some at) ∙ ap (λ m. is_some m.mount_point)
@@ -138,6 +136,6 @@ the_mount_itself_goes world one place one_each at childless =
         (among-filter_map _ _ parent itself (among-filter _ _ parent (parent_among group e)
         (receives_from_source world group parent (ap source_of e))) (child_goes_so world _ parent itself at_parent
         may))))
-    by (Slave above) e = ap (λ k. is_going nat_eq (going_from nat_eq world itself place (is_shared k)) one) e ∙ alone
-    by Private e = ap (λ k. is_going nat_eq (going_from nat_eq world itself place (is_shared k)) one) e ∙ alone
-    by Unbindable e = ap (λ k. is_going nat_eq (going_from nat_eq world itself place (is_shared k)) one) e ∙ alone
+    by (Slave above) e = cc (alone)
+    by Private e = cc (alone)
+    by Unbindable e = cc (alone)

@@ -1,6 +1,6 @@
 -- What goes at an unmount is what propagation names.
 use Rattle.std.proofs.Common.{arith, ◌≡◌, refl, sym, ap, subst, ◌∙◌, inl, ⊎_elim, ℕ, nat_eq, true, true≢false, List, [], ◌∷◌, map, Option, Some, None, Ok, Contains, filter_map, option_map, unwrap_or}
-use Rattle.vt_spec.proofs.Common.{Among, Done, Fresh, Here, Location, Mount, Permit, Private, Propagation, Receives, Shared, Slave, Task, Umount, Unbindable, World, among-filter_map, among-from_filter_map, among-from_map, among-map, among_from_contains, among_numbers, apply, child_at, common_steps, contains_from_among, directory_walk, goes_at, going, going_at, going_from, group_of, is_among_numbers, is_going, is_shared, looks_of, may_go, mount_at, mount_numbered, overfills, receivers, receivers_of, then_some, unmounted, walk_end, when}
+use Rattle.vt_spec.proofs.Common.{Among, Done, Fresh, Here, Location, Mount, Permit, Private, Propagation, Receives, Shared, Slave, Task, Umount, Unbindable, World, among-filter_map, among-from_filter_map, among-from_map, among-map, among_from_contains, among_numbers, apply, child_at, common_steps, contains_from_among, directory_walk, goes_at, going, going_at, going_from, group_of, is_among_numbers, is_going, is_shared, looks_of, may_go, mount_at, mount_numbered, overfills, receivers, receivers_of, unmounted, walk_end}
 use Rattle.vt_laws_mounts.specs.Mounts.Receivers.{GroupsLive}
 use Rattle.vt_laws_mounts.specs.Mounts.Unmounting.{Goes, UmountUnmounts, WhatGoesIsNamed}
 use Rattle.vt_laws_mounts.specs.Mounts.Unmounting.Goes.{alone, at_receiver, from_nowhere}
@@ -23,8 +23,7 @@ module _ (world : World ℕ) where
   pub child_goes_so : (node : ℕ) (receiver child : Mount ℕ)
       → child_at nat_eq world.mounts (record { mount = receiver.number; node = node }) ≡ Some child
       → may_go nat_eq world child ≡ true → goes_at nat_eq world node receiver ≡ Some child
-  child_goes_so node receiver child f g =
-      ap (λ o. then_some o (λ c. when (may_go nat_eq world c) c)) f ∙ ap (λ b. when b child) g
+  child_goes_so node receiver child f g = cc
 
   pub receivers_of_shared : (parent : Mount ℕ) (group : ℕ) → parent.propagation ≡ Shared group
       → receivers_of nat_eq world parent ≡ receivers nat_eq world group
@@ -72,12 +71,8 @@ module _ (world : World ℕ) (live : GroupsLive world) (mount : Mount ℕ) where
       by (Some place) e = at_place place e _ refl
 
   goes_so_named : (number : ℕ) → Goes world mount number → is_going nat_eq (going nat_eq world mount) number ≡ true
-  goes_so_named number (from_nowhere e) =
-      ap (λ ns. is_going nat_eq ns mount.number) (ap (going_at nat_eq world mount) e)
-      ∙ is_among_numbers (mount.number ∷ []) mount.number (inl refl)
-  goes_so_named number (alone place e f) = ap (λ ns. is_going nat_eq ns mount.number)
-      (ap (going_at nat_eq world mount) e ∙ ap (going_from nat_eq world mount place) f)
-      ∙ is_among_numbers (mount.number ∷ []) mount.number (inl refl)
+  goes_so_named number (from_nowhere e) = cc (is_among_numbers (mount.number ∷ []) mount.number (inl refl))
+  goes_so_named number (alone place e f) = cc (is_among_numbers (mount.number ∷ []) mount.number (inl refl))
   goes_so_named number (at_receiver place group receiver child e f contained hears found may) =
       let heard : Among receiver (receivers nat_eq world group) =
       among_from_contains _ receiver ((receivers_receive world group receiver live).1 (contained, hears)) in

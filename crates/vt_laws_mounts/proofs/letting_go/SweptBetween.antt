@@ -228,7 +228,7 @@ module _ (world : World ℕ) (once_mounts again_mounts : List (Mount ℕ)) (once
           → not (is_among nat_eq number later)
           ≡ (not (is_among nat_eq number used) || not (is_among nat_eq number later))
       by number b e true f = ap (λ c. not c || not (is_among nat_eq number later)) (sym f)
-      by number false e false f = ap not e ∙ ap (λ c. not c || not (is_among nat_eq number later)) (sym f)
+      by number false e false f = cc
       by number true e false f = absurd (true≢false (sym (within number e) ∙ f))
 
   -- what is used in the end was used before
@@ -267,9 +267,7 @@ module _ (world : World ℕ) (once_mounts again_mounts : List (Mount ℕ)) (once
   -- Overlays
   again_layers : (number : ℕ) → layers_in nat_eq again_living number ≡ layers_in nat_eq once_living number
   again_layers number =
-      ap (λ layers. map (λ layer. layer.directory) (filter (λ layer. nat_eq number layer.filesystem) layers))
-      (ap (flat_map (of_overlay [] layers_of)) same_filesystems ∙ flat_map-map swept
-      (of_overlay [] layers_of) once_living.filesystems layers-swept)
+      cc (same_filesystems, flat_map-map swept (of_overlay [] layers_of) once_living.filesystems layers-swept)
 
   tree_of : (f : Filesystem ℕ) → Among f once_living.filesystems → IsListedTree f.files
   tree_of f m = among_from_all (λ g. IsListedTree g.files) world.filesystems trees f (of_world f m)

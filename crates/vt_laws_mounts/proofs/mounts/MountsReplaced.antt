@@ -74,11 +74,8 @@ any_by_numbers number (mount ∷ mounts) = ap (λ b. nat_eq number mount.number 
 pub pair_by_numbers : (mounts : List (Mount ℕ))
     → any_pair (λ (a b : Mount ℕ). nat_eq a.number b.number) mounts ≡ any_pair nat_eq (numbers_of mounts)
 pair_by_numbers [] = refl
-pair_by_numbers (mount ∷ mounts) =
-    ap (λ b. b || any_pair (λ (a b : Mount ℕ). nat_eq a.number b.number) mounts) (any_by_numbers _ mounts)
-    ∙ ap (λ b. list_any (nat_eq mount.number) (numbers_of mounts) || b) (pair_by_numbers mounts)
+pair_by_numbers (mount ∷ mounts) = cc (any_by_numbers _ mounts, pair_by_numbers mounts)
 
 pub one_number_by_numbers : (before later : List (Mount ℕ)) → numbers_of later ≡ numbers_of before
     → OneNumberAMount before → OneNumberAMount later
-one_number_by_numbers before later same e =
-    pair_by_numbers later ∙ ap (any_pair nat_eq) same ∙ sym (pair_by_numbers before) ∙ e
+one_number_by_numbers before later same e = cc (pair_by_numbers later, pair_by_numbers before)

@@ -95,7 +95,7 @@ module _ {world : World ℕ} {new : Copies ℕ} {place : Location ℕ} {mounts :
     where
       placed : (b : Bool) → nat_eq origin.number may.top.number ≡ b
           → (copy part origin).mount_point ≡ Some (landing part origin.mount_point b)
-      placed b e = ap (λ c. Some (landing part origin.mount_point c)) (top_test origin ∙ e)
+      placed b e = cc (top_test origin)
 
       by : (b : Bool) → nat_eq origin.number may.top.number ≡ b → (n : ℕ) → Hangs mounts n → n ≡ origin.number
           → CopyPlace part origin
@@ -280,7 +280,7 @@ module _ {world : World ℕ} {new : Copies ℕ} {place : Location ℕ} {mounts :
                 )
 
         by : PushCase a → PushCase b → test (push a) (push b) ≡ false
-        by (stays e f) (stays g h) = ap (λ (z : Mount ℕ). test z (push b)) e ∙ ap (test a) g ∙ differ
+        by (stays e f) (stays g h) = cc (differ)
         by (stays e f) (goes receiver origin r o g h same) = (mixed a b m e _ origin r o h same).0
         by (goes receiver origin r o e f same) (stays g h) = (mixed b a n g _ origin r o f same).1
         by (goes receiver origin r o e f same) (goes other second t u g h same_too) = two _ refl
@@ -301,8 +301,7 @@ module _ {world : World ℕ} {new : Copies ℕ} {place : Location ℕ} {mounts :
             (λ x n. copies_after may serve part m x (subst (Among x) (sym e) n)) (root_of first)
 
     same_part : (p q : Mount ℕ) → Among p takers → Among q takers → p.number ≡ q.number → p ≡ q
-    same_part p q i j equal = sym (found_itself takers takers_apart p i) ∙ ap (mount_in nat_eq takers) equal
-        ∙ found_itself takers takers_apart q j
+    same_part p q i j equal = cc (found_itself takers takers_apart p i, found_itself takers takers_apart q j)
 
     -- what was there, and a copy
     old_and_copy : (a : Mount ℕ) → Among a moved.mounts → (part x : Mount ℕ)
@@ -328,7 +327,7 @@ module _ {world : World ℕ} {new : Copies ℕ} {place : Location ℕ} {mounts :
         by origin o (on_copy on parent f there_is same c) (stays g h) in_copies = at a.mount_point refl
           where
             at : (found : Option (Location ℕ)) → a.mount_point ≡ found → test (push a) (copy part origin) ≡ false
-            at None d = ap (λ (z : Mount ℕ). test z (copy part origin)) g ∙ ap (beside (copy part origin).mount_point) d
+            at None d = cc (g)
             at (Some stands_on) d = ap (λ (z : Mount ℕ). test z (copy part origin)) g
                 ∙ differ_by_mount a (copy part origin) stands_on (place_upon part on) d c
                 (subst (λ q. nat_eq stands_on.mount (new.copy part.number q) ≡ false) same

@@ -33,9 +33,7 @@ module _ (namespace : ℕ) where
   count_none : (xs : List (Mount ℕ)) → ((x : Mount ℕ) → Among x xs → is_root_in namespace x ≡ false)
       → count namespace xs ≡ 0
   count_none [] all = refl
-  count_none (x ∷ xs) all = count_step x xs
-      ∙ ap (λ b. cond b (suc (count namespace xs)) (count namespace xs)) (all x (inl refl))
-      ∙ count_none xs (λ y m. all y (inr m))
+  count_none (x ∷ xs) all = cc (count_step x xs, all x (inl refl), count_none xs (λ y m. all y (inr m)))
 
   count_append : (xs ys : List (Mount ℕ)) → count namespace (xs ++ ys) ≡ count namespace xs + count namespace ys
   count_append xs ys = ap (λ list. length (filter (is_root_mount nat_eq) list)) (filter-append is_in xs ys)

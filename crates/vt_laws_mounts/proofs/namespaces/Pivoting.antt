@@ -103,12 +103,12 @@ module _ {world : World ℕ} {namespace : ℕ} {root new : Mount ℕ} {put : Loc
 
   -- a mount with the number of one of them is it
   pub is_new : (mount : Mount ℕ) → Among mount world.mounts → nat_eq mount.number new.number ≡ true → mount ≡ new
-  is_new mount m e = sym (found_itself _ mounts.one_number mount m)
-      ∙ ap (mount_numbered nat_eq world) (eqb-true mount.number new.number e) ∙ may.new_there
+  is_new mount m e =
+      cc (found_itself _ mounts.one_number mount m, eqb-true mount.number new.number e, may.new_there)
 
   pub is_root : (mount : Mount ℕ) → Among mount world.mounts → nat_eq mount.number root.number ≡ true → mount ≡ root
-  is_root mount m e = sym (found_itself _ mounts.one_number mount m)
-      ∙ ap (mount_numbered nat_eq world) (eqb-true mount.number root.number e) ∙ may.root_there
+  is_root mount m e =
+      cc (found_itself _ mounts.one_number mount m, eqb-true mount.number root.number e, may.root_there)
 
   -- what becomes of each
   abbrev moved_if : Bool → Bool → Mount ℕ → Mount ℕ
@@ -119,13 +119,11 @@ module _ {world : World ℕ} {namespace : ℕ} {root new : Mount ℕ} {put : Loc
   moved_new = ap (λ b. (moved_if b (nat_eq new.number root.number) new).mount_point) (eq-eqb new.number new.number refl)
 
   pub moved_root : (move root).mount_point ≡ Some put
-  moved_root = ap (λ b. (moved_if b (nat_eq root.number root.number) root).mount_point) two
-      ∙ ap (λ b. (moved_if false b root).mount_point) (eq-eqb root.number root.number refl)
+  moved_root = cc (two, eq-eqb root.number root.number refl)
 
   pub moved_other : (mount : Mount ℕ) → nat_eq mount.number new.number ≡ false
       → nat_eq mount.number root.number ≡ false → move mount ≡ mount
-  moved_other mount e f =
-      ap (λ b. moved_if b (nat_eq mount.number root.number) mount) e ∙ ap (λ b. moved_if false b mount) f
+  moved_other mount e f = cc
 
   pub moved_namespace : (mount : Mount ℕ) → (move mount).namespace ≡ mount.namespace
   moved_namespace mount = grind (arith, common_steps)
@@ -167,8 +165,7 @@ module _ {world : World ℕ} {namespace : ℕ} {root new : Mount ℕ} {put : Loc
   -- a mount that is found under a number has the place that is found there
   found_place : (number : ℕ) (mount : Mount ℕ) → Among mount world.mounts → mount.number ≡ number
       → (mount_numbered nat_eq world number).mount_point ≡ mount.mount_point
-  found_place number mount m same = ap (λ n. (mount_numbered nat_eq world n).mount_point) (sym same)
-      ∙ ap (λ x. x.mount_point) (found_itself _ mounts.one_number mount m)
+  found_place number mount m same = cc (found_itself _ mounts.one_number mount m)
 
   no_place : (number : ℕ) (mount : Mount ℕ) → Among mount world.mounts → mount.number ≡ number
       → (mount_numbered nat_eq world number).mount_point ≡ None → (place : Location ℕ) → mount.mount_point ≡ Some place

@@ -88,11 +88,7 @@ module _ (base : ℕ → ℕ) (files : FileTree ℕ) (inodes : Inodes ℕ) (root
   root_of_files (Make directory name number new) = refl
   root_of_files (AddName directory name object) = refl
   root_of_files (Remove directory name object) = refl
-  root_of_files (Move from old to new object) = by _
-    where
-      by : (o : Option ℕ) → (Changes.without_parent nat_eq files o).tree.root ≡ files.tree.root
-      by None = refl
-      by (Some gone) = refl
+  root_of_files (Move from old to new object) = grind (arith, common_steps)
   root_of_files (SetBytes file bytes) = refl
   root_of_files (SetAttr object attr) = refl
   root_of_files (SetMark directory opaque) = refl

@@ -1,6 +1,6 @@
 -- The counts of a tree's inodes where names come, go and move, before anything is swept.
 use Rattle.std.proofs.Common.{◌≡◌, ◌≢◌, refl, sym, ap, subst, ◌∙◌, ⊎_elim, ◌⊎◌, ℕ, ◌+◌, ◌≤◌, nat_eq, eq-eqb, ne_eqb, Bool, true, false, true≢false, cond, List, [], ◌∷◌, ◌++◌, Option, Some, None, is_some, arith, bytes_eq}
-use Rattle.vt_spec.proofs.Common.{Inodes, IsNewIn, Node, bytes_decides, common_steps, directory_from_entry, entries-node_with_entry, entries-node_with_parent, entries-node_without_entry, entries_in, entry_named, eqb_tells, inode_with_node, is_directory-node_without_entry, is_directory_node, is_some-node_with_entry, is_some-node_with_parent, is_some-node_without_entry, is_sorted, name_cmp, node_in, node_with_entry, node_with_parent, node_without_entry, targets_in, with_changed, with_entry, without_entry}
+use Rattle.vt_spec.proofs.Common.{Inodes, IsNewIn, Node, bytes_decides, common_steps, directory_from_entry, entries-node_with_entry, entries-node_with_parent, entries-node_without_entry, entries_in, entry_named, eqb_tells, is_directory-node_without_entry, is_directory_node, is_some-node_with_entry, is_some-node_with_parent, is_some-node_without_entry, is_sorted, name_cmp, node_in, node_with_entry, node_with_parent, node_without_entry, targets_in, with_changed, with_entry, without_entry}
 use Rattle.vt_spec.specs.Inodes.{with_new, without_name, without_replaced}
 use Rattle.vt_laws_mounts.proofs.counts.counting.Counts
 use Rattle.vt_laws_mounts.proofs.counts.counting.Counts.{apart_one, counted_new, one_if-itself}
@@ -44,15 +44,14 @@ module _ (base : ℕ → ℕ) (node : ℕ → Option (Node ℕ)) (numbers : List
   made_new = ap (λ b. cond b (Some new) (node_on number)) (eq-eqb number number refl)
 
   no_number : times_in number numbers ≡ 0
-  no_number = start.tallied.once number ∙ ap (λ o. cond (is_some o) 1 0) no_node
+  no_number = cc (start.tallied.once number, no_node)
 
   counted_on : Counts.IsCounted made_uses node_on inodes_on
   counted_on = changed_counts made_uses node inodes directory (node_with_entry name number) start.tallied.counted
       (start.same directory) refl (λ some. (_, refl))
 
   vacant_on : inodes_on.inode number ≡ None
-  vacant_on = ap (λ b. cond b (inode_with_node (node_with_entry name number (node_in (inodes.inode directory)))
-      (inodes.inode directory)) (inodes.inode number)) (ne_eqb number directory apart) ∙ vacant
+  vacant_on = cc (ne_eqb number directory apart, vacant)
 
   more : (n : ℕ) → one_if n number + made_uses n ≡ uses_of base node_made (number ∷ numbers) n
   more n =
@@ -236,7 +235,7 @@ module _ (base : ℕ → ℕ) (node : ℕ → Option (Node ℕ)) (numbers : List
           let one : one_if_some object replaced ≡ one_if object object = ap (one_if_some object) it in
           let self = one_if-itself object in
           absurd (omega (arith, other))
-      here same false e = find_without old new _ e ∙ ap (λ n. entry_named new (entries_in (node n))) (sym same) ∙ finds
+      here same false e = cc (find_without old new _ e, finds)
 
   on_targets : (n : ℕ) → times_in n (targets_in (node_with_entry new object (node_from to))) + one_if_some n replaced
       ≡ times_in n (targets_in (node_from to)) + one_if n object

@@ -92,7 +92,7 @@ module _ {uses : ℕ → ℕ} (left : ℕ → ℕ) {node : ℕ → Option (Node 
   here_node = counted.kept place (ap is_some is) ∙ ap node_in is
 
   here_listed : times_in place counted.list ≡ 1
-  here_listed = counted.listed place ∙ ap (λ o. cond (is_some o) 1 0) is
+  here_listed = cc (counted.listed place, is)
 
   left_here : suc (left place) ≡ inode.uses
   left_here = let e = here_uses in let one = one_if-itself place in let f = less place in omega arith
@@ -187,7 +187,7 @@ module _ (base : ℕ → ℕ) (node : ℕ → Option (Node ℕ)) (numbers : List
   there_directory d is = directory_is_there _ is
 
   pub once_directory : (d : ℕ) → is_directory_node (node d) ≡ true → times_in d numbers ≡ 1
-  once_directory d is = once d ∙ ap (λ b. cond b 1 0) (there_directory d is)
+  once_directory d is = cc (once d, there_directory d is)
 
   -- entries after a name was added
   pub added_targets : (directory : ℕ) (name : List ℕ) (object : ℕ) → is_directory_node (node directory) ≡ true

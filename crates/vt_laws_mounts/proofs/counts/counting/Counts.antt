@@ -108,8 +108,4 @@ counted_new uses node inodes counted number new vacant = record {
 -- what has a use is there
 pub counted_some : (uses : ℕ → ℕ) (node : ℕ → Option (Node ℕ)) (inodes : Inodes ℕ) → IsCounted uses node inodes
     → (number : ℕ) → 1 ≤ uses number → is_some (inodes.inode number) ≡ true
-counted_some uses node inodes counted number some = by _ (counted.uses_are number)
-  where
-    by : (o : Option (Inode ℕ)) → uses_in o ≡ uses number → is_some o ≡ true
-    by None e = absurd (let h : 0 ≡ uses number = e in omega arith)
-    by (Some inode) e = refl
+counted_some uses node inodes counted number some = grind (arith, common_steps)

@@ -86,13 +86,7 @@ sorted_without name entries sorted =
 pub found_target : (number : ℕ) (name : List ℕ) (entries : Entries ℕ)
     → one_if_some number (entry_named name entries) ≤ times_in number (targets entries)
 found_target number name [] = omega arith
-found_target number name (entry ∷ rest) = by _ (found_target number name rest)
-  where
-    by : (b : Bool) → one_if_some number (entry_named name rest) ≤ times_in number (targets rest)
-        → one_if_some number (cond b (Some entry.1) (entry_named name rest)) ≤ one_if number entry.1 + times_in number
-        (targets rest)
-    by true later = omega arith
-    by false later = omega arith
+found_target number name (entry ∷ rest) = grind (arith, common_steps, found_target number name rest)
 
 -- Of all directories
 abbrev pub changed_at : (ℕ → Option (Node ℕ)) → ℕ → Option (Node ℕ) → ℕ → Option (Node ℕ)

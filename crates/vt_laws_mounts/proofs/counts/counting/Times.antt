@@ -1,5 +1,5 @@
 -- How often a number stands in a list.
-use Rattle.std.proofs.Common.{◌≡◌, refl, ap, subst, ℕ, suc, ◌+◌, ◌≤◌, nat_eq, eq-eqb, Bool, true, false, cond, ◌&&◌, ◌||◌, List, [], ◌∷◌, ◌++◌, length, filter, arith}
+use Rattle.std.proofs.Common.{◌≡◌, refl, subst, ℕ, suc, ◌+◌, ◌≤◌, nat_eq, eq-eqb, Bool, true, cond, List, [], ◌∷◌, ◌++◌, length, filter, arith}
 use Rattle.vt_spec.proofs.Common.{common_steps, eqb_tells, is_among, list_all}
 use Rattle.vt_laws_mounts.specs.LettingGo.Counts.{times}
 
@@ -10,21 +10,11 @@ times_in number = times (nat_eq number)
 -- what stands in a list, and what does not
 pub among_times : (number : ℕ) (list : List ℕ) → is_among nat_eq number list ≡ true → 1 ≤ times_in number list
 among_times number [] e = cc
-among_times number (other ∷ rest) e = by _ e (among_times number rest)
-  where
-    by : (b : Bool) → (b || is_among nat_eq number rest) ≡ true
-        → (is_among nat_eq number rest ≡ true → 1 ≤ times_in number rest) → 1 ≤ cond b 1 0 + times_in number rest
-    by true e later = omega arith
-    by false e later = let h : 1 ≤ times_in number rest = later e in omega arith
+among_times number (other ∷ rest) e = grind (arith, common_steps, among_times number rest)
 
 pub times_among : (number : ℕ) (list : List ℕ) → 1 ≤ times_in number list → is_among nat_eq number list ≡ true
 times_among number [] e = absurd (omega arith)
-times_among number (other ∷ rest) e = by _ e (times_among number rest)
-  where
-    by : (b : Bool) → 1 ≤ cond b 1 0 + times_in number rest
-        → (1 ≤ times_in number rest → is_among nat_eq number rest ≡ true) → (b || is_among nat_eq number rest) ≡ true
-    by true e later = refl
-    by false e later = later (omega arith)
+times_among number (other ∷ rest) e = grind (arith, common_steps, times_among number rest)
 
 -- a list without the first place of a number
 abbrev pub removed : ℕ → List ℕ → List ℕ
@@ -39,13 +29,7 @@ times_removed number z (other ∷ rest) e = grind (arith, common_steps, eqb_tell
 pub length_removed : (number : ℕ) (list : List ℕ) → 1 ≤ times_in number list
     → suc (length (removed number list)) ≡ length list
 length_removed number [] e = absurd (omega arith)
-length_removed number (other ∷ rest) e = by _ e (length_removed number rest)
-  where
-    by : (b : Bool) → 1 ≤ cond b 1 0 + times_in number rest
-        → (1 ≤ times_in number rest → suc (length (removed number rest)) ≡ length rest)
-        → suc (length (cond b rest (other ∷ removed number rest))) ≡ suc (length rest)
-    by true e later = refl
-    by false e later = ap suc (later (omega arith))
+length_removed number (other ∷ rest) e = grind (arith, common_steps, length_removed number rest)
 
 -- a list that has no number more often than another is no longer
 pub no_longer : (list other : List ℕ) → ((number : ℕ) → times_in number list ≤ times_in number other)
@@ -83,12 +67,7 @@ times_append number (first ∷ list) other =
 -- a list of which all pass, and of which some do not
 filter_all : (p : ℕ → Bool) (list : List ℕ) → list_all p list ≡ true → filter p list ≡ list
 filter_all p [] e = refl
-filter_all p (first ∷ rest) e = by _ e (filter_all p rest)
-  where
-    by : (b : Bool) → (b && list_all p rest) ≡ true → (list_all p rest ≡ true → filter p rest ≡ rest)
-        → cond b (first ∷ filter p rest) (filter p rest) ≡ first ∷ rest
-    by true e later = ap (λ l. first ∷ l) (later e)
-    by false e later = cc
+filter_all p (first ∷ rest) e = grind (arith, common_steps, filter_all p rest)
 
 pub times_filter : (p : ℕ → Bool) (number : ℕ) (list : List ℕ)
     → times_in number (filter p list) ≡ cond (p number) (times_in number list) 0

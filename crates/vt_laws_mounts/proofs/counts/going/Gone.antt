@@ -1,8 +1,8 @@
 -- Mounts and filesystems that go at zero.
-use Rattle.std.proofs.Common.{◌≡◌, refl, sym, ap, ◌∙◌, ℕ, ◌+◌, nat_eq, eqb-true, Bool, true, false, true≢false, cond, not, ◌||◌, List, [], ◌∷◌, map, filter, find, Some, is_some, unwrap_or, arith}
-use Rattle.vt_spec.proofs.Common.{Mount, any_pair, common_steps, filter_all, is_among, is_mounted, list_any, mount_in, mount_numbered, nat_eq-swapped, no_mount, or-false, or_parts}
+use Rattle.std.proofs.Common.{◌≡◌, refl, sym, ap, ◌∙◌, ℕ, ◌+◌, nat_eq, eqb-true, Bool, true, false, true≢false, cond, not, ◌||◌, List, [], ◌∷◌, map, filter, find, Some, unwrap_or, arith}
+use Rattle.vt_spec.proofs.Common.{Mount, any_pair, common_steps, filter_all, is_among, is_mounted, list_any, mount_in, nat_eq-swapped, no_mount, or-false, or_parts}
 use Rattle.vt_laws_mounts.specs.LettingGo.Counts.{times}
-use Rattle.vt_laws_mounts.specs.LettingGo.OneByOne.{without_filesystem, without_mount}
+use Rattle.vt_laws_mounts.specs.LettingGo.OneByOne.{without_filesystem}
 use Rattle.vt_laws_mounts.proofs.letting_go.Lists.{none_among}
 use Rattle.vt_laws_mounts.proofs.letting_go.sweeps.LookedUp.{filesystem_is_looked_up, mount_is_looked_up}
 use Rattle.vt_laws_mounts.proofs.letting_go.leaving.PlacesLeft.{no_layers}
@@ -11,9 +11,8 @@ use Rattle.vt_laws_mounts.specs.Counts.Going.{FilesystemGoesAtZero, MountGoesAtZ
 use Rattle.vt_laws_mounts.proofs.counts.using.Swept.{plain_of}
 
 pub mount_goes_at_zero : MountGoesAtZero
-mount_goes_at_zero world number one = mount_is_looked_up world number one
-    ∙ ap (λ b. cond (is_some (mount_numbered nat_eq world number).namespace || b) world (without_mount world number))
-    (located_while_counted world number)
+mount_goes_at_zero world number one =
+    cc (mount_is_looked_up world number one, located_while_counted world number)
 
 pub filesystem_goes_at_zero : FilesystemGoesAtZero
 filesystem_goes_at_zero world number plain = filesystem_is_looked_up world number

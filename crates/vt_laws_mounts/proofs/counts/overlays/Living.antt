@@ -108,11 +108,7 @@ all_layers_are_mounted world number is =
 -- Layers are of overlays.
 
 no_layers_of_plain : (g : Filesystem ℕ) → is_overlay g ≡ false → of_overlay [] layers_of g ≡ []
-no_layers_of_plain g e = by _ e
-  where
-    by : (o : Option (Overlay ℕ)) → is_some o ≡ false → overlay_or [] layers_of o ≡ []
-    by None h = refl
-    by (Some overlay) h = absurd (true≢false h)
+no_layers_of_plain g e = grind (arith, common_steps)
 
 of_overlays : (number : ℕ) (list : List (Filesystem ℕ))
     → layers_among number (filter is_overlay list) ≡ layers_among number list

@@ -132,18 +132,10 @@ module _ (world : World ℕ) (inode : Inode) where
 
   -- it leaves filesystems their numbers and their overlays
   number_step : (g : Filesystem ℕ) → (step g).number ≡ g.number
-  number_step g = by _
-    where
-      by : (b : Bool) → (cond b (record g { files = without_inode inode.1 g.files }) g).number ≡ g.number
-      by true = refl
-      by false = refl
+  number_step g = grind (arith, common_steps)
 
   overlay_step : (g : Filesystem ℕ) → (step g).overlay ≡ g.overlay
-  overlay_step g = by _
-    where
-      by : (b : Bool) → (cond b (record g { files = without_inode inode.1 g.files }) g).overlay ≡ g.overlay
-      by true = refl
-      by false = refl
+  overlay_step g = grind (arith, common_steps)
 
   no_upper_step : (k : ℕ) → HasNoUpperIn k world → HasNoUpperIn k next
   no_upper_step k apart = all_from_among (λ merged. has_upper_in k merged ≡ false) next.filesystems (λ g m.
@@ -212,12 +204,11 @@ module _ (world : World ℕ) (inode : Inode) where
 
         bare : (d : ℕ) (b : Bool) → nat_eq d inode.1 ≡ b
             → targets_in (cond b None (f.files.tree.node d)) ≡ targets_in (f.files.tree.node d)
-        bare d true e = sym (ap (λ m. targets_in (f.files.tree.node m)) (eqb-true d inode.1 e)
-            ∙ empty inode.1 zero_uses)
+        bare d true e = cc (eqb-true d inode.1 e, empty inode.1 zero_uses)
         bare d false e = refl
 
         skipped : (d : ℕ) (b : Bool) → nat_eq d inode.1 ≡ b → not b ≡ false → targets_in (f.files.tree.node d) ≡ []
-        skipped d true e h = ap (λ m. targets_in (f.files.tree.node m)) (eqb-true d inode.1 e) ∙ empty inode.1 zero_uses
+        skipped d true e h = cc (eqb-true d inode.1 e, empty inode.1 zero_uses)
         skipped d false e h = absurd (true≢false h)
 
         named : named_in (without_inode inode.1 f.files) ≡ named_in f.files
@@ -259,11 +250,7 @@ all_left k world (inode ∷ rest) apart there empty stand = then_left (all_left 
     among_one n false e = ap (λ b. b || false) e
 
     empty_left : (n : ℕ) → inode_uses world f n ≡ 0 → targets_in (f1.files.tree.node n) ≡ []
-    empty_left n none = by _ refl
-      where
-        by : (b : Bool) → is_inode k n inode ≡ b → targets_in (f1.files.tree.node n) ≡ []
-        by true e = ap targets_in (first_left.gone n none (among_one n true e))
-        by false e = ap targets_in (first_left.other n (among_one n false e)) ∙ empty n none
+    empty_left n none = grind (arith, common_steps, first_left.gone, among_one, first_left.other, empty)
 
     then_left : IsLeft k (let_go_inode world inode) f1 rest (let_go_inodes (let_go_inode world inode) rest)
         (filesystem_numbered nat_eq (let_go_inodes (let_go_inode world inode) rest) k)
@@ -317,7 +304,7 @@ module _ {world after : World ℕ} {gained lost : List Inode} {k : ℕ} {inodes 
   used_then = inode_uses after f
 
   exchange_uses : (n : ℕ) → inode_uses world f n + times (is_inode k n) gained ≡ used_then n + times (is_inode k n) lost
-  exchange_uses n = exchange.uses n ∙ ap (λ g. inode_uses after g n + times (is_inode k n) lost) exchange.same
+  exchange_uses n = cc (exchange.uses n, exchange.same)
 
   pub empty_then : EmptyUnused after f
   empty_then n none = unused_are_empty after f tree n (by _ refl)
@@ -334,8 +321,7 @@ module _ {world after : World ℕ} {gained lost : List Inode} {k : ℕ} {inodes 
       (is_there inode m here) in let e = start.uses_are inode.1 in omega arith)) (λ n. sym (exchange_uses n)) empty_then
     where
       is_there : (inode : Inode) → Among inode gained → nat_eq k inode.0 ≡ true → is_some (inodes.inode inode.1) ≡ true
-      is_there inode m here = sym (ap (λ b. not b || is_some (inodes.inode inode.1)) here)
-          ∙ among_from_list_all _ gained gains inode m
+      is_there inode m here = cc (among_from_list_all _ gained gains inode m)
 
   abbrev last : World ℕ
   last = let_go_inodes after lost

@@ -328,11 +328,7 @@ new_tree_counts world number root no_layers no_objects one own outside = record 
     roots : (n : ℕ) (mounts : List (Mount ℕ)) → ((mount : Mount ℕ) → Among mount mounts → Among mount world.mounts)
         → count_in world.mounts number n (map root_of mounts) ≡ cond (nat_eq n root)
         (times (λ mount. nat_eq number mount.filesystem) mounts) 0
-    roots n [] within = by _
-      where
-        by : (b : Bool) → ◌≡◌ {A = ℕ} 0 (cond b 0 0)
-        by true = refl
-        by false = refl
+    roots n [] within = grind (arith, common_steps)
     roots n (first ∷ rest) within = ap (λ (mount : Mount ℕ). times_in n
         (map (λ location. location.node) (cond (nat_eq number mount.filesystem)
         (root_of first ∷ filter (shown world.mounts number n) (map root_of rest)) (filter (shown world.mounts number n)

@@ -125,12 +125,12 @@ module _ {world : World ℕ} (after : World ℕ) {gained lost : List Inode} {k :
       by false e = none _ refl (used_times n ∙ uses_in-none _ e)
 
   node_last : (n : ℕ) → node_in (result.inode n) ≡ cond (not (is_among nat_eq n used)) None (f.files.tree.node n)
-  node_last n = by _ refl ∙ sym (ap (λ b. cond (not b) None (f.files.tree.node n)) (used_there n))
+  node_last n = cc (by _ refl, used_there n)
     where
       by : (b : Bool) → is_some (result.inode n) ≡ b → node_in (result.inode n)
           ≡ cond (not (is_some (result.inode n))) None (f.files.tree.node n)
-      by true e = sym (counts.kept n e) ∙ sym (ap (λ b. cond (not b) None (f.files.tree.node n)) e)
-      by false e = node_in-none _ e ∙ sym (ap (λ b. cond (not b) None (f.files.tree.node n)) e)
+      by true e = cc (counts.kept n e)
+      by false e = cc (node_in-none _ e)
 
   bare : (n : ℕ) → is_among nat_eq n used ≡ false → targets_in (f.files.tree.node n) ≡ []
   bare n e = counts.emptied n (sym (used_there n) ∙ e)

@@ -1,6 +1,6 @@
 -- The sweep after a change of one plain tree, where inodes count their uses.
 use Rattle.std.proofs.Common.{◌≡◌, ◌≢◌, refl, sym, ap, subst, ◌∙◌, ⊎_elim, inl, inr, ℕ, ◌+◌, ◌≤◌, nat_eq, eqb-true, eq-eqb, ne_eqb, Bool, true, false, true≢false, cond, not, List, [], ◌∷◌, ◌++◌, map, filter, find, flat_map, Option, Some, None, is_some, unwrap_or, arith}
-use Rattle.vt_spec.proofs.Common.{FileTree, Filesystem, Inode, Inodes, Node, World, any_pair, common_steps, filesystem_lives, filesystem_numbered, is_among, is_overlay, is_some-node_in, layers_in, layers_of, list_all, located_in, map_alike, map_twice, named_in, no_filesystem, node_in, node_in-none, objects_of_overlay, only_among, only_used, only_used_by, or_cases, overlay_or, replaced_if_numbered, settled, targets_in, used_in, uses_in, uses_in-none, with_files, without_dead_filesystems, without_dead_groups, without_dead_in, without_dead_inodes, without_dead_mounts}
+use Rattle.vt_spec.proofs.Common.{FileTree, Filesystem, Inode, Inodes, Node, World, any_pair, common_steps, filesystem_lives, filesystem_numbered, is_among, is_overlay, is_some-node_in, layers_in, layers_of, list_all, located_in, map_alike, map_twice, named_in, no_filesystem, node_in, node_in-none, objects_of_overlay, only_among, only_used, only_used_by, or_cases, overlay_or, replaced_if_numbered, settled, targets_in, used_in, uses_in, uses_in-none, with_files, without_dead_filesystems, without_dead_in, without_dead_mounts}
 use Rattle.vt_laws_mounts.specs.LettingGo.Counts.{inode_uses, times}
 use Rattle.vt_laws_mounts.specs.LettingGo.InUse.{AllInUse, IsListedTree, has_upper_in, is_inode_used}
 use Rattle.vt_laws_mounts.specs.LettingGo.OneByOne as LettingGo
@@ -84,10 +84,10 @@ found_other (first ∷ rest) other new apart = by _ refl (found_other rest other
         → unwrap_or (cond (nat_eq other (cond b new first).number) (Some (cond b new first)) later_new)
         (no_filesystem other)
         ≡ unwrap_or (cond (nat_eq other first.number) (Some first) later_old) (no_filesystem other)
-    by true e later =
-        ap (λ c. unwrap_or (cond c (Some new) later_new) (no_filesystem other)) (ne_eqb other new.number apart) ∙ later
-        ∙ sym (ap (λ c. unwrap_or (cond c (Some first) later_old) (no_filesystem other))
-        (ne_eqb other first.number (λ same. apart (same ∙ sym (eqb-true new.number first.number e)))))
+    by true e later = cc (
+      ne_eqb other new.number apart,
+      ne_eqb other first.number (λ same. apart (same ∙ sym (eqb-true new.number first.number e))),
+    )
     by false e later = here _
       where
         here : (c : Bool) → unwrap_or (cond c (Some first) later_new) (no_filesystem other)
@@ -222,19 +222,11 @@ module _ (world : World ℕ) (number : ℕ) (files : FileTree ℕ) (in_use : All
   -- each keeps its number and its overlay
   number_kept : (some : FileTree ℕ) (f : Filesystem ℕ) → Among f world.filesystems
       → (replaced_if_numbered nat_eq (with_files old some) f).number ≡ f.number
-  number_kept some f m = by _ refl
-    where
-      by : (b : Bool) → nat_eq old.number f.number ≡ b → (cond b (with_files old some) f).number ≡ f.number
-      by true e = eqb-true old.number f.number e
-      by false e = refl
+  number_kept some f m = grind (arith, common_steps, eqb-true)
 
   overlay_kept : (some : FileTree ℕ) (f : Filesystem ℕ) → Among f world.filesystems
       → (replaced_if_numbered nat_eq (with_files old some) f).overlay ≡ f.overlay
-  overlay_kept some f m = by _ refl
-    where
-      by : (b : Bool) → nat_eq old.number f.number ≡ b → (cond b (with_files old some) f).overlay ≡ f.overlay
-      by true e = ap (λ (g : Filesystem ℕ). g.overlay) (sym (is_old f m e))
-      by false e = refl
+  overlay_kept some f m = grind (arith, common_steps, is_old)
 
   layers_kept : (some : FileTree ℕ) (k : ℕ)
       → layers_in nat_eq (with_tree world number some) k ≡ layers_in nat_eq world k
@@ -333,9 +325,7 @@ module _ (world : World ℕ) (number : ℕ) (files : FileTree ℕ) (in_use : All
         by f m false = stays f m
 
     pub settled_is : settled nat_eq raw ≡ done
-    settled_is = ap (λ w. without_dead_groups nat_eq (without_dead_inodes nat_eq w)) same_living
-        ∙ ap (λ w. without_dead_groups nat_eq (without_dead_in nat_eq (λ f. not (is_overlay f)) w)) no_overlays
-        ∙ ap (without_dead_groups nat_eq) inodes_swept ∙ groups_stay done in_use.groups
+    settled_is = cc (same_living, no_overlays, inodes_swept, groups_stay done in_use.groups)
 
     pub found_done : filesystem_numbered nat_eq done number ≡ with_files old swept
     found_done = found_changed _ number _ (found_number _ number) there
@@ -366,9 +356,7 @@ module _ (world : World ℕ) (number : ℕ) (files : FileTree ℕ) (in_use : All
         + times_in n (flat_map (objects_of_overlay nat_eq old.number) some.filesystems))
 
     used_times : (n : ℕ) → uses_in (inodes.inode n) ≡ times_in n used
-    used_times n = tallied.counted.uses_are n
-        ∙ ap (λ m. m + times_in n (named_by files.tree.node files.numbers)) (sym (base_same files n))
-        ∙ ap (λ r. uses_of (base_from raw r) files.tree.node files.numbers n) (sym root_same) ∙ sym (uses_are raw new n)
+    used_times n = cc (tallied.counted.uses_are n, base_same files n, root_same, uses_are raw new n)
 
     pub used_there : (n : ℕ) → is_among nat_eq n used ≡ is_some (inodes.inode n)
     used_there n = by _ refl
@@ -385,20 +373,19 @@ module _ (world : World ℕ) (number : ℕ) (files : FileTree ℕ) (in_use : All
     unused_empty n e = tallied.counted.emptied n (sym (used_there n) ∙ e)
 
     node_left : (n : ℕ) → node_in (inodes.inode n) ≡ cond (is_among nat_eq n used) (files.tree.node n) None
-    node_left n = by _ refl ∙ sym (ap (λ b. cond b (files.tree.node n) None) (used_there n))
+    node_left n = cc (by _ refl, used_there n)
       where
         by : (b : Bool) → is_some (inodes.inode n) ≡ b
             → node_in (inodes.inode n) ≡ cond (is_some (inodes.inode n)) (files.tree.node n) None
-        by true e = sym (tallied.counted.kept n e) ∙ sym (ap (λ b. cond b (files.tree.node n) None) e)
-        by false e = node_in-none _ e ∙ sym (ap (λ b. cond b (files.tree.node n) None) e)
+        by true e = cc (tallied.counted.kept n e)
+        by false e = cc (node_in-none _ e)
 
     pub times_left : (n : ℕ) → times_in n swept.numbers ≡ cond (is_some (inodes.inode n)) 1 0
     times_left n = times_filter (λ m. is_among nat_eq m used) n files.numbers
         ∙ ap (λ b. cond b (times_in n files.numbers) 0) (used_there n) ∙ by (is_some (inodes.inode n)) refl
       where
         by : (b : Bool) → is_some (inodes.inode n) ≡ b → cond b (times_in n files.numbers) 0 ≡ cond b 1 0
-        by true e = tallied.once n ∙ ap (λ b. cond b 1 0)
-            (ap is_some (tallied.counted.kept n e) ∙ node_in_is_there (inodes.inode n) e)
+        by true e = cc (tallied.once n, tallied.counted.kept n e, node_in_is_there (inodes.inode n) e)
         by false e = refl
 
     few : (n : ℕ) → times_in n swept.numbers ≤ 1

@@ -1,5 +1,5 @@
 -- A namespace ends with its last task, and how many mounts a namespace has.
-use Rattle.std.proofs.Common.{◌≡◌, refl, sym, ap, ◌∙◌, ⊎_elim, ℕ, nat_eq, eqb-true, eq-eqb, Bool, true, false, not, ◌||◌, ◌&&◌, ◌+◌, ◌++◌, ◌≤◌, List, [], ◌∷◌, filter, length, map, Option, Some, None, option_map, option_to_list, arith, nat_lt}
+use Rattle.std.proofs.Common.{◌≡◌, refl, sym, ap, ◌∙◌, ⊎_elim, ℕ, nat_eq, eqb-true, eq-eqb, Bool, true, false, not, ◌&&◌, ◌+◌, ◌++◌, ◌≤◌, List, [], ◌∷◌, filter, length, map, Option, Some, None, option_map, option_to_list, arith, nat_lt}
 use Rattle.vt_spec.proofs.Common.{Location, Mount, Namespace, World, after_going, and_parts, cases_Bool, common_steps, filter_alike, filter_all, has_tasks, holds_of, is_in_ended, is_listed, list_all, list_any, most_mounts, mount_point_left, mounts_of, nat_tests, or-false, or_false_left, regrouped, taken_away, with_mounts}
 use Rattle.vt_laws_mounts.specs.LettingGo.Ends.{AddedMountsCount, AddedMountsCountInNoOther, AddedMountsCountInTheirOwn, MountsAreListed, NoNamespaceEnds, OneNamespaceEnds, TooManyIsOfOne, TooManyIsOfSome, is_in, mount_count}
 use Rattle.vt_laws_mounts.proofs.letting_go.Lists.{Among, among-from_map, among_from_list_all, among_numbers, any_among, any_from_among, map_same, none_among, none_from_among, nothing_passes}
@@ -76,8 +76,7 @@ one_namespace_ends world number listed empty others = λ i. record (taken_away n
 
     its_others : (namespace : Namespace ℕ) → Among namespace world.namespaces → nat_eq number namespace.number ≡ false
         → has_tasks nat_eq world namespace ≡ true
-    its_others namespace m e = sym (ap (λ b. b || has_tasks nat_eq world namespace) e) ∙ among_from_list_all _ _ others
-        _ m
+    its_others namespace m e = cc (among_from_list_all _ _ others _ m)
 
     has_or_is : (namespace : Namespace ℕ) → Among namespace world.namespaces → (b : Bool)
         → nat_eq number namespace.number ≡ b → has_tasks nat_eq world namespace ≡ not b

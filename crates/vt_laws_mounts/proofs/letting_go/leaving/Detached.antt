@@ -42,9 +42,8 @@ pub found-map : (change : Mount ℕ → Mount ℕ) → ((mount : Mount ℕ) → 
     → (mount : Mount ℕ) → Among mount mounts → mount_in nat_eq mounts number ≡ mount → mount.number ≡ number
     → mount_in nat_eq (map change mounts) number ≡ change (mount_in nat_eq mounts number)
 found-map change same [] number mount m e f = absurd m
-found-map change same (first ∷ rest) number mount m e f = ap (λ n. unwrap_or
-    (cond (nat_eq number n) (Some (change first)) (find (λ x. nat_eq number x.number) (map change rest)))
-    (no_mount number)) (same first) ∙ by _ refl (λ g h. found-map change same rest number mount g h f) m e
+found-map change same (first ∷ rest) number mount m e f =
+    cc (same first, by _ refl (λ g h. found-map change same rest number mount g h f) m e)
   where
     by : (b : Bool) → nat_eq number first.number ≡ b
         → (Among mount rest → mount_in nat_eq rest number ≡ mount → mount_in nat_eq (map change rest) number

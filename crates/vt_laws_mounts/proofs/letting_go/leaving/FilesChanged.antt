@@ -63,7 +63,7 @@ module _ (world : World ℕ) (location : Location ℕ) (change : Change ℕ) (se
   plainly : (fresh : Fresh ℕ) (other : World ℕ) → other.filesystems ≡ world.filesystems
       → (mount_at nat_eq other location).filesystem ≡ number
       → with_change nat_eq fresh other location change ≡ with_filesystems other swap
-  plainly fresh other same shows = ap (λ f. filesystem_changed nat_eq fresh other f f.overlay change) found ∙ by _ refl
+  plainly fresh other same shows = cc (found, by _ refl)
     where
       found : filesystem_at nat_eq other location ≡ filesystem_at nat_eq world location
       found = ap (filesystem_numbered nat_eq other) shows
@@ -131,9 +131,7 @@ module _ (world : World ℕ) (location : Location ℕ) (change : Change ℕ) (se
     (none : names_lost (files_at nat_eq world location) change ≡ []) where
   keeps_all : (fresh : Fresh ℕ) → settled nat_eq (with_change nat_eq fresh world location change)
       ≡ with_change nat_eq fresh world location change
-  keeps_all fresh = goes_alone world location change settles one is_there plain after may fresh
-      ∙ ap (λ names. let_go_all_inodes (with_change nat_eq fresh world location change)
-      (map (λ inode. ((mount_at nat_eq world location).filesystem, inode)) names)) none
+  keeps_all fresh = cc (goes_alone world location change settles one is_there plain after may fresh, none)
 
   abbrev swapped : Filesystem ℕ → Filesystem ℕ
   swapped = swap world location change settles one is_there plain after may
@@ -199,8 +197,7 @@ one_task (first ∷ rest) one a b m n same = by m n (one_task rest parts.1 a b)
         ∙ none_among _ rest parts.0 y l))
 
     back : same_name b.name a.name ≡ true
-    back = ap (λ n. same_name n a.name) (sym ((bytes_decides a.name b.name).0 same))
-        ∙ (bytes_decides a.name a.name).1 refl
+    back = cc ((bytes_decides a.name b.name).0 same, (bytes_decides a.name a.name).1 refl)
 
     by : Among a (first ∷ rest) → Among b (first ∷ rest)
         → (Among a rest → Among b rest → same_name a.name b.name ≡ true → a ≡ b) → a ≡ b

@@ -1,6 +1,6 @@
 -- What mounts are after a tree of mounts is attached, and what they used.
-use Rattle.std.proofs.Common.{arith, ◌≡◌, refl, sym, ap, subst, ◌∙◌, ◌⊎◌, inl, inr, ⊎_elim, ℕ, nat_eq, append_assoc, eqb-true, eq-eqb, Bool, true, false, cond, ◌||◌, ◌&&◌, List, [], ◌∷◌, find, map, true≢false, flat_map, ◌++◌, Option, Some, None, is_some, option_map, option_to_list, unwrap_or, filter_map, map-id}
-use Rattle.vt_spec.proofs.Common.{Copies, Filesystem, Graft, Location, Mount, Twig, World, added_mounts, all_groups_made, attached_by, common_steps, copies_at, copy_at, false_from_ne_true, folded, graft_of, group_made, group_of, holds_of, is_among, is_destination, is_member_of, is_nowhere_or_attached, list_all, list_any, map_twice, masters_with, mount_at, mount_in, mount_lives, mount_point_on_copy, no_mount, number-mount_in, parts_of, pushed_onto, pushed_up, receiver_stood_on, receivers_of, replaced_if_same, rest_of, same_location_is, stands_at, takes_part, twig_of, with_mount, with_moved_mounts}
+use Rattle.std.proofs.Common.{arith, ◌≡◌, refl, sym, ap, subst, ◌∙◌, ◌⊎◌, inl, inr, ⊎_elim, ℕ, nat_eq, append_assoc, eqb-true, eq-eqb, Bool, true, false, cond, ◌||◌, List, [], ◌∷◌, find, map, true≢false, flat_map, ◌++◌, Option, Some, None, is_some, option_map, option_to_list, unwrap_or, filter_map, map-id}
+use Rattle.vt_spec.proofs.Common.{Copies, Filesystem, Graft, Location, Mount, Twig, World, added_mounts, all_groups_made, attached_by, common_steps, copies_at, copy_at, false_from_ne_true, folded, graft_of, group_made, group_of, is_among, is_destination, is_member_of, is_nowhere_or_attached, list_all, list_any, map_twice, masters_with, mount_at, mount_in, mount_lives, mount_point_on_copy, no_mount, number-mount_in, parts_of, pushed_onto, pushed_up, receiver_stood_on, receivers_of, replaced_if_same, rest_of, same_location_is, stands_at, takes_part, twig_of, with_mount, with_moved_mounts}
 use Rattle.vt_laws_mounts.specs.LettingGo.InUse.{AllInUse, GroupsInUse}
 use Rattle.vt_laws_mounts.specs.LettingGo.Keeping.{LocationsStand}
 use Rattle.vt_laws_mounts.specs.LettingGo.Leaving.{MountsStand}
@@ -32,7 +32,7 @@ pub masters_stay : (made : List (ℕ × Option ℕ)) (master : ℕ → Option �
     → folded (masters_with nat_eq) master made group ≡ master group
 masters_stay [] master group none = refl
 masters_stay (one ∷ made) master group none =
-    masters_stay made _ group (λ x m. none x (inr m)) ∙ ap (λ b. cond b one.1 (master group)) (none one (inl refl))
+    cc (masters_stay made _ group (λ x m. none x (inr m)), none one (inl refl))
 
 module _ (world : World ℕ) (filesystems : List (Filesystem ℕ)) (new : Copies ℕ) (place : Location ℕ) (moves : Bool)
     (first : Mount ℕ) (rest : List (Mount ℕ)) (in_use : AllInUse world) (stand : MountsStand world)
@@ -153,13 +153,10 @@ module _ (world : World ℕ) (filesystems : List (Filesystem ℕ)) (new : Copies
   at_its_number = eq-eqb destination.number place.mount (number-mount_in _ _)
 
   keeps_number : moves ≡ true → (origin : Mount ℕ) → (copy destination origin).number ≡ origin.number
-  keeps_number e origin = ap (λ b. cond (b && is_destination nat_eq tree destination.number) origin.number
-      (new.copy destination.number origin.number)) e
-      ∙ ap (λ b. cond b origin.number (new.copy destination.number origin.number)) at_its_number
+  keeps_number e origin = cc (at_its_number)
 
   one_of_its_number : (a b : Mount ℕ) → Among a world.mounts → Among b world.mounts → a.number ≡ b.number → a ≡ b
-  one_of_its_number a b m n e = sym (found_itself _ stand.one_number a m) ∙ ap (mount_in nat_eq world.mounts) e
-      ∙ found_itself _ stand.one_number b n
+  one_of_its_number a b m n e = cc (found_itself _ stand.one_number a m, found_itself _ stand.one_number b n)
 
   went_is : (mount : Mount ℕ) → Among mount world.mounts → Went mount
   went_is mount m = by moves refl
@@ -368,8 +365,7 @@ module _ (world : World ℕ) (filesystems : List (Filesystem ℕ)) (new : Copies
   is_its_member : (x origin part : Mount ℕ) (group made : ℕ) → x.propagation ≡ (copy part origin).propagation
       → group_of (copy part origin).propagation ≡ Some made → nat_eq group made ≡ true
       → is_member_of nat_eq group x ≡ true
-  is_its_member x origin part group made e f same = ap (λ kind. holds_of (nat_eq group) (group_of kind)) e
-      ∙ ap (holds_of (nat_eq group)) f ∙ same
+  is_its_member x origin part group made e f same = cc
 
   pub attached_groups : GroupsInUse after
   attached_groups group none = masters_stay (all_groups_made nat_eq base new tree parts) world.master group

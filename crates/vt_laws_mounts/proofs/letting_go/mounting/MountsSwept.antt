@@ -1,5 +1,5 @@
 -- What the sweep leaves of mounts: those in namespaces stay, with all their groups, and those outside are private.
-use Rattle.std.proofs.Common.{◌≡◌, refl, sym, ap, subst, ◌∙◌, ℕ, nat_eq, true, false, cond, not, ◌&&◌, List, ◌≤◌, filter, length, map, true≢false, Option, Some, None, is_some, unwrap_or, arith, option_to_list}
+use Rattle.std.proofs.Common.{◌≡◌, refl, sym, ap, subst, ◌∙◌, ℕ, nat_eq, true, false, not, ◌&&◌, List, ◌≤◌, filter, length, map, true≢false, Option, Some, None, is_some, unwrap_or, arith, option_to_list}
 use Rattle.vt_spec.proofs.Common.{Lives, Location, Mount, MountInvariants, Stands, World, at_root, common_steps, group_of, has_master, has_members, has_no_master, is_private, length-filter_both, list_all, mount_at, mount_in, mount_lives, mount_numbered, number-mount_in, on_parent, or_parts, same_Some, settled}
 use Rattle.vt_laws_mounts.specs.LettingGo.Leaving.{MountsStand, stands_on_attached}
 use Rattle.vt_laws_mounts.proofs.letting_go.Chains.{Way}
@@ -91,7 +91,7 @@ module _ (world : World ℕ) (kept : MountInvariants nat_eq world) where
 
   pub master_kept : (group : ℕ) → has_members nat_eq world.mounts group ≡ true
       → (settled nat_eq world).master group ≡ world.master group
-  master_kept group has = ap (λ b. cond b (world.master group) None) (members_first group ∙ has)
+  master_kept group has = cc (members_first group)
 
   pub master_of : (group : ℕ) → LivesIn group → (settled nat_eq world).master group ≡ world.master group
   master_of group (has_no_master it has e) = master_kept it has

@@ -200,8 +200,8 @@ module _ (world : World ℕ) (tasks : List (Task ℕ)) (namespaces : List (Names
   last_mounts = filter (mount_lives nat_eq once) once_mounts
 
   again_is : again_mounts ≡ map change first_mounts
-  again_is = ap (λ b. map (MountingTaken.change swept gone namespaces b) first_mounts) hands_alike ∙ map_alike _ change
-      _ (λ mount m. change_alike _ mount (of_world world kept mount m))
+  again_is =
+      cc (hands_alike, map_alike _ change _ (λ mount m. change_alike _ mount (of_world world kept mount m)))
 
   number-change : (mount : Mount ℕ) → (change mount).number ≡ mount.number
   number-change mount = same_number not_swept gone namespaces hands_on mount

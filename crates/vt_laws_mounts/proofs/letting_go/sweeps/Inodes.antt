@@ -79,13 +79,7 @@ two_steps world inode rest filesystem used same = λ i. record filesystem {
     node : (number : ℕ) → cond (goes_of used rest filesystem number) None
         (cond (here number) None (filesystem.files.tree.node number))
         ≡ cond (goes_of used (inode ∷ rest) filesystem number) None (filesystem.files.tree.node number)
-    node number = cc (by (here number) (goes_of used rest filesystem number), here_or_later number)
-      where
-        by : (a b : Bool) → cond b None (cond a None (filesystem.files.tree.node number))
-            ≡ cond (a || b) None (filesystem.files.tree.node number)
-        by true true = refl
-        by true false = refl
-        by false b = refl
+    node number = grind (arith, common_steps)
 
     numbers : filter (λ number. not (goes_of used rest filesystem number))
         (filter (λ number. not (here number)) filesystem.files.numbers)
@@ -267,15 +261,7 @@ module _ (used : List ℕ) (losers : List Inode) (filesystem : Filesystem ℕ)
   node_swept : (number : ℕ) → cond (not (is_among nat_eq number used)) None (filesystem.files.tree.node number)
       ≡ cond (goes number) None (filesystem.files.tree.node number)
   unfolding goes
-  node_swept number = by _ refl _ refl
-    where
-      by : (a : Bool) → is_inode_among filesystem.number number losers ≡ a → (u : Bool)
-          → is_among nat_eq number used ≡ u → cond (not u) None (filesystem.files.tree.node number)
-          ≡ cond (a && not u) None (filesystem.files.tree.node number)
-      by true e true f = refl
-      by true e false f = refl
-      by false e true f = refl
-      by false e false f = sym (not_there number f e)
+  node_swept number = grind (arith, common_steps, not_there)
 
   swept : is_overlay filesystem ≡ false → only_used_of nat_eq used filesystem ≡ without_those goes filesystem
   swept plain = left_of_plain used filesystem numbers plain ∙ (λ i. record filesystem {

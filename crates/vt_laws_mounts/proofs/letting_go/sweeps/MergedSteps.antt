@@ -188,8 +188,8 @@ module _ (chosen : Filesystem ℕ → Bool)
       → ((f : Filesystem ℕ) → Among f world.filesystems → chosen f ≡ true → IsListedTree f.files × HasReals f
       × (list_all (is_used_or_among losers world f) f.files.numbers ≡ true))
       → without_dead_in nat_eq chosen world ≡ folded (let_go_in chosen) world losers
-  chosen_go_one_by_one world losers apart empty others = ap (λ filesystems. record world { filesystems = filesystems })
-      (map_alike _ _ _ (λ f m. by f m _ refl)) ∙ sym (chosen_folded world losers apart empty)
+  chosen_go_one_by_one world losers apart empty others =
+      cc (map_alike _ _ _ (λ f m. by f m _ refl), chosen_folded world losers apart empty)
     where
       same : (a u : Bool) → (a || u) ≡ true → not u ≡ (a && not u)
       same true u e = refl

@@ -1,6 +1,6 @@
 -- An inode of an overlay that goes is one use less of its upper inode.
-use Rattle.std.proofs.Common.{◌≡◌, refl, sym, ap, ◌∙◌, ℕ, nat_eq, eqb-true, eq-eqb, Bool, true, false, cond, not, ◌&&◌, ◌+◌, List, [], ◌∷◌, filter, map, true≢false, flat_map, ◌++◌, Option, Some, option_map, arith, filter_map}
-use Rattle.vt_spec.proofs.Common.{Filesystem, Layer, Overlay, Upper, World, common_steps, holds_of, layers_in, layers_of, located_in, named_in, objects_of_overlay, of_overlay, overlay_or, upper_object}
+use Rattle.std.proofs.Common.{◌≡◌, refl, sym, ap, ◌∙◌, ℕ, nat_eq, eqb-true, eq-eqb, Bool, true, false, cond, not, ◌&&◌, ◌+◌, List, [], ◌∷◌, filter, true≢false, flat_map, ◌++◌, Option, Some, arith, filter_map}
+use Rattle.vt_spec.proofs.Common.{Filesystem, Layer, Overlay, Upper, World, common_steps, holds_of, layers_in, layers_of, located_in, named_in, objects_of_overlay, of_overlay, upper_object}
 use Rattle.vt_laws_mounts.specs.LettingGo.Counts.{times}
 use Rattle.vt_laws_mounts.specs.LettingGo.Overlays.{OneUpperUseLess, without_inode_of, without_real}
 use Rattle.std.proofs.Math.Nat.{add_assoc}
@@ -11,8 +11,8 @@ zero_first n = omega arith
 module _ {A : Type 0} where
   pub times_append : (test : A → Bool) (xs ys : List A) → times test (xs ++ ys) ≡ times test xs + times test ys
   times_append test [] ys = zero_first _
-  times_append test (x ∷ xs) ys = ap (λ n. cond (test x) 1 0 + n) (times_append test xs ys)
-      ∙ sym (add_assoc (cond (test x) 1 0) (times test xs) (times test ys))
+  times_append test (x ∷ xs) ys =
+      cc (times_append test xs ys, add_assoc (cond (test x) 1 0) (times test xs) (times test ys))
 
 module _ {A B : Type 0} where
   flat_map_one : (g : A → List B) (front back : List A) (x y : A) → g x ≡ g y
@@ -78,30 +78,23 @@ one_upper_use_less world front back merged overlay layer inode object all is upp
     layers_gone = cc
 
     layers : layers_in nat_eq world filesystem.number ≡ layers_in nat_eq later filesystem.number
-    layers = ap (λ list. map (λ l. l.directory) (filter (λ l. nat_eq filesystem.number l.filesystem) list))
-        (ap (flat_map (of_overlay [] layers_of)) all ∙ flat_map_one _ front back merged gone layers_gone)
+    layers = cc (all, flat_map_one _ front back merged gone layers_gone)
 
     of_upper : Option (Layer ℕ) → List ℕ → List ℕ
     of_upper u list = cond (holds_of (λ l. nat_eq filesystem.number l.filesystem) u) list []
 
     objects_merged : objects merged ≡ cond (nat_eq filesystem.number layer.filesystem)
         (filter_map (λ k. upper_object (overlay.real k)) merged.files.numbers) []
-    objects_merged =
-        ap (overlay_or [] (λ o. of_upper o.upper (filter_map (λ k. upper_object (o.real k)) merged.files.numbers))) is
-        ∙ ap (λ u. of_upper u (filter_map (λ k. upper_object (overlay.real k)) merged.files.numbers)) upper
+    objects_merged = cc (is, upper)
 
     objects_gone : objects gone ≡ cond (nat_eq filesystem.number layer.filesystem)
         (filter_map (λ k. upper_object ((without_real inode overlay).real k))
         (filter (λ other. not (nat_eq other inode)) merged.files.numbers)) []
-    objects_gone = ap (λ x. overlay_or [] (λ o. of_upper o.upper (filter_map (λ k. upper_object (o.real k))
-        (filter (λ other. not (nat_eq other inode)) merged.files.numbers))) (option_map (without_real inode) x)) is
-        ∙ ap (λ u. of_upper u (filter_map (λ k. upper_object ((without_real inode overlay).real k))
-        (filter (λ other. not (nat_eq other inode)) merged.files.numbers))) upper
+    objects_gone = cc (is, upper)
 
     of_merged : times (nat_eq number) (objects merged) ≡ times (nat_eq number) (objects gone) + less
     of_merged = grind (arith, common_steps, objects_merged, objects_gone, objects_less)
 
     objects_one : times (nat_eq number) (flat_map objects world.filesystems)
         ≡ times (nat_eq number) (flat_map objects (front ++ (gone ∷ back))) + less
-    objects_one = ap (λ list. times (nat_eq number) (flat_map objects list)) all
-        ∙ times_one _ _ front back merged gone less of_merged
+    objects_one = cc (all, times_one _ _ front back merged gone less of_merged)
