@@ -37,29 +37,29 @@ module _ (world : World ℕ) (fresh : Fresh ℕ) (name : TaskName) {task : Task 
       → (policy nat_eq fresh world name (Lstat path)).answer
       ≡ Ok (Told (stat_line (node_at nat_eq world here.location)))
   unfolding lstat_permit
-  lstat_of here walk = cc (called)
+  lstat_of here walk = cc called
 
   pub lstat_refused : (stop : Stop ℕ) → symlink_walk nat_eq world task path ≡ Err stop
       → (policy nat_eq fresh world name (Lstat path)).answer ≡ Err stop.deny
   unfolding lstat_permit
-  lstat_refused stop walk = cc (called)
+  lstat_refused stop walk = cc called
 
   pub stat_of : (here : Here ℕ) → object_walk nat_eq world task path ≡ Ok here
       → (policy nat_eq fresh world name (Stat path)).answer ≡ Ok (Told (stat_line (node_at nat_eq world here.location)))
   unfolding stat_permit
-  stat_of here walk = cc (called)
+  stat_of here walk = cc called
 
   pub stat_refused : (stop : Stop ℕ) → object_walk nat_eq world task path ≡ Err stop
       → (policy nat_eq fresh world name (Stat path)).answer ≡ Err stop.deny
   unfolding stat_permit
-  stat_refused stop walk = cc (called)
+  stat_refused stop walk = cc called
 
   pub readlink_of : (here : Here ℕ) → symlink_walk nat_eq world task path ≡ Ok here
       → is_kind_in Symlink (node_at nat_eq world here.location) ≡ true
       → (policy nat_eq fresh world name (Readlink path)).answer
       ≡ Ok (Bytes (bytes_in (node_at nat_eq world here.location)))
   unfolding readlink_permit
-  readlink_of here walk is = cc (called)
+  readlink_of here walk is = cc called
 
   -- a directory is listed, if it may be read
   pub list_of : IsPlain world → (here : Here ℕ) → directory_walk nat_eq world task path ≡ Ok here
@@ -84,7 +84,7 @@ module _ (world : World ℕ) (fresh : Fresh ℕ) (name : TaskName) {task : Task 
   pub list_refused : (stop : Stop ℕ) → directory_walk nat_eq world task path ≡ Err stop
       → (policy nat_eq fresh world name (Ls path)).answer ≡ Err stop.deny
   unfolding list_permit
-  list_refused stop walk = cc (called)
+  list_refused stop walk = cc called
 
   -- a regular file is read, if it may be
   pub read_of : IsPlain world → (here : Here ℕ) → object_walk nat_eq world task path ≡ Ok here

@@ -80,7 +80,7 @@ module _ (start : World ℕ) (at_first : MountInvariants nat_eq start) (one : �
             let same : mount.number ≡ p.mount =
             eqb-true mount.number p.mount (cc) in
             let found = found_itself _ way.kept.one_number x m in
-            let over = way.over x.number p (cc (found)) in
+            let over = way.over x.number p (cc found) in
             let high = over.1 in
             let equal : rank_of mount.number ≡ rank_of p.mount = ap rank_of same in
             let lies = further_in start one _ _ (way.lies mount (inl refl))
@@ -88,7 +88,7 @@ module _ (start : World ℕ) (at_first : MountInvariants nat_eq start) (one : �
             ⊎_elim (λ later.
             let low = no_deeper mount left way.order way.itself _ later in
             absurd (omega (arith, low, high, equal)))
-            (λ gone. cc (found))
+            (λ gone. cc found)
             (way.done x.number lies)
 
     abbrev gone : List ℕ

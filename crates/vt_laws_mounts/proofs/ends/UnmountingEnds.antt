@@ -136,6 +136,6 @@ the_mount_itself_goes world one place one_each at childless = cc (by _ refl)
         (among-filter_map _ _ parent itself (among-filter _ _ parent (parent_among group e)
         (receives_from_source world group parent (ap source_of e))) (child_goes_so world _ parent itself at_parent
         may))))
-    by (Slave above) e = cc (alone)
-    by Private e = cc (alone)
-    by Unbindable e = cc (alone)
+    by (Slave above) e = cc alone
+    by Private e = cc alone
+    by Unbindable e = cc alone

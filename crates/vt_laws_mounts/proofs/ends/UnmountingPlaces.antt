@@ -144,7 +144,7 @@ goes_or_may world mount number h = by _ refl
     alone m = inl (⊎_elim (λ e. e) (λ none. absurd none) m)
 
     listed : (numbers : List ℕ) → going nat_eq world mount ≡ numbers → Among number numbers
-    listed numbers e = among_numbers _ number (cc (h))
+    listed numbers e = among_numbers _ number (cc h)
 
     on : (place : Location ℕ) (b : Bool) → Among number (going_from nat_eq world mount place b)
         → (number ≡ mount.number)

@@ -13,7 +13,7 @@ flags_are_set world here flags there =
     let one = mount_at nat_eq world here in
     let number : one.number ≡ here.mount = number-mount_in _ _ in
     let new = record one { flags = flags } in
-    ap (mount_in nat_eq (with_mount nat_eq world.mounts new)) (sym number) ∙ found-with_mount_itself new _ (cc (number))
+    ap (mount_in nat_eq (with_mount nat_eq world.mounts new)) (sym number) ∙ found-with_mount_itself new _ (cc number)
 
 pub flags_are_of_one : FlagsAreOfOne
 flags_are_of_one world here flags number other =
@@ -58,7 +58,7 @@ module _ (world : World ℕ) (group : ℕ → ℕ) (word : TypeWord) (named : Li
 
   retyped_missing : (number : ℕ) → is_mount world number ≡ false
       → mount_numbered nat_eq next_world number ≡ mount_numbered nat_eq world number
-  retyped_missing number missing = none_numbered _ number (cc (numbers-retyped)) ∙ sym (none_numbered _ number missing)
+  retyped_missing number missing = none_numbered _ number (cc numbers-retyped) ∙ sym (none_numbered _ number missing)
 
   pub keeps_all_but_type : (number : ℕ)
       → KeepsAllButType (mount_numbered nat_eq world number) (mount_numbered nat_eq next_world number)

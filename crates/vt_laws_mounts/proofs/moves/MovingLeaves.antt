@@ -263,9 +263,9 @@ module _ (world : World ℕ) (new : Copies ℕ) (place : Location ℕ) (mounts :
 
       by : ArrivedPlace origin → LeftPlace mount
       by (at_place f g) =
-          at_destination (cc (number)) (cc (e))
+          at_destination (cc number) (cc e)
       by (as_before on f g) =
-          as_it_was origin (may.inside origin m) (sym number) (cc (e))
+          as_it_was origin (may.inside origin m) (sym number) (cc e)
 
   pub places_left : OneMountAMountPoint world.mounts → child_at nat_eq world.mounts place ≡ None
       → OneMountAMountPoint left.mounts

@@ -280,7 +280,7 @@ module _ {world : World ℕ} {new : Copies ℕ} {place : Location ℕ} {mounts :
                 )
 
         by : PushCase a → PushCase b → test (push a) (push b) ≡ false
-        by (stays e f) (stays g h) = cc (differ)
+        by (stays e f) (stays g h) = cc differ
         by (stays e f) (goes receiver origin r o g h same) = (mixed a b m e _ origin r o h same).0
         by (goes receiver origin r o e f same) (stays g h) = (mixed b a n g _ origin r o f same).1
         by (goes receiver origin r o e f same) (goes other second t u g h same_too) = two _ refl
@@ -327,7 +327,7 @@ module _ {world : World ℕ} {new : Copies ℕ} {place : Location ℕ} {mounts :
         by origin o (on_copy on parent f there_is same c) (stays g h) in_copies = at a.mount_point refl
           where
             at : (found : Option (Location ℕ)) → a.mount_point ≡ found → test (push a) (copy part origin) ≡ false
-            at None d = cc (g)
+            at None d = cc g
             at (Some stands_on) d = ap (λ (z : Mount ℕ). test z (copy part origin)) g
                 ∙ differ_by_mount a (copy part origin) stands_on (place_upon part on) d c
                 (subst (λ q. nat_eq stands_on.mount (new.copy part.number q) ≡ false) same

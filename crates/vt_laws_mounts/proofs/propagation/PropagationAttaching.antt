@@ -167,7 +167,7 @@ module _ (it : Attachment) (can : CanAttach it) (origin : Mount ℕ) (d : IsOfTr
 
   kind_on_shared : (group : ℕ) → group_of (destination_of it).propagation ≡ Some group
       → (copy_of it (destination_of it) origin).propagation ≡ type_on_shared (new_group group) origin.propagation
-  kind_on_shared group e = cc (kind_at_destination)
+  kind_on_shared group e = cc kind_at_destination
 
 pub type_on_not_shared : TypeOnNotShared
 type_on_not_shared it origin can d e =

@@ -269,7 +269,7 @@ module _ (files : FileTree ℕ) (listed : IsListedTree files) where
           named.numbers
           (λ k m.
           ⊎_elim (λ new. or_right (is_among nat_eq k files.numbers) (is_among nat_eq k (named_in named))
-          (cc (new_is_named)))
+          (cc new_is_named))
           (λ old. or_left (is_among nat_eq k files.numbers) (is_among nat_eq k (named_in named))
           (is_among_numbers k files.numbers old)) m);
       names = all_names files named (option_to_list (entry_at files.tree directory name)) (λ d m e n.

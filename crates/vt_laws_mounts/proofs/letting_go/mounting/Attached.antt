@@ -153,7 +153,7 @@ module _ (world : World ℕ) (filesystems : List (Filesystem ℕ)) (new : Copies
   at_its_number = eq-eqb destination.number place.mount (number-mount_in _ _)
 
   keeps_number : moves ≡ true → (origin : Mount ℕ) → (copy destination origin).number ≡ origin.number
-  keeps_number e origin = cc (at_its_number)
+  keeps_number e origin = cc at_its_number
 
   one_of_its_number : (a b : Mount ℕ) → Among a world.mounts → Among b world.mounts → a.number ≡ b.number → a ≡ b
   one_of_its_number a b m n e = cc (found_itself _ stand.one_number a m, found_itself _ stand.one_number b n)
