@@ -15,6 +15,7 @@ use Rattle.vt_laws_trees.proofs.overlays.whole.UpperTold.{Told, told_both, told_
 use Rattle.vt_laws_trees.proofs.overlays.steps.WholeAttributes.{attr_keeps_whole, bytes_keep_whole, upper_real}
 use Rattle.vt_laws_trees.proofs.overlays.steps.WholeLines.{IsCopied, object_copied, stands_copied, to_object}
 use Rattle.vt_laws_trees.proofs.overlays.steps.WholeMoved.{move_keeps_shown}
+use Rattle.vt_laws_trees.proofs.overlays.steps.WholeMovedTree.{IsMoveAbove}
 use Rattle.vt_laws_trees.proofs.overlays.steps.WholeNames.{above_named, named_above}
 use Rattle.vt_laws_trees.proofs.overlays.steps.WholeLinked.{link_keeps_shown}
 use Rattle.vt_laws_trees.proofs.overlays.steps.WholeMade.{make_keeps_shown}
@@ -94,6 +95,13 @@ pub record IsReadyToMove (fresh : Fresh ℕ) (stack : Stack ℕ) (merge : Merge 
   pub objects : (n object : ℕ) → two.real n ≡ Some (Upper object)
       → (merge.real n ≡ Some (Upper object)) ⊎ IsNewBy fresh object
   pub sizes : is_fit_tree merge.files ≡ true → is_fit_tree merge.upper ≡ true → is_fit_tree two.upper ≡ true
+
+-- what a move in the upper layer rests on, once all is copied
+pub ready_above : {fresh : Fresh ℕ} {stack : Stack ℕ} {merge : Merge ℕ} {f : ℕ} {old : List ℕ} {t : ℕ}
+    {new : List ℕ} {o : ℕ} {two : Merge ℕ} → IsReadyToMove fresh stack merge f old t new o two
+    → IsMoveAbove (odds (odds fresh)) stack two f old t new o
+ready_above m =
+    record { whole = m.whole; from = m.from; to = m.to; object = m.object; may = m.may; vacant = m.vacant }
 
 pub twice : (fresh : Fresh ℕ) (stack : Stack ℕ) (merge : Merge ℕ) → IsWhole stack merge
     → ((j k : ℕ) → fresh j ≡ fresh k → j ≡ k)
