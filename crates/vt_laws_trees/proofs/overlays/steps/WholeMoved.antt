@@ -130,8 +130,8 @@ module _ {fresh : Fresh ℕ} {stack : Stack ℕ} {merge : Merge ℕ} {f : ℕ} {
   abbrev lowers : List (View ℕ)
   lowers = map view_of stack.lowers
 
-  -- The upper layer as it changes: a replaced directory is emptied and the object moved, then the old name is left, then
-  -- the object is marked.
+  -- The upper layer as it changes: a replaced directory is emptied, the object is moved, the old name is left, and the
+  -- object is marked.
   abbrev moved_base : FileTree ℕ
   moved_base =
       with_moved nat_eq (without_contents nat_eq merge.upper (upper_directory_named merge t new)) uf old ut new uo
@@ -241,8 +241,8 @@ module _ {fresh : Fresh ℕ} {stack : Stack ℕ} {merge : Merge ℕ} {f : ℕ} {
           (l ∙ ap Some e)) ∙ named_not uf old front no_old))
       own k l e false d =
           let hid : hides (merge.upper.tree.node k) ≡ true =
-          ap (λ n. hides (merge.upper.tree.node n)) e
-          ∙ file_hides (merge.upper.tree.node uo) uo_there (directory_stands stack merge it.whole o uo (real_o it) ∙ d) in
+          ap (λ n. hides (merge.upper.tree.node n)) e ∙ file_hides (merge.upper.tree.node uo) uo_there
+          (directory_stands stack merge it.whole o uo (real_o it) ∙ d) in
           (more k (not_c k (is_there front k l))).more hid ∙ sym hid
 
       at : (k : ℕ) → led merge.upper.tree stack.directory front ≡ Some k → (b : Bool) → nat_eq k uo ≡ b
@@ -387,7 +387,8 @@ module _ {fresh : Fresh ℕ} {stack : Stack ℕ} {merge : Merge ℕ} {f : ℕ} {
       uncut_here uncut =
           prefixes_fail (λ front. hides (node_led before front)) (from_way it ++ old ∷ word ∷ rest)
           (from_way it ++ old ∷ [])
-          (word ∷ rest, append_assoc (from_way it) (old ∷ []) (word ∷ rest), longer_is_not_empty (from_way it) old) uncut
+          (word ∷ rest, append_assoc (from_way it) (old ∷ []) (word ∷ rest), longer_is_not_empty (from_way it) old)
+          uncut
 
       unseen : cuts before (from_way it ++ old ∷ word ∷ rest) ≡ false → (s : Shown ℕ)
           → shown_from 1 lowers (from_way it ++ old ∷ word ∷ rest) ≡ Some s → ⊥
@@ -436,9 +437,11 @@ module _ {fresh : Fresh ℕ} {stack : Stack ℕ} {merge : Merge ℕ} {f : ℕ} {
           → real_seen stack merge (from_way it ++ old ∷ rest) ≡ real_seen stack later (to ++ new ∷ rest)
       some u e w k =
           let behind = led_behind it rest ∙ e in
-          ap (real_by (from_way it ++ old ∷ rest)) (on_top before lowers (from_way it ++ old ∷ rest) u w behind k) ∙ one w
-          ∙ sym (ap (real_by (to ++ new ∷ rest)) (on_top after lowers (to ++ new ∷ rest) u w (led_new to rest l ∙ e)
-          ((more u (not_c u (is_there (from_way it ++ old ∷ rest) u behind))).white ∙ k)))
+          let white = (more u (not_c u (is_there (from_way it ++ old ∷ rest) u behind))).white ∙ k in
+          ap (real_by (from_way it ++ old ∷ rest)) (on_top before lowers (from_way it ++ old ∷ rest) u w behind k)
+          ∙ one w
+          ∙ sym (ap (real_by (to ++ new ∷ rest))
+          (on_top after lowers (to ++ new ∷ rest) u w (led_new to rest l ∙ e) white))
         where
           one : (w : Bool) → real_by (from_way it ++ old ∷ rest) (when (not w) (record { layer = 0; object = u }))
               ≡ real_by (to ++ new ∷ rest) (when (not w) (record { layer = 0; object = u }))
