@@ -42,8 +42,7 @@ module _ (world : World ℕ) (place : Place ℕ) (plain : is_special place.last 
 
   old_named : (object.mount ≡ place.parent.mount)
       × (entry_at (files_at nat_eq world place.parent).tree place.parent.node (name_of place.last) ≡ Some object.node)
-  old_named = named_by world place.parent (name_of place.last) object
-      (sym object_is ∙ (place_named world place.parent place.last place.object plain is).1)
+  old_named = named_by world place.parent _ object (sym object_is ∙ (place_named world _ place.last _ plain is).1)
 
   -- it is seen in the tree of its directory
   old_node : node_at nat_eq world object ≡ (files_at nat_eq world place.parent).tree.node object.node
@@ -71,8 +70,7 @@ module _ (world : World ℕ) (task : Task ℕ) (from to : Place ℕ)
   old_is = old_named world from from_plain from_is from_there
 
   one_mount : from.parent.mount ≡ to.parent.mount
-  one_mount = eqb-true from.parent.mount to.parent.mount
-      (not-false (nat_eq from.parent.mount to.parent.mount) passed.1.1.1.1.1.1.1.1.0)
+  one_mount = eqb-true from.parent.mount to.parent.mount (not-false _ passed.1.1.1.1.1.1.1.1.0)
 
   to_files : files_at nat_eq world to.parent ≡ files
   to_files = ap (shown world) (sym one_mount)
@@ -94,10 +92,9 @@ module _ (world : World ℕ) (task : Task ℕ) (from to : Place ℕ)
   to_reached = by to.object refl
     where
       by : (o : Option (Location ℕ)) → to.object ≡ o → IsReached files.tree to.parent.node
-      by None e = subst (λ (f : FileTree ℕ). IsReached f.tree to.parent.node) to_files
-          (not_removed_reached (files_at nat_eq world to.parent).tree
-          (subst (λ (f : FileTree ℕ). IsTree f.tree) (sym to_files) trees.tree) to.parent.node to_named.0
-          (ap (λ o. not (is_some o) && is_removed_at nat_eq world to.parent) (sym e) ∙ to_new.0))
+      by None e = subst (λ (f : FileTree ℕ). IsReached f.tree to.parent.node) to_files (not_removed_reached
+          (files_at nat_eq world to.parent).tree (subst (λ (f : FileTree ℕ). IsTree f.tree) (sym to_files) trees.tree)
+          _ to_named.0 (ap (λ o. not (is_some o) && is_removed_at nat_eq world to.parent) (sym e) ∙ to_new.0))
       by (Some object) e =
           let named = named_by world to.parent (name_of to.last) object (sym e ∙ to_named.1) in
           filled_reached files.tree trees.tree to.parent.node to_directory (name_of to.last) object.node
@@ -146,13 +143,10 @@ module _ (world : World ℕ) (task : Task ℕ) (from to : Place ℕ)
       seen = ap (λ (f : FileTree ℕ). f.tree.node number) to_files
 
       by : (b : Bool) → is_directory_at nat_eq world old ≡ b → entries_in (files.tree.node number) ≡ []
-      by true is = ap entries_in (sym seen)
-          ∙ nil_from_not_some (entries_in (node_at nat_eq world (record { mount = to.parent.mount; node = number })))
-          (ap (λ b. b && is_nonempty nat_eq world (record { mount = to.parent.mount; node = number })) (sym is)
-          ∙ ap (λ o. is_directory_at nat_eq world old && holds_of (is_nonempty nat_eq world) o) (sym here)
-          ∙ passed.1.1.0)
-      by false is = ap entries_in (sym seen)
-          ∙ entries_in-no_directory (node_at nat_eq world (record { mount = to.parent.mount; node = number }))
+      by true is = ap entries_in (sym seen) ∙ nil_from_not_some _
+          (ap (λ b. b && is_nonempty nat_eq world (record { mount = to.parent.mount; node = number })) (sym is) ∙ ap
+          (λ o. is_directory_at nat_eq world old && holds_of (is_nonempty nat_eq world) o) (sym here) ∙ passed.1.1.0)
+      by false is = ap entries_in (sym seen) ∙ entries_in-no_directory _
           (ap (λ b. not b && is_directory_at nat_eq world (record { mount = to.parent.mount; node = number })) (sym is)
           ∙ ap (λ o. not (is_directory_at nat_eq world old) && holds_of (is_directory_at nat_eq world) o) (sym here)
           ∙ passed.0)

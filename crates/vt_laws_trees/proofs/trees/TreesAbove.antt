@@ -66,15 +66,13 @@ module _ (tree : Tree ℕ) where
       by None = ap (λ b. b || false) (eq-eqb e d (sym (same_Some d e h)))
       by (Some b) = ap (λ c. c || is_among nat_eq e (chain most (named_parent nat_eq tree) b))
           (eq-eqb e d (sym (same_Some d e h)))
-  in_chain (suc most) (suc k) d e le h =
-      by (named_parent nat_eq tree d) (sym (up_first k (Some d)) ∙ h) (λ b g. in_chain most k b e (omega arith) g)
+  in_chain (suc most) (suc k) d e le h = by _ (sym (up_first k _) ∙ h) (λ b g. in_chain most k b e (omega arith) g)
     where
       by : (o : Option ℕ) → up tree k o ≡ Some e
           → ((b : ℕ) → up tree k (Some b) ≡ Some e → is_among nat_eq e (chain most (named_parent nat_eq tree) b) ≡ true)
           → is_among nat_eq e (elim o [ None ↦ d ∷ [] | Some b ↦ d ∷ chain most (named_parent nat_eq tree) b ]) ≡ true
       by None g rest = none_is_not None e refl (sym (up_none k) ∙ g)
-      by (Some b) g rest = or_right (nat_eq e d) (is_among nat_eq e (chain most (named_parent nat_eq tree) b))
-          (rest b g)
+      by (Some b) g rest = or_right (nat_eq e d) _ (rest b g)
 
 module _ (tree : Tree ℕ) (conditions : IsTree tree) where
   -- the parent of a directory that has a name is the directory of the name

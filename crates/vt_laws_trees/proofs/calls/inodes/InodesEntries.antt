@@ -121,8 +121,7 @@ module _ (entry : List ℕ) where
     first : (directory : ℕ) (name : List ℕ) (rest : List (ℕ × List ℕ))
         → is_among same_entry (other, entry) ((directory, name) ∷ rest) ≡ false
         → Apart directory name × (is_among same_entry (other, entry) rest ≡ false)
-    first directory name rest e =
-        or_parts (same_entry (other, entry) (directory, name)) (is_among same_entry (other, entry) rest) e
+    first directory name rest e = or_parts _ (is_among same_entry (other, entry) rest) e
 
     kept : (files : FileTree ℕ) (change : Change ℕ) → NewApart change
         → is_among same_entry (other, entry) (entries_named_by change) ≡ false

@@ -1,6 +1,6 @@
 -- What names lead to from a directory lies under whatever that directory lies under.
 use Rattle.std.proofs.Common.{◌≡◌, ◌≤◌, refl, sym, ap, subst, ◌∙◌, true≢false, arith, ℕ, zero, suc, nat_eq, eqb-true, Bool, true, false, cond, ◌&&◌, ◌||◌, List, [], ◌∷◌, length, Option, Some, None, option_and_then}
-use Rattle.vt_spec.proofs.Common.{FileTree, IsDirectory, IsTree, ListsNumbers, chain, directory_used, entry_at, entry_to, has_entry_to, is_among, is_directory_node, is_directory_under, is_file_under, is_under, led, list_any, named_parent, none_is_some, or_right, same_Some}
+use Rattle.vt_spec.proofs.Common.{FileTree, IsDirectory, IsTree, ListsNumbers, chain, directory_used, entry_at, entry_to, is_among, is_directory_node, is_directory_under, is_file_under, is_under, led, list_any, named_parent, none_is_some, or_right, same_Some}
 use Rattle.vt_laws_trees.proofs.layers.layers.UpperChain.{depth_below, up_at_root, up_from}
 use Rattle.vt_laws_trees.proofs.layers.layers.UpperLine.{ReachedIn, has_entries, is_reached_in}
 
@@ -50,11 +50,8 @@ module _ (files : FileTree ℕ) (tree : IsTree files.tree) (listed : ListsNumber
           → is_directory_node (files.tree.node next) ≡ false → is_under nat_eq files top next ≡ true
       file_below next f n =
           ap (λ b. cond b (is_directory_under nat_eq files top next) (is_file_under nat_eq files top next)) n
-          ∙ passes_here (λ above. has_entry_to nat_eq files.tree above next
-          && is_directory_under nat_eq files top above) files.numbers directory
-          (listed directory ∙ directory_used files.tree directory d)
-          (ap (λ b. b && is_directory_under nat_eq files top directory) (entry_to files.tree directory name next f)
-          ∙ under)
+          ∙ passes_here _ files.numbers directory (listed directory ∙ directory_used files.tree directory d) (ap
+          (λ b. b && is_directory_under nat_eq files top directory) (entry_to files.tree directory name next f) ∙ under)
 
       ends : (rest : List (List ℕ)) (next : ℕ) → is_directory_node (files.tree.node next) ≡ false
           → led files.tree next rest ≡ Some object → next ≡ object

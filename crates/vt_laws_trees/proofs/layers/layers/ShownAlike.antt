@@ -47,8 +47,7 @@ same_object (Some here) (Some there) is seen = grind (arith, common_steps, conte
 led_alive : (tree : Tree ℕ) → IsTree tree → (path : List (List ℕ)) (start object : ℕ)
     → is_some (tree.node start) ≡ true → led tree start path ≡ Some object → is_some (tree.node object) ≡ true
 led_alive tree is [] start object there e = subst (λ n. is_some (tree.node n) ≡ true) (same_Some start object e) there
-led_alive tree is (name ∷ path) start object there e =
-    by (entry_at tree start name) refl e (λ next. led_alive tree is path next object)
+led_alive tree is (name ∷ path) start object there e = by _ refl e (λ next. led_alive tree is path next object)
   where
     by : (o : Option ℕ) → entry_at tree start name ≡ o → option_and_then (λ next. led tree next path) o ≡ Some object
         → ((next : ℕ) → is_some (tree.node next) ≡ true → led tree next path ≡ Some object
@@ -105,10 +104,8 @@ show_alike : (layers others : List (OpenLayer ℕ)) → AreAsOthers layers other
 show_alike [] [] as_others are_open others_open depth path = tt
 show_alike [] (other ∷ others) as_others are_open others_open depth path = absurd as_others
 show_alike (layer ∷ layers) [] as_others are_open others_open depth path = absurd as_others
-show_alike (layer ∷ layers) (other ∷ others) as_others are_open others_open depth path =
-    by (at_path layer path) refl (at_path other path) refl
-    (show_alike layers others as_others.1 (λ k l h. are_open (suc k) l h) (λ k l h. others_open (suc k) l h)
-    (depth + 1) path)
+show_alike (layer ∷ layers) (other ∷ others) as_others are_open others_open depth path = by _ refl _ refl (show_alike
+    layers others as_others.1 (λ k l h. are_open (suc k) l h) (λ k l h. others_open (suc k) l h) (depth + 1) path)
   where
     cut_alike : cuts other path ≡ cuts layer path
     cut_alike = λ i. list_any (λ front. hides_alike _ _ (as_others.0 front) i) (prefixes path)
@@ -167,8 +164,7 @@ show_alike (layer ∷ layers) (other ∷ others) as_others are_open others_open 
         let is : IsAlike (layer.tree.node object) (other.tree.node there) =
         subst (λ o. IsAlike (then_some o layer.tree.node) (other.tree.node there)) e
         (subst (λ o. IsAlike (node_at_path layer path) (then_some o other.tree.node)) f (as_others.0 path)) in
-        on_top object there is (is_kind_in White (layer.tree.node object))
-        (is_kind_in White (other.tree.node there)) refl (white_alike _ _ is)
+        on_top object there is _ (is_kind_in White (other.tree.node there)) refl (white_alike _ _ is)
 
 -- So the same object is shown at every path.
 pub shown_alike : (layers others : List (OpenLayer ℕ)) → AreAsOthers layers others → AreOpen layers → AreOpen others

@@ -90,12 +90,9 @@ module _ (layers : List (OpenLayer ℕ)) (are_open : AreOpen layers) (longest : 
   has_inode object among =
       let own = in_layer object (is_shown object among) in
       let own_node = layer_node_of object own in
-      let made = among_filter_map (merged_inode nat_eq fresh has_upper layers objects) objects object
-      (inode_made object own.node) among (ap (option_map (inode_made object)) own_node) in
-      let found = found_among (λ inode. nat_eq (number object) inode.number) inodes (inode_made object own.node) made
-      (eq-eqb (number object) (number object) refl) in
-      let from = from_filter_map
-      (merged_inode nat_eq fresh has_upper layers objects) objects found.element found.among in
+      let made = among_filter_map _ objects object _ among (ap (option_map (inode_made object)) own_node) in
+      let found = found_among _ inodes _ made (eq-eqb (number object) (number object) refl) in
+      let from = from_filter_map _ objects found.element found.among in
       by own own_node found from.0 from.1 from.2 (in_layer from.0 (is_shown from.0 from.1))
     where
       by : (own : InLayer object) → layer_node layers object.seen ≡ Some own.node
@@ -135,8 +132,7 @@ module _ (layers : List (OpenLayer ℕ)) (are_open : AreOpen layers) (longest : 
 
     pub entry_is_here : (object : Merged ℕ) (found : List ℕ × ℕ) → entry object ≡ Some found
         → (object.path ≡ path ++ found.0 ∷ []) × (found.1 ≡ number object)
-    entry_is_here object found e =
-        by object.path refl (not (is_root_path object.path) && same_path path (without_last object.path)) refl e
+    entry_is_here object found e = by object.path refl _ refl e
       where
         parted : (p : List (List ℕ)) → (not (is_root_path p) && same_path path (without_last p)) ≡ true
             → p ≡ path ++ last_or [] p ∷ []

@@ -1,6 +1,6 @@
 -- A newly mounted overlay is what its layers show.
 use Rattle.std.proofs.Common.{◌≡◌, ◌≢◌, ◌≤◌, refl, sym, ap, subst, ◌∙◌, true≢false, arith, ℕ, zero, suc, ◌+◌, nat_eq, Bool, true, not, List, [], ◌∷◌, ◌++◌, map, length, Option, Some, None, is_some, option_and_then, slice_get, unwrap_or, find, sum, option_map, option_to_list, bytes_eq}
-use Rattle.vt_spec.proofs.Common.{Content, FileTree, Filesystem, Fresh, IsDirectory, IsMerged, IsTree, IsWorld, Layer, ListsNumbers, Node, OpenLayer, Overlay, Real, SameObject, Shown, World, and_true_left, and_true_right, bytes_decides, common_steps, directory_no_whiteout, entry_at, filesystem_numbered, holds_of, inode_count, is_directory_node, is_overlay, is_plain_layer, is_there, led, list_all, merged_inodes, merged_objects, no_filesystem, node_at_path, node_shown, none_is_some, odds, odds-distinct, open_layer, overlay_filesystem, real_node, real_of, same_Some, same_content, shown, shown_layers, slice_get-map, sum_by-cons, then_some, when}
+use Rattle.vt_spec.proofs.Common.{Content, FileTree, Filesystem, Fresh, IsDirectory, IsMerged, IsTree, IsWorld, Layer, ListsNumbers, Node, OpenLayer, Overlay, Real, SameObject, Shown, World, and_true_left, and_true_right, bytes_decides, common_steps, directory_no_whiteout, entry_at, filesystem_numbered, holds_of, inode_count, is_directory_node, is_plain_layer, is_there, led, list_all, merged_inodes, merged_objects, no_filesystem, node_at_path, node_shown, none_is_some, odds, odds-distinct, open_layer, overlay_filesystem, real_node, real_of, same_Some, same_content, shown, shown_layers, slice_get-map, sum_by-cons, then_some, when}
 use Rattle.vt_laws_trees.specs.Layers.Layers.Mounted.{AreLayers, RemountShowsTheSame}
 use Rattle.vt_laws_trees.proofs.layers.layers.ShownAlike.{shown_alike}
 use Rattle.vt_laws_trees.proofs.layers.layers.ShownAtPath.{computed}
@@ -43,8 +43,7 @@ module _ (world : World ℕ) (conditions : IsWorld nat_eq world) (overlay : Over
     pub directory : IsDirectory layer.tree layer.directory
 
   pub is_open : (depth : ℕ) (layer : OpenLayer ℕ) → slice_get layers depth ≡ Some layer → IsOpen layer
-  is_open depth layer e = by (slice_get (shown_layers overlay) depth) refl
-      (sym (slice_get-map (open_layer nat_eq world) (shown_layers overlay) depth) ∙ e)
+  is_open depth layer e = by _ refl (sym (slice_get-map (open_layer nat_eq world) (shown_layers overlay) depth) ∙ e)
     where
       there : (plain : Layer ℕ) → is_directory_node
           ((filesystem_numbered nat_eq world plain.filesystem).files.tree.node plain.directory) ≡ true
@@ -61,13 +60,11 @@ module _ (world : World ℕ) (conditions : IsWorld nat_eq world) (overlay : Over
       by None s m = none_is_some layer m
       by (Some plain) s m =
           let passes = all_pass_at (is_plain_layer nat_eq world) (shown_layers overlay) are_layers.1 depth plain s in
-          let directory = and_true_right
-          (not (is_overlay (filesystem_numbered nat_eq world plain.filesystem))) _ passes in
+          let directory = and_true_right _ _ passes in
           subst IsOpen (same_Some (open_layer nat_eq world plain) layer m) (record {
             filesystem = filesystem_numbered nat_eq world plain.filesystem;
             test = λ filesystem. nat_eq plain.filesystem filesystem.number;
-            found = there plain directory (find
-                (λ filesystem. nat_eq plain.filesystem filesystem.number) world.filesystems) refl;
+            found = there plain directory _ refl;
             is = refl;
             directory = directory;
           })
@@ -89,9 +86,7 @@ module _ (world : World ℕ) (conditions : IsWorld nat_eq world) (overlay : Over
       let shows = (computed layers (name ∷ path) seen).0 s in
       let has = shows.has_uncut.0 in
       let open_one = is_open seen.layer has.0 has.1 in
-      let tree = all_found (λ filesystem.
-      IsTree filesystem.files.tree) open_one.test world.filesystems conditions.files.trees open_one.filesystem
-      open_one.found in
+      let tree = all_found (λ filesystem. IsTree filesystem.files.tree) _ _ conditions.files.trees _ open_one.found in
       let listed = all_found (λ filesystem.
       ListsNumbers nat_eq filesystem.files) open_one.test world.filesystems conditions.files.numbers open_one.filesystem
       open_one.found in
@@ -136,11 +131,9 @@ module _ (world : World ℕ) (conditions : IsWorld nat_eq world) (overlay : Over
           → (top : Shown ℕ) × (shown (map (open_layer nat_eq world) list) [] ≡ Some top)
       by [] n all = absurd (n refl)
       by (layer ∷ list) n all =
-          let directory = and_true_right (not (is_overlay (filesystem_numbered nat_eq world layer.filesystem))) _
-          (and_true_left (is_plain_layer nat_eq world layer) _ all) in (
+          let directory = and_true_right _ _ (and_true_left (is_plain_layer nat_eq world layer) _ all) in (
             record { layer = 0; object = layer.directory },
-            ap (λ b. when (not b) (record { layer = 0; object = layer.directory })) (directory_no_whiteout
-                ((filesystem_numbered nat_eq world layer.filesystem).files.tree.node layer.directory) directory),
+            ap (λ b. when (not b) (record { layer = 0; object = layer.directory })) (directory_no_whiteout _ directory),
           )
 
   -- the inode behind a real object, by the layers that are shown, is the one that the overlay finds
@@ -221,11 +214,8 @@ pub remount_shows_the_same : RemountShowsTheSame
 remount_shows_the_same fresh before later number left anew conditions is later_conditions are_layers distinct as_left
     path =
     let alike : SameObject (node_shown nat_eq before left path) (node_shown nat_eq later anew path) =
-    shown_alike (map (open_layer nat_eq before) (shown_layers left))
-    (map (open_layer nat_eq later) (shown_layers anew)) as_left
-    (are_open before conditions left (overlay_layers before conditions number left is))
+    shown_alike _ _ as_left (are_open before conditions left (overlay_layers before conditions number left is))
     (are_open later later_conditions anew are_layers) path in
     let anew_shows = (made_merged later later_conditions anew are_layers fresh distinct).shows path in
-    objects_alike _ _ (node_shown nat_eq before left path)
-    (objects_alike _ _ (node_shown nat_eq later anew path) anew_shows alike)
+    objects_alike _ _ _ (objects_alike _ _ (node_shown nat_eq later anew path) anew_shows alike)
     ((conditions.overlays.overlays_merge number left is).shows path)

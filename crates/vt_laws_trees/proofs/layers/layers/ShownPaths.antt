@@ -78,8 +78,7 @@ module _ (tree : Tree ℕ) (conditions : IsTree tree) (start : ℕ) where
       let deep = depth_of_led (name ∷ a) to (not_empty name a) e d in
       let deep_other = depth_of_led (other ∷ b) to (not_empty other b) f d in
       let from = one_depth files conditions deep.0 deep_other.0 start deep.1 deep_other.1 in
-      let same = one_depth files conditions (deep.0 + length (name ∷ a))
-      (deep_other.0 + length (other ∷ b)) to deep.2 deep_other.2 in
+      let same = one_depth files conditions (deep.0 + length (name ∷ a)) _ to deep.2 deep_other.2 in
       omega arith
 
   one_path_of : (many : ℕ) (a b : List (List ℕ)) (to : ℕ) → length a ≡ many → length b ≡ many

@@ -77,12 +77,11 @@ module _ (layers : List (OpenLayer ℕ)) (are_open : AreOpen layers) (longest : 
           → Arrives (shown layers (path ++ name ∷ [])) (path ++ name ∷ [])
           (entry_named name (entries_of (merged_content nat_eq fresh has_upper all inode.other.path content)))
       from_directory seen s inode (Directory parent entries opaque) e =
-          subst (λ p. Arrives (shown layers (path ++ name ∷ [])) (path ++ name ∷ [])
-          (entry_named name (filter_map (entry_in_directory nat_eq fresh has_upper all p) all)))
+          subst (λ p. Arrives (shown layers (path ++ name ∷ []))
+          (path ++ name ∷ []) (entry_named name (filter_map (entry_in_directory nat_eq fresh has_upper all p) all)))
           (sym (one_directory layers are_open longest bounded fresh distinct has_upper (object_at path seen)
           (is_object layers are_open longest bounded path seen s) inode (ap (λ c. is_directory (kind_of c)) e)))
-          (as_arrives (shown layers (path ++ name ∷ [])) _
-          (entry_leads layers are_open longest bounded fresh distinct has_upper path name))
+          (as_arrives _ _ (entry_leads layers are_open longest bounded fresh distinct has_upper path name))
         where
           as_arrives : (o : Option (Shown ℕ)) (found : Option ℕ)
               → LeadsTo layers are_open longest bounded fresh distinct has_upper path name o found
@@ -102,9 +101,8 @@ module _ (layers : List (OpenLayer ℕ)) (are_open : AreOpen layers) (longest : 
       by : (o : Option (Shown ℕ)) → shown layers path ≡ o → Arrives o path (led merged_tree (fresh 0) path)
           → Arrives (shown layers (path ++ name ∷ [])) (path ++ name ∷ [])
           (option_and_then (λ directory. entry_at merged_tree directory name) (led merged_tree (fresh 0) path))
-      by None s arrives =
-          no_entry path name _ (ap (option_and_then (λ directory. entry_at merged_tree directory name)) arrives)
-          (λ seen t. none_is_some (record {
+      by None s arrives = no_entry path name
+          _ (ap (option_and_then (λ directory. entry_at merged_tree _ name)) arrives) (λ seen t. none_is_some (record {
             layer = 0 + (shown_in_directory layers are_open 0 path name seen t).place;
             object = (shown_in_directory layers are_open 0 path name seen t).object;
           }) (sym s ∙ (shown_in_directory layers are_open 0 path name seen t).is))
@@ -134,9 +132,8 @@ module _ (layers : List (OpenLayer ℕ)) (are_open : AreOpen layers) (longest : 
   no_white path seen s inode =
       let shows = (computed layers path seen).0 s in
       let here = in_layer layers are_open longest bounded fresh distinct has_upper (object_at path seen) s in
-      let node = same_Some here.node inode.node
-      (sym (layer_node_of layers are_open longest bounded fresh distinct has_upper (object_at path seen) here)
-      ∙ inode.seen) in
+      let node = same_Some here.node
+      inode.node (sym (layer_node_of layers are_open longest bounded fresh distinct has_upper _ here) ∙ inode.seen) in
       shows.no_whiteout inode.node (
         here.layer,
         here.there,
@@ -158,8 +155,7 @@ module _ (layers : List (OpenLayer ℕ)) (are_open : AreOpen layers) (longest : 
             content = merged_content nat_eq fresh has_upper all inode.other.path inode.node.content;
           }))) (sym inode.seen) (
             refl,
-            same_merged layers are_open longest bounded fresh distinct has_upper inode.other.path
-                inode.node.content (no_white path seen s inode),
+            same_merged layers are_open longest bounded fresh distinct has_upper _ _ (no_white path seen s inode),
           )))
 
   -- with its real object

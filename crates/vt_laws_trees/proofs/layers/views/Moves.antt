@@ -17,8 +17,7 @@ through_is_split files top directory name path e =
 pub led_parts : (tree : Tree ℕ) (way : List (List ℕ)) (rest : List (List ℕ)) (start middle : ℕ)
     → led tree start way ≡ Some middle → led tree start (way ++ rest) ≡ led tree middle rest
 led_parts tree [] rest start middle e = ap (λ d. led tree d rest) (same_Some start middle e)
-led_parts tree (word ∷ way) rest start middle e =
-    by (entry_at tree start word) e (λ next. led_parts tree way rest next middle)
+led_parts tree (word ∷ way) rest start middle e = by _ e (λ next. led_parts tree way rest next middle)
   where
     by : (o : Option ℕ) → option_and_then (λ next. led tree next way) o ≡ Some middle
         → ((next : ℕ) → led tree next way ≡ Some middle → led tree next (way ++ rest) ≡ led tree middle rest)
@@ -45,8 +44,7 @@ leads_to_directory tree (name ∷ names) next to e d = grind (arith, common_step
 steps_on : (tree : Tree ℕ) (names : List (List ℕ)) (steps from to : ℕ) → ReachedIn tree steps from
     → led tree from names ≡ Some to → IsDirectory tree to → ReachedIn tree (after_steps names steps) to
 steps_on tree [] steps from to r e d = subst (ReachedIn tree steps) (same_Some from to e) r
-steps_on tree (name ∷ names) steps from to r e d =
-    by (entry_at tree from name) refl e (λ next. steps_on tree names (suc steps) next to)
+steps_on tree (name ∷ names) steps from to r e d = by _ refl e (λ next. steps_on tree names (suc steps) next to)
   where
     by : (o : Option ℕ) → entry_at tree from name ≡ o → option_and_then (λ next. led tree next names) o ≡ Some to
         → ((next : ℕ) → ReachedIn tree (suc steps) next → led tree next names ≡ Some to → IsDirectory tree to
@@ -100,11 +98,10 @@ module _ (before after : Tree ℕ) (from : ℕ) (old : List ℕ) (to : ℕ) (new
 
     -- nor does a way to the new name's directory
     way_led : (way : List (List ℕ)) (start : ℕ) → led before start way ≡ Some to → led after start way ≡ Some to
-    way_led way start e = others_led way start (passes_not to new start way (λ first rest is l.
-        stops_there (entry_at before to new) refl rest (sym (led_parts before first (new ∷ rest) start to l)
-        ∙ ap (led before start) is ∙ e))) ∙ ap (λ b. cond b None (led before start way))
-        (passes_not from old start way (λ first rest is l.
-        not_under rest (sym (ap (option_and_then (λ next. led before next rest)) named)
+    way_led way start e = others_led way start (passes_not to new start way (λ first rest is l. stops_there
+        _ refl rest (sym (led_parts before first (new ∷ rest) start to l) ∙ ap (led before start) is ∙ e)))
+        ∙ ap (λ b. cond b None (led before start way)) (passes_not from old
+        start way (λ first rest is l. not_under rest (sym (ap (option_and_then (λ next. led before next rest)) named)
         ∙ sym (led_parts before first (old ∷ rest) start from l) ∙ ap (led before start) is ∙ e))) ∙ e
 
     pub moved_led : (way rest : List (List ℕ)) (start : ℕ) → led before start way ≡ Some to

@@ -196,15 +196,13 @@ module _ (before after : Tree ℕ) (directory : ℕ) (name : List ℕ) (to : Opt
           let entry : entry_at before start word
           ≡ entry_at before directory name = ap (λ d. entry_at before d word) same.0
           ∙ ap (entry_at before directory) same.1 in
-          over_leads_no_more to leaf_after next rest
-          ∙ ap (λ b. cond (b || holds_of (λ inner. passes before directory name inner (next ∷ rest))
-          (entry_at before start word)) None (led before start (word ∷ next ∷ rest))) (sym is) ∙ ap (λ b. cond b to
-          (cond (passes before directory name start (word ∷ next ∷ rest)) None (led before start (word ∷ next ∷ rest))))
-          (sym (ap (holds_of (λ inner. ends_in before directory name inner (next ∷ rest))) entry
-          ∙ over_ends (entry_at before directory name) refl (next ∷ rest)))
-      by false is [] later = option_and_then-Some (entry_at before start word) ∙ alone (entry_at before start word)
-          ∙ ap (λ b. cond b to
-          (cond (b || holds_of (λ inner. false) (entry_at before start word)) None (led before start (word ∷ []))))
+          over_leads_no_more to leaf_after next rest ∙ ap (λ b. cond
+          (b || holds_of (λ inner. passes before directory name inner (next ∷ rest)) (entry_at before start word))
+          None (led before start (word ∷ next ∷ rest))) (sym is) ∙ ap (λ b. cond b to (cond
+          (passes before directory name start (word ∷ next ∷ rest)) None (led before start (word ∷ next ∷ rest)))) (sym
+          (ap (holds_of (λ inner. ends_in before _ name inner (next ∷ rest))) entry ∙ over_ends _ refl (next ∷ rest)))
+      by false is [] later = option_and_then-Some (entry_at before start word) ∙ alone _ ∙ ap (λ b. cond
+          b to (cond (b || holds_of (λ inner. false) (entry_at before start word)) None (led before start (word ∷ []))))
           (sym is)
       by false is (next ∷ rest) later = on (entry_at before start word) next rest later
           ∙ ap (λ b. cond (ends_in before directory name start (word ∷ next ∷ rest)) to

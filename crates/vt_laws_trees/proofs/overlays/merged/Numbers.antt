@@ -48,8 +48,7 @@ node_filled parent entries number None None s mark up names = refl
 node_filled parent entries number None (Some shown) s mark up names = absurd s
 node_filled parent entries number (Some node) None s mark up names = absurd s
 node_filled parent entries number (Some node) (Some shown) s mark up names =
-    let content = same_filled parent entries node.content shown.content s.1 mark
-    (λ d own. by node.content d own (up d)) names in
+    let content = same_filled parent entries node.content _ s.1 mark (λ d own. by node.content d own (up d)) names in
     λ i. Some (record { attr = s.0 i; content = content i })
   where
     by : (content : Content ℕ) → is_directory (kind_of content) ≡ true → (own : ℕ)
@@ -90,10 +89,8 @@ listed number name (other ∷ names) = by (number other) refl (is_name name othe
 
 in_order : (number : List ℕ → Option ℕ) (names : List (List ℕ)) → Pairwise NameBelow names
     → T (is_sorted name_cmp (with_names number names))
-in_order number names rise = rising_sorted (with_names number names)
-    (pairwise_filter_map NameBelow (λ a b. NameBelow a.0 b.0) (λ name. option_map (λ n. (name, n)) (number name))
-    (λ a b x y e f h. subst (λ q. NameBelow x.0 q) (name_is b y (number b) f)
-    (subst (λ q. NameBelow q b) (name_is a x (number a) e) h)) names rise)
+in_order number names rise = rising_sorted _ (pairwise_filter_map NameBelow _ _ (λ a b x y e f h. subst
+    (λ q. NameBelow x.0 q) (name_is b y (number b) f) (subst (λ q. NameBelow q b) (name_is a x _ e) h)) names rise)
   where
     name_is : (name : List ℕ) (entry : List ℕ × ℕ) (o : Option ℕ) → option_map (λ n. (name, n)) o ≡ Some entry
         → name ≡ entry.0
@@ -114,8 +111,7 @@ module _ (number_of : Real ℕ → ℕ) (held : ℕ → Option (Real ℕ)) (worl
       → HasEntry filesystem.files path number
   lastly path number longer e =
       let last = last_of path longer in
-      by last.0 last.1 last.2 (at last.0) refl
-      (cc (last_name filesystem.files.tree filesystem.files.tree.root last.0 last.1, last.2))
+      by last.0 last.1 last.2 (at last.0) refl (cc (last_name filesystem.files.tree _ last.0 last.1, last.2))
     where
       by : (front : List (List ℕ)) (name : List ℕ) → front ++ name ∷ [] ≡ path → (o : Option ℕ) → at front ≡ o
           → option_and_then (λ d. entry_at filesystem.files.tree d name) o ≡ Some number
@@ -151,8 +147,7 @@ module _ (number_of : Real ℕ → ℕ) (held : ℕ → Option (Real ℕ)) (worl
       none : (o : Option (Shown ℕ)) → shown layers path ≡ o → SameObject None (then_some o (layer_node layers))
           → None ≡ option_map number_of (real_by (is_some overlay.upper) path o)
       none None e same = refl
-      none (Some seen) e same = absurd
-          (object_is_not_none (layer_node layers seen) (shown_is_there layers is.layers path seen e) same)
+      none (Some seen) e same = absurd (object_is_not_none _ (shown_is_there layers is.layers path seen e) same)
 
       by : (o : Option ℕ) → at path ≡ o
           → SameObject (then_some o filesystem.files.tree.node) (node_shown nat_eq world overlay path)
@@ -177,14 +172,12 @@ module _ (number_of : Real ℕ → ℕ) (held : ℕ → Option (Real ℕ)) (worl
             → option_map number_of (real_by (is_some overlay.upper) (path ++ name ∷ []) o) ≡ None
         by None e = refl
         by (Some seen) e =
-            let has = (names_are_those_shown layers path name).1
-            (seen, (computed layers (path ++ name ∷ []) seen).0 e) in
+            let has = (names_are_those_shown layers path name).1 (seen, (computed layers _ seen).0 e) in
             absurd (cc (name_found name (names_shown layers path) has.0 has.1 has.2, out))
 
     found : (name : List ℕ) → entry_named name
         (entries_shown number_of world overlay path) ≡ number_shown number_of world overlay (path ++ name ∷ [])
-    found name = listed (λ n. number_shown number_of world overlay (path ++ n ∷ [])) name (names_shown layers path)
-        ∙ by (list_any (is_name name) (names_shown layers path)) refl
+    found name = listed _ name (names_shown layers path) ∙ by (list_any (is_name name) (names_shown layers path)) refl
       where
         by : (b : Bool) → list_any (is_name name) (names_shown layers path) ≡ b
             → cond b (number_shown number_of world overlay (path ++ name ∷ [])) None
@@ -194,11 +187,9 @@ module _ (number_of : Real ℕ → ℕ) (held : ℕ → Option (Real ℕ)) (worl
 
     entries_are : entries_in (filesystem.files.tree.node number) ≡ entries_shown number_of world overlay path
     entries_are = same_entries name_cmp nat_list_cmp_total (λ x y e. same_name x y (ap is_eq e))
-        (entries_in (filesystem.files.tree.node number)) (entries_shown number_of world overlay path)
-        (subst T (sym (is.tree.in_order number)) tt)
-        (in_order (λ n. number_shown number_of world overlay (path ++ n ∷ [])) (names_shown layers path)
-        (pairwise_filter NameBelow (λ name. is_some (shown layers (path ++ name ∷ [])))
-        (map (λ entry. entry.0) (names_at layers path))
+        _ (entries_shown number_of world overlay path) (subst T (sym (is.tree.in_order number)) tt) (in_order
+        (λ n. number_shown number_of world overlay (path ++ n ∷ [])) (names_shown layers path) (pairwise_filter
+        NameBelow (λ name. is_some (shown layers (path ++ name ∷ []))) (map (λ entry. entry.0) (names_at layers path))
         (names_rise (names_at layers path) (names_sorted (map view_of layers) path))))
         (λ name. entry_is name ∙ sym (found name))
 
@@ -215,18 +206,14 @@ module _ (number_of : Real ℕ → ℕ) (held : ℕ → Option (Real ℕ)) (worl
             ∙ ap (λ p. unwrap_or (number_shown number_of world overlay p) 0) (cc)
         by (word ∷ way) e =
             let last = lastly path number (λ empty. not_empty word way (cc)) leads in
-            is.tree.one_parent last.directory last.name number last.entry is_directory
-            ∙ ap (λ o. unwrap_or o 0) (sym last.leads ∙ numbers_are_shown last.front)
-            ∙ ap (λ p. unwrap_or (number_shown number_of world overlay p) 0)
+            is.tree.one_parent last.directory last.name number last.entry is_directory ∙ ap (λ o. unwrap_or o 0)
+            (sym last.leads ∙ numbers_are_shown _) ∙ ap (λ p. unwrap_or (number_shown number_of world overlay p) 0)
             (cc (without_last_of_longer last.front last.name, last.split))
 
     pub inode_is : filesystem.files.tree.node number ≡ inode_shown number_of world overlay path
-    inode_is =
-        node_filled (parent_shown number_of world overlay path) (entries_shown number_of world overlay path) number
-        (filesystem.files.tree.node number) (node_shown nat_eq world overlay path)
-        (subst (λ o. SameObject (then_some o filesystem.files.tree.node)
-        (node_shown nat_eq world overlay path)) leads (is.merged.shows path))
-        (is.merged.no_mark number) parent_is (λ d. entries_are)
+    inode_is = node_filled _ _ number (filesystem.files.tree.node number) (node_shown nat_eq world overlay path)
+        (subst (λ o. SameObject (then_some o filesystem.files.tree.node) (node_shown nat_eq world overlay path))
+        leads (is.merged.shows path)) (is.merged.no_mark number) parent_is (λ d. entries_are)
 
   -- a name is at the end of a path
   path_of_name : (number : ℕ) → HasName filesystem.files.tree number → (path : List (List ℕ)) × (at path ≡ Some number)
@@ -241,11 +228,9 @@ module _ (number_of : Real ℕ → ℕ) (held : ℕ → Option (Real ℕ)) (worl
       → (filesystem.files.tree.node number ≡ inode_held world overlay held number) × (overlay.real number ≡ held number)
   other_is_held number out = (
     node_filled number [] number (filesystem.files.tree.node number)
-        (then_some (held number) (real_node nat_eq world overlay))
-        (subst (λ o. SameObject (filesystem.files.tree.node number)
-        (then_some o (real_node nat_eq world overlay))) real (is.merged.real_objects number))
-        (is.merged.no_mark number) (λ d. is.own_parents number d no_name)
-        (λ d. is.tree.unnamed_empty number d no_root no_name),
+        _ (subst (λ o. SameObject (filesystem.files.tree.node number) (then_some o (real_node nat_eq world overlay)))
+        real (is.merged.real_objects number)) (is.merged.no_mark number)
+        (λ d. is.own_parents number d no_name) (λ d. is.tree.unnamed_empty number d no_root no_name),
     real,
   )
     where
@@ -342,8 +327,7 @@ pub overlays_are_merged_trees : OverlaysAreMergedTrees
 overlays_are_merged_trees world number overlay conditions is = record {
   layers = are_open world conditions overlay (overlay_layers world conditions number overlay is);
   tree = overlay_tree world conditions number overlay is;
-  own_parents = all_found (λ filesystem. HasOwnParents filesystem.files.tree)
-      (λ filesystem. nat_eq number filesystem.number) world.filesystems
+  own_parents = all_found (λ filesystem. HasOwnParents filesystem.files.tree) _ world.filesystems
       conditions.files.own_parents (filesystem_numbered nat_eq world number) (overlay_found world number overlay is);
   numbers = overlay_numbers world conditions number overlay is;
   merged = conditions.overlays.overlays_merge number overlay is;

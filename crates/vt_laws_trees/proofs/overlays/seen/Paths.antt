@@ -39,8 +39,7 @@ module _ (files : FileTree ℕ) (tree : IsTree files.tree) (listed : ListsNumber
   length-led (name ∷ path) to e =
       let last = last_of (name ∷ path) (not_empty name path) in
       let long : length (name ∷ path) ≡ suc (length last.0) = cc (last.2, length_longer last.0 last.1) in
-      let within = at_last last.0 last.1 to (led files.tree start last.0) refl
-      (cc (last_name files.tree start last.0 last.1, last.2)) in
+      let within = at_last last.0 last.1 to _ refl (cc (last_name files.tree start last.0 last.1, last.2)) in
       omega (arith, long, within)
 
 pub paths_are_no_longer : PathsAreNoLonger

@@ -58,19 +58,14 @@ module _ (stack : Stack ℕ) (merge : Merge ℕ) (is_fine : IsFine stack merge) 
       by : (o : Option (Real ℕ)) → merge.real n ≡ o
           → SameObject (merge.files.tree.node n) (then_some o (inode_behind stack merge))
           → SameObject (files.tree.node n) (then_some o (inode_behind stack grown))
-      by None r same = alike_objects (merge.files.tree.node n) None (files.tree.node n) None same
-          (others n (differs n e)) (make_seen None)
-      by (Some (Upper u)) r same = alike_objects (merge.files.tree.node n) (merge.upper.tree.node u) (files.tree.node n)
-          (upper.tree.node u) same (others n (differs n e)) (above u (not_new n u r))
-      by (Some (Lower layer path)) r same =
-          alike_objects (merge.files.tree.node n) (inode_behind stack merge (Lower layer path)) (files.tree.node n)
-          (inode_behind stack merge (Lower layer path)) same (others n (differs n e)) (make_seen _)
+      by None r same = alike_objects _ None (files.tree.node n) None same (others n (differs n e)) (make_seen None)
+      by (Some (Upper u)) r same = alike_objects _ _ _ _ same (others n (differs n e)) (above u (not_new n u r))
+      by (Some (Lower layer path)) r same = alike_objects _ _ _ _ same (others n (differs n e)) (make_seen _)
 
   real_there : (n : ℕ) (b : Bool) → nat_eq n number ≡ b → files.tree.node n ≡ None
       → cond b (Some (Upper copy)) (merge.real n) ≡ None
   real_there n true e none = cc (eqb-true n number e)
-  real_there n false e none = is_fine.there n
-      (none_before (merge.files.tree.node n) (files.tree.node n) (others n (differs n e)).there none)
+  real_there n false e none = is_fine.there n (none_before _ (files.tree.node n) (others n (differs n e)).there none)
 
   upper_there : (n object : ℕ) (b : Bool) → cond b (Some (Upper copy)) (merge.real n) ≡ Some (Upper object)
       → is_some (upper.tree.node object) ≡ true

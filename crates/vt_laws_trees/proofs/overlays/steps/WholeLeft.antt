@@ -106,8 +106,7 @@ module _ {stack : Stack ℕ} {merge : Merge ℕ} (whole : IsWhole stack merge) (
       → names_entry (view_in merge.upper stack.directory) ud w path ≡ true
   one_named is_dir [] l =
       let top_directory = (top_open stack merge whole).1 in
-      let root = above_named stack merge whole [] stack.directory refl
-      (directory_no_whiteout (merge.upper.tree.node stack.directory) top_directory) in
+      let root = above_named stack merge whole [] stack.directory refl (directory_no_whiteout _ top_directory) in
       absurd (whole.tree.root_unnamed d w (named ∙ ap Some
       ((is_fine stack merge whole).one object merge.files.tree.root (ap is_some real_o)
       (real_o ∙ ap (λ n. Some (Upper n)) (sym (same_Some stack.directory uo l)) ∙ sym root.2

@@ -1,6 +1,6 @@
 -- A new object under a name that shows nothing: the tree is still what the layers show.
 use Rattle.std.proofs.Common.{arith, ◌≡◌, refl, sym, ap, subst, ◌∙◌, true≢false, eqb-true, eq-eqb, ne_eqb, inl, inr, ℕ, suc, nat_eq, Bool, true, false, not, cond, List, [], ◌∷◌, ◌++◌, map, Option, Some, None, is_some, option_and_then}
-use Rattle.vt_spec.proofs.Common.{Content, Directory, FileTree, IsDirectory, IsNewIn, IsTree, Make, Merge, Node, Real, Regular, SameObject, Shown, Stack, Symlink, Upper, View, Whiteout, bytes_eq_itself, changed, changed_node, common_steps, content_with_mark, content_with_parent, cuts, entries_in, entries_of, entry_at, hides, hides_directory, is_directory, is_directory_node, is_directory_shown, is_kind, is_kind_in, is_opaque_in, kind_of, led, led-append, merge_with_new, node_led, node_with_entry, node_with_mark, none_is_some, number_at_path, opaque_of, same_content, shown, shown_from, shown_in_lowers, shown_in_lowers_at, shown_over, then_some, upper_of, view_of, when, with_mark, with_real}
+use Rattle.vt_spec.proofs.Common.{Content, Directory, FileTree, IsDirectory, IsNewIn, IsTree, Make, Merge, Node, Real, Regular, SameObject, Shown, Stack, Symlink, Upper, View, Whiteout, bytes_eq_itself, changed, changed_node, common_steps, content_with_mark, content_with_parent, cuts, entries_in, entries_of, entry_at, hides, hides_directory, is_directory, is_directory_node, is_directory_shown, is_kind, is_kind_in, is_opaque_in, kind_of, led, led-append, node_led, node_with_entry, node_with_mark, none_is_some, number_at_path, opaque_of, same_content, shown, shown_from, shown_in_lowers, shown_in_lowers_at, shown_over, then_some, upper_of, view_of, when, with_mark, with_real}
 use Rattle.vt_spec.specs.declared.attributes.Kind.TheVariants.{White}
 use Rattle.vt_laws_trees.specs.Trees.{MayMake}
 use Rattle.vt_laws_trees.specs.Layers.Layers.ChangesUpper.{StandsInUpper}
@@ -107,10 +107,8 @@ module _ (stack : Stack ℕ) (merge : Merge ℕ) (whole : IsWhole stack merge) (
       by : (b : Bool) → is_kind_in White (merge.upper.tree.node r) ≡ b
           → is_kind_in White (merge.upper.tree.node r) ≡ true
       by true k = k
-      by false k = none_is_some (Upper r) (sym (ap (λ o. then_some o merge.real) nothing_here)
-          ∙ fine_before.paths (way ++ w ∷ []) ∙ ap (real_by (way ++ w ∷ []))
-          (on_top before lowers (way ++ w ∷ []) r false
-          (led-append merge.upper.tree stack.directory way w ud r up_way e) k))
+      by false k = none_is_some (Upper r) (sym (ap (λ o. then_some o merge.real) nothing_here) ∙ fine_before.paths _
+          ∙ ap (real_by _) (on_top before lowers _ r false (led-append merge.upper.tree _ way w ud r up_way e) k))
 
   takes : TakesName merge.upper.tree ud w
   takes = record {
@@ -163,25 +161,21 @@ module _ (stack : Stack ℕ) (merge : Merge ℕ) (whole : IsWhole stack merge) (
           (ap (shown_from 1 lowers) (append_assoc to (w ∷ []) (next ∷ rest) ∙ is) ∙ e) in
           true≢false (sym (ap (is_directory_shown (layers_under stack merge))
           (below_name stack merge whole d w to there may.name_is_free.in_directory (uncut_to there))
-          ∙ directory_below_top (record { tree = merge.upper.tree; directory = stack.directory }) stack.lowers
-          (to ++ w ∷ []) shows) ∙ clear h)
+          ∙ directory_below_top _ stack.lowers (to ++ w ∷ []) shows) ∙ clear h)
         where
           uncut_to : number_at_path merge.files to ≡ Some d → cuts before to ≡ false
-          uncut_to there = fails (cuts before to)
-              (λ cut. found (prefix_found (λ front. hides (node_led before front)) to cut))
+          uncut_to there = fails (cuts before to) (λ cut. found (prefix_found _ to cut))
             where
               found : (front : List (List ℕ)) × Rattle.vt_laws_trees.specs.Layers.Layers.Shown.IsFrontOf front to
                   × (hides (node_led before front) ≡ true) → ⊥
               found f = at (names_entry before ud w f.0) refl
                 where
                   at : (b : Bool) → names_entry before ud w f.0 ≡ b → ⊥
-                  at true n = none_is_some d (sym (number_none to
-                      (prefix_passes (names_entry before ud w) to f.0 f.1.0 f.1.1 f.1.2 n)) ∙ there)
-                  at false n = true≢false (sym (prefix_passes (λ front. hides (node_led after front)) path f.0
-                      (f.1.0 ++ w ∷ next ∷ rest)
-                      (sym (append_assoc f.0 f.1.0 (w ∷ next ∷ rest)) ∙ ap (λ p. p ++ w ∷ next ∷ rest) f.1.1 ∙ is) f.1.2
-                      (WholeNew.hides_at merge.upper stack.directory top_tree top_directory ud c w new takes vacant bare
-                      f.0 false n ∙ f.2)) ∙ uncut)
+                  at true n = none_is_some d (sym (number_none to (prefix_passes _ to f.0 f.1.0 f.1.1 f.1.2 n)) ∙ there)
+                  at false n = true≢false (sym (prefix_passes _ path f.0 (f.1.0 ++ w ∷ next ∷ rest)
+                      (sym (append_assoc f.0 f.1.0 (w ∷ next ∷ rest)) ∙ ap (λ p. p ++ w ∷ next ∷ rest) f.1.1 ∙ is)
+                      f.1.2 (WholeNew.hides_at merge.upper
+                      stack.directory top_tree top_directory ud c w new takes vacant bare f.0 false n ∙ f.2)) ∙ uncut)
 
       lower_none : hides (Some new) ≡ false → cuts after path ≡ false → (o : Option (Shown ℕ))
           → shown_from 1 lowers path ≡ o → o ≡ None
@@ -197,8 +191,7 @@ module _ (stack : Stack ℕ) (merge : Merge ℕ) (whole : IsWhole stack merge) (
           (WholeNew.cuts_through merge.upper stack.directory top_tree top_directory ud c w new takes vacant bare h path
           through) ∙ cut))
       by false h false cut = ap (λ o. shown_over after 0 o (cuts after path) (shown_from 1 lowers path)) leads
-          ∙ ap (λ b. shown_over after 0 None b (shown_from 1 lowers path)) cut
-          ∙ lower_none h cut (shown_from 1 lowers path) refl
+          ∙ ap (λ b. shown_over after 0 None b (shown_from 1 lowers path)) cut ∙ lower_none h cut _ refl
 
   shown_same : (path : List (List ℕ)) → names_entry before ud w path ≡ false
       → shown_from 0 (after ∷ lowers) path ≡ shown_from 0 (before ∷ lowers) path
@@ -217,10 +210,9 @@ module _ (stack : Stack ℕ) (merge : Merge ℕ) (whole : IsWhole stack merge) (
     where
       old : (o : Option ℕ) → number_at_path merge.files path ≡ o → then_some o real ≡ then_some o merge.real
       old None l = refl
-      old (Some n) l = ap (λ b. cond b (Some (Upper c)) (merge.real n)) (ne_eqb n number (λ is.
-          true≢false (sym (led_is_there
-          (record { tree = merge.files.tree; directory = merge.files.tree.root }) whole.tree whole.tree.root_directory
-          path n l) ∙ ap (λ k. is_some (merge.files.tree.node k)) is ∙ ap is_some may.number_is_new)))
+      old (Some n) l = ap (λ b. cond b (Some (Upper c)) (merge.real n))
+          (ne_eqb n number (λ is. true≢false (sym (led_is_there _ whole.tree whole.tree.root_directory path n l)
+          ∙ ap (λ k. is_some (merge.files.tree.node k)) is ∙ ap is_some may.number_is_new)))
 
       goes : (b : Bool) → names_entry before ud w path ≡ b
           → number_at_path files path ≡ cond b (Some number) (number_at_path merge.files path)
@@ -320,13 +312,10 @@ mark_hides p node (Symlink b) = refl
 mark_hides p node Whiteout = refl
 
 pub make_keeps_shown : MakeKeepsShown
-make_keeps_shown fresh stack merge d w number node whole stands vacant may white =
-    what_is_shown stack (merge_with_new nat_eq fresh stack merge d w number node)
-    (by (hides_directory nat_eq stack merge d w) refl)
+make_keeps_shown fresh stack merge d w number node whole stands vacant may white = what_is_shown stack _ (by _ refl)
   where
     upper_directory : IsDirectory merge.upper.tree (upper_of merge d)
-    upper_directory = directory_stands stack merge whole d (upper_of merge d) (upper_real merge d stands)
-        ∙ may.name_is_free.in_directory
+    upper_directory = directory_stands stack merge whole d _ (upper_real merge d stands) ∙ may.name_is_free.in_directory
 
     by : (b : Bool) → hides_directory nat_eq stack merge d w ≡ b → IsFine stack (record {
       files = changed nat_eq merge.files (Make d w number node);
@@ -335,9 +324,7 @@ make_keeps_shown fresh stack merge d w number node whole stands vacant may white
           (record { attr = node.attr; content = content_with_parent (upper_of merge d) node.content }))) (fresh 0);
     })
     by false h = later_is_fine stack merge whole d w number node stands may (fresh 0) vacant
-        (record { attr = node.attr; content = content_with_parent (upper_of merge d) node.content })
-        (refl, parent_same (upper_of merge d) node.content white)
-        (entries_of-content_with_parent (upper_of merge d) node.content ∙ new_bare d node may.fits)
+        _ (refl, parent_same _ _ white) (entries_of-content_with_parent _ node.content ∙ new_bare d node may.fits)
         white (ap (is_kind White) (kind_of-content_with_parent (upper_of merge d) node.content) ∙ white) (λ shows. h)
     by true h = subst (λ u. IsFine stack (record {
       files = changed nat_eq merge.files (Make d w number node);
