@@ -44,12 +44,12 @@ module _ (files : FileTree ℕ) (directory : ℕ) (name : List ℕ) where
   -- entries stay in order, and what is empty stays so
   pub untaken_in_order : ((d : ℕ) → is_sorted name_cmp (entries_in (files.tree.node d)) ≡ true)
       → (d : ℕ) → is_sorted name_cmp (entries_in ((without_name nat_eq files directory name).tree.node d)) ≡ true
-  untaken_in_order sorted d = ⊎_elim
-      (λ t. ap (λ m. is_sorted name_cmp (entries_in ((without_name nat_eq files directory name).tree.node m))) t.1
-      ∙ ap (is_sorted name_cmp) entries_there
-      ∙ passes _ (is_sorted-where_key name_cmp (λ x. not (bytes_eq x name)) (entries_in (files.tree.node directory))
-      (T_from_true _ (sorted directory)))) (λ t. cc (entries_elsewhere d t.1, sorted d))
-      (eqb_tells d directory)
+  untaken_in_order sorted d = ⊎_elim (λ t. cc (t.1, entries_there, here))
+      (λ t. cc (entries_elsewhere d t.1, sorted d)) (eqb_tells d directory)
+    where
+      here : is_sorted name_cmp (without_entry name (entries_in (files.tree.node directory))) ≡ true
+      here = passes _ (is_sorted-where_key name_cmp (λ x. not (bytes_eq x name)) (entries_in (files.tree.node directory))
+          (T_from_true _ (sorted directory)))
 
   pub untaken_empty : (d : ℕ) → entries_in (files.tree.node d) ≡ []
       → entries_in ((without_name nat_eq files directory name).tree.node d) ≡ []
@@ -100,9 +100,9 @@ module _ (files : FileTree ℕ) (directory : ℕ) (name : List ℕ) (number : �
   -- entries stay in order
   pub given_in_order : ((d : ℕ) → is_sorted name_cmp (entries_in (files.tree.node d)) ≡ true)
       → (d : ℕ) → is_sorted name_cmp (entries_in ((with_name nat_eq files directory name number).tree.node d)) ≡ true
-  given_in_order sorted d = ⊎_elim
-      (λ t. ap (λ m. is_sorted name_cmp (entries_in ((with_name nat_eq files directory name number).tree.node m))) t.1
-      ∙ ap (is_sorted name_cmp) given_there
-      ∙ passes _ (is_sorted-put name_cmp nat_list_cmp_total name number (entries_in (files.tree.node directory))
-      (T_from_true _ (sorted directory)))) (λ t. cc (given_elsewhere d t.1, sorted d))
+  given_in_order sorted d = ⊎_elim (λ t. cc (t.1, given_there, here)) (λ t. cc (given_elsewhere d t.1, sorted d))
       (eqb_tells d directory)
+    where
+      here : is_sorted name_cmp (with_entry name number (entries_in (files.tree.node directory))) ≡ true
+      here = passes _ (is_sorted-put name_cmp nat_list_cmp_total name number (entries_in (files.tree.node directory))
+          (T_from_true _ (sorted directory)))

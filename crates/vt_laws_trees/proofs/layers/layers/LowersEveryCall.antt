@@ -1,4 +1,4 @@
--- Every call that changes no mount by its own leaves what is locked as it was, in a filesystem that no overlay writes to.
+-- In a filesystem that no overlay writes to, calls that change no mount leave each locked inode as it was.
 use Rattle.std.proofs.Common.{◌≡◌, ◌≢◌, sym, true≢false, ℕ, nat_eq, true, List, [], ◌∷◌, ap, eqb-true, ne_eqb, refl, ◌∙◌, Bool, false}
 use Rattle.vt_spec.proofs.Common.{Access, Call, Change, CopyUp, Fresh, Location, Node, Permit, Place, SetBytes, Task, ToOpen, World, apply, call_outcome, evens, file_mode, filesystems-without_replaced, is_among, is_copied_up, is_locked, is_locked_at, linking, looks_of, make_permit, making, mount_at, moving, new_file, not-false, object_there, odds, or_false_left, or_false_right, or_from, or_parts, overfills, pwritten, removing, shown-without_replaced, with_change, with_copy, without_mounts_on, without_replaced}
 use Rattle.vt_laws_trees.specs.Layers.Layers.Untouched.{HasNoUpperLayer, changes_no_mount, inodes_changed}

@@ -1,5 +1,5 @@
 -- A newly mounted overlay is what its layers show.
-use Rattle.std.proofs.Common.{◌≡◌, ◌≢◌, ◌≤◌, refl, sym, ap, subst, ◌∙◌, true≢false, arith, ℕ, zero, suc, ◌+◌, nat_eq, Bool, true, not, List, [], ◌∷◌, ◌++◌, map, length, Option, Some, None, is_some, option_and_then, slice_get, unwrap_or, find, sum, option_map, option_to_list, bytes_eq}
+use Rattle.std.proofs.Common.{◌≡◌, ◌≢◌, ◌≤◌, refl, sym, ap, subst, ◌∙◌, true≢false, arith, ℕ, zero, suc, ◌+◌, nat_eq, Bool, true, not, List, [], ◌∷◌, ◌++◌, map, length, Option, Some, None, is_some, slice_get, unwrap_or, find, sum, option_map, option_to_list, bytes_eq}
 use Rattle.vt_spec.proofs.Common.{Content, FileTree, Filesystem, Fresh, IsDirectory, IsMerged, IsTree, IsWorld, Layer, ListsNumbers, Node, OpenLayer, Overlay, Real, SameObject, Shown, World, and_true_left, and_true_right, bytes_decides, common_steps, directory_no_whiteout, entry_at, filesystem_numbered, holds_of, inode_count, is_directory_node, is_plain_layer, is_there, led, list_all, merged_inodes, merged_objects, no_filesystem, node_at_path, node_shown, none_is_some, odds, odds-distinct, open_layer, overlay_filesystem, real_node, real_of, same_Some, same_content, shown, shown_layers, slice_get-map, sum_by-cons, then_some, when}
 use Rattle.vt_laws_trees.specs.Layers.Layers.Mounted.{AreLayers, RemountShowsTheSame}
 use Rattle.vt_laws_trees.proofs.layers.layers.ShownAlike.{shown_alike}
@@ -12,6 +12,7 @@ use Rattle.vt_laws_trees.proofs.layers.layers.ShownWhole.{behind, merged_is_real
 use Rattle.vt_laws_trees.proofs.layers.layers.UpperChain.{depth_below}
 use Rattle.vt_laws_trees.proofs.layers.layers.UpperLine.{has_entries, is_reached_in}
 use Rattle.vt_laws_trees.proofs.layers.layers.UpperWorld.{all_found, overlay_layers}
+use Rattle.vt_spec.proofs.Trees.{found}
 
 -- a part of a sum is no more than the sum
 in_sum : (test : Filesystem ℕ → Bool) (list : List (Filesystem ℕ)) (filesystem : Filesystem ℕ)
@@ -51,8 +52,8 @@ module _ (world : World ℕ) (conditions : IsWorld nat_eq world) (overlay : Over
           (λ filesystem. nat_eq plain.filesystem filesystem.number) world.filesystems ≡ o
           → find (λ filesystem. nat_eq plain.filesystem filesystem.number) world.filesystems
           ≡ Some (filesystem_numbered nat_eq world plain.filesystem)
-      there plain d None f = absurd (true≢false (sym (sym (ap (λ o. is_directory_node
-          ((unwrap_or o (no_filesystem plain.filesystem)).files.tree.node plain.directory)) f) ∙ d)))
+      there plain d None f = absurd (true≢false (sym d ∙ ap (λ o. is_directory_node
+          ((unwrap_or o (no_filesystem plain.filesystem)).files.tree.node plain.directory)) f))
       there plain d (Some filesystem) f = f ∙ ap Some (sym (ap (λ o. unwrap_or o (no_filesystem plain.filesystem)) f))
 
       by : (o : Option (Layer ℕ)) → slice_get (shown_layers overlay) depth ≡ o
@@ -93,35 +94,28 @@ module _ (world : World ℕ) (conditions : IsWorld nat_eq world) (overlay : Over
       let within = in_sum open_one.test world.filesystems open_one.filesystem open_one.found in
       let last = last_of (name ∷ path) (not_empty name path) in
       let longer = sym (length_longer last.0 last.1) ∙ ap length last.2 in
-      by open_one.filesystem.files tree listed has.0.directory last.0 last.1 (omega arith) within
+      -- the last name stands in a directory, which lies as deep as the front is long
+      let named = found (λ directory. entry_at open_one.filesystem.files.tree directory last.1)
+      (led open_one.filesystem.files.tree has.0.directory last.0) seen.object
       (sym (ap (λ p. led open_one.filesystem.files.tree has.0.directory p) (sym last.2)
       ∙ last_name open_one.filesystem.files.tree has.0.directory last.0 last.1)
-      ∙ ap (λ t. led t has.0.directory (name ∷ path)) (sym open_one.is) ∙ has.2)
+      ∙ ap (λ t. led t has.0.directory (name ∷ path)) (sym open_one.is) ∙ has.2) in
+      let many = deep open_one.filesystem.files tree listed has.0.directory last.1 last.0 named.0 named.1 named.2 in
+      omega arith
     where
-      by : (files : FileTree ℕ) → IsTree files.tree → ListsNumbers nat_eq files
-          → (start : ℕ) (front : List (List ℕ)) (last : List ℕ) → length (name ∷ path) ≡ suc (length front)
-          → length files.numbers ≤ inode_count world
-          → option_and_then (λ directory. entry_at files.tree directory last) (led files.tree start front)
-          ≡ Some seen.object → length (name ∷ path) ≤ inode_count world
-      by files tree listed start front last counted within e = at (led files.tree start front) refl e
-        where
-          deep : (front : List (List ℕ)) (directory : ℕ) → led files.tree start front ≡ Some directory
-              → entry_at files.tree directory last ≡ Some seen.object → suc (length front) ≤ length files.numbers
-          deep [] directory l e =
-              let reached = is_reached_in files tree directory last seen.object e in
-              let below = depth_below files tree listed reached.0 directory reached.1 in
-              omega arith
-          deep (first ∷ rest) directory l e =
-              let reached = depth_of_led files.tree tree start (first ∷ rest) directory (not_empty first rest) l
-              (has_entries files.tree directory last seen.object e) in
-              let below = depth_below files tree listed (reached.0 + length (first ∷ rest)) directory reached.2 in
-              omega arith
-
-          at : (o : Option ℕ) → led files.tree start front ≡ o
-              → option_and_then (λ directory. entry_at files.tree directory last) o ≡ Some seen.object
-              → length (name ∷ path) ≤ inode_count world
-          at None l e = none_is_some seen.object e
-          at (Some directory) l e = let h = deep front directory l e in omega arith
+      deep : (files : FileTree ℕ) → IsTree files.tree → ListsNumbers nat_eq files
+          → (start : ℕ) (last : List ℕ) (front : List (List ℕ)) (directory : ℕ)
+          → led files.tree start front ≡ Some directory → entry_at files.tree directory last ≡ Some seen.object
+          → suc (length front) ≤ length files.numbers
+      deep files tree listed start last [] directory l e =
+          let reached = is_reached_in files tree directory last seen.object e in
+          let below = depth_below files tree listed reached.0 directory reached.1 in
+          omega arith
+      deep files tree listed start last (first ∷ rest) directory l e =
+          let reached = depth_of_led files.tree tree start (first ∷ rest) directory (not_empty first rest) l
+          (has_entries files.tree directory last seen.object e) in
+          let below = depth_below files tree listed (reached.0 + length (first ∷ rest)) directory reached.2 in
+          omega arith
 
   -- the top layer's directory is shown as the root
   pub root_shown : (top : Shown ℕ) × (shown layers [] ≡ Some top)

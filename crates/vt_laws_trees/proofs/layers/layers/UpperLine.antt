@@ -45,7 +45,7 @@ module _ (files : FileTree ℕ) (tree : IsTree files.tree) where
   reached_directory (suc steps) directory r = r.4
 
   -- from where names lead to a directory, there is one
-  from_directory : (names : List (List ℕ)) (from to : ℕ) → led files.tree from names ≡ Some to
+  pub from_directory : (names : List (List ℕ)) (from to : ℕ) → led files.tree from names ≡ Some to
       → IsDirectory files.tree to → IsDirectory files.tree from
   from_directory [] from to e d = subst (IsDirectory files.tree) (sym (same_Some from to e)) d
   from_directory (name ∷ names) from to e d =
