@@ -48,8 +48,8 @@ module _ (files : FileTree ℕ) (directory : ℕ) (name : List ℕ) where
       (λ t. cc (entries_elsewhere d t.1, sorted d)) (eqb_tells d directory)
     where
       here : is_sorted name_cmp (without_entry name (entries_in (files.tree.node directory))) ≡ true
-      here = passes _ (is_sorted-where_key name_cmp (λ x. not (bytes_eq x name)) (entries_in (files.tree.node directory))
-          (T_from_true _ (sorted directory)))
+      here = passes _ (is_sorted-where_key name_cmp (λ x. not (bytes_eq x name))
+          (entries_in (files.tree.node directory)) (T_from_true _ (sorted directory)))
 
   pub untaken_empty : (d : ℕ) → entries_in (files.tree.node d) ≡ []
       → entries_in ((without_name nat_eq files directory name).tree.node d) ≡ []

@@ -1,13 +1,12 @@
 -- The merged tree of layers is a tree.
-use Rattle.std.proofs.Common.{arith, ◌≡◌, ◌≢◌, ◌≤◌, ◌⊎◌, inl, inr, refl, sym, ap, subst, ◌∙◌, ℕ, ◌+◌, nat_eq, eqb-true, Bool, true, false, not, ◌||◌, List, [], ◌∷◌, ◌++◌, filter, length, map, Option, Some, None, is_some, option_and_then, unwrap_or, filter_map, find, option_map}
+use Rattle.std.proofs.Common.{arith, ◌≡◌, ◌≢◌, ◌≤◌, ◌⊎◌, inl, inr, refl, sym, ap, subst, ◌∙◌, ℕ, ◌+◌, nat_eq, eqb-true, Bool, true, false, not, ◌||◌, List, [], ◌∷◌, ◌++◌, filter, length, map, Option, Some, None, is_some, unwrap_or, filter_map, find, option_map}
 use Rattle.vt_spec.proofs.Common.{Content, Directory, Fresh, HasName, HasOwnParents, IsDirectory, IsTree, ListsNumbers, Merged, MergedInode, OpenLayer, Regular, Shown, Symlink, Tree, Whiteout, common_steps, each_once, entries_in, entries_in-no_directory, entries_of, entry_at, entry_in_directory, entry_named, index_from, inode_of, is_among, is_directory, is_directory_node, is_one_inode, is_sorted, kind_of, last_or, led, list_any, merged_content, name_cmp, none_is_some, parent_in, parent_of, same_Some, same_path, same_truth, shown, without_last}
 use Rattle.vt_spec.specs.Machine.Merging.{number_at, tree_of}
 use Rattle.vt_laws_trees.proofs.layers.directories.Order.{entries_in_order}
 use Rattle.vt_laws_trees.proofs.layers.layers.ShownDirectories.{AreOpen, last_of, longer_is_not_empty, shown_in_directory}
 use Rattle.vt_laws_trees.proofs.layers.layers.ShownMerged.{InLayer, LeadsTo, entry_leads, in_layer, inodes, layer_node_of, number, objects, one_number}
-use Rattle.vt_laws_trees.proofs.layers.layers.ShownNames.{last_name}
 use Rattle.vt_laws_trees.proofs.layers.layers.ShownObjects.{Among, is_object, is_one, object_is, one_itself, path_itself, path_same}
-use Rattle.vt_laws_trees.proofs.layers.layers.ShownPaths.{last_of_longer, not_empty, one_path}
+use Rattle.vt_laws_trees.proofs.layers.layers.ShownPaths.{last_of_longer, not_empty, one_path, last_step}
 use Rattle.vt_laws_trees.proofs.layers.layers.ShownTree.{Arrives, arrives, directory_above, inode_at, merged_tree, object_at, root_number}
 use Rattle.vt_laws_trees.proofs.layers.layers.ShownWhole.{is_of_object}
 use Rattle.vt_laws_trees.proofs.layers.layers.UpperLine.{has_entries}
@@ -225,17 +224,11 @@ module _ (layers : List (OpenLayer ℕ)) (are_open : AreOpen layers) (longest : 
   root_or_named : (n : ℕ) → IsShownDirectory n → (n ≡ fresh 0) ⊎ HasName tree n
   root_or_named n directory = by directory.path (is_led n directory)
     where
-      named : (front : List (List ℕ)) (name : List ℕ) (o : Option ℕ)
-          → option_and_then (λ d. entry_at tree d name) o ≡ Some n → HasName tree n
-      named front name None e = none_is_some n e
-      named front name (Some d) e = (d, name, e)
-
       by : (path : List (List ℕ)) → led tree (fresh 0) path ≡ Some n → (n ≡ fresh 0) ⊎ HasName tree n
       by [] e = inl (sym (same_Some (fresh 0) n e))
       by (first ∷ rest) e =
-          let last = last_of (first ∷ rest) (not_empty first rest) in
-          inr (named last.0 last.1 (led tree (fresh 0) last.0)
-          (cc (last_name tree (fresh 0) last.0 last.1, last.2)))
+          let last = last_step tree (fresh 0) (first ∷ rest) n (not_empty first rest) e in
+          inr (last.directory, last.name, last.entry)
 
   -- the parent
   has_parent : (n : ℕ) → IsShownDirectory n → IsDirectory tree (parent_in n (tree.node n))

@@ -1,11 +1,12 @@
 -- What layers show under a name is what the directories show that are merged under it.
 use Rattle.std.proofs.Common.{◌≡◌, ◌≢◌, refl, ap, ◌∙◌, arith, ℕ, suc, ◌+◌, Bool, true, false, cond, ◌||◌, List, [], ◌∷◌, ◌++◌, Option, Some, None, option_and_then, option_map}
-use Rattle.vt_spec.proofs.Common.{All-cons, All-head, All-nil, All-tail, Node, Tree, View, common_steps, cuts, hides, is_directory_node, led, node_led, none_is_some, prefixes, shown_from, shown_over, then_some}
+use Rattle.vt_spec.proofs.Common.{All-cons, All-head, All-nil, All-tail, Node, Tree, View, common_steps, cuts, hides, is_directory_node, led, node_led, none_is_some, prefixes, shown_from, shown_over, then_some, entry_at}
 use Rattle.vt_spec.specs.Machine.Views.{Shown}
 use Rattle.vt_laws_trees.specs.Layers.Layers.Directories.{AreViews, DirectoriesAreMerged, IsView, LayersAreViews, MergedAreViews, PlacedShowTheSame, PlacedView, PlacesAreCountedBack, ShownUnderName, merged_under, placed_from, shown_in, view_under}
 use Rattle.vt_laws_trees.proofs.layers.layers.ShownDirectories.{led_is_there}
 use Rattle.vt_laws_trees.proofs.layers.layers.ShownFronts.{prefix_found, list_any_of_map}
 use Rattle.vt_laws_trees.proofs.layers.layers.UpperLine.{has_entries}
+use Rattle.vt_spec.proofs.Trees.{found}
 
 abbrev pub HasView : PlacedView ℕ → Type 0
 HasView top = IsView top.view
@@ -110,14 +111,10 @@ led_through : (tree : Tree ℕ) (from : ℕ) (front rest : List (List ℕ)) (obj
     → led tree from (front ++ rest) ≡ Some object → is_directory_node (then_some (led tree from front) tree.node) ≡ true
 led_through tree from [] [] object n e = absurd (n refl)
 led_through tree from [] (name ∷ rest) object n e = grind (arith, common_steps, none_is_some, has_entries)
-led_through tree from (name ∷ front) rest object n e = by _ (λ next. led_through tree next front rest object n) e
-  where
-    by : (o : Option ℕ) → ((next : ℕ) → led tree next (front ++ rest) ≡ Some object
-        → is_directory_node (then_some (led tree next front) tree.node) ≡ true)
-        → option_and_then (λ next. led tree next (front ++ rest)) o ≡ Some object
-        → is_directory_node (then_some (option_and_then (λ next. led tree next front) o) tree.node) ≡ true
-    by None on e = none_is_some object e
-    by (Some next) on e = on next e
+led_through tree from (name ∷ front) rest object n e =
+    let next = found (λ next. led tree next (front ++ rest)) (entry_at tree from name) object e in
+    ap (λ o. is_directory_node (then_some (option_and_then (λ next. led tree next front) o) tree.node)) next.1
+    ∙ led_through tree next.0 front rest object n next.2
 
 pub layers_are_views : LayersAreViews
 layers_are_views layer tree directory = record {

@@ -1,18 +1,14 @@
 -- A newly mounted overlay is what its layers show.
-use Rattle.std.proofs.Common.{◌≡◌, ◌≢◌, ◌≤◌, refl, sym, ap, subst, ◌∙◌, true≢false, arith, ℕ, zero, suc, ◌+◌, nat_eq, Bool, true, not, List, [], ◌∷◌, ◌++◌, map, length, Option, Some, None, is_some, slice_get, unwrap_or, find, sum, option_map, option_to_list, bytes_eq}
-use Rattle.vt_spec.proofs.Common.{Content, FileTree, Filesystem, Fresh, IsDirectory, IsMerged, IsTree, IsWorld, Layer, ListsNumbers, Node, OpenLayer, Overlay, Real, SameObject, Shown, World, and_true_left, and_true_right, bytes_decides, common_steps, directory_no_whiteout, entry_at, filesystem_numbered, holds_of, inode_count, is_directory_node, is_plain_layer, is_there, led, list_all, merged_inodes, merged_objects, no_filesystem, node_at_path, node_shown, none_is_some, odds, odds-distinct, open_layer, overlay_filesystem, real_node, real_of, same_Some, same_content, shown, shown_layers, slice_get-map, sum_by-cons, then_some, when}
+use Rattle.std.proofs.Common.{◌≡◌, ◌≢◌, ◌≤◌, refl, sym, ap, subst, ◌∙◌, true≢false, arith, ℕ, zero, suc, nat_eq, Bool, true, not, List, [], ◌∷◌, ◌++◌, map, length, Option, Some, None, is_some, slice_get, unwrap_or, find, sum, option_map, option_to_list, bytes_eq}
+use Rattle.vt_spec.proofs.Common.{Content, Filesystem, Fresh, IsDirectory, IsMerged, IsTree, IsWorld, Layer, ListsNumbers, Node, OpenLayer, Overlay, Real, SameObject, Shown, World, and_true_left, and_true_right, bytes_decides, common_steps, directory_no_whiteout, filesystem_numbered, holds_of, inode_count, is_directory_node, is_plain_layer, is_there, led, list_all, merged_inodes, merged_objects, no_filesystem, node_at_path, node_shown, none_is_some, odds, odds-distinct, open_layer, overlay_filesystem, real_node, real_of, same_Some, same_content, shown, shown_layers, slice_get-map, sum_by-cons, then_some, when}
 use Rattle.vt_laws_trees.specs.Layers.Layers.Mounted.{AreLayers, RemountShowsTheSame}
 use Rattle.vt_laws_trees.proofs.layers.layers.ShownAlike.{shown_alike}
 use Rattle.vt_laws_trees.proofs.layers.layers.ShownAtPath.{computed}
-use Rattle.vt_laws_trees.proofs.layers.layers.ShownDirectories.{AreOpen, last_of}
-use Rattle.vt_laws_trees.proofs.layers.layers.ShownNames.{last_name}
-use Rattle.vt_laws_trees.proofs.layers.layers.ShownPaths.{depth_of_led, length_longer, not_empty}
+use Rattle.vt_laws_trees.proofs.layers.layers.ShownDirectories.{AreOpen}
+use Rattle.vt_laws_trees.proofs.layers.layers.ShownPaths.{length-led}
 use Rattle.vt_laws_trees.proofs.layers.layers.ShownTree.{real_shown_there, shows_layers}
 use Rattle.vt_laws_trees.proofs.layers.layers.ShownWhole.{behind, merged_is_real, merged_no_mark, merged_no_whiteout, merged_one_to_one, merged_real_there, merged_upper}
-use Rattle.vt_laws_trees.proofs.layers.layers.UpperChain.{depth_below}
-use Rattle.vt_laws_trees.proofs.layers.layers.UpperLine.{has_entries, is_reached_in}
 use Rattle.vt_laws_trees.proofs.layers.layers.UpperWorld.{all_found, overlay_layers}
-use Rattle.vt_spec.proofs.Trees.{found}
 
 -- a part of a sum is no more than the sum
 in_sum : (test : Filesystem ℕ → Bool) (list : List (Filesystem ℕ)) (filesystem : Filesystem ℕ)
@@ -82,40 +78,16 @@ module _ (world : World ℕ) (conditions : IsWorld nat_eq world) (overlay : Over
   -- no path at which something is shown is longer than there are inodes
   pub bounded : (path : List (List ℕ)) (seen : Shown ℕ) → shown layers path ≡ Some seen
       → length path ≤ inode_count world
-  bounded [] seen s = omega arith
-  bounded (name ∷ path) seen s =
-      let shows = (computed layers (name ∷ path) seen).0 s in
-      let has = shows.has_uncut.0 in
+  bounded path seen s =
+      let has = ((computed layers path seen).0 s).has_uncut.0 in
       let open_one = is_open seen.layer has.0 has.1 in
       let tree = all_found (λ filesystem. IsTree filesystem.files.tree) _ _ conditions.files.trees _ open_one.found in
-      let listed = all_found (λ filesystem.
-      ListsNumbers nat_eq filesystem.files) open_one.test world.filesystems conditions.files.numbers open_one.filesystem
-      open_one.found in
+      let listed = all_found (λ filesystem. ListsNumbers nat_eq filesystem.files) open_one.test world.filesystems
+      conditions.files.numbers open_one.filesystem open_one.found in
       let within = in_sum open_one.test world.filesystems open_one.filesystem open_one.found in
-      let last = last_of (name ∷ path) (not_empty name path) in
-      let longer = sym (length_longer last.0 last.1) ∙ ap length last.2 in
-      -- the last name stands in a directory, which lies as deep as the front is long
-      let named = found (λ directory. entry_at open_one.filesystem.files.tree directory last.1)
-      (led open_one.filesystem.files.tree has.0.directory last.0) seen.object
-      (sym (ap (λ p. led open_one.filesystem.files.tree has.0.directory p) (sym last.2)
-      ∙ last_name open_one.filesystem.files.tree has.0.directory last.0 last.1)
-      ∙ ap (λ t. led t has.0.directory (name ∷ path)) (sym open_one.is) ∙ has.2) in
-      let many = deep open_one.filesystem.files tree listed has.0.directory last.1 last.0 named.0 named.1 named.2 in
+      let long = length-led open_one.filesystem.files tree listed has.0.directory path seen.object
+      (ap (λ t. led t has.0.directory path) (sym open_one.is) ∙ has.2) in
       omega arith
-    where
-      deep : (files : FileTree ℕ) → IsTree files.tree → ListsNumbers nat_eq files
-          → (start : ℕ) (last : List ℕ) (front : List (List ℕ)) (directory : ℕ)
-          → led files.tree start front ≡ Some directory → entry_at files.tree directory last ≡ Some seen.object
-          → suc (length front) ≤ length files.numbers
-      deep files tree listed start last [] directory l e =
-          let reached = is_reached_in files tree directory last seen.object e in
-          let below = depth_below files tree listed reached.0 directory reached.1 in
-          omega arith
-      deep files tree listed start last (first ∷ rest) directory l e =
-          let reached = depth_of_led files.tree tree start (first ∷ rest) directory (not_empty first rest) l
-          (has_entries files.tree directory last seen.object e) in
-          let below = depth_below files tree listed (reached.0 + length (first ∷ rest)) directory reached.2 in
-          omega arith
 
   -- the top layer's directory is shown as the root
   pub root_shown : (top : Shown ℕ) × (shown layers [] ≡ Some top)

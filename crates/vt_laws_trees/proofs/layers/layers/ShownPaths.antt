@@ -1,9 +1,9 @@
 -- One directory of a tree is led to by one list of names.
-use Rattle.std.proofs.Common.{◌≡◌, ◌≢◌, refl, sym, ap, subst, ◌∙◌, true≢false, arith, ℕ, zero, suc, ◌+◌, Bool, true, false, List, [], ◌∷◌, ◌++◌, length, Some}
-use Rattle.vt_spec.proofs.Common.{FileTree, IsDirectory, IsTree, Tree, entry_at, is_root_path, last_or, led, same_Some}
+use Rattle.std.proofs.Common.{◌≡◌, ◌≢◌, refl, sym, ap, subst, ◌∙◌, true≢false, arith, ℕ, zero, suc, ◌+◌, Bool, true, false, List, [], ◌∷◌, ◌++◌, length, Some, ◌≤◌, nat_eq}
+use Rattle.vt_spec.proofs.Common.{FileTree, IsDirectory, IsTree, Tree, entry_at, is_root_path, last_or, led, same_Some, ListsNumbers}
 use Rattle.vt_laws_trees.proofs.layers.layers.ShownDirectories.{last_of}
 use Rattle.vt_laws_trees.proofs.layers.layers.ShownNames.{last_name}
-use Rattle.vt_laws_trees.proofs.layers.layers.UpperChain.{one_depth}
+use Rattle.vt_laws_trees.proofs.layers.layers.UpperChain.{one_depth, depth_below}
 use Rattle.vt_laws_trees.proofs.layers.layers.UpperLine.{ReachedIn, has_entries, is_reached_in, from_directory}
 use Rattle.vt_spec.proofs.Trees.{found}
 
@@ -21,6 +21,30 @@ last_of_longer (first ∷ path) name default = last_of_longer path name first
 pub root_of_longer : (path : List (List ℕ)) (name : List ℕ) → is_root_path (path ++ name ∷ []) ≡ false
 root_of_longer [] name = refl
 root_of_longer (first ∷ path) name = refl
+
+-- The last step of names that lead to an object: the directory that the names before lead to has the last one for it.
+pub record LastStep (tree : Tree ℕ) (start : ℕ) (path : List (List ℕ)) (to : ℕ) : Type 0 where
+  pub front : List (List ℕ)
+  pub name : List ℕ
+  pub directory : ℕ
+  pub split : front ++ name ∷ [] ≡ path
+  pub leads : led tree start front ≡ Some directory
+  pub entry : entry_at tree directory name ≡ Some to
+
+pub last_step : (tree : Tree ℕ) (start : ℕ) (path : List (List ℕ)) (to : ℕ) → path ≢ []
+    → led tree start path ≡ Some to → LastStep tree start path to
+last_step tree start path to longer e =
+    let last = last_of path longer in
+    let step = found (λ directory. entry_at tree directory last.1) (led tree start last.0) to
+    (sym (last_name tree start last.0 last.1) ∙ ap (led tree start) last.2 ∙ e) in
+    record {
+      front = last.0;
+      name = last.1;
+      directory = step.0;
+      split = last.2;
+      leads = step.1;
+      entry = step.2;
+    }
 
 -- One directory of a tree is led to by one list of names.
 module _ (tree : Tree ℕ) (conditions : IsTree tree) (start : ℕ) where
@@ -73,25 +97,43 @@ module _ (tree : Tree ℕ) (conditions : IsTree tree) (start : ℕ) where
   one_path_of many (name ∷ a) [] to la lb e f d = absurd (let no : ⊥ = omega arith in no)
   one_path_of zero (name ∷ a) (other ∷ b) to la lb e f d = absurd (let no : ⊥ = omega arith in no)
   one_path_of (suc many) (name ∷ a) (other ∷ b) to la lb e f d =
-      let last = last_of (name ∷ a) (not_empty name a) in
-      let last_other = last_of (other ∷ b) (not_empty other b) in
-      let one_long = ap length last.2 in
-      let two_long = ap length last_other.2 in
-      let one_more = length_longer last.0 last.1 in
-      let two_more = length_longer last_other.0 last_other.1 in
-      -- the directory that has each last name: they are one, so its names are one, and so are the fronts
-      let one = found (λ directory. entry_at tree directory last.1) (led tree start last.0) to
-      (sym (last_name tree start last.0 last.1) ∙ ap (led tree start) last.2 ∙ e) in
-      let two = found (λ directory. entry_at tree directory last_other.1) (led tree start last_other.0) to
-      (sym (last_name tree start last_other.0 last_other.1) ∙ ap (led tree start) last_other.2 ∙ f) in
-      let same = sym (conditions.one_parent one.0 last.1 to one.2 d)
-      ∙ conditions.one_parent two.0 last_other.1 to two.2 d in
-      let names = conditions.one_name two.0 last.1 last_other.1 to
-      (ap (λ n. entry_at tree n last.1) (sym same) ∙ one.2) two.2 d in
-      let fronts = one_path_of many last.0 last_other.0 two.0 (omega arith) (omega arith) (one.1 ∙ ap Some same) two.1
-      (has_entries tree two.0 last_other.1 to two.2) in
-      cc (last.2, last_other.2, fronts, names)
+      let one = last_step tree start (name ∷ a) to (not_empty name a) e in
+      let two = last_step tree start (other ∷ b) to (not_empty other b) f in
+      let one_long = sym (length_longer one.front one.name) ∙ ap length one.split in
+      let two_long = sym (length_longer two.front two.name) ∙ ap length two.split in
+      -- the two directories are one, so their names for it are one, and so are the fronts
+      let same = sym (conditions.one_parent one.directory one.name to one.entry d)
+      ∙ conditions.one_parent two.directory two.name to two.entry d in
+      let names = conditions.one_name two.directory one.name two.name to
+      (ap (λ n. entry_at tree n one.name) (sym same) ∙ one.entry) two.entry d in
+      let fronts = one_path_of many one.front two.front two.directory (omega arith) (omega arith)
+      (one.leads ∙ ap Some same) two.leads (has_entries tree two.directory two.name to two.entry) in
+      cc (one.split, two.split, fronts, names)
 
   pub one_path : (a b : List (List ℕ)) (to : ℕ) → led tree start a ≡ Some to → led tree start b ≡ Some to
       → IsDirectory tree to → a ≡ b
   one_path a b to e f d = one_path_of (length b) a b to (one_length a b to e f d) refl e f d
+
+-- Names that lead somewhere are no more than there are inodes.
+module _ (files : FileTree ℕ) (tree : IsTree files.tree) (listed : ListsNumbers nat_eq files) (start : ℕ) where
+  -- a directory lies as deep as names lead to it
+  deep : (front : List (List ℕ)) (name : List ℕ) (directory to : ℕ) → led files.tree start front ≡ Some directory
+      → entry_at files.tree directory name ≡ Some to → suc (length front) ≤ length files.numbers
+  deep [] name directory to l e =
+      let reached = is_reached_in files tree directory name to e in
+      let below = depth_below files tree listed reached.0 directory reached.1 in
+      omega arith
+  deep (first ∷ rest) name directory to l e =
+      let reached = depth_of_led files.tree tree start (first ∷ rest) directory (not_empty first rest) l
+      (has_entries files.tree directory name to e) in
+      let below = depth_below files tree listed (reached.0 + length (first ∷ rest)) directory reached.2 in
+      omega arith
+
+  pub length-led : (path : List (List ℕ)) (to : ℕ) → led files.tree start path ≡ Some to
+      → length path ≤ length files.numbers
+  length-led [] to e = omega arith
+  length-led (name ∷ path) to e =
+      let last = last_step files.tree start (name ∷ path) to (not_empty name path) e in
+      let long = sym (length_longer last.front last.name) ∙ ap length last.split in
+      let within = deep last.front last.name last.directory to last.leads last.entry in
+      omega arith

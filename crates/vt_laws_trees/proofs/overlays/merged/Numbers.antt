@@ -6,10 +6,9 @@ use Rattle.vt_spec.proofs.Nodes.{same_name}
 use Rattle.vt_laws_trees.specs.Overlays.MergedTrees.{InodesAreThoseShown, IsMergedTree, IsNamedBy, MergedTreesAreOne, NumbersAreThoseShown, OtherInodesAreHeld, OverlaysAreMergedTrees, content_as, entries_shown, inode_held, inode_shown, layers_shown, node_as, number_shown, parent_shown}
 use Rattle.vt_laws_trees.proofs.layers.directories.Order.{NameBelow, Pairwise, names_rise, names_sorted, pairwise_filter, pairwise_filter_map, rising_sorted}
 use Rattle.vt_laws_trees.proofs.layers.layers.ShownAtPath.{computed}
-use Rattle.vt_laws_trees.proofs.layers.layers.ShownDirectories.{last_of}
 use Rattle.vt_laws_trees.proofs.layers.layers.ShownMounted.{are_open}
 use Rattle.vt_laws_trees.proofs.layers.layers.ShownNames.{is_name, last_name, name_found, names_are_those_shown}
-use Rattle.vt_laws_trees.proofs.layers.layers.ShownPaths.{not_empty}
+use Rattle.vt_laws_trees.proofs.layers.layers.ShownPaths.{not_empty, last_step}
 use Rattle.vt_laws_trees.proofs.layers.layers.UpperLine.{is_reached_in, named_so}
 use Rattle.vt_laws_trees.proofs.layers.layers.UpperShown.{without_last_of_longer, has_a_name, way_to}
 use Rattle.vt_laws_trees.proofs.layers.layers.UpperWorld.{all_found, overlay_found, overlay_layers, overlay_numbers, overlay_tree}
@@ -110,15 +109,15 @@ module _ (number_of : Real ℕ → ℕ) (held : ℕ → Option (Real ℕ)) (worl
   pub lastly : (path : List (List ℕ)) (number : ℕ) → path ≢ [] → at path ≡ Some number
       → HasEntry filesystem.files path number
   lastly path number longer e =
-      let last = last_of path longer in
-      by last.0 last.1 last.2 (at last.0) refl (cc (last_name filesystem.files.tree _ last.0 last.1, last.2))
-    where
-      by : (front : List (List ℕ)) (name : List ℕ) → front ++ name ∷ [] ≡ path → (o : Option ℕ) → at front ≡ o
-          → option_and_then (λ d. entry_at filesystem.files.tree d name) o ≡ Some number
-          → HasEntry filesystem.files path number
-      by front name split None l e = none_is_some number e
-      by front name split (Some d) l e =
-          record { front = front; name = name; directory = d; split = split; leads = l; entry = e }
+      let last = last_step filesystem.files.tree filesystem.files.tree.root path number longer e in
+      record {
+        front = last.front;
+        name = last.name;
+        directory = last.directory;
+        split = last.split;
+        leads = last.leads;
+        entry = last.entry;
+      }
 
   -- what a path leads to is there,
   reached_there : (path : List (List ℕ)) (number : ℕ) → at path ≡ Some number

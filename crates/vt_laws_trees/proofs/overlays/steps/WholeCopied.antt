@@ -1,5 +1,5 @@
 -- One object is copied up: the tree is still what the layers show.
-use Rattle.std.proofs.Common.{arith, ◌≡◌, ◌≢◌, refl, sym, ap, subst, ◌∙◌, true≢false, eq-eqb, ne_eqb, ◌⊎◌, ⊎_elim, inl, inr, ℕ, nat_eq, Bool, true, false, not, cond, List, [], ◌∷◌, ◌++◌, map, Option, Some, None, is_some, option_and_then}
+use Rattle.std.proofs.Common.{arith, ◌≡◌, ◌≢◌, refl, sym, ap, subst, ◌∙◌, true≢false, eq-eqb, ne_eqb, ◌⊎◌, ⊎_elim, inl, inr, ℕ, nat_eq, Bool, true, false, not, cond, List, [], ◌∷◌, ◌++◌, map, Option, Some, None, is_some}
 use Rattle.vt_spec.proofs.Common.{Content, Directory, FileTree, HasOwnParents, IsDirectory, IsNewIn, IsReached, IsTree, Make, Merge, Node, Real, Regular, SameObject, Stack, Symlink, Upper, View, Whiteout, a_name, bytes_eq_itself, changed, common_steps, copied_content, copy_named, copy_of_node, copy_parent, cuts, directory_no_whiteout, directory_used, entries_in, entries_in-no_directory, entries_of, entries_of-copied_content, entry_at, entry_named, eqb_tells, hides, is_directory, is_directory_node, is_kind, is_kind_in, kind_of, led, led-append, name_cmp, node_led, node_other, node_set, none_is_some, number_at_path, parent_in, parent_of, same_Some, same_content, shown, shown_from, then_some, upper_object, upper_of, view_of, when, with_inode, with_real}
 use Rattle.vt_spec.specs.declared.attributes.Kind.TheVariants.{White}
 use Rattle.vt_laws_trees.specs.Trees.{MayMake}
@@ -9,15 +9,14 @@ use Rattle.vt_laws_trees.specs.Layers.Layers.Mounted.{IsAlike}
 use Rattle.vt_laws_trees.specs.Layers.Layers.Views.{TakesName, goes_through, names_entry, view_in}
 use Rattle.vt_laws_trees.specs.Overlays.WhatIsShown.{CopyKeepsWhole, IsWhole, layers_under, real_seen}
 use Rattle.vt_laws_trees.proofs.layers.layers.ShownAlike.{white_alike}
-use Rattle.vt_laws_trees.proofs.layers.layers.ShownDirectories.{last_of, led_is_there}
+use Rattle.vt_laws_trees.proofs.layers.layers.ShownDirectories.{led_is_there}
 use Rattle.vt_laws_trees.proofs.layers.layers.ShownFronts.{prefix_found, prefix_passes}
-use Rattle.vt_laws_trees.proofs.layers.layers.ShownNames.{last_name}
 use Rattle.vt_laws_trees.proofs.layers.layers.UpperLine.{has_entries, is_reached_in, named_so}
 use Rattle.vt_laws_trees.proofs.layers.layers.UpperShown.{below_is_at, has_a_name, way_to}
 use Rattle.vt_laws_trees.proofs.layers.views.After.{new_name_is_shown, on_top, shown_elsewhere_stays}
 use Rattle.vt_laws_trees.proofs.layers.views.Fronts.{prefixes_agree, hides_so, hiding_alike}
 use Rattle.vt_laws_trees.proofs.layers.views.Moves.{led_parts}
-use Rattle.vt_laws_trees.proofs.layers.layers.ShownPaths.{not_empty}
+use Rattle.vt_laws_trees.proofs.layers.layers.ShownPaths.{not_empty, last_step}
 use Rattle.vt_laws_trees.proofs.layers.views.Names.{alike_same, inode_entries, make_adds_inode, make_adds_path, make_is_seen, no_entries}
 use Rattle.vt_laws_trees.proofs.layers.views.Stay.{inode_moves_no_path}
 use Rattle.vt_laws_trees.proofs.overlays.whole.UpperGoes.{Goes, goes_by}
@@ -183,16 +182,9 @@ module _ {stack : Stack ℕ} {merge : Merge ℕ} (whole : IsWhole stack merge) (
         ∙ ap (λ n. upper_object (merge.real n)) (sym (same_Some found.0 object (sym found.1 ∙ e)))
         ∙ ap upper_object found.2)
     no_path (word ∷ path) e =
-        let last = last_of (word ∷ path) (not_empty word path) in
-        by last.1 (led merge.files.tree merge.files.tree.root last.0)
-        (sym (last_name merge.files.tree merge.files.tree.root last.0 last.1)
-        ∙ ap (led merge.files.tree merge.files.tree.root) last.2 ∙ e)
-      where
-        by : (name : List ℕ) (o : Option ℕ)
-            → option_and_then (λ directory. entry_at merge.files.tree directory name) o ≡ Some object → ⊥
-        by name None e = none_is_some object e
-        by name (Some directory) e = true≢false
-            (sym (has_a_name merge.files whole.numbers directory name object e) ∙ ap is_some unnamed)
+        let last = last_step merge.files.tree merge.files.tree.root (word ∷ path) object (not_empty word path) e in
+        true≢false (sym (has_a_name merge.files whole.numbers last.directory last.name object last.entry)
+        ∙ ap is_some unnamed)
 
     abbrev beside : Merge ℕ
     beside = record merge { real = real_later; upper = apart }

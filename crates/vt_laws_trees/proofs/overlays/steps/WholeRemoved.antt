@@ -11,10 +11,10 @@ use Rattle.vt_laws_trees.specs.Overlays.WhatIsShown.{IsWhole, RemoveKeepsShown, 
 use Rattle.vt_laws_trees.proofs.layers.layers.CopyingParts.{without_entry_keeps}
 use Rattle.vt_laws_trees.proofs.layers.layers.LowersKept.{kept_elsewhere}
 use Rattle.vt_laws_trees.proofs.layers.layers.ShownAlike.{white_alike}
-use Rattle.vt_laws_trees.proofs.layers.layers.ShownDirectories.{append_assoc, last_of, led_is_there}
+use Rattle.vt_laws_trees.proofs.layers.layers.ShownDirectories.{append_assoc, led_is_there}
 use Rattle.vt_laws_trees.proofs.layers.layers.ShownFronts.{prefix_found, prefix_passes}
 use Rattle.vt_laws_trees.proofs.layers.layers.ShownNames.{last_name}
-use Rattle.vt_laws_trees.proofs.layers.layers.ShownPaths.{not_empty}
+use Rattle.vt_laws_trees.proofs.layers.layers.ShownPaths.{not_empty, last_step}
 use Rattle.vt_laws_trees.proofs.layers.layers.UpperLine.{has_entries, is_reached_in}
 use Rattle.vt_laws_trees.proofs.layers.layers.UpperShown.{way_to}
 use Rattle.vt_laws_trees.proofs.layers.views.After.{fails, prefixes_fail, itself_fails, on_top}
@@ -248,21 +248,13 @@ module _ {stack : Stack ℕ} {merge : Merge ℕ} (whole : IsWhole stack merge) {
             absurd (whole.tree.root_unnamed d w (may.named ∙ ap Some (fine_before.one object _ (ap is_some r)
             (cc (r, same_Some stack.directory uo l, root.2, same_Some merge.files.tree.root root.0 root.1)))))
         old (word ∷ rest) l =
-            let last = last_of (word ∷ rest) (not_empty word rest) in
-            subst (λ p. names_entry before ud w p ≡ true)
-            last.2 (at last.0 last.1 _ refl (cc (last_name merge.upper.tree stack.directory last.0 last.1, last.2)))
-          where
-            at : (front : List (List ℕ)) (name : List ℕ) (o : Option ℕ) → led merge.upper.tree stack.directory front ≡ o
-                → option_and_then (λ n. entry_at merge.upper.tree n name) o ≡ Some uo
-                → names_entry before ud w (front ++ name ∷ []) ≡ true
-            at front name None f e = none_is_some uo e
-            at front name (Some parent) f e =
-                let same = sym (top_tree.one_parent parent name uo e uo_directory)
-                ∙ top_tree.one_parent ud w uo named_in_upper uo_directory in
-                let one = top_tree.one_name ud name w uo
-                (cc (same)) named_in_upper uo_directory in
-                ap (λ n. names_entry before ud w (front ++ n ∷ [])) one
-                ∙ entry_named_so merge.upper stack.directory ud w front (f ∙ ap Some same)
+            let last = last_step merge.upper.tree stack.directory (word ∷ rest) uo (not_empty word rest) l in
+            let same = sym (top_tree.one_parent last.directory last.name uo last.entry uo_directory)
+            ∙ top_tree.one_parent ud w uo named_in_upper uo_directory in
+            let one = top_tree.one_name ud last.name w uo
+            (ap (λ n. entry_at merge.upper.tree n last.name) (sym same) ∙ last.entry) named_in_upper uo_directory in
+            subst (λ p. names_entry before ud w p ≡ true) (ap (λ n. last.front ++ n ∷ []) (sym one) ∙ last.split)
+            (entry_named_so merge.upper stack.directory ud w last.front (last.leads ∙ ap Some same))
 
         by : (a : Bool) → names_entry before ud w path ≡ a → (b : Bool) → goes_through before ud w path ≡ b → ⊥
         by true n b g = true≢false (sym there ∙ ap is_some (new uo (sym (led_first path ∙ ap (λ y.
