@@ -85,8 +85,7 @@ module _ (world : World ℕ) (task : Task ℕ) (from to : Place ℕ)
   -- what has the new name
   new_object : (number : ℕ) → entry_at files.tree to.parent.node (name_of to.last) ≡ Some number
       → to.object ≡ Some (record { mount = to.parent.mount; node = number })
-  new_object number entry = to_named.1 ∙ ap (option_map (λ object. record { mount = to.parent.mount; node = object }))
-      (ap (λ (f : FileTree ℕ). entry_at f.tree to.parent.node (name_of to.last)) to_files ∙ entry)
+  new_object number entry = cc (to_named.1, to_files, entry)
 
   to_reached : IsReached files.tree to.parent.node
   to_reached = by to.object refl
@@ -108,12 +107,10 @@ module _ (world : World ℕ) (task : Task ℕ) (from to : Place ℕ)
   moves_not_under names e = by (is_directory_at nat_eq world old) refl
     where
       same : same_filesystem nat_eq world old to.parent ≡ true
-      same = eq-eqb _ _ (ap (λ m. (mount_at nat_eq world (record { mount = m; node = 0 })).filesystem)
-          (old_is.0 ∙ one_mount))
+      same = eq-eqb _ _ (cc (old_is.0, one_mount))
 
       under : is_directory_under nat_eq (files_at nat_eq world old) old.node to.parent.node ≡ true
-      under = ap (λ m. is_directory_under nat_eq (shown world m) old.node to.parent.node) old_is.0
-          ∙ under_seen files trees to.parent.node to_directory to_reached old.node names e
+      under = cc (old_is.0, under_seen files trees to.parent.node to_directory to_reached old.node names e)
 
       start_directory : (list : List (List ℕ)) → led files.tree old.node list ≡ Some to.parent.node
           → IsDirectory files.tree old.node

@@ -39,8 +39,7 @@ listed_entry (entry ∷ entries) number sorted h = by (nat_eq number entry.1) re
         → (name : List ℕ) × (entry_named name (entry ∷ entries) ≡ Some number)
     by true e g rest = (
       entry.0,
-      ap (λ o. cond (is_eq o) (Some entry.1) (entry_named entry.0 entries)) (tied_itself nat_list_cmp_total entry.0)
-          ∙ ap Some (sym (eqb-true number entry.1 e)),
+      cc (tied_itself nat_list_cmp_total entry.0, eqb-true number entry.1 e),
     )
     by false e g rest =
         let found = rest g in

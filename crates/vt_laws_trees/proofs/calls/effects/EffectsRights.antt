@@ -184,9 +184,8 @@ module _ (fresh : Fresh ℕ) (world : World ℕ) (task : Task ℕ) (filesystem n
   set_so : (so : Node ℕ → Bool) (here : Location ℕ) (so_attr : Attr → Bool)
       → so_attr (attr_in (node_at nat_eq world here)) ≡ true → ((was : Node ℕ) → so was ≡ so_attr was.attr)
       → (attr : Attr) → OwnedSo so (ToChange here (SetAttr here.node attr))
-  set_so so here so_attr holds same attr =
-      at_location (λ f n. (was : Node ℕ) → inode_in world f n ≡ Some was → so was ≡ true) here
-      (λ was is. same was ∙ ap (λ o. so_attr (attr_in o)) (sym is) ∙ holds)
+  set_so so here so_attr holds same attr = at_location
+      (λ f n. (was : Node ℕ) → inode_in world f n ≡ Some was → so was ≡ true) here (λ was is. cc (same was, is, holds))
 
   mode_granted : (call : Call) (permit : Permit ℕ) → GrantedHere call permit → sets_mode call ≡ true
       → OwnedSo (λ was. owns task.credentials was.attr) permit

@@ -100,8 +100,7 @@ module _ (entry : List ℕ) where
     -- in the directory itself the names are others
     other_name : (directory : ℕ) (name : List ℕ) → Apart directory name → other ≡ directory
         → bytes_eq entry name ≡ false
-    other_name directory name apart same =
-        ap (λ b. b && bytes_eq entry name) (sym (eq-eqb other directory same)) ∙ apart
+    other_name directory name apart same = cc (eq-eqb other directory same, apart)
 
     named : (directory : ℕ) (name : List ℕ) (object : ℕ) → Apart directory name → (files : FileTree ℕ)
         → Kept files (with_name nat_eq files directory name object)

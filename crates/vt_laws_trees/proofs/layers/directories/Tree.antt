@@ -1,6 +1,6 @@
 -- A tree that is found one directory at a time has what layers show at every path.
 use Rattle.std.proofs.Common.{◌≡◌, ◌≢◌, refl, sym, ap, subst, ◌∙◌, true≢false, arith, ℕ, suc, ◌+◌, Bool, true, false, cond, not, ◌||◌, List, [], ◌∷◌, ◌++◌, map, Option, Some, None, is_some, option_and_then, All, option_map, nat_eq}
-use Rattle.vt_spec.proofs.Common.{All-cons, All-head, All-nil, All-tail, IsDirectory, Node, OpenLayer, SameObject, Tree, View, common_steps, directory_no_whiteout, entry_at, hides, is_directory, is_directory_node, layer_node, led, none_is_some, opaque_of, open_layer, real_object, same_Some, shown_layers, shown_over, slice_get-map, then_some, view_of, when}
+use Rattle.vt_spec.proofs.Common.{All-cons, All-head, All-nil, All-tail, IsDirectory, Node, OpenLayer, SameObject, Tree, View, common_steps, directory_no_whiteout, entry_at, hides, is_directory, is_directory_node, layer_node, led, none_is_some, open_layer, real_object, same_Some, shown_layers, shown_over, slice_get-map, then_some, view_of, when}
 use Rattle.vt_spec.specs.Machine.Views.{Shown, shown}
 use Rattle.vt_laws_trees.specs.Layers.Layers.Directories.{AreViews, PlacedView, merged_under, placed, placed_from, shown_in, shown_node}
 use Rattle.vt_laws_trees.specs.Layers.Layers.DirectoryTrees.{IsMergedByDirectory, IsSaidByDirectory, ObjectsAreThoseShown, OneDirectoryIsEnough, OverlaysAreMergedByDirectory, RealObjectsAreThoseShown, node_shown_by, views_of_overlay}
@@ -77,9 +77,7 @@ module _ (views : List (View ℕ)) where
           ap (λ w. is_directory_node (then_some (when (not w) (record { layer = top.layer; object = object }))
           (shown_node views))) (directory_no_whiteout (top.view.node object) t)
           ∙ ap is_directory_node (All-head IsOfPlace top lower of object) ∙ t) ∙ d))
-      hidden object false t (Some node) e h d =
-          ap (λ b. cond b (own ∷ []) [] ++ cond (not b || opaque_of node.content) [] (merged_under lower name))
-          (sym (ap is_directory_node e) ∙ t)
+      hidden object false t (Some node) e h d = cc (e, t)
 
       by : (o : Option ℕ) → top.view.leads (name ∷ []) ≡ o
           → is_directory_node (then_some (seen_by o) (shown_node views)) ≡ false

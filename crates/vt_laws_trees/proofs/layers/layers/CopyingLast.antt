@@ -1,5 +1,5 @@
 -- An object is copied behind the directories above it: its copy has no names in it, and stands under its name.
-use Rattle.std.proofs.Common.{◌≡◌, ◌≢◌, ◌≤◌, refl, sym, ap, subst, ◌∙◌, true≢false, arith, ℕ, zero, suc, ◌+◌, nat_eq, eq-eqb, ne_eqb, Bool, true, false, cond, List, [], ◌∷◌, ◌++◌, length, Option, Some, None, is_some, unwrap_or, ⊎_elim}
+use Rattle.std.proofs.Common.{◌≡◌, ◌≢◌, ◌≤◌, refl, sym, ap, subst, ◌∙◌, true≢false, arith, ℕ, zero, suc, ◌+◌, nat_eq, eq-eqb, ne_eqb, Bool, true, false, cond, List, [], ◌∷◌, ◌++◌, length, Option, Some, None, is_some, ⊎_elim}
 use Rattle.vt_spec.proofs.Common.{FileTree, Fresh, IsTree, Merge, Node, Real, Upper, a_name, ancestors, chain, common_steps, copied_content, copied_each, copied_up, copy_of, copy_parent, directories_to, directory_used, entries_in, entries_of-copied_content, entry_at, is_among, is_directory_node, is_in_upper, list_any, list_any-IsPermutation, named_parent, node_set, node_with_entry, same_Some, upper_object, upper_of, with_inode, with_name}
 use Rattle.std.proofs.lemmas.List.Sorted.{IsPermutation-reverse}
 use Rattle.vt_laws_trees.specs.Layers.Layers.ChangesUpper.{IsCopyOf, IsFitToChange}
@@ -87,10 +87,8 @@ module _ (fresh : Fresh ℕ) (before : Merge ℕ) (fit : IsFitToChange fresh bef
         attr = node.attr;
         content = copied_content (copy_parent before (fresh 0) (a_name nat_eq files object)) node.content;
       } in
-      let there : (copy_of nat_eq before object (fresh 0) (Some node) false).upper.tree.node (fresh 0) ≡ Some copied =
-      ap (λ o. (Rattle.vt_spec.specs.Machine.CopyUp.copy_named nat_eq before (fresh 0) o
-      (with_inode nat_eq before.upper (fresh 0) copied)).tree.node (fresh 0)) e
-      ∙ node_set before.upper.tree (fresh 0) (Some copied) in
+      let there : (copy_of nat_eq before object (fresh 0) (Some node) false).upper.tree.node (fresh 0)
+      ≡ Some copied = cc (e, node_set before.upper.tree (fresh 0) (Some copied)) in
       record {
         copy = fresh 0;
         real = ap (λ b. upper_object (cond b (Some (Upper (fresh 0))) (before.real object)))
@@ -121,17 +119,15 @@ module _ (fresh : Fresh ℕ) (before : Merge ℕ) (fit : IsFitToChange fresh bef
     later = copy_of nat_eq state object copy (Some node) false
 
     upper_is : later.upper ≡ with_name nat_eq added parent name.1 copy
-    upper_is = ap (λ o. Rattle.vt_spec.specs.Machine.CopyUp.copy_named nat_eq state copy o added) e
-        ∙ ap (λ n. with_name nat_eq added n name.1 copy) (ap (λ o. unwrap_or o name.0) u)
+    upper_is = cc (e, u)
 
     there : later.upper.tree.node copy ≡ Some copied
     there = ap (λ t. t.tree.node copy) upper_is ∙ kept_elsewhere added parent (node_with_entry name.1 copy) copy
         (ne_eqb copy parent (λ same. differ (sym same))) ∙ node_set upper.tree copy (Some copied)
 
     parent_stays : upper_of later name.0 ≡ parent
-    parent_stays = ap (λ b. unwrap_or (upper_object (cond b (Some (Upper copy)) (real name.0))) name.0)
-        (ne_eqb name.0 object (λ same. no_loop files fit.tree name.0 name.1 (entry ∙ ap Some (sym same))))
-        ∙ ap (λ o. unwrap_or o name.0) u
+    parent_stays =
+        cc (ne_eqb name.0 object (λ same. no_loop files fit.tree name.0 name.1 (entry ∙ ap Some (sym same))), u)
 
     has_name : entry_at later.upper.tree (upper_of later name.0) name.1 ≡ Some copy
     has_name = ap (λ n. entry_at later.upper.tree n name.1) parent_stays ∙ ap (λ t. entry_at t.tree parent name.1)
@@ -177,8 +173,7 @@ module _ (fresh : Fresh ℕ) (before : Merge ℕ) (fit : IsFitToChange fresh bef
       state = State files before.real unspared front.soundly.real front.soundly.upper
 
       still_below : upper_object (front.soundly.real object) ≡ None
-      still_below = ap upper_object (front.others object
-          (not_in_line files fit.tree fit.numbers name.0 name.1 object entry)) ∙ below
+      still_below = cc (front.others object (not_in_line files fit.tree fit.numbers name.0 name.1 object entry), below)
 
       by : (o : Option ℕ) → upper_object (front.soundly.real name.0) ≡ o → is_some o ≡ true
           → CopyStands (copy_of nat_eq state object (fresh (0 + length line)) (Some node) false)

@@ -1,5 +1,5 @@
 -- A merged tree that is made of its layers has at each path what they show.
-use Rattle.std.proofs.Common.{◌≡◌, ◌≢◌, ◌≤◌, ◌⊎◌, inl, inr, refl, sym, ap, ◌∙◌, true≢false, arith, ℕ, ◌+◌, nat_eq, eq-eqb, eqb-true, Bool, true, false, cond, not, ◌&&◌, List, [], ◌∷◌, ◌++◌, length, Option, Some, None, slice_get, filter_map, is_eq, option_map}
+use Rattle.std.proofs.Common.{◌≡◌, ◌≢◌, ◌≤◌, ◌⊎◌, inl, inr, refl, sym, ap, ◌∙◌, true≢false, arith, ℕ, ◌+◌, nat_eq, eq-eqb, eqb-true, Bool, true, false, cond, not, ◌&&◌, List, [], ◌∷◌, ◌++◌, length, Option, Some, None, slice_get, filter_map, option_map}
 use Rattle.vt_spec.proofs.Common.{Fresh, Merged, MergedInode, Node, OpenLayer, Shown, at_path, common_steps, cons_option, entry_in_directory, entry_named, eq_by_cmp, inode_of, is_directory, is_one_inode, is_root_path, kind_of, last_or, layer_node, merged_content, merged_inode, merged_inodes, merged_objects, name_cmp, nat_list_cmp_total, none_is_some, real_object, real_of, same_Some, same_path, shown, tied_itself, when, without_last}
 use Rattle.vt_spec.specs.Machine.Merging.{merged_number}
 use Rattle.vt_spec.proofs.Nodes.{same_name}
@@ -172,9 +172,8 @@ module _ (layers : List (OpenLayer ℕ)) (are_open : AreOpen layers) (longest : 
             → (Among list target → entry_named name (filter_map entry list) ≡ Some (number target))
             → cond b (Some found.1) (entry_named name (filter_map entry list)) ≡ Some (number target)
         choose found f true t a rest = ap Some (same_as found f (sym (same_name name found.0 t)))
-        choose found f false t (inl same) rest =
-            absurd (true≢false (sym (ap is_eq (tied_itself nat_list_cmp_total name))
-            ∙ ap (λ n. is_name name n.0) (same_Some (name, number target) found (sym (is_first same) ∙ f)) ∙ t))
+        choose found f false t (inl same) rest = absurd (true≢false (cc
+            (tied_itself nat_list_cmp_total name, same_Some (name, number target) found (sym (is_first same) ∙ f), t)))
         choose found f false t (inr later) rest = rest later
 
         by : (o : Option (List ℕ × ℕ)) → entry first ≡ o → (first ≡ target) ⊎ Among list target

@@ -65,9 +65,7 @@ name_of_layer : (layers : List (OpenLayer ℕ)) (path : List (List ℕ)) (name :
     → is_some (entry_named name (names_at layers path)) ≡ true
 name_of_layer [] path name depth layer e h = none_is_some layer e
 name_of_layer (top ∷ lower) path name zero layer e h =
-    all_put name (entries_in (node_at_path top path)) (names_at lower path)
-    ∙ ap (λ b. b || is_some (entry_named name (names_at lower path)))
-    (ap (λ l. is_some (entry_named name (entries_in (node_at_path l path)))) (same_Some top layer e) ∙ h)
+    cc (all_put name (entries_in (node_at_path top path)) (names_at lower path), same_Some top layer e, h)
 name_of_layer (top ∷ lower) path name (suc depth) layer e h =
     all_put name (entries_in (node_at_path top path)) (names_at lower path)
     ∙ or_right (is_some (entry_named name (entries_in (node_at_path top path))))

@@ -1,6 +1,6 @@
 -- A merged tree that is made of its layers has at each path what they show, with its real object.
 use Rattle.std.proofs.Common.{◌≡◌, ◌≢◌, ◌≤◌, refl, sym, ap, subst, ◌∙◌, true≢false, arith, ℕ, zero, suc, ◌+◌, nat_eq, Bool, true, List, [], ◌∷◌, ◌++◌, length, Option, Some, None, option_and_then, filter_map, option_map}
-use Rattle.vt_spec.proofs.Common.{Content, Directory, Fresh, Merged, MergedInode, Node, OpenLayer, Regular, SameObject, Shown, Symlink, Tree, Whiteout, common_steps, entries_in, entries_of, entry_at, entry_in_directory, entry_named, is_directory, kind_of, layer_node, led, merged_at, merged_content, none_is_some, paths_from, real_object, real_of, same_Some, shown, then_some}
+use Rattle.vt_spec.proofs.Common.{Content, Directory, Fresh, Merged, MergedInode, Node, OpenLayer, Regular, SameObject, Shown, Symlink, Tree, Whiteout, common_steps, entries_of, entry_at, entry_in_directory, entry_named, is_directory, kind_of, layer_node, led, merged_at, merged_content, none_is_some, paths_from, real_object, real_of, same_Some, shown, then_some}
 use Rattle.vt_spec.specs.Machine.Merging.{tree_of}
 use Rattle.vt_laws_trees.proofs.layers.layers.ShownAtPath.{computed}
 use Rattle.vt_laws_trees.proofs.layers.layers.ShownDirectories.{AreOpen, last_of, shown_in_directory}
@@ -109,8 +109,7 @@ module _ (layers : List (OpenLayer ℕ)) (are_open : AreOpen layers) (longest : 
       by (Some seen) s arrives =
           let inode = inode_at path seen s in
           subst (Arrives (shown layers (path ++ name ∷ [])) (path ++ name ∷ []))
-          (sym (ap (option_and_then (λ directory. entry_at merged_tree directory name)) arrives
-          ∙ ap (λ o. entry_named name (entries_in o)) inode.is)) (from_directory seen s inode inode.node.content refl)
+          (cc (arrives, inode.is)) (from_directory seen s inode inode.node.content refl)
 
   arrives_in : (many : ℕ) (path : List (List ℕ)) → length path ≤ many
       → Arrives (shown layers path) path (led merged_tree (fresh 0) path)
@@ -170,5 +169,4 @@ module _ (layers : List (OpenLayer ℕ)) (are_open : AreOpen layers) (longest : 
       by None s found = none_is_some n (sym found ∙ e)
       by (Some seen) s found =
           let inode = inode_at path seen s in
-          ap (real_of nat_eq made) (same_Some n (num (object_at path seen)) (sym e ∙ found))
-          ∙ inode.real ∙ ap Some (sym inode.one.real)
+          cc (same_Some n (num (object_at path seen)) (sym e ∙ found), inode.real, inode.one.real)

@@ -170,8 +170,7 @@ module _ (layers : List (OpenLayer ℕ)) (are_open : AreOpen layers) (longest : 
           subst (SameObject (Some inode.node)) (sym (ap (behind layers has_upper) is.real
           ∙ behind_object is.object is.layer has_upper is.object.seen.layer refl)) (
             ap (λ node. node.attr) is.node,
-            ap (λ node. same_content node.content is.layer.node.content) is.node
-                ∙ same_merged is.object.path is.layer.node.content (not_white is.object is.among is.layer),
+            cc (is.node, same_merged is.object.path is.layer.node.content (not_white is.object is.among is.layer)),
           )
 
   pub merged_real_there : (n : ℕ) → nodes n ≡ None → real_of nat_eq made n ≡ None

@@ -162,11 +162,10 @@ module _ (files : FileTree ℕ) (tree : IsTree files.tree) (numbers : ListsNumbe
         (tree.alive from old object there.0) in
         let first = both.arrives in
         let copied = (up_arrives files tree numbers inode node _ (λ k. new _) _ _ first.fine to there.1).arrives in
-        subst (λ m. After (merge_with_moved nat_eq (odds (odds fresh)) stack
-        (copied_up nat_eq (evens (odds fresh)) m to) from old to name object)) (sym first.is)
-        (subst (λ m. After (merge_with_moved nat_eq (odds (odds fresh)) stack m from old to name object))
-        (sym copied.is) (moves from old to name object is copied.real copied.upper
-        (ap (λ m. copied_up nat_eq (evens (odds fresh)) m to) first.is ∙ copied.is) copied.fine
+        subst (λ m. After (merge_with_moved nat_eq (odds (odds fresh))
+        stack (copied_up nat_eq (evens (odds fresh)) m to) from old to name object)) (sym first.is) (subst
+        (λ m. After (merge_with_moved nat_eq (odds (odds fresh)) stack m from old to name object)) (sym copied.is)
+        (moves from old to name object is copied.real copied.upper (cc (first.is, copied.is)) copied.fine
         (copied.grows from (from_too from old object there.0 first.real first.grows first.copied both.parent))
         copied.copied (copied.grows object first.copied)))
     each_keeps (SetBytes file bytes) is there from_too = changed_keeps file (node_with_bytes bytes) there

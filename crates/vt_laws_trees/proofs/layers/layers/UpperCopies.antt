@@ -137,6 +137,5 @@ module _ (files : FileTree ℕ) (tree : IsTree files.tree) (numbers : ListsNumbe
           there (λ other is. ap (λ n. n.0) (same_Some other name (cc))) last.0 in
           subst (λ m. ArrivesWithParent real m object) (sym last.1) (record {
             arrives = both.arrives;
-            parent = λ other is. subst (HasUpper both.arrives.real)
-                (ap (λ n. n.0) (same_Some name other (cc))) both.first;
+            parent = λ other is. cc (same_Some name other (cc), both.first);
           })

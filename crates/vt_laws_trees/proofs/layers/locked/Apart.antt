@@ -1,6 +1,6 @@
 -- Objects of an upper layer lie under no other layer of a live overlay.
 use Rattle.std.proofs.Common.{arith, ◌≡◌, ◌≢◌, refl, sym, ap, subst, ◌∙◌, true≢false, ℕ, nat_eq, eq-eqb, eqb-true, Bool, true, false, not, ◌&&◌, List, [], ◌∷◌, ◌++◌, Option, Some, None, is_some, unwrap_or, inl, inr, ◌⊎◌, ⊎_elim, find, flat_map, option_to_list}
-use Rattle.vt_spec.proofs.Common.{Among, FileTree, Filesystem, IsWorld, Layer, ListsNumbers, Overlay, World, among-append_right, among-filter, among-flat_map, among_from_list_all, among_numbers, and_from, and_true_left, and_true_right, any_among, any_from_among, any_pair, common_steps, filesystem_numbered, holds_of, is_directory_node, is_object_of, is_overlay, is_plain_layer, is_there, is_under, layers_of, lies_in_layer, lies_or_counts_under, list_all, live_lowers, no_filesystem, none_among, none_is_some, of_overlay, or_false_left, or_false_right, or_left, or_right, overlap, overlay_or, overlays, upper_and_work, upper_object}
+use Rattle.vt_spec.proofs.Common.{Among, FileTree, Filesystem, IsWorld, Layer, ListsNumbers, Overlay, World, among-append_right, among-filter, among-flat_map, among_from_list_all, among_numbers, and_from, and_true_left, and_true_right, any_among, any_from_among, any_pair, common_steps, filesystem_numbered, holds_of, is_directory_node, is_object_of, is_overlay, is_plain_layer, is_there, is_under, layers_of, lies_in_layer, lies_or_counts_under, list_all, live_lowers, no_filesystem, none_among, none_is_some, of_overlay, or_false_left, or_false_right, or_left, or_right, overlap, overlay_or, overlays, upper_and_work}
 use Rattle.vt_laws_trees.proofs.layers.layers.LowersWorld.{number_of_filesystem}
 use Rattle.vt_laws_trees.specs.Layers.Layers.Upper.{IsUpperObject}
 use Rattle.vt_laws_trees.proofs.layers.layers.UpperWorld.{all_found, overlay_found, overlay_merges}
@@ -108,9 +108,8 @@ module _ (world : World ℕ) (conditions : IsWorld nat_eq world) where
 
       -- an object of the upper layer counts under its directory
       is_of : is_object_of nat_eq upper.filesystem object (filesystem_numbered nat_eq world number) overlay ≡ true
-      is_of = and_from _ _ (ap (holds_of (λ layer. nat_eq upper.filesystem layer.filesystem)) has
-          ∙ eq-eqb upper.filesystem upper.filesystem refl) (any_from_among _ _ is_object.0 (listed number _ shown_there)
-          (ap (λ r. holds_of (nat_eq object) (upper_object r)) is_object.1 ∙ eq-eqb object object refl))
+      is_of = and_from _ _ (cc (has, eq-eqb upper.filesystem upper.filesystem refl))
+          (any_from_among _ _ is_object.0 (listed number _ shown_there) (cc (is_object.1, eq-eqb object object refl)))
 
       directory_lies : lies_in_layer nat_eq world upper.filesystem upper.directory upper ≡ true
       directory_lies = and_from _ _ (eq-eqb upper.filesystem upper.filesystem refl)

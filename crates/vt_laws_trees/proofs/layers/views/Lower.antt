@@ -71,10 +71,8 @@ module _ (files : FileTree ℕ) (top directory : ℕ) (name : List ℕ) where
     where
       back : (first rest : List (List ℕ)) × (first ++ name ∷ rest ≡ way) × (led files.tree top first ≡ Some directory)
           → ⊥
-      back parts = no_way_up files tree directory name object named parts.1
-          (sym (ap (option_and_then (λ next. led files.tree next parts.1)) named)
-          ∙ sym (led_parts files.tree parts.0 (name ∷ parts.1) top directory parts.3)
-          ∙ ap (led files.tree top) parts.2 ∙ e)
+      back parts = no_way_up files tree directory name object
+          named parts.1 (cc (named, led_parts files.tree parts.0 (name ∷ parts.1) top directory parts.3, parts.2, e))
 
 pub removed_shows_below : RemovedShowsBelow
 removed_shows_below files top directory object name lowers tree is_top named path e =
@@ -99,8 +97,7 @@ moved_shows_below files top from to object old new lowers tree is_top can path e
         → shown_from 0 (view_after files (Move from old to new object) top ∷ lowers) path
         ≡ shown_in_lowers (view_in files top) lowers path
     at there =
-        let elsewhere : goes_through (view_in files top) to new (there.0 ++ old ∷ [])
-        ≡ false = ap (goes_through (view_in files top) to new) there.1 ∙ apart in
+        let elsewhere : goes_through (view_in files top) to new (there.0 ++ old ∷ []) ≡ false = cc (there.1, apart) in
         subst (λ p. shown_from 0 (view_after files (Move from old to new object) top ∷ lowers) p
         ≡ shown_in_lowers (view_in files top) lowers p)
         there.1 (shown_under (view_in files top) _ lowers there.0 old (old_leads_nowhere files top from to object
@@ -117,5 +114,4 @@ moved_shows_below files top from to object old new lowers tree is_top can path e
         neither : (way : List (List ℕ)) → goes_through (view_in files top) to new (way ++ old ∷ []) ≡ false
             → goes_through (view_in files top) from old way ≡ false
             → (goes_through (view_in files top) to new way || goes_through (view_in files top) from old way) ≡ false
-        neither way no_new no_old = ap (λ b. b || goes_through (view_in files top) from old way)
-            (none_left (names_entry (view_in files top) to new) way no_new) ∙ no_old
+        neither way no_new no_old = cc (none_left (names_entry (view_in files top) to new) way no_new, no_old)

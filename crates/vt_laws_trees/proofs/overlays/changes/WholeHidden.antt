@@ -1,6 +1,6 @@
 -- What lower layers show after a change they showed before.
 use Rattle.std.proofs.Common.{arith, ◌≡◌, refl, sym, ap, subst, ◌∙◌, eq-eqb, ℕ, suc, ◌+◌, nat_eq, Bool, true, false, cond, List, Option, Some, None, is_some}
-use Rattle.vt_spec.proofs.Common.{AddName, Change, CopyUp, Fresh, Lower, Make, Merge, Move, Real, Remove, SameObject, SetAttr, SetBytes, SetMark, Shown, Stack, Upper, common_steps, copied_up, directory_used, layer_node, merge_changed, none_is_some, number_at_path, odds, odds-distinct, real_object, same_Some, shown, then_some, upper_object}
+use Rattle.vt_spec.proofs.Common.{AddName, Change, CopyUp, Fresh, Lower, Make, Merge, Move, Real, Remove, SameObject, SetAttr, SetBytes, SetMark, Shown, Stack, Upper, common_steps, copied_up, directory_used, layer_node, merge_changed, none_is_some, number_at_path, odds, odds-distinct, real_object, same_Some, shown, then_some}
 use Rattle.vt_laws_trees.specs.Trees.{MayAddName, MayMake, MayRemove}
 use Rattle.vt_laws_trees.specs.Layers.Layers.ChangesUpper.{StandsInUpper}
 use Rattle.vt_laws_trees.specs.Layers.Layers.Shown.{IsShown}
@@ -46,8 +46,7 @@ shown_before stack merge later whole after uncovers path layer object e = by (nu
     there : is_some (layer_node (layers_under stack later) (record { layer = suc layer; object = object })) ≡ true
     there =
         let open_one = whole.layers (suc layer) is.has_uncut.0.0 is.has_uncut.0.1 in
-        ap (λ o. is_some (then_some o (λ l. l.tree.node object))) is.has_uncut.0.1
-        ∙ led_is_there is.has_uncut.0.0 open_one.0 open_one.1 path object is.has_uncut.0.2
+        cc (is.has_uncut.0.1, led_is_there is.has_uncut.0.0 open_one.0 open_one.1 path object is.has_uncut.0.2)
 
     -- the object at the path is one
     same_object : (old : Shown ℕ) (found : ℕ)
@@ -112,9 +111,8 @@ module _ (fresh : Fresh ℕ) (stack : Stack ℕ) (merge : Merge ℕ) (whole : Is
           → (b : Bool) → cond b (Some number) (number_at_path one.files path) ≡ Some n
           → cond (nat_eq n number) (Some (Upper (odds fresh 0))) (one.real n) ≡ Some (Lower layer way)
           → number_at_path merge.files path ≡ Some n
-      by path n layer way one files true f e = none_is_some (odds fresh 0)
-          (sym (ap upper_object (sym (ap (λ b. cond b (Some (Upper (odds fresh 0))) (one.real n))
-          (eq-eqb n number (sym (same_Some number n f)))) ∙ e)))
+      by path n layer way one files true f e =
+          none_is_some (odds fresh 0) (cc (eq-eqb n number (sym (same_Some number n f)), e))
       by path n layer way one files false f e = sym (ap (λ fs. number_at_path fs path) files) ∙ f
   uncovers (AddName d w object) may =
       let first = is_copied fresh whole distinct unused object may.is_there in

@@ -147,9 +147,8 @@ module _ (fresh : Fresh ℕ) (world : World ℕ) (location : Location ℕ) (chan
     apart_upper : (layer : Layer ℕ) → Lists.Among layer (upper_and_work other) → (inode : ℕ)
         → lies_or_counts_under nat_eq world layer.filesystem inode layer ≡ true
         → upper.filesystem ≡ layer.filesystem → ¬ (IsUpperObject overlay inode)
-    apart_upper layer m inode lies same object = no_other world conditions
-        (mount_at nat_eq world location).filesystem overlay is upper has inode object number differ other is_other layer
-        m (subst (λ n. lies_or_counts_under nat_eq world n inode layer ≡ true) (sym same) lies)
+    apart_upper layer m inode lies same object = no_other world conditions (mount_at nat_eq world location).filesystem
+        overlay is upper has inode object number differ other is_other layer m (cc (same, lies))
 
     apart_lower : (layer : Layer ℕ) → Lists.Among layer other.lowers → (inode : ℕ)
         → lies_or_counts_under nat_eq world layer.filesystem inode layer ≡ true

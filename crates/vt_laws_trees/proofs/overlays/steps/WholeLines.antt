@@ -11,7 +11,7 @@ use Rattle.vt_laws_trees.proofs.layers.layers.UpperChain.{depth_bound, up_at_roo
 use Rattle.vt_laws_trees.proofs.layers.layers.UpperLine.{ReachedIn, has_entries, is_reached_in, named_so, reached_directory}
 use Rattle.vt_laws_trees.proofs.overlays.whole.UpperGoes.{Goes, goes_both, goes_none}
 use Rattle.vt_laws_trees.specs.Trees.Sizes.{is_fit_node, is_fit_tree}
-use Rattle.vt_laws_trees.proofs.trees.ChangesOfSizes.{fits, inode_fits}
+use Rattle.vt_laws_trees.proofs.trees.ChangesOfSizes.{inode_fits}
 use Rattle.vt_laws_trees.proofs.overlays.whole.UpperSizes.{copy_fits_limits, fits_here, name_fits, name_sized}
 use Rattle.vt_laws_trees.proofs.overlays.whole.UpperTold.{Told, told_both, told_inode, told_name, told_none}
 use Rattle.vt_laws_trees.proofs.overlays.steps.WholeCopied.{copy_cuts, copy_goes, copy_keeps_whole}
@@ -172,8 +172,7 @@ module _ (stack : Stack ℕ) (fresh : Fresh ℕ) (distinct : (j k : ℕ) → fre
   copy_sized merge whole object copy node is o named f h = by o named
     where
       limits : (p : ℕ) → is_fit_node (record { attr = node.attr; content = copied_content p node.content }) ≡ true
-      limits p = copy_fits_limits p node
-          (ap fits (sym is) ∙ fits_here merge.files whole.numbers f object (ap is_some is))
+      limits p = copy_fits_limits p node (cc (is, fits_here merge.files whole.numbers f object (ap is_some is)))
 
       by : (o : Option (ℕ × List ℕ)) → a_name nat_eq merge.files object ≡ o
           → is_fit_tree (copy_named nat_eq merge copy o (with_inode nat_eq merge.upper copy

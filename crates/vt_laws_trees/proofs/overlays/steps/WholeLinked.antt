@@ -155,8 +155,7 @@ module _ {stack : Stack ℕ} {merge : Merge ℕ} (whole : IsWhole stack merge) {
       by true e = ap (λ o. then_some o merge.real) (goes true e) ∙ real_object ∙ sym (ap (real_by path)
           (link_is_shown merge.upper stack.directory ud uo w lowers takes uo_file path e
           ∙ ap (λ b. when (not b) (record { layer = 0; object = uo })) uo_not_white))
-      by false e = ap (λ o. then_some o merge.real) (goes false e) ∙ fine_before.paths path
-          ∙ sym (ap (real_by path) (shown_same path e))
+      by false e = cc (goes false e, fine_before.paths path, shown_same path e)
 
   pub later_is_fine : IsFine stack later
   later_is_fine = rearranged_is_fine stack merge fine_before files upper

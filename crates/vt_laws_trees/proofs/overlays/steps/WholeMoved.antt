@@ -338,8 +338,7 @@ module _ {fresh : Fresh ℕ} {stack : Stack ℕ} {merge : Merge ℕ} {f : ℕ} {
 
       unseen_path : left ≡ false → cuts after path ≡ false → (s : Shown ℕ) → shown_from 1 lowers path ≡ Some s
           → (to rest : List (List ℕ)) → to ++ old ∷ rest ≡ path → led merge.upper.tree stack.directory to ≡ Some uf → ⊥
-      unseen_path none uncut s e to [] is l =
-          none_is_some s (sym (unseen none uncut to [] is l) ∙ ap (shown_from 1 lowers) is ∙ e)
+      unseen_path none uncut s e to [] is l = none_is_some s (cc (unseen none uncut to [] is l, is, e))
       unseen_path none uncut s e to (next ∷ rest) is l = none_is_some _
           (sym (unseen none uncut to (next ∷ rest) is l)
           ∙ (shown_below to old next rest s (ap (shown_from 1 lowers) is ∙ e)).is)
@@ -360,9 +359,8 @@ module _ {fresh : Fresh ℕ} {stack : Stack ℕ} {merge : Merge ℕ} {f : ℕ} {
           let found = prefix_found (names_entry before uf old) path through in
           let leads = leads_here found.0 (prefixes_fail (names_entry before ut new) path found.0 found.1 no_new) found.2
           ∙ ap (λ b. when b c) l in
-          cut_shows_none after lowers path (leads_none e)
-          (prefix_passes (λ front. hides (node_led after front)) path found.0 found.1.0 found.1.1 found.1.2
-          (ap (λ x. hides (then_some x upper.tree.node)) leads ∙ white_hides (upper.tree.node c) (white_left l)))
+          cut_shows_none after lowers path (leads_none e) (prefix_passes (λ front. hides (node_led after front))
+          path found.0 found.1.0 found.1.1 found.1.2 (cc (leads, white_hides (upper.tree.node c) (white_left l))))
 
       by : (b : Bool) → left ≡ b → shown_from 0 (after ∷ lowers) path ≡ None
       by true l = white l (names_entry before uf old path) refl
@@ -504,8 +502,7 @@ module _ {fresh : Fresh ℕ} {stack : Stack ℕ} {merge : Merge ℕ} {f : ℕ} {
           → then_some (number_at_path files path) merge.real ≡ real_seen stack later path
       else_by no_new true e = ap (λ x. then_some x merge.real) (number_else path no_new true e)
           ∙ sym (ap (real_by path) (none_old path no_new e))
-      else_by no_new false e = ap (λ x. then_some x merge.real) (number_else path no_new false e)
-          ∙ fine_before.paths path ∙ sym (ap (real_by path) (shown_old path no_new e))
+      else_by no_new false e = cc (number_else path no_new false e, fine_before.paths path, shown_old path no_new e)
 
       by : (b : Bool) → goes_through before ut new path ≡ b
           → then_some (number_at_path files path) merge.real ≡ real_seen stack later path
@@ -548,8 +545,7 @@ module _ {fresh : Fresh ℕ} {stack : Stack ℕ} {merge : Merge ℕ} {f : ℕ} {
       by : (b : Bool) → goes_through before ut new path ≡ b → number_at_path merge.files path ≡ Some n
       by true g =
           let parts = through_is_split merge.upper stack.directory ut new path g in
-          absurd (new_above parts.0 parts.1 parts.3 layer place
-          (ap (real_seen stack later) parts.2 ∙ sym (paths_later path) ∙ ap (λ x. then_some x merge.real) e ∙ r))
+          absurd (new_above parts.0 parts.1 parts.3 layer place (cc (parts.2, paths_later path, e, r)))
       by false g = else_by g (goes_through before uf old path) refl
 
   -- Objects

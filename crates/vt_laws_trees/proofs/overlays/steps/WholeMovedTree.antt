@@ -97,8 +97,7 @@ module _ {fresh : Fresh ℕ} {stack : Stack ℕ} {merge : Merge ℕ} {f : ℕ} {
 
   pub led_behind : (rest : List (List ℕ))
       → led merge.upper.tree stack.directory (from_way ++ old ∷ rest) ≡ led merge.upper.tree uo rest
-  led_behind rest = led_parts merge.upper.tree from_way (old ∷ rest) stack.directory uf up_from
-      ∙ ap (option_and_then (λ n. led merge.upper.tree n rest)) named_up
+  led_behind rest = cc (led_parts merge.upper.tree from_way (old ∷ rest) stack.directory uf up_from, named_up)
 
   pub not_up : (names : List (List ℕ)) → led merge.upper.tree uo names ≢ Some uf
   not_up names = no_way_up merge.upper top_tree uf old uo named_up names
@@ -116,8 +115,7 @@ module _ {fresh : Fresh ℕ} {stack : Stack ℕ} {merge : Merge ℕ} {f : ℕ} {
   two_names other word a b =
       let one = is_that_entry ut new other word a in
       let two = is_that_entry uf old other word b in
-      let same : t ≡ f = fine_before.one t f (ap is_some real_t)
-      (real_t ∙ ap (λ n. Some (Upper n)) (sym one.0 ∙ two.0) ∙ sym real_f) in
+      let same : t ≡ f = fine_before.one t f (ap is_some real_t) (cc (real_t, one.0, two.0, real_f)) in
       grind (arith, common_steps)
 
   -- The changed tree, from the upper layer or from the one with a replaced directory emptied
@@ -140,8 +138,7 @@ module _ {fresh : Fresh ℕ} {stack : Stack ℕ} {merge : Merge ℕ} {f : ℕ} {
     moved_vacant = none_from_not_some (moved_base.tree.node c) ((moved_alike c).there ∙ ap is_some it.vacant)
 
     not_c : (u : ℕ) → is_some (merge.upper.tree.node u) ≡ true → u ≢ c
-    not_c u there same =
-        true≢false (sym there ∙ ap (λ n. is_some (merge.upper.tree.node n)) same ∙ ap is_some it.vacant)
+    not_c u there same = true≢false (cc (there, same, it.vacant))
 
     abbrev apart : FileTree ℕ
     apart = with_inode nat_eq moved_base c (whiteout_of stack.mounter)
@@ -223,14 +220,12 @@ module _ {fresh : Fresh ℕ} {stack : Stack ℕ} {merge : Merge ℕ} {f : ℕ} {
 
     told_moved : (other : ℕ) (word : List ℕ) → entry_at moved.tree other word
         ≡ cond (is_entry ut new other word) (Some uo) (entry_at between.tree other word)
-    told_moved other word = told merge.upper untouched left marks other word
-        ∙ ap (cond (is_entry ut new other word) (Some uo)) (sym (told_between left other word))
+    told_moved other word = cc (told merge.upper untouched left marks other word, told_between left other word)
 
     leaf : (b : Bool) (k : ℕ) → when b c ≡ Some k → (word : List ℕ)
         → entry_at (name_left_by nat_eq b fresh stack merge.upper uf old).tree k word ≡ None
     leaf false k e word = none_is_some k e
-    leaf true k e word = ap (λ n. entry_at (name_left_by nat_eq true fresh stack merge.upper uf old).tree n word)
-        (sym (same_Some c k e)) ∙ told_between true c word ∙ by (is_entry uf old c word) refl
+    leaf true k e word = cc (same_Some c k e, told_between true c word, by (is_entry uf old c word) refl)
       where
         by : (x : Bool) → is_entry uf old c word ≡ x → cond x (Some c) (entry_at merge.upper.tree c word) ≡ None
         by true x =
@@ -308,9 +303,8 @@ module _ {fresh : Fresh ℕ} {stack : Stack ℕ} {merge : Merge ℕ} {f : ℕ} {
       where
         at : (first rest : List (List ℕ)) × (first ++ new ∷ rest ≡ to)
             × (led merge.upper.tree stack.directory first ≡ Some ut) → ⊥
-        at parts = by (entry_at merge.upper.tree ut new) refl
-            (sym (led_parts merge.upper.tree parts.0 (new ∷ parts.1) stack.directory ut parts.3)
-            ∙ ap (led merge.upper.tree stack.directory) parts.2 ∙ e)
+        at parts = by (entry_at merge.upper.tree ut new)
+            refl (cc (led_parts merge.upper.tree parts.0 (new ∷ parts.1) stack.directory ut parts.3, parts.2, e))
           where
             by : (x : Option ℕ) → entry_at merge.upper.tree ut new ≡ x
                 → option_and_then (λ n. led merge.upper.tree n parts.1) x ≡ Some ut → ⊥
@@ -324,9 +318,8 @@ module _ {fresh : Fresh ℕ} {stack : Stack ℕ} {merge : Merge ℕ} {f : ℕ} {
       where
         at : (first rest : List (List ℕ)) × (first ++ old ∷ rest ≡ to)
             × (led merge.upper.tree stack.directory first ≡ Some uf) → ⊥
-        at parts = not_under parts.1 (sym (ap (option_and_then (λ n. led merge.upper.tree n parts.1)) named_up)
-            ∙ sym (led_parts merge.upper.tree parts.0 (old ∷ parts.1) stack.directory uf parts.3)
-            ∙ ap (led merge.upper.tree stack.directory) parts.2 ∙ e)
+        at parts = not_under parts.1
+            (cc (named_up, led_parts merge.upper.tree parts.0 (old ∷ parts.1) stack.directory uf parts.3, parts.2, e))
 
     named_not : (d : ℕ) (name : List ℕ) (path : List (List ℕ)) → goes_through before d name path ≡ false
         → names_entry before d name path ≡ false
@@ -393,8 +386,7 @@ module _ {fresh : Fresh ℕ} {stack : Stack ℕ} {merge : Merge ℕ} {f : ℕ} {
         by : (b : Bool) → goes_through before ut new path ≡ b → ⊥
         by true g =
             let parts = through_is_split merge.upper stack.directory ut new path g in
-            behind parts.1 (sym (moved_through parts.0 parts.1 parts.3) ∙ ap (led moved.tree stack.directory) parts.2
-            ∙ e)
+            behind parts.1 (cc (moved_through parts.0 parts.1 parts.3, parts.2, e))
         by false g = at left (names_entry before uf old path) (goes_through before uf old path) refl g
             (sym (moved_elsewhere path stack.directory g) ∙ e)
 

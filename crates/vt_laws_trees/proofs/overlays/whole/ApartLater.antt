@@ -144,8 +144,7 @@ module _ {fresh : Fresh ℕ} {world : World ℕ} {location : Location ℕ} {chan
       later (λ inode lies there. inode_kept fresh world location change overlay upper it.conditions it.is it.has
       it.none (WholeLater.spoken stack before change whole.tree it.asked) layer (other_plain layer other) inode there
       (λ same object. clash layer other _ inode (subst (λ n. is_some (inode_in world n inode) ≡ true) (sym same) there)
-      (object_counts world it.conditions number overlay it.is upper it.has inode object)
-      (subst (λ n. Lies layer n inode) (sym same) lies)))
+      (object_counts world it.conditions number overlay it.is upper it.has inode object) (cc (same, lies))))
 
   -- The trees afterwards
   pub plain_elsewhere : (layer : Layer ℕ) → is_plain_layer nat_eq world layer ≡ true → layer.filesystem ≢ number
@@ -248,9 +247,8 @@ module _ {fresh : Fresh ℕ} {world : World ℕ} {location : Location ℕ} {chan
   upper_lies n object e =
       let found = lies_later upper upper_plain n object e in
       ⊎_elim (λ way. inl (lies_first upper n object (led_lies upper upper_plain n object found.0 way)))
-      (⊎_elim (λ own. inl (subst (λ k. Lies upper k object) (sym found.0) (upper_counts object own.0)))
-      (λ fresh_one. inr fresh_one)) (placed_along found.1.0 upper.directory object (inl ([], refl))
-      (sym (ap (λ f. led f.files.tree upper.directory found.1.0) upper_later) ∙ found.1.1))
+      (⊎_elim (λ own. inl (cc (found.0, upper_counts object own.0))) (λ fresh_one. inr fresh_one))
+      (placed_along found.1.0 upper.directory object (inl ([], refl)) (cc (upper_later, found.1.1)))
 
   -- The overlays afterwards
   overlay_then : (f : Filesystem ℕ) → Among f (overlays later)
@@ -367,8 +365,7 @@ module _ {fresh : Fresh ℕ} {world : World ℕ} {location : Location ℕ} {chan
       ((n ≡ upper.filesystem) × ((k : ℕ) × (merge.real k ≡ Some (Upper object))))
   changed_parts w layer n object parts =
       let same = same_Some _ parts.overlay_of parts.is_of in
-      let one : upper ≡ parts.upper_of_it = same_Some upper parts.upper_of_it (sym it.has ∙ ap (λ v. v.upper) same
-      ∙ parts.has_it) in
+      let one : upper ≡ parts.upper_of_it = same_Some upper parts.upper_of_it (cc (it.has, same, parts.has_it)) in
       let real = real_of_object changed parts.overlay_of parts.upper_of_it parts.has_it n object parts.object_of in (
         subst (λ u. lies_in_layer nat_eq w u.filesystem u.directory layer ≡ true) (sym one) parts.lies,
         (real.0 ∙ ap (λ u. u.filesystem) (sym one), (real.1.0, ap (λ v. v.real real.1.0) same ∙ real.1.1)),
@@ -510,8 +507,7 @@ module _ {fresh : Fresh ℕ} {world : World ℕ} {location : Location ℕ} {chan
       → ((f : Filesystem ℕ) → Among f fs → of_overlay [] layers (r f) ≡ of_overlay [] layers f)
       → flat_map (of_overlay [] layers) (map r fs) ≡ flat_map (of_overlay [] layers) fs
   mapped_same layers r [] h = refl
-  mapped_same layers r (f ∷ fs) h = ap (λ l. l ++ flat_map (of_overlay [] layers) (map r fs)) (h f (inl refl))
-      ∙ ap (λ l. of_overlay [] layers f ++ l) (mapped_same layers r fs (λ g m. h g (inr m)))
+  mapped_same layers r (f ∷ fs) h = cc (h f (inl refl), mapped_same layers r fs (λ g m. h g (inr m)))
 
   first_same : (layers : Overlay ℕ → List (Layer ℕ)) → IgnoresReal layers → (f : Filesystem ℕ)
       → Among f world.filesystems

@@ -180,9 +180,7 @@ module _ {fresh : Fresh ℕ} {world : World ℕ} {location : Location ℕ} {chan
           (ApartLater.lies_first it upper _ upper.directory (ApartLater.upper_itself it)) (ApartLater.lies_first it
           layer upper.filesystem upper.directory (ApartLater.led_lies it layer plain _ upper.directory (sym same) (
             upper_reached.0,
-            subst (λ n. led (filesystem_numbered nat_eq world n).files.tree layer.directory upper_reached.0
-                ≡ Some upper.directory) (sym same)
-                (subst (λ d. led before.upper.tree d upper_reached.0 ≡ Some upper.directory) root upper_reached.1),
+            cc (same, root, upper_reached.1),
           )))
         where
           upper_reached : IsReached before.upper.tree upper.directory

@@ -111,8 +111,7 @@ module _ {fresh : Fresh ℕ} {stack : Stack ℕ} {merge : Merge ℕ} {f : ℕ} {
         ∙ ap (λ b. cond b None (entry_at base.tree uf old)) itself
       where
         itself : is_entry uf old uf old ≡ true
-        itself = ap (λ b. Rattle.std.proofs.Common.◌&&◌ b (Rattle.std.specs.Str.bytes_eq old old))
-            (Rattle.std.proofs.Common.eq-eqb uf uf refl) ∙ Rattle.vt_spec.proofs.Truths.bytes_eq_itself old
+        itself = cc (Rattle.std.proofs.Common.eq-eqb uf uf refl, Rattle.vt_spec.proofs.Truths.bytes_eq_itself old)
 
         by : (b : Bool) → is_entry ut new uf old ≡ b
             → cond b (Some uo) (cond (is_entry uf old uf old) None (entry_at base.tree uf old))
@@ -162,9 +161,8 @@ module _ {fresh : Fresh ℕ} {stack : Stack ℕ} {merge : Merge ℕ} {f : ℕ} {
           (bare_kept merge.upper r good.tree leaf uf old uo uf_apart (named_up it))
           (bare_reached merge.upper r good.tree leaf uf (uf_directory it) uf_reached)
           (bare_reached merge.upper r good.tree leaf ut (ut_directory it) ut_reached)
-          (λ k g. ap (λ n. entries_in (base.tree.node n)) (one k g) ∙ bare_there merge.upper r good.tree leaf)
-          (λ g. own_no_top it.whole t ut (real_t it) it.may.reached.0 it.may.reached.1 new r e it.may.replaced_empty
-          (one top g)) left marks)
+          (λ k g. cc (one k g, bare_there merge.upper r good.tree leaf)) (λ g. own_no_top it.whole
+          t ut (real_t it) it.may.reached.0 it.may.reached.1 new r e it.may.replaced_empty (one top g)) left marks)
         where
           entry : entry_at merge.upper.tree ut new ≡ Some r
           entry = own_entry it.whole t ut (real_t it) it.may.reached.0 it.may.reached.1 new r e it.may.replaced_empty
@@ -184,9 +182,8 @@ module _ {fresh : Fresh ℕ} {stack : Stack ℕ} {merge : Merge ℕ} {f : ℕ} {
               let own = own_upper merge t new r e in
               let one_inode : own.0 ≡ f = (is_fine stack merge it.whole).one own.0 f (ap is_some own.2)
               (own.2 ∙ ap (λ n. Some (Upper n)) (sym same) ∙ sym (real_f it)) in
-              none_is_some o (sym (no_entries merge.files.tree f
-              (ap (λ n. entries_in (merge.files.tree.node n)) (sym one_inode)
-              ∙ it.may.replaced_empty own.0 own.1) old) ∙ it.may.named)
+              none_is_some o (sym
+              (no_entries merge.files.tree f (cc (one_inode, it.may.replaced_empty own.0 own.1)) old) ∙ it.may.named)
 
           one : (k : ℕ) → entry_at (bare merge.upper r good.tree leaf).tree ut new ≡ Some k → k ≡ r
           one k g = same_Some k r (sym (bare_told merge.upper r good.tree leaf ut new k g).1 ∙ entry)

@@ -21,10 +21,8 @@ pub named_no_top : (stack : Stack ℕ) (merge : Merge ℕ) → IsWhole stack mer
 named_no_top stack merge whole d w object uo named real same =
     let top_directory = (top_open stack merge whole).1 in
     let root = above_named stack merge whole [] stack.directory refl (directory_no_whiteout _ top_directory) in
-    whole.tree.root_unnamed d w (named ∙ ap Some
-    ((is_fine stack merge whole).one object merge.files.tree.root (ap is_some real)
-    (real ∙ ap (λ n. Some (Upper n)) (sym same) ∙ sym root.2
-    ∙ ap merge.real (sym (same_Some merge.files.tree.root root.0 root.1)))))
+    whole.tree.root_unnamed d w (named ∙ ap Some ((is_fine stack merge whole).one object
+    merge.files.tree.root (ap is_some real) (cc (real, same, root.2, same_Some merge.files.tree.root root.0 root.1))))
 
 -- A name in a directory of the overlay that names lead to
 module _ {stack : Stack ℕ} {merge : Merge ℕ} (whole : IsWhole stack merge) (d ud : ℕ)
