@@ -24,6 +24,7 @@ use Rattle.vt_laws_trees.proofs.overlays.steps.WholeParts.{IsFine}
 use Rattle.vt_laws_trees.proofs.layers.layers.ShownDirectories.{append_assoc, last_of, longer_is_not_empty}
 use Rattle.vt_laws_trees.proofs.layers.layers.UpperShown.{without_last_of_longer}
 use Rattle.vt_laws_trees.proofs.layers.layers.ShownPaths.{not_empty}
+use Rattle.vt_spec.proofs.Trees.{found}
 
 -- What a move in the upper layer rests on: the overlay is whole, both directories and the object stand in its upper
 -- layer, and no inode has the number of a whiteout.
@@ -303,13 +304,10 @@ module _ {fresh : Fresh ℕ} {stack : Stack ℕ} {merge : Merge ℕ} {f : ℕ} {
       where
         at : (first rest : List (List ℕ)) × (first ++ new ∷ rest ≡ to)
             × (led merge.upper.tree stack.directory first ≡ Some ut) → ⊥
-        at parts = by (entry_at merge.upper.tree ut new)
-            refl (cc (led_parts merge.upper.tree parts.0 (new ∷ parts.1) stack.directory ut parts.3, parts.2, e))
-          where
-            by : (x : Option ℕ) → entry_at merge.upper.tree ut new ≡ x
-                → option_and_then (λ n. led merge.upper.tree n parts.1) x ≡ Some ut → ⊥
-            by None g h = none_is_some ut h
-            by (Some k) g h = no_way_up merge.upper top_tree ut new k g parts.1 h
+        at parts =
+            let next = found (λ n. led merge.upper.tree n parts.1) (entry_at merge.upper.tree ut new) ut
+            (cc (led_parts merge.upper.tree parts.0 (new ∷ parts.1) stack.directory ut parts.3, parts.2, e)) in
+            no_way_up merge.upper top_tree ut new next.0 next.1 parts.1 next.2
 
     pub way_not_old : (to : List (List ℕ)) → led merge.upper.tree stack.directory to ≡ Some ut
         → goes_through before uf old to ≡ false
@@ -340,8 +338,7 @@ module _ {fresh : Fresh ℕ} {stack : Stack ℕ} {merge : Merge ℕ} {f : ℕ} {
         (told_moved ut new ∙ ap (λ b. cond b (Some uo) (entry_at between.tree ut new)) itself) ∙ object_led rest
       where
         itself : is_entry ut new ut new ≡ true
-        itself = ap (λ b. b && bytes_eq new new) (eq-eqb ut ut refl)
-            ∙ bytes_eq_itself new
+        itself = ap (λ b. b && bytes_eq new new) (eq-eqb ut ut refl) ∙ bytes_eq_itself new
 
     -- A replaced directory is not reached
     unreached : (r : ℕ) → upper_directory_named merge t new ≡ Some r → (path : List (List ℕ))
