@@ -1,5 +1,5 @@
 -- What is removed and renamed may be.
-use Rattle.std.proofs.Common.{arith, eqb-true, ◌≡◌, ◌≢◌, refl, sym, ap, subst, ◌∙◌, true≢false, ℕ, nat_eq, eq-eqb, Bool, true, false, not, List, [], ◌∷◌, ◌&&◌, Option, Some, None, is_some, option_map, unwrap_or}
+use Rattle.std.proofs.Common.{arith, eqb-true, ◌≡◌, ◌≢◌, refl, sym, ap, subst, ◌∙◌, true≢false, ℕ, nat_eq, eq-eqb, Bool, true, false, not, List, [], ◌∷◌, ◌&&◌, Option, Some, None, is_some, option_map}
 use Rattle.vt_spec.proofs.Common.{FileTree, IsDirectory, IsReached, IsTree, Location, NoneFails, Place, Task, World, and_from, common_steps, directory_from_entry, entries_in, entries_in-no_directory, entry_at, entry_named, files_at, found, holds_of, is_directory_at, is_directory_node, is_directory_under, is_removed_at, is_special, led, mount_at, name_of, new_name_rules, nil_from_not_some, node_at, none_is_not, not-false, object_there, same_Some}
 use Rattle.vt_spec.proofs.Tables.{is_nonempty, is_one_object, rename_rules, same_filesystem}
 use Rattle.vt_spec.proofs.Walk.{entry_location}
@@ -34,11 +34,7 @@ module _ (world : World ℕ) (place : Place ℕ) (plain : is_special place.last 
   object = object_there place
 
   object_is : place.object ≡ Some object
-  object_is = by place.object there
-    where
-      by : (o : Option (Location ℕ)) → is_some o ≡ true → o ≡ Some (unwrap_or o place.parent)
-      by None e = absurd (true≢false (sym e))
-      by (Some l) e = refl
+  object_is = grind (arith, common_steps, true≢false)
 
   old_named : (object.mount ≡ place.parent.mount)
       × (entry_at (files_at nat_eq world place.parent).tree place.parent.node (name_of place.last) ≡ Some object.node)

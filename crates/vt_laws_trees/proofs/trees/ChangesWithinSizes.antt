@@ -1,8 +1,7 @@
 -- Every call but the mount of an overlay keeps names, link texts and files within the limits.
 use Rattle.std.proofs.Common.{arith, eq-eqb, ◌≡◌, refl, sym, ap, subst, ◌∙◌, true≢false, ℕ, ◌+◌, ◌≤◌, nat_eq, nat_le, le-leb, leb-true, ltb-false, Bool, true, false, not, cond, List, [], ◌∷◌, ◌++◌, length, ◌&&◌, inl, inr, ⊎_elim, Option, Some, None, is_some, ok_or, length-append, length-drop, length-take, All}
-use Rattle.vt_spec.proofs.Common.{Access, All-append, All-cons, All-filter, All-nil, Call, Change, Content, CopyUp, Directory, Filesystem, Fresh, Location, Node, NoneFails, Outcome, Permit, Place, Regular, SetBytes, Symlink, Task, TaskName, ToOpen, Whiteout, World, and_parts, apply, bytes_in, call_outcome, changed, common_steps, denial, evens, files_at, filesystem_at, filesystem_changed, filesystem_lives, filesystems-taken_away, filesystems-without_replaced, filesystems_raised, finished_by, is_copied_up, is_directory_there, is_empty, is_fit_filesystem, is_overlay, is_special, largest_file, list_all, list_any, longest_path, looks_of, making, mount_at, moving, new_directory, new_file, new_plain, node_at, node_with_bytes, none_from_not_some, object_there, odds, open_new_permit, or_false_left, overfills, overwritten, plain_filesystem, pwritten, raised, raised_if_changed, removing, root_attr, settled, task_called, with_change, with_copy, with_files, with_new, without_dead_filesystems, without_dead_in, without_dead_mounts, without_mounts_on, without_replaced}
+use Rattle.vt_spec.proofs.Common.{Access, All-append, All-cons, All-filter, All-nil, Call, Change, CopyUp, Filesystem, Fresh, Location, Node, NoneFails, Outcome, Permit, Place, SetBytes, Task, TaskName, ToOpen, World, and_parts, apply, bytes_in, call_outcome, changed, common_steps, denial, evens, files_at, filesystem_at, filesystem_changed, filesystem_lives, filesystems-taken_away, filesystems-without_replaced, filesystems_raised, finished_by, is_copied_up, is_directory_there, is_empty, is_fit_filesystem, is_overlay, is_special, largest_file, list_all, list_any, longest_path, looks_of, making, mount_at, moving, new_directory, new_file, new_plain, node_at, node_with_bytes, none_from_not_some, object_there, odds, open_new_permit, or_false_left, overfills, overwritten, plain_filesystem, pwritten, raised, raised_if_changed, removing, root_attr, settled, task_called, with_change, with_copy, with_files, with_new, without_dead_filesystems, without_dead_in, without_dead_mounts, without_mounts_on, without_replaced}
 use Rattle.std.proofs.lemmas.List.Sums.{AllPass-from_list_all, list_all-from_AllPass}
-use Rattle.vt_spec.specs.declared.attributes.Attr.{Attr}
 use Rattle.vt_spec.specs.declared.errors.Rule.TheVariants.{S2}
 use Rattle.vt_spec.proofs.Tables.{pwrite_rules}
 use Rattle.vt_laws_trees.specs.Trees.Calls.{mounts_overlay}
@@ -70,15 +69,8 @@ overwritten_length offset more bytes most short old =
 overwritten_fits : (offset : ℕ) (more : List ℕ) → offset + length more ≤ largest_file → (o : Option (Node ℕ))
     → fits o ≡ true → fits (node_with_bytes (overwritten offset more (bytes_in o)) o) ≡ true
 overwritten_fits offset more short None k = k
-overwritten_fits offset more short (Some node) k = by node.attr node.content k
-  where
-    by : (attr : Attr) (content : Content ℕ) → fits (Some (record { attr = attr; content = content })) ≡ true
-        → fits (node_with_bytes (overwritten offset more (bytes_in (Some (record { attr = attr; content = content }))))
-        (Some (record { attr = attr; content = content }))) ≡ true
-    by attr (Directory parent entries opaque) g = g
-    by attr (Regular bytes) g = grind (arith, common_steps, le-leb, overwritten_length, leb-true, and_parts)
-    by attr (Symlink text) g = g
-    by attr Whiteout g = g
+overwritten_fits offset more short (Some node) k =
+    grind (arith, common_steps, le-leb, overwritten_length, leb-true, and_parts)
 
 module _ (fresh : Fresh ℕ) (world : World ℕ) (task : Task ℕ) (conditions : IsFitWorld world) where
   -- a change within the limits, also after mounts were taken away

@@ -170,11 +170,7 @@ module _ (files : FileTree ℕ) (conditions : IsFileTree files) (to : ℕ) (is :
 
   line_listed : (k q : ℕ) → k ≤ height → is_among nat_eq q (line k) ≡ true → is_among nat_eq q files.numbers ≡ true
   unfolding line
-  line_listed zero q le h = by (nat_eq q (above 0)) refl h
-    where
-      by : (b : Bool) → nat_eq q (above 0) ≡ b → (b || false) ≡ true → is_among nat_eq q files.numbers ≡ true
-      by true e g = cc (eqb-true q (above 0) e, above_listed 0 le)
-      by false e g = cc
+  line_listed zero q le h = grind (arith, common_steps, eqb-true, above_listed)
   line_listed (suc k) q le h = by (nat_eq q (above (suc k))) refl h (λ g. line_listed k q (omega arith) g)
     where
       by : (b : Bool) → nat_eq q (above (suc k)) ≡ b → (b || is_among nat_eq q (line k)) ≡ true

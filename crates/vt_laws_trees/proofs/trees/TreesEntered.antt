@@ -35,12 +35,7 @@ one_part byte list e = grind (arith, common_steps, true≢false)
 
 no_words : (text : List ℕ) → words text ≡ [] → is_empty text ≡ false → ends_in_slash text ≡ true
 no_words [] e h = absurd (true≢false h)
-no_words (byte ∷ []) e h = by (byte == 47) refl e
-  where
-    by : (b : Bool) → (byte == 47) ≡ b → filter (λ part. not (is_empty part)) (with_byte b byte (parts 47 [])) ≡ []
-        → (byte == 47) ≡ true
-    by true is g = is
-    by false is g = absurd (one_part byte (parts 47 []) g)
+no_words (byte ∷ []) e h = grind (arith, common_steps, one_part, parts)
 no_words (byte ∷ next ∷ bytes) e h = by (byte == 47) e (λ g. no_words (next ∷ bytes) g refl)
   where
     by : (b : Bool) → filter (λ part. not (is_empty part)) (with_byte b byte (parts 47 (next ∷ bytes))) ≡ []

@@ -36,12 +36,7 @@ module _ (used : List ℕ) (files : FileTree ℕ) (holds : HoldsTree used files)
 
   -- what is there is used
   kept_used : (number : ℕ) → is_some (kept.node number) ≡ true → IsUsed number
-  kept_used number there = by (is_among nat_eq number used) refl there
-    where
-      by : (b : Bool) → is_among nat_eq number used ≡ b → is_some (cond b (files.tree.node number) None) ≡ true
-          → IsUsed number
-      by true is h = is
-      by false is h = cc
+  kept_used number there = grind (arith, common_steps, is_among)
 
   kept_directory : (number : ℕ) → IsDirectory kept number → IsUsed number
   kept_directory number is = kept_used number (directory_used kept number is)

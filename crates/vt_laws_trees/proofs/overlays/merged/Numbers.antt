@@ -1,6 +1,6 @@
 -- Which number is at a path of a merged tree, and what its inode is.
 use Rattle.std.proofs.Common.{arith, ◌≡◌, ◌≢◌, refl, sym, ap, subst, ◌∙◌, ℕ, nat_eq, eq-eqb, eqb-true, Bool, true, false, cond, ◌||◌, T, List, [], ◌∷◌, ◌++◌, map, Option, Some, None, is_some, option_and_then, filter_map, is_eq, option_map, unwrap_or}
-use Rattle.vt_spec.proofs.Common.{Content, Directory, Entries, FileTree, Filesystem, HasName, HasOwnParents, Node, OpenLayer, Overlay, Real, Regular, SameObject, Shown, Symlink, Whiteout, World, a_name, bytes_eq-Decides, common_steps, cons_option, directory_used, entries_in, entries_of, entry_at, entry_named, filesystem_numbered, is_directory, is_directory_node, is_opaque_in, is_sorted, kind_of, layer_node, led-append, list_any, name_cmp, names_shown, nat_list_cmp_total, node_shown, none_is_some, nothing_is_no_object, number_at_path, opaque_of, parent_in, parent_of, real_node, real_object, real_shown, same_Some, same_content, same_entries, shown, then_some, view_of}
+use Rattle.vt_spec.proofs.Common.{Content, Directory, Entries, FileTree, Filesystem, HasName, HasOwnParents, Node, OpenLayer, Overlay, Real, Regular, SameObject, Shown, Symlink, Whiteout, World, a_name, bytes_eq-Decides, common_steps, cons_option, directory_used, entries_in, entries_of, entry_at, entry_named, filesystem_numbered, is_directory, is_directory_node, is_opaque_in, is_sorted, kind_of, layer_node, led-append, list_any, name_cmp, names_shown, nat_list_cmp_total, node_shown, none_is_some, number_at_path, opaque_of, parent_in, parent_of, real_node, real_object, real_shown, same_Some, same_content, same_entries, shown, then_some, view_of}
 use Rattle.vt_spec.proofs.Layers.{names_at}
 use Rattle.vt_spec.proofs.Nodes.{same_name}
 use Rattle.vt_laws_trees.specs.Overlays.MergedTrees.{InodesAreThoseShown, IsMergedTree, IsNamedBy, MergedTreesAreOne, NumbersAreThoseShown, OtherInodesAreHeld, OverlaysAreMergedTrees, content_as, entries_shown, inode_held, inode_shown, layers_shown, node_as, number_shown, parent_shown}
@@ -132,13 +132,7 @@ module _ (number_of : Real ℕ → ℕ) (held : ℕ → Option (Real ℕ)) (worl
   -- and has the number of its real object
   numbered : (number : ℕ) → is_some (filesystem.files.tree.node number) ≡ true
       → option_map number_of (overlay.real number) ≡ Some number
-  numbered number there = by (overlay.real number) refl (is.merged.real_objects number)
-    where
-      by : (o : Option (Real ℕ)) → overlay.real number ≡ o
-          → SameObject (filesystem.files.tree.node number) (then_some o (real_node nat_eq world overlay))
-          → option_map number_of o ≡ Some number
-      by None e same = absurd (nothing_is_no_object (filesystem.files.tree.node number) there same)
-      by (Some object) e same = ap Some (sym (named.numbered number object e))
+  numbered number there = grind (arith, common_steps)
 
   pub numbers_are_shown : (path : List (List ℕ)) → at path ≡ number_shown number_of world overlay path
   numbers_are_shown path = by (at path) refl (is.merged.shows path)

@@ -1,5 +1,5 @@
 -- Bytes and attributes of what stands in the upper layer are set: the tree is still what the layers show.
-use Rattle.std.proofs.Common.{arith, ◌≡◌, refl, sym, ap, subst, ◌∙◌, true≢false, eqb-true, eq-eqb, ℕ, zero, suc, nat_eq, Bool, true, false, cond, List, map, Option, Some, None, is_some, slice_get, unwrap_or}
+use Rattle.std.proofs.Common.{arith, ◌≡◌, refl, sym, ap, subst, ◌∙◌, true≢false, eqb-true, eq-eqb, ℕ, zero, suc, nat_eq, Bool, true, false, cond, List, map, Option, Some, None, is_some, slice_get}
 use Rattle.vt_spec.proofs.Common.{IsTree, ListsNumbers, Lower, Merge, Node, OpenLayer, Real, SameObject, SetAttr, SetBytes, Stack, Upper, bytes_eq_itself, changed_both, changed_node, common_steps, is_kind_in, is_opaque_in, node_with_attr, node_with_bytes, none_is_some, number_at_path, part-changed_node, same_Some, then_some, upper_object, upper_of, view_of}
 use Rattle.vt_spec.specs.declared.attributes.Attr.{Attr}
 use Rattle.vt_spec.specs.declared.attributes.Kind.TheVariants.{White}
@@ -13,12 +13,7 @@ use Rattle.vt_laws_trees.proofs.overlays.steps.WholeParts.{IsFine, fine, real_by
 -- the object that an inode of the upper layer has there
 pub upper_real : (merge : Merge ℕ) (number : ℕ) → StandsInUpper merge number
     → merge.real number ≡ Some (Upper (upper_of merge number))
-upper_real merge number h = by (merge.real number) h
-  where
-    by : (o : Option (Real ℕ)) → is_some (upper_object o) ≡ true → o ≡ Some (Upper (unwrap_or (upper_object o) number))
-    by None h = cc
-    by (Some (Upper object)) h = refl
-    by (Some (Lower layer path)) h = cc
+upper_real merge number h = grind (arith, common_steps)
 
 -- what a change of one inode keeps of its shape
 pub record KeepsShape (change : Option (Node ℕ) → Option (Node ℕ)) : Type 0 where

@@ -89,13 +89,8 @@ mark_more (Some node) = record {
 nothing_shown : (top : View ℕ) (lowers : List (View ℕ)) (path : List (List ℕ)) → top.leads path ≡ None
     → (cuts top path ≡ false → (s : Shown ℕ) → shown_from 1 lowers path ≡ Some s → ⊥)
     → shown_from 0 (top ∷ lowers) path ≡ None
-nothing_shown top lowers path leads unseen = by (cuts top path) refl (shown_from 1 lowers path) refl
-  where
-    by : (b : Bool) → cuts top path ≡ b → (x : Option (Shown ℕ)) → shown_from 1 lowers path ≡ x
-        → shown_from 0 (top ∷ lowers) path ≡ None
-    by true cut x e = cut_shows_none top lowers path leads cut
-    by false cut None e = cc (leads, cut, e)
-    by false cut (Some s) e = absurd (unseen cut s e)
+nothing_shown top lowers path leads unseen =
+    grind (arith, common_steps, cuts, shown_from, cut_shows_none, leads, unseen)
 
 -- `alone`: a directory that moves has nothing below it in the lower layers
 module _ {fresh : Fresh ℕ} {stack : Stack ℕ} {merge : Merge ℕ} {f : ℕ} {old : List ℕ} {t : ℕ} {new : List ℕ}

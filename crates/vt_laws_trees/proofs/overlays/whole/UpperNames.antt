@@ -20,11 +20,8 @@ with_over_without w k es h = same_entries name_cmp nat_list_cmp_total same_name-
     by : (q : List ℕ) (b : Bool) → eq_by_cmp name_cmp q w ≡ b
         → cond b (Some k) (entry_named q (without_entry w es)) ≡ cond b (Some k) (entry_named q es)
     by q true e = refl
-    by q false e = cc (entry_named-without_entry q w es, other (bytes_eq q w) refl)
-      where
-        other : (b : Bool) → bytes_eq q w ≡ b → bytes_eq q w ≡ false
-        other true f = cc ((bytes_decides q w).0 f, tied_itself nat_list_cmp_total w)
-        other false f = f
+    by q false e =
+        grind (arith, common_steps, entry_named-without_entry, bytes_eq, bytes_decides, tied_itself, nat_list_cmp_total)
 
 -- a name that is not there is not taken away
 pub without_none : (w : List ℕ) (es : Entries ℕ) → is_sorted name_cmp es ≡ true → entry_named w es ≡ None
