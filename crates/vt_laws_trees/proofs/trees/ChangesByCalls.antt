@@ -199,8 +199,8 @@ module _ (fresh : Fresh ℕ) (world : World ℕ) (task : Task ℕ) (conditions :
 finished_keeps : (before : World ℕ) (name : TaskName) (changed : List ℕ) (outcome : Outcome ℕ) (b : Bool)
     → IsWorldOfTrees outcome.world → IsWorldOfTrees (finished_by nat_eq b before name changed outcome).world
 finished_keeps before name changed outcome true conditions = conditions
-finished_keeps before name changed outcome false conditions = same_filesystems _
-    _ refl (raised_keeps_world changed (settled nat_eq outcome.world) (settled_keeps outcome.world conditions))
+finished_keeps before name changed outcome false conditions = same_filesystems _ _
+    refl (raised_keeps_world changed (settled nat_eq outcome.world) (settled_keeps outcome.world conditions))
 
 pub calls_keep_trees : CallsKeepTrees
 calls_keep_trees world fresh name call conditions standing new other =

@@ -88,8 +88,8 @@ module _ (world : World ℕ) (task : Task ℕ) (from to : Place ℕ)
     where
       by : (o : Option (Location ℕ)) → to.object ≡ o → IsReached files.tree to.parent.node
       by None e = subst (λ (f : FileTree ℕ). IsReached f.tree to.parent.node) to_files (not_removed_reached
-          (files_at nat_eq world to.parent).tree (subst (λ (f : FileTree ℕ). IsTree f.tree) (sym to_files) trees.tree)
-          _ to_named.0 (ap (λ o. not (is_some o) && is_removed_at nat_eq world to.parent) (sym e) ∙ to_new.0))
+          (files_at nat_eq world to.parent).tree (subst (λ (f : FileTree ℕ). IsTree f.tree) (sym to_files) trees.tree) _
+          to_named.0 (ap (λ o. not (is_some o) && is_removed_at nat_eq world to.parent) (sym e) ∙ to_new.0))
       by (Some object) e =
           let named = named_by world to.parent (name_of to.last) object (sym e ∙ to_named.1) in
           filled_reached files.tree trees.tree to.parent.node to_directory (name_of to.last) object.node

@@ -89,8 +89,8 @@ changes_keep_trees files (Move from old to new object) conditions may = subst Is
     (is_tree-rearranged files.tree _ _ _ conditions (moved_rearranged files conditions may))
 changes_keep_trees files (SetBytes file bytes) conditions may = is_tree-rearranged files.tree _
     Nobody Nowhere conditions (still_rearranged files file (node_with_bytes bytes) (bytes_keep_place bytes) conditions)
-changes_keep_trees files (SetAttr object attr) conditions may = is_tree-rearranged files.tree
-    _ Nobody Nowhere conditions (still_rearranged files object (node_with_attr attr) (attr_keeps_place attr) conditions)
+changes_keep_trees files (SetAttr object attr) conditions may = is_tree-rearranged files.tree _
+    Nobody Nowhere conditions (still_rearranged files object (node_with_attr attr) (attr_keeps_place attr) conditions)
 changes_keep_trees files (SetMark directory opaque) conditions may = is_tree-rearranged files.tree _ Nobody
     Nowhere conditions (still_rearranged files directory (node_with_mark opaque) (mark_keeps_place opaque) conditions)
 changes_keep_trees files (CopyUp object) conditions may = conditions

@@ -169,8 +169,8 @@ only_used_is world false filesystem conditions = conditions
 
 pub without_dead_in_is : (chosen : Filesystem ℕ → Bool) (world : World ℕ) → HasFileTrees world
     → HasFileTrees (without_dead_in nat_eq chosen world)
-without_dead_in_is chosen world trees = All-map (λ filesystem. IsFileTree filesystem.files)
-    _ world.filesystems (All-weaker (λ filesystem. IsFileTree filesystem.files)
+without_dead_in_is chosen world trees = All-map (λ filesystem. IsFileTree filesystem.files) _
+    world.filesystems (All-weaker (λ filesystem. IsFileTree filesystem.files)
     (λ filesystem. IsFileTree (only_used nat_eq world (chosen filesystem) filesystem).files)
     (λ filesystem conditions. only_used_is world (chosen filesystem) filesystem conditions) world.filesystems trees)
 

@@ -43,8 +43,8 @@ pub replaced_all : (P : Filesystem ℕ → Type 0) (new : Filesystem ℕ) (list 
     → P new ⊎ All (λ filesystem. nat_eq new.number filesystem.number ≡ false) list
     → All P (map (replaced_if_numbered nat_eq new) list)
 replaced_all P new [] h either = All-nil P
-replaced_all P new (filesystem ∷ list) h either = All-cons P (replaced_if_numbered nat_eq new filesystem)
-    _ (by (nat_eq new.number filesystem.number) refl either) (replaced_all P new list (All-tail P filesystem list h)
+replaced_all P new (filesystem ∷ list) h either = All-cons P (replaced_if_numbered nat_eq new filesystem) _
+    (by (nat_eq new.number filesystem.number) refl either) (replaced_all P new list (All-tail P filesystem list h)
     (⊎_elim inl (λ none. inr (All-tail (λ other. nat_eq new.number other.number ≡ false) filesystem list none)) either))
   where
     by : (b : Bool) → nat_eq new.number filesystem.number ≡ b
@@ -58,8 +58,8 @@ pub raised_all : (P : Filesystem ℕ → Type 0) (changed : List ℕ)
     → ((filesystem : Filesystem ℕ) → P filesystem → P (record filesystem { change = raised filesystem.change }))
     → (list : List (Filesystem ℕ)) → All P list → All P (map (raised_if_changed nat_eq changed) list)
 raised_all P changed keeps [] h = All-nil P
-raised_all P changed keeps (filesystem ∷ list) h = All-cons P (raised_if_changed nat_eq changed filesystem)
-    _ (by _ (All-head P filesystem list h)) (raised_all P changed keeps list (All-tail P filesystem list h))
+raised_all P changed keeps (filesystem ∷ list) h = All-cons P (raised_if_changed nat_eq changed filesystem) _
+    (by _ (All-head P filesystem list h)) (raised_all P changed keeps list (All-tail P filesystem list h))
   where
     by : (b : Bool) → P filesystem → P (cond b (record filesystem { change = raised filesystem.change }) filesystem)
     by true is = keeps filesystem is

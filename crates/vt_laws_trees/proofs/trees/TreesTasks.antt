@@ -41,8 +41,8 @@ pub record IsWithin (task : Task ℕ) : Type 0 where
   pub umask : nat_lt task.umask 512 ≡ true
 
 pub limits_of : (task : Task ℕ) → IsWithin task → is_within_limits task ≡ true
-limits_of task is = and_from _ (nat_lt task.umask 512) (and_from _ _ (and_from _
-    _ (and_from _ (nat_le task.forks most_forks) (and_from _ _ (and_from _ _ is.few is.ascending) is.low) is.forks)
+limits_of task is = and_from _ (nat_lt task.umask 512) (and_from _ _ (and_from _ _
+    (and_from _ (nat_le task.forks most_forks) (and_from _ _ (and_from _ _ is.few is.ascending) is.low) is.forks)
     is.depth) is.groups) is.umask
 
 pub within : (task : Task ℕ) → is_within_limits task ≡ true → IsWithin task

@@ -222,8 +222,8 @@ module _ (fresh : Fresh ℕ) (world : World ℕ) (name : TaskName) (call : Call)
       inr refl,
       inr refl,
     )
-    done (ToFork credentials) judged for = forked_becomes for.0 credentials for.1 for.2 (forked_may_give task _ for.3)
-        _ (changed_becomes _ refl (inl refl, inl refl, λ held among. inl among, inr refl, inr refl, inr refl))
+    done (ToFork credentials) judged for = forked_becomes for.0 credentials for.1 for.2 (forked_may_give task _ for.3) _
+        (changed_becomes _ refl (inl refl, inl refl, λ held among. inl among, inr refl, inr refl, inr refl))
     done ToExit judged for = without_becomes for
     done ToUnshare judged for = changed_becomes (alone fresh world task) refl (
       inl refl,

@@ -46,10 +46,10 @@ module _ (world : World ℕ) (task : Task ℕ) where
       → Ends (IsFileOf start.location text) (file_walked nat_eq depth world task start text slash)
   file_searched zero start text slash = tt
   file_searched (suc depth) start text slash = ends_then _ (IsFileOf start.location text)
-      (prefix_walked nat_eq world task (followed nat_eq world task) start (reverse (words text)))
-      _ (prefix_searched world task start (reverse (words text))) (λ here before. ends_then
-      _ (IsFileOf start.location text) (placed nat_eq world task here _ (slash || ends_in_slash text))
-      _ (placed_step world task here (final_word (reverse (words text))) (slash || ends_in_slash text))
+      (prefix_walked nat_eq world task (followed nat_eq world task) start (reverse (words text))) _
+      (prefix_searched world task start (reverse (words text))) (λ here before. ends_then _
+      (IsFileOf start.location text) (placed nat_eq world task here _ (slash || ends_in_slash text)) _
+      (placed_step world task here (final_word (reverse (words text))) (slash || ends_in_slash text))
       (λ place named. by_symlink (λ next inner. file_searched depth next inner _) here before place named _ refl))
     where
       further : (here : Here ℕ) → IsFront world task start.location (reverse (words text)) here.location
@@ -73,8 +73,8 @@ module _ (world : World ℕ) (task : Task ℕ) where
       by_symlink rest here before place named None plain = ends_here _ here.location text place before named plain
       by_symlink rest here before place named (Some inner) linked = ends_then _ (IsFileOf start.location text)
           (walk_unless place.steps (follow_rules nat_eq world (symlink_of here place) inner)
-          (symlink_start nat_eq world task here.location (symlink_of here place) inner))
-          _ (ends_unless _ place.steps (follow_rules nat_eq world (symlink_of here place) inner) _ (λ passed. refl))
+          (symlink_start nat_eq world task here.location (symlink_of here place) inner)) _
+          (ends_unless _ place.steps (follow_rules nat_eq world (symlink_of here place) inner) _ (λ passed. refl))
           (λ next e. further here before place named inner linked next e _ (rest next inner))
 
   module _ (path : List ℕ) where

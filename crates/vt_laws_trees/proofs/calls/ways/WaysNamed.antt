@@ -91,8 +91,8 @@ module _ (world : World ℕ) (task : Task ℕ) where
 
     symlink_named : Ends IsNamed (symlink_walk_by nat_eq false world task path)
     symlink_named = ends_then _ IsNamed (path_text path) _ (path_text_same path) (λ text e. ends_then _ IsNamed
-        (prefix_walked nat_eq world task (followed nat_eq world task) (walk_start task text) (reverse (words text)))
-        _ (prefix_searched (walk_start task text) (reverse (words text))) (λ here before. ends_last
+        (prefix_walked nat_eq world task (followed nat_eq world task) (walk_start task text) (reverse (words text))) _
+        (prefix_searched (walk_start task text) (reverse (words text))) (λ here before. ends_last
         text e here before (last_walked nat_eq world task here (final_word (reverse (words text))))
         (last_searched here (final_word (reverse (words text))))))
       where
@@ -115,8 +115,8 @@ module _ (world : World ℕ) (task : Task ℕ) where
 
     place_searched : Ends IsNamePlace (place_walk nat_eq world task path)
     place_searched = ends_then _ IsNamePlace (path_text path) _ (path_text_same path) (λ text e. ends_then _ IsNamePlace
-        (prefix_walked nat_eq world task (followed nat_eq world task) (walk_start task text) (reverse (words text)))
-        _ (prefix_searched (walk_start task text) (reverse (words text))) (λ here before. ends_placed
+        (prefix_walked nat_eq world task (followed nat_eq world task) (walk_start task text) (reverse (words text))) _
+        (prefix_searched (walk_start task text) (reverse (words text))) (λ here before. ends_placed
         text e here before (placed nat_eq world task here (final_word (reverse (words text))) (ends_in_slash text))
         (placed_step world task here (final_word (reverse (words text))) (ends_in_slash text))))
       where

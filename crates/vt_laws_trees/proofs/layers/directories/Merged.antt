@@ -88,8 +88,8 @@ module _ (layers : List (OpenLayer ℕ)) (are_open : AreOpen layers) (longest : 
   -- the number of a directory is that of its path
   path_number : (path : List (List ℕ)) (seen : Shown ℕ) → shown layers path ≡ Some seen → (found : Lies (at path seen))
       → is_directory (kind_of found.node.content) ≡ true → number_at fresh has_upper all path ≡ num (at path seen)
-  path_number path seen s found d = ap (λ o. fresh (unwrap_or o 0)) (same_place (λ object. same_path path object.path)
-      _ 0 all (λ other among. agree other (object_is layers are_open longest bounded other among)))
+  path_number path seen s found d = ap (λ o. fresh (unwrap_or o 0)) (same_place (λ object. same_path path object.path) _
+      0 all (λ other among. agree other (object_is layers are_open longest bounded other among)))
     where
       agree : (other : Merged ℕ) → shown layers other.path ≡ Some other.seen
           → same_path path other.path ≡ is_one_inode nat_eq has_upper (at path seen) other
@@ -263,8 +263,8 @@ module _ (layers : List (OpenLayer ℕ)) (are_open : AreOpen layers) (longest : 
   -- the path of a directory under a name
   path_of_entry : (directory : ℕ) (name : List ℕ) (n : ℕ) (entry : IsEntry directory name n) (own : IsShownDirectory n)
       → own.path ≡ entry.above.path ++ name ∷ []
-  path_of_entry directory name n entry own = numbered_place (at own.path own.seen)
-      _ own.is_shown entry.is_shown (sym own.numbered ∙ entry.numbered) own.found own.directory
+  path_of_entry directory name n entry own = numbered_place (at own.path own.seen) _
+      own.is_shown entry.is_shown (sym own.numbered ∙ entry.numbered) own.found own.directory
 
   pub merged_is_tree : IsTree tree
   merged_is_tree = record {

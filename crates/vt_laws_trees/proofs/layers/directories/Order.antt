@@ -159,8 +159,8 @@ module _ (layers : List (OpenLayer ℕ)) (are_open : AreOpen layers) (longest : 
   entries_in_order path = passes _ (rising_sorted _ (pairwise_filter_map (λ a b. PathBelow a.path b.path)
       (λ a b. NameBelow a.0 b.0) _ (λ a b x y e f h. last_parent path x.0 y.0 (subst (PathBelow (path ++ x.0 ∷ []))
       (entry_is_here layers are_open longest bounded fresh distinct has_upper path y.0 b y f).0 (subst
-      (λ p. PathBelow p b.path) (entry_is_here layers are_open longest bounded fresh distinct _ path x.0 a x e).0 h)))
-      _ (pairwise_filter_map PathBelow _ (merged_at layers) (λ a b x y e f h. subst (λ p. PathBelow x.path p)
+      (λ p. PathBelow p b.path) (entry_is_here layers are_open longest bounded fresh distinct _ path x.0 a x e).0 h))) _
+      (pairwise_filter_map PathBelow _ (merged_at layers) (λ a b x y e f h. subst (λ p. PathBelow x.path p)
       (path_of b y f) (subst (λ p. PathBelow p b) (path_of a x e) h)) _ (paths_rise (map view_of layers) longest []))))
     where
       path_of : (path : List (List ℕ)) (object : Merged ℕ) → merged_at layers path ≡ Some object → path ≡ object.path

@@ -101,13 +101,13 @@ module _ (world : World ℕ) (conditions : IsWorld nat_eq world) (overlay : Over
           (conditions.overlays.overlays_merge number some_overlay was))
       by true t =
           let same : filesystem_numbered nat_eq after number ≡ overlay_filesystem nat_eq fresh world overlay =
-          ap (λ o. unwrap_or o (no_filesystem number)) (find_new (λ f. nat_eq number f.number) world.filesystems
-          _ (not_found number world.filesystems (cc (eqb-true number (evens fresh 0) t, unused))) t) in
+          ap (λ o. unwrap_or o (no_filesystem number)) (find_new (λ f. nat_eq number f.number) world.filesystems _
+          (not_found number world.filesystems (cc (eqb-true number (evens fresh 0) t, unused))) t) in
           subst (λ f. IsMerged nat_eq after f some_overlay)
           (sym same) (subst (IsMerged nat_eq after (overlay_filesystem nat_eq fresh world overlay))
           (same_Some (made world conditions overlay are_layers fresh distinct) some_overlay
-          (sym (ap (λ f. f.overlay) same) ∙ e)) (still_merged (overlay_filesystem nat_eq fresh world overlay)
-          _ (old_layers overlay are_layers) (made_merged world conditions overlay are_layers fresh distinct)))
+          (sym (ap (λ f. f.overlay) same) ∙ e)) (still_merged (overlay_filesystem nat_eq fresh world overlay) _
+          (old_layers overlay are_layers) (made_merged world conditions overlay are_layers fresh distinct)))
 
 pub overlays_still_merge : OverlaysStillMerge
 overlays_still_merge fresh world overlay places conditions are_layers plain distinct unused passed number some_overlay

@@ -183,6 +183,6 @@ module _ {files : FileTree ℕ} (tree : IsTree files.tree) {first : ℕ → Opti
         (upper_of here object) (node_with_parent (upper_of here to)) (entries-node_with_parent (upper_of here to))
         replaced ∙ ap entries_in (kept_elsewhere base (upper_of here to) (node_with_entry name (upper_of here object))
         replaced (ne_eqb replaced (upper_of here to) not_to)) ∙ ap entries_in (kept_elsewhere
-        (without_parent nat_eq freed (entry_named name (entries_in (freed.tree.node (upper_of here to)))))
-        _ (node_without_entry old) replaced (ne_eqb replaced (upper_of here from) not_from)) ∙ entries-without_parent
+        (without_parent nat_eq freed (entry_named name (entries_in (freed.tree.node (upper_of here to))))) _
+        (node_without_entry old) replaced (ne_eqb replaced (upper_of here from) not_from)) ∙ entries-without_parent
         freed (entry_named name (entries_in (freed.tree.node _))) replaced ∙ emptied_is_empty upper _ replaced is

@@ -179,8 +179,8 @@ module _ (fresh : Fresh ℕ) (before : Merge ℕ) (fit : IsFitToChange fresh bef
           → CopyStands (copy_of nat_eq state object (fresh (0 + length line)) (Some node) false)
       by None u h = absurd (true≢false (sym h))
       by (Some parent) u h = under_name front.soundly.real _ front.soundly.sound _ name e entry parent u (λ same. ⊎_elim
-          (λ old. fit.unused (0 + length line) name.0 (old ∙ ap Some same)) (λ new. let counted = fit.distinct new.0
-          _ (sym new.2 ∙ same) in let l = new.1 in let no : ⊥ = omega arith in no) (front.bound name.0 parent u))
+          (λ old. fit.unused (0 + length line) name.0 (old ∙ ap Some same)) (λ new. let counted = fit.distinct new.0 _
+          (sym new.2 ∙ same) in let l = new.1 in let no : ⊥ = omega arith in no) (front.bound name.0 parent u))
 
   pub copy_stands : CopyStands (copied_up nat_eq fresh before object)
   copy_stands = grind (arith, common_steps, unnamed_stands, named_stands)

@@ -106,8 +106,8 @@ shows_name layers path name = is_some (shown layers (path ++ name ∷ []))
 pub names_are_those_shown : (layers : List (OpenLayer ℕ)) (path : List (List ℕ)) (name : List ℕ)
     → Contains (names_shown layers path) name ↔ (seen : Shown ℕ) × IsShown layers (path ++ name ∷ []) seen
 names_are_those_shown layers path name = (
-  λ has. is_there _ refl (and_true_right (list_any (is_name name) (all_names layers path))
-      _ (sym (filtered (shows_name layers path) name (all_names layers path)) ∙ name_found name _ has.0 has.1 has.2)),
+  λ has. is_there _ refl (and_true_right (list_any (is_name name) (all_names layers path)) _
+      (sym (filtered (shows_name layers path) name (all_names layers path)) ∙ name_found name _ has.0 has.1 has.2)),
   λ is. contains_name name _ (filtered _ name (all_names layers path) ∙ ap (λ b. b && shows_name layers path name)
       (shown_is_named layers path name is.0 is.1) ∙ ap is_some ((computed layers (path ++ name ∷ []) is.0).1 is.1)),
 )

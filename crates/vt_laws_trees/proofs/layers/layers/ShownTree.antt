@@ -101,8 +101,8 @@ module _ (layers : List (OpenLayer ℕ)) (are_open : AreOpen layers) (longest : 
       by : (o : Option (Shown ℕ)) → shown layers path ≡ o → Arrives o path (led merged_tree (fresh 0) path)
           → Arrives (shown layers (path ++ name ∷ [])) (path ++ name ∷ [])
           (option_and_then (λ directory. entry_at merged_tree directory name) (led merged_tree (fresh 0) path))
-      by None s arrives = no_entry path name
-          _ (ap (option_and_then (λ directory. entry_at merged_tree _ name)) arrives) (λ seen t. none_is_some (record {
+      by None s arrives = no_entry path name _
+          (ap (option_and_then (λ directory. entry_at merged_tree _ name)) arrives) (λ seen t. none_is_some (record {
             layer = 0 + (shown_in_directory layers are_open 0 path name seen t).place;
             object = (shown_in_directory layers are_open 0 path name seen t).object;
           }) (sym s ∙ (shown_in_directory layers are_open 0 path name seen t).is))

@@ -69,8 +69,8 @@ module _ (files : FileTree ℕ) (tree : IsTree files.tree) (numbers : ListsNumbe
 
     removed_keeps : (directory : ℕ) (name : List ℕ) (object : ℕ) → HasUpper real directory
         → (merge_without_name nat_eq fresh stack (With real upper) directory name object).upper.tree.node inode ≡ node
-    removed_keeps directory name object has = emptied_elsewhere inode
-        _ _ (replaced_differs real upper fine directory name) ∙ left_elsewhere inode _ fresh stack upper _ name
+    removed_keeps directory name object has = emptied_elsewhere inode _ _
+        (replaced_differs real upper fine directory name) ∙ left_elsewhere inode _ fresh stack upper _ name
         (ne_eqb inode (fresh 0) (new 0)) (upper_differs files tree numbers inode node real upper fine _ has) ∙ fine.here
 
     moved_keeps : (from : ℕ) (old : List ℕ) (to : ℕ) (name : List ℕ) (object : ℕ) → HasUpper real from
@@ -86,8 +86,8 @@ module _ (files : FileTree ℕ) (tree : IsTree files.tree) (numbers : ListsNumbe
         (emptied_elsewhere inode upper _ (replaced_differs real upper fine to name) ∙ fine.here)) (kept_both
         (freed.tree.node inode) (away.tree.node inode) _ (kept_moved freed _ old (upper_of (With real upper) to)
         name _ inode from_differs (upper_differs files tree numbers inode node real upper fine to t)) (kept_same
-        (away.tree.node inode) _ (marked_elsewhere inode (hides_directory nat_eq stack (With real upper) to name)
-        _ (upper_of (With real upper) object) (upper_differs files tree numbers inode node real upper fine object o)
+        (away.tree.node inode) _ (marked_elsewhere inode (hides_directory nat_eq stack (With real upper) to name) _
+        (upper_of (With real upper) object) (upper_differs files tree numbers inode node real upper fine object o)
         ∙ left_elsewhere inode (is_some (shown_in_lowers_at nat_eq stack (With real upper) from old))
         fresh stack away (upper_of (With real upper) from) old (ne_eqb inode (fresh 0) (new 0)) from_differs)))
 

@@ -57,8 +57,8 @@ module _ (world : World ℕ) (conditions : IsWorld nat_eq world) (number : ℕ) 
       (overlay_found world number overlay is)
 
   pub overlay_numbers : ListsNumbers nat_eq files
-  overlay_numbers = all_found (λ filesystem. ListsNumbers nat_eq filesystem.files)
-      _ world.filesystems conditions.files.numbers merged (overlay_found world number overlay is)
+  overlay_numbers = all_found (λ filesystem. ListsNumbers nat_eq filesystem.files) _
+      world.filesystems conditions.files.numbers merged (overlay_found world number overlay is)
 
   pub overlay_merges : IsMerged nat_eq world merged overlay
   overlay_merges = conditions.overlays.overlays_merge number overlay is

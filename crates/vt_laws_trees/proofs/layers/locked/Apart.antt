@@ -59,8 +59,8 @@ module _ (world : World ℕ) where
   pub layer_among : (layers : Overlay ℕ → List (Layer ℕ)) (number : ℕ) (overlay : Overlay ℕ)
       → (filesystem_numbered nat_eq world number).overlay ≡ Some overlay → (layer : Layer ℕ)
       → Among layer (layers overlay) → Among layer (flat_map (of_overlay [] layers) (overlays world))
-  layer_among layers number overlay is layer m = among-flat_map (of_overlay [] layers) (overlays world)
-      _ layer (merged_among number overlay is) (subst (λ o. Among layer (overlay_or [] layers o)) (sym is) m)
+  layer_among layers number overlay is layer m = among-flat_map (of_overlay [] layers) (overlays world) _
+      layer (merged_among number overlay is) (subst (λ o. Among layer (overlay_or [] layers o)) (sym is) m)
 
 module _ (world : World ℕ) (conditions : IsWorld nat_eq world) where
   -- what is there has its number beside the tree

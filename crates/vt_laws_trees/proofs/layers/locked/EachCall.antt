@@ -82,8 +82,8 @@ module _ (world : World ℕ) (fresh : Fresh ℕ) (task : Task ℕ) where
       → NoneFails (rename_rules nat_eq (looks_of nat_eq world) task from to (object_there from))
       → Left (with_change nat_eq fresh (without_replaced nat_eq world to.object) from.parent
       (moving from to (object_there from)))
-  renamed_left from to is word passed = leaves_change world fresh fresh _ from.parent
-      _ (filesystems-without_replaced world to.object) (shown-without_replaced world to.object from.parent) (record {
+  renamed_left from to is word passed = leaves_change world fresh fresh _ from.parent _
+      (filesystems-without_replaced world to.object) (shown-without_replaced world to.object from.parent) (record {
         part = whole;
         unlocked = λ inode locked new. or_from _ _ (differs from.parent of_from.0 inode locked) (or_from
             (nat_eq inode to.parent.node) false (differs to.parent (or_false_left _ _ of_from.1) inode (subst (λ m.

@@ -48,8 +48,8 @@ module _ (world : World ℕ) (conditions : IsWorld nat_eq world) (task : Task �
       → EndsThere (words_walked nat_eq world task follow here list)
   words_there follow goes here is [] = is
   words_there follow goes here is (word ∷ front) = ends_then (λ reached. There reached.location)
-      (λ next. There next.location) (words_walked nat_eq world task follow here front)
-      _ (words_there follow goes here is front) (λ reached end. ends_then (λ next. There next.location)
+      (λ next. There next.location) (words_walked nat_eq world task follow here front) _
+      (words_there follow goes here is front) (λ reached end. ends_then (λ next. There next.location)
       (λ next. There next.location) _ _ (word_ends reached (last_word word)) (λ next found. if_link_there
       next _ found (λ text. goes reached.location next text end) (symlink_text (node_at nat_eq world next.location))))
 
@@ -57,8 +57,8 @@ module _ (world : World ℕ) (conditions : IsWorld nat_eq world) (task : Task �
       (λ directory link text. symlink_walked nat_eq depth world task directory link text)
   symlink_there zero directory link text is = tt
   symlink_there (suc depth) directory link text is = ends_then _ (λ next. There next.location) (walk_unless link.steps
-      (follow_rules nat_eq world link text) (symlink_start nat_eq world task directory link text))
-      _ (ends_unless (λ start. There start.location) link.steps (follow_rules nat_eq world link text)
+      (follow_rules nat_eq world link text) (symlink_start nat_eq world task directory link text)) _
+      (ends_unless (λ start. There start.location) link.steps (follow_rules nat_eq world link text)
       (symlink_start nat_eq world task directory link text) (λ passed. start_there directory text is))
       (λ start start_is. ends_then (λ reached. There reached.location) (λ next. There next.location)
       (words_walked nat_eq world task (λ inside next inner. symlink_walked nat_eq depth world task inside next inner)

@@ -92,8 +92,8 @@ module _ (before after : Tree ℕ) (from : ℕ) (old : List ℕ) (to : ℕ) (new
 
     -- nor does a way to the new name's directory
     way_led : (way : List (List ℕ)) (start : ℕ) → led before start way ≡ Some to → led after start way ≡ Some to
-    way_led way start e = others_led way start (passes_not to new start way (λ first rest is l. stops_there
-        _ refl rest (sym (led_parts before first (new ∷ rest) start to l) ∙ ap (led before start) is ∙ e)))
+    way_led way start e = others_led way start (passes_not to new start way (λ first rest is l. stops_there _
+        refl rest (sym (led_parts before first (new ∷ rest) start to l) ∙ ap (led before start) is ∙ e)))
         ∙ ap (λ b. cond b None (led before start way)) (passes_not from old
         start way (λ first rest is l. not_under rest (sym (ap (option_and_then (λ next. led before next rest)) named)
         ∙ sym (led_parts before first (old ∷ rest) start from l) ∙ ap (led before start) is ∙ e))) ∙ e

@@ -179,8 +179,8 @@ module _ (number_of : Real ℕ → ℕ) (held : ℕ → Option (Real ℕ)) (worl
         by false e = sym (not_shown name e)
 
     entries_are : entries_in (filesystem.files.tree.node number) ≡ entries_shown number_of world overlay path
-    entries_are = same_entries name_cmp nat_list_cmp_total (λ x y e. same_name x y (ap is_eq e))
-        _ (entries_shown number_of world overlay path) (subst T (sym (is.tree.in_order number)) tt) (in_order
+    entries_are = same_entries name_cmp nat_list_cmp_total (λ x y e. same_name x y (ap is_eq e)) _
+        (entries_shown number_of world overlay path) (subst T (sym (is.tree.in_order number)) tt) (in_order
         (λ n. number_shown number_of world overlay (path ++ n ∷ [])) (names_shown layers path) (pairwise_filter
         NameBelow (λ name. is_some (shown layers (path ++ name ∷ []))) (map (λ entry. entry.0) (names_at layers path))
         (names_rise (names_at layers path) (names_sorted (map view_of layers) path))))
@@ -220,8 +220,8 @@ module _ (number_of : Real ℕ → ℕ) (held : ℕ → Option (Real ℕ)) (worl
   pub other_is_held : (number : ℕ) → ((path : List (List ℕ)) → at path ≢ Some number)
       → (filesystem.files.tree.node number ≡ inode_held world overlay held number) × (overlay.real number ≡ held number)
   other_is_held number out = (
-    node_filled number [] number (filesystem.files.tree.node number)
-        _ (subst (λ o. SameObject (filesystem.files.tree.node number) (then_some o (real_node nat_eq world overlay)))
+    node_filled number [] number (filesystem.files.tree.node number) _
+        (subst (λ o. SameObject (filesystem.files.tree.node number) (then_some o (real_node nat_eq world overlay)))
         real (is.merged.real_objects number)) (is.merged.no_mark number)
         (λ d. is.own_parents number d no_name) (λ d. is.tree.unnamed_empty number d no_root no_name),
     real,

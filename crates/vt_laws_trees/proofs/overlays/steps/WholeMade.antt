@@ -309,8 +309,8 @@ make_keeps_shown fresh stack merge d w number node whole stands vacant may white
       upper = with_mark nat_eq b (changed nat_eq merge.upper (Make (upper_of merge d) w (fresh 0)
           (record { attr = node.attr; content = content_with_parent (upper_of merge d) node.content }))) (fresh 0);
     })
-    by false h = later_is_fine stack merge whole d w number node stands may (fresh 0) vacant
-        _ (refl, parent_same _ _ white) (entries_of-content_with_parent _ node.content ∙ new_bare d node may.fits)
+    by false h = later_is_fine stack merge whole d w number node stands may (fresh 0) vacant _
+        (refl, parent_same _ _ white) (entries_of-content_with_parent _ node.content ∙ new_bare d node may.fits)
         white (ap (is_kind White) (kind_of-content_with_parent (upper_of merge d) node.content) ∙ white) (λ shows. h)
     by true h = subst (λ u. IsFine stack (record {
       files = changed nat_eq merge.files (Make d w number node);

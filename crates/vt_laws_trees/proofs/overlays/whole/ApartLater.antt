@@ -532,8 +532,8 @@ module _ {fresh : Fresh ℕ} {world : World ℕ} {location : Location ℕ} {chan
       → flat_map (of_overlay [] layers) (overlays later) ≡ flat_map (of_overlay [] layers) (overlays world)
   layers_same layers ignores = ap (λ w. flat_map (of_overlay [] layers) (overlays w)) later_is ∙ layers_of_all layers
       (map (replaced_if_numbered nat_eq changed_upper) (map (replaced_if_numbered nat_eq changed) world.filesystems))
-      ∙ mapped_same layers (replaced_if_numbered nat_eq changed_upper) _ (second_same layers) ∙ mapped_same layers
-      _ world.filesystems (first_same layers ignores) ∙ sym (layers_of_all layers world.filesystems)
+      ∙ mapped_same layers (replaced_if_numbered nat_eq changed_upper) _ (second_same layers) ∙ mapped_same layers _
+      world.filesystems (first_same layers ignores) ∙ sym (layers_of_all layers world.filesystems)
 
   live_of : (layer : Layer ℕ) → Among layer (live_upper_and_work world) → IsLive layer
   unfolding IsLive

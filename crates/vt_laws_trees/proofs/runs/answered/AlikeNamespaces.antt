@@ -10,8 +10,8 @@ use Rattle.vt_spec.specs.Machine.Tasks.{with_child}
 -- Tasks
 pub without_task_alike : (name : TaskName) (one other : World ℕ) → Alike one other
     → Alike (without_task one name) (without_task other name)
-without_task_alike name one other same = with_tasks_alike one other same _ _ (each_filter SameTask
-    _ _ (λ a b alike. ap (λ task. not (same_name name task.name)) alike) one.tasks other.tasks same.tasks)
+without_task_alike name one other same = with_tasks_alike one other same _ _ (each_filter SameTask _ _
+    (λ a b alike. ap (λ task. not (same_name name task.name)) alike) one.tasks other.tasks same.tasks)
 
 pub with_child_alike : (one other : World ℕ) → Alike one other → (task again child : Task ℕ) (newborn : Task ℕ)
     → SameTask task again → SameTask child newborn → Alike (with_child one task child) (with_child other again newborn)
@@ -21,8 +21,8 @@ with_child_alike one other same task again child newborn alike born = with_tasks
 -- Namespaces
 module _ (one other : World ℕ) (same : Alike one other) where
   has_tasks_same : (a b : Namespace ℕ) → SameNamespace a b → has_tasks nat_eq one a ≡ has_tasks nat_eq other b
-  has_tasks_same a b alike = each_any SameTask (λ task. nat_eq a.number task.namespace)
-      _ (λ task again known. λ i. nat_eq (alike i).number (known i).namespace) one.tasks other.tasks same.tasks
+  has_tasks_same a b alike = each_any SameTask (λ task. nat_eq a.number task.namespace) _
+      (λ task again known. λ i. nat_eq (alike i).number (known i).namespace) one.tasks other.tasks same.tasks
 
   lives_same : (number : ℕ)
       → list_any (λ (namespace : Namespace ℕ). nat_eq number namespace.number && has_tasks nat_eq one namespace)

@@ -101,9 +101,9 @@ module _ (one other : World ℕ) (same : Alike one other) where
   used_permuted a b alike = subst (IsPermutation (used_in nat_eq one a)) (λ i. (alike.files.tree i).root ∷ (flat_map
       (λ directory. targets_in ((alike.files.tree i).node directory)) b.files.numbers ++ located_same a.number b.number
       alike.number i ++ layers_same a.number b.number alike.number i ++ flat_map (objects_of_overlay nat_eq b.number)
-      other.filesystems)) (IsPermutation-cons a.files.tree.root _ _ (IsPermutation-trans _
-      _ _ (IsPermutation-append_left (flat_map (objects_of_overlay nat_eq a.number) one.filesystems)
-      _ _ (IsPermutation-append_left (layers_in nat_eq one a.number) _ _ (IsPermutation-append_left
+      other.filesystems)) (IsPermutation-cons a.files.tree.root _ _ (IsPermutation-trans _ _ _
+      (IsPermutation-append_left (flat_map (objects_of_overlay nat_eq a.number) one.filesystems) _ _
+      (IsPermutation-append_left (layers_in nat_eq one a.number) _ _ (IsPermutation-append_left
       (located_in nat_eq one a.number) _ _ (IsPermutation-flat_map _ a.files.numbers _ alike.files.numbers))))
       (IsPermutation-append_right (flat_map (λ directory. targets_in (a.files.tree.node directory)) b.files.numbers
       ++ located_in nat_eq one a.number ++ layers_in nat_eq one a.number) _ _ (objects_permuted _ _ alike.number))))
@@ -156,9 +156,9 @@ module _ (one other : World ℕ) (same : Alike one other) where
 
 without_dead_inodes_alike : (one other : World ℕ) → Alike one other
     → Alike (without_dead_inodes nat_eq one) (without_dead_inodes nat_eq other)
-without_dead_inodes_alike one other same = without_dead_in_alike (without_dead_in nat_eq is_overlay one)
-    _ (without_dead_in_alike one other same is_overlay (λ first second alike. ap is_some alike.overlay))
-    _ (λ first second alike. ap (λ overlay. not (is_some overlay)) alike.overlay)
+without_dead_inodes_alike one other same = without_dead_in_alike (without_dead_in nat_eq is_overlay one) _
+    (without_dead_in_alike one other same is_overlay (λ first second alike. ap is_some alike.overlay)) _
+    (λ first second alike. ap (λ overlay. not (is_some overlay)) alike.overlay)
 
 pub settled_alike : (one other : World ℕ) → Alike one other → Alike (settled nat_eq one) (settled nat_eq other)
 settled_alike one other same = without_dead_groups_alike _ _ (without_dead_inodes_alike _ _

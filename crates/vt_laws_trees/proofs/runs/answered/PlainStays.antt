@@ -37,8 +37,8 @@ pub permit_plain : (fresh : Fresh ℕ) (world : World ℕ) (task : Task ℕ) (pe
 permit_plain fresh world task (ToChange location change) plain other = change_plain fresh world plain location change
 permit_plain fresh world task (ToMake directory name node) plain other =
     change_plain (odds fresh) world plain directory _
-permit_plain fresh world task (ToRemoveDirectory parent name directory) plain other = change_plain fresh
-    _ (same_plain world (without_mounts_on nat_eq world directory) (filesystems-taken_away world _) plain) parent _
+permit_plain fresh world task (ToRemoveDirectory parent name directory) plain other = change_plain fresh _
+    (same_plain world (without_mounts_on nat_eq world directory) (filesystems-taken_away world _) plain) parent _
 permit_plain fresh world task (ToRename from old to new object replaced) plain other =
     change_plain fresh (without_replaced nat_eq world replaced)
     (same_plain world (without_replaced nat_eq world replaced) (filesystems-without_replaced world replaced) plain)

@@ -26,8 +26,8 @@ use Rattle.vt_spec.specs.Machine.Run.{text_of}
 goes_on_alike : (renaming : Renaming ℕ ℕ) (left next reached there : World ℕ) → SameWorlds left next
     → renamed renaming.there renaming.back left ≡ reached → Alike there reached
     → Alike there (renamed renaming.there renaming.back next)
-goes_on_alike renaming left next reached there same leads alike = alike_onward there reached
-    _ alike (alike_from_same reached _ (subst (λ world. SameWorlds world (renamed renaming.there renaming.back next))
+goes_on_alike renaming left next reached there same leads alike = alike_onward there reached _
+    alike (alike_from_same reached _ (subst (λ world. SameWorlds world (renamed renaming.there renaming.back next))
     leads (same_renamed renaming left next same)))
 
 -- the opening world
@@ -37,7 +37,8 @@ unfolding named_supply
 opening_renamed renaming fresh =
     commutes_nat Fresh World named_supply named_world (λ A eq supply. opening eq supply) renaming fresh
 
--- what of the policy's worlds is left by each line that is asked, and has what is copied up alike in worlds that are alike
+-- what of the policy's worlds is left by each line that is asked, and has what is copied up alike in worlds that are
+-- alike
 pub record StaysOverLines (grammar : Grammar) (Asks : List ℕ → Type 0) (Is : World ℕ → Type 0) : Type 0 where
   pub first : Is first_world
   pub named : (world : World ℕ) → Is world → LowerObjectsHaveOneName nat_eq world

@@ -145,8 +145,8 @@ module _ (number : ℕ) where
         merged_in : (overlay : Overlay ℕ) (upper : Option (Layer ℕ))
             → Is (overlay_changed nat_eq fresh world at overlay upper change).filesystems
         merged_in overlay None = h
-        merged_in overlay (Some upper) = replaced_root _ (λ same. roots.1 ∙ its_root world upper.filesystem h same)
-            _ (replaced_root new (λ same. roots.0 ∙ its_root world shown h same) world.filesystems h)
+        merged_in overlay (Some upper) = replaced_root _ (λ same. roots.1 ∙ its_root world upper.filesystem h same) _
+            (replaced_root new (λ same. roots.0 ∙ its_root world shown h same) world.filesystems h)
           where
             below : Filesystem ℕ
             below = filesystem_numbered nat_eq world upper.filesystem
