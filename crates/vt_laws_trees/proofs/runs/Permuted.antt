@@ -32,9 +32,8 @@ module _ {X : Type 0} (R : List X → List X → Type 0) (same : (xs : List X) �
 
 pub IsPermutation-flat_map : {A B : Type 0} (f : A → List B) (xs ys : List A) → IsPermutation xs ys
     → IsPermutation (flat_map f xs) (flat_map f ys)
-IsPermutation-flat_map f = along_permutation (λ xs ys. IsPermutation (flat_map f xs) (flat_map f ys))
-    (λ xs. IsPermutation-refl _) (λ x xs ys h. IsPermutation-append_right (f x) _ _ h)
-    (λ x y xs. rw (← append_assoc (f x), ← append_assoc (f y))
+IsPermutation-flat_map f = along_permutation _ (λ xs. IsPermutation-refl _)
+    (λ x xs ys h. IsPermutation-append_right (f x) _ _ h) (λ x y xs. rw (← append_assoc (f x), ← append_assoc (f y))
     (IsPermutation-append_left (flat_map f xs) _ _ (IsPermutation-append_comm (f x) (f y))))
     (λ xs ys zs. IsPermutation-trans _ _ _)
 
@@ -54,6 +53,5 @@ and_swapped false false c = refl
 
 pub list_all-IsPermutation : {A : Type 0} (p : A → Bool) (xs ys : List A) → IsPermutation xs ys
     → list_all p xs ≡ list_all p ys
-list_all-IsPermutation p = along_permutation (λ xs ys. list_all p xs ≡ list_all p ys) (λ xs. refl)
-    (λ x xs ys h. ap (λ b. p x && b) h) (λ x y xs. and_swapped (p x) (p y) (list_all p xs))
-    (λ xs ys zs first second. cc)
+list_all-IsPermutation p = along_permutation _ (λ xs. refl) (λ x xs ys h. ap (λ b. p x && b) h)
+    (λ x y xs. and_swapped (p x) (p y) (list_all p xs)) (λ xs ys zs first second. cc)

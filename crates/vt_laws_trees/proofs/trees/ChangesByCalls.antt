@@ -1,6 +1,6 @@
 -- Every call but the mount of an overlay leaves a world of trees.
 use Rattle.std.proofs.Common.{arith, eqb-true, ◌≡◌, refl, sym, ap, subst, true≢false, ℕ, nat_eq, eq-eqb, Bool, true, false, not, cond, List, [], ◌∷◌, ◌++◌, Option, Some, None, is_some, ok_or, inl, inr, ◌*◌, unwrap_or, All}
-use Rattle.vt_spec.proofs.Common.{Access, All-append, All-cons, All-filter, All-map, All-nil, All-weaker, Call, Change, CopyUp, Filesystem, Fresh, Here, IsNewIn, Location, Mount, Node, NoneFails, Outcome, Permit, Place, SetBytes, SetMark, Task, TaskName, ToMountPlain, ToOpen, World, apply, call_outcome, common_steps, denial, entries_in, entries_in-no_directory, evens, file_mode, files_at, filesystem_lives, filesystems-taken_away, filesystems_raised, finished_by, first_mount, is_copied_up, is_directory_at, is_directory_node, is_directory_there, is_overlay, is_special, linking, looks_of, making, mount_in, moving, new_directory, new_file, new_name_rules, new_plain, nil_from_not_some, no_filesystem, no_mount, node_at, none_is_not, object_there, odds, only_used, open_new_permit, opening, or_false_left, overfills, parent_in, plain_filesystem, pwritten, removing, root_attr, root_of, settled, special_word, symlink_walk, taken_away, task_called, with_change, with_copy, with_new, without_dead_filesystems, without_dead_in, without_dead_mounts, without_replaced}
+use Rattle.vt_spec.proofs.Common.{Access, All-append, All-cons, All-filter, All-map, All-nil, All-weaker, Call, Change, CopyUp, Filesystem, Fresh, IsNewIn, Location, Mount, Node, NoneFails, Outcome, Permit, Place, SetBytes, SetMark, Task, TaskName, ToOpen, World, apply, call_outcome, common_steps, denial, entries_in-no_directory, evens, files_at, filesystems-taken_away, finished_by, first_mount, is_copied_up, is_directory_at, is_directory_node, is_overlay, is_special, linking, looks_of, making, mount_in, moving, new_directory, new_file, new_name_rules, new_plain, nil_from_not_some, no_filesystem, no_mount, node_at, none_is_not, object_there, odds, only_used, open_new_permit, opening, or_false_left, overfills, parent_in, plain_filesystem, pwritten, removing, root_attr, root_of, settled, special_word, taken_away, task_called, with_change, with_copy, with_new, without_dead_filesystems, without_dead_in, without_dead_mounts, without_replaced}
 use Rattle.vt_spec.specs.declared.errors.Rule.TheVariants.{S2}
 use Rattle.vt_spec.specs.Machine.World.{new_tree}
 use Rattle.vt_spec.proofs.Trees.{is_tree-tree_of_root}
@@ -43,9 +43,8 @@ pub more_filesystems : (world after_call : World ℕ) (filesystem : Filesystem �
 more_filesystems world after_call filesystem same plain tree conditions = record {
   plain = subst (All (λ f. is_overlay f ≡ false)) (sym same)
       (new_is_plain world filesystem plain conditions.plain);
-  trees = subst (All (λ f. IsFileTree f.files)) (sym same)
-      (All-append (λ f. IsFileTree f.files) world.filesystems (filesystem ∷ []) conditions.trees
-      (All-cons (λ f. IsFileTree f.files) filesystem [] tree (All-nil (λ f. IsFileTree f.files))));
+  trees = subst (All (λ f. IsFileTree f.files)) (sym same) (All-append (λ f. IsFileTree f.files) world.filesystems
+      (filesystem ∷ []) conditions.trees (All-cons (λ f. IsFileTree f.files) filesystem [] tree (All-nil _)));
 }
 
 -- What nothing uses goes
@@ -56,18 +55,15 @@ used_plain world chosen filesystem plain = grind (arith, common_steps)
 pub without_dead_plain : (chosen : Filesystem ℕ → Bool) (world : World ℕ)
     → All (λ f. is_overlay f ≡ false) world.filesystems
     → All (λ f. is_overlay f ≡ false) (without_dead_in nat_eq chosen world).filesystems
-without_dead_plain chosen world plain =
-    All-map (λ f. is_overlay f ≡ false) (λ f. only_used nat_eq world (chosen f) f) world.filesystems
-    (All-weaker (λ f. is_overlay f ≡ false) (λ f. is_overlay (only_used nat_eq world (chosen f) f) ≡ false)
-    (λ f is. used_plain world (chosen f) f is) world.filesystems plain)
+without_dead_plain chosen world plain = All-map (λ f. is_overlay f ≡ false) _ world.filesystems (All-weaker _
+    (λ f. is_overlay (only_used nat_eq world (chosen f) f) ≡ false) (λ f is. used_plain world (chosen f) f is) _ plain)
 
 pub settled_plain : (world : World ℕ) → IsPlain world → IsPlain (settled nat_eq world)
 settled_plain world plain =
     let mounted_world = without_dead_mounts nat_eq world in
     let living = without_dead_filesystems nat_eq mounted_world in
     without_dead_plain (λ f. not (is_overlay f)) (without_dead_in nat_eq is_overlay living)
-    (without_dead_plain is_overlay living
-    (All-filter (filesystem_lives nat_eq mounted_world) (λ f. is_overlay f ≡ false) world.filesystems plain))
+    (without_dead_plain is_overlay living (All-filter _ (λ f. is_overlay f ≡ false) world.filesystems plain))
 
 pub settled_keeps : (world : World ℕ) → IsWorldOfTrees world → IsWorldOfTrees (settled nat_eq world)
 settled_keeps world conditions = record {
@@ -124,9 +120,7 @@ module _ (fresh : Fresh ℕ) (world : World ℕ) (task : Task ℕ) (conditions :
   -- open(2)
   opened_keeps : (file : Location ℕ) (access : Access)
       → IsWorldOfTrees (apply nat_eq fresh world task (ToOpen file access)).world
-  opened_keeps file access = same_filesystems (apply nat_eq fresh world task (ToOpen file access)).world
-      (with_copy nat_eq (is_copied_up nat_eq world file access) fresh world file) refl
-      (by (is_copied_up nat_eq world file access))
+  opened_keeps file access = same_filesystems _ _ refl (by (is_copied_up nat_eq world file access))
     where
       by : (b : Bool) → IsWorldOfTrees (with_copy nat_eq b fresh world file)
       by true = change_keeps_world fresh world file (CopyUp file.node) conditions (λ trees. tt)
@@ -135,9 +129,7 @@ module _ (fresh : Fresh ℕ) (world : World ℕ) (task : Task ℕ) (conditions :
   created_keeps : (place : Place ℕ) (access : Access) (mode : ℕ)
       → IsWorldOfTrees (with_new nat_eq fresh world place (new_file task mode []))
       → IsWorldOfTrees (apply nat_eq fresh world task (open_new_permit task place access mode)).world
-  created_keeps place access mode =
-      same_filesystems (apply nat_eq fresh world task (open_new_permit task place access mode)).world
-      (with_new nat_eq fresh world place (new_file task mode [])) refl
+  created_keeps place access mode = same_filesystems _ (with_new nat_eq fresh world place (new_file task mode [])) refl
 
   granted_keeps : (call : Call) (permit : Permit ℕ) → mounts_overlay call ≡ false
       → IsGranted nat_eq (looks_of nat_eq world) (overfills nat_eq fresh world task) task call permit
@@ -145,8 +137,7 @@ module _ (fresh : Fresh ℕ) (world : World ℕ) (task : Task ℕ) (conditions :
   granted_keeps call permit other (overwrites_file path bytes place file end named there passed) = bytes_keep file bytes
   granted_keeps call permit other (writes_new_file path bytes place end named missing fits passed) =
       let is = file_is world task path place end in
-      new_keeps place (new_file task file_mode bytes) (inr refl) is.0.0
-      (or_false_left (is_special place.last) place.slash named.0) (ap is_some missing) is.0.1
+      new_keeps place _ (inr refl) is.0.0 (or_false_left _ place.slash named.0) (ap is_some missing) is.0.1
   granted_keeps call permit other (makes_directory path mode place end passed) =
       new_place_keeps place (directory_made task place mode) (inl refl) (new_is world task path place end).0 passed.0
       passed.1.0
@@ -157,26 +148,21 @@ module _ (fresh : Fresh ℕ) (world : World ℕ) (task : Task ℕ) (conditions :
       new_place_keeps place (whiteout_made task) (inr refl) (new_leaf_is world task path place end).0 passed.0
       passed.1.0
   granted_keeps call permit other (makes_hard_link old new from place from_end end named passed) =
-      let there : is_some (node_at nat_eq world from.location) ≡ true =
-      at_end (λ (here : Here ℕ). is_some (node_at nat_eq world here.location) ≡ true)
-      (symlink_walk nat_eq (looks_of nat_eq world) task old) from
+      let there : is_some (node_at nat_eq world from.location) ≡ true = at_end _ _ from
       (ends_link_walk world (λ k default short. (conditions.trees k default short).tree) standing task old) from_end in
       change_keeps_world fresh world place.parent (linking from.location place) conditions
       (may_link world task from.location place there (new_leaf_is world task new place end).0 named.0 passed)
   granted_keeps call permit other (unlinks path place end named passed) =
       let is = old_leaf_is world task path place end in
-      change_keeps_world fresh world place.parent (removing place (object_there place)) conditions (λ trees.
-      old_removable world place named.0 is.0 is.1
-      (entries_in-no_directory (node_at nat_eq world (object_there place)) passed.0))
+      change_keeps_world fresh world place.parent (removing place (object_there place))
+      conditions (λ trees. old_removable world place named.0 is.0 is.1 (entries_in-no_directory _ passed.0))
   granted_keeps call permit other (removes_directory path place end word passed) =
       let is = old_is world task path place end in
-      change_after_keeps _ place.parent (removing place (object_there place)) (λ trees.
-      old_removable world place (special_word place.last word.0 word.1.0 word.1.1.0) is.0 is.1
-      (nil_from_not_some (entries_in (node_at nat_eq world (object_there place))) passed.1.0))
+      change_after_keeps _ place.parent (removing place (object_there place)) (λ trees. old_removable
+      world place (special_word place.last word.0 word.1.0 word.1.1.0) is.0 is.1 (nil_from_not_some _ passed.1.0))
   granted_keeps call permit other (renames old new from to names another passed) =
       let is = old_leaf_is world task old from names.from_end in
-      let to_is = rename_new_is world task new (is_directory_there nat_eq (looks_of nat_eq world) from) to
-      names.to_end in
+      let to_is = rename_new_is world task new _ to names.to_end in
       replaced_after to.object from.parent (moving from to (object_there from)) (λ trees.
       may_move world task from to names.from_named.0 is.0 is.1 names.to_named.0 to_is.0.0 to_is.0.1 another passed
       trees)
@@ -193,14 +179,12 @@ module _ (fresh : Fresh ℕ) (world : World ℕ) (task : Task ℕ) (conditions :
       let is = file_is world task path place end in
       created_keeps place access mode (new_keeps place (new_file task mode []) (inr refl) is.0.0
       (or_false_left (is_special place.last) place.slash named.0) (ap is_some missing) is.0.1)
-  granted_keeps call permit other (creates_exclusively path access mode place room end named passed) =
-      created_keeps place access mode (new_place_keeps place (new_file task mode []) (inr refl)
-      (new_is world task path place end).0 named.0 named.1.1.0)
+  granted_keeps call permit other (creates_exclusively path access mode place room end named passed) = created_keeps
+      place access mode (new_place_keeps place _ (inr refl) (new_is world task path place end).0 named.0 named.1.1.0)
   granted_keeps call permit other (writes_part number offset bytes descriptor found passed) =
       written_keeps descriptor.location offset bytes
   granted_keeps call permit other (mounts_tmpfs path flags here admin end passed) =
-      more_filesystems world (apply nat_eq fresh world task (ToMountPlain here.location flags)).world
-      (plain_filesystem nat_eq fresh) refl refl (new_tree_is (evens fresh 1)) conditions
+      more_filesystems world _ (plain_filesystem nat_eq fresh) refl refl (new_tree_is (evens fresh 1)) conditions
   granted_keeps call permit other (mounts_overlayfs path words flags here layers admin end walked layered passed) =
       absurd (true≢false other)
   granted_keeps call permit other granted =
@@ -215,10 +199,8 @@ module _ (fresh : Fresh ℕ) (world : World ℕ) (task : Task ℕ) (conditions :
 finished_keeps : (before : World ℕ) (name : TaskName) (changed : List ℕ) (outcome : Outcome ℕ) (b : Bool)
     → IsWorldOfTrees outcome.world → IsWorldOfTrees (finished_by nat_eq b before name changed outcome).world
 finished_keeps before name changed outcome true conditions = conditions
-finished_keeps before name changed outcome false conditions =
-    same_filesystems (finished_by nat_eq false before name changed outcome).world
-    (filesystems_raised nat_eq changed (settled nat_eq outcome.world)) refl
-    (raised_keeps_world changed (settled nat_eq outcome.world) (settled_keeps outcome.world conditions))
+finished_keeps before name changed outcome false conditions = same_filesystems _ _
+    refl (raised_keeps_world changed (settled nat_eq outcome.world) (settled_keeps outcome.world conditions))
 
 pub calls_keep_trees : CallsKeepTrees
 calls_keep_trees world fresh name call conditions standing new other =
@@ -230,15 +212,13 @@ calls_keep_trees world fresh name call conditions standing new other =
 pub opening_has_trees : OpeningHasTrees
 opening_has_trees fresh = (
   record {
-    plain = All-cons (λ f. is_overlay f ≡ false) (new_plain nat_eq (fresh 2) (fresh 3)) [] refl
-        (All-nil (λ f. is_overlay f ≡ false));
+    plain = All-cons (λ f. is_overlay f ≡ false) (new_plain nat_eq (fresh 2) (fresh 3)) [] refl (All-nil _);
     trees = All-cons (λ f. IsFileTree f.files) (new_plain nat_eq (fresh 2) (fresh 3)) [] (new_tree_is (fresh 3))
         (All-nil (λ f. IsFileTree f.files));
   },
   record {
     roots = All-cons HasRoot (first_mount nat_eq fresh) [] root_there (All-nil HasRoot);
-    places = All-cons HasPlace (first_mount nat_eq fresh) [] (λ place e. none_is_not None place refl e)
-        (All-nil HasPlace);
+    places = All-cons HasPlace (first_mount nat_eq fresh) [] (λ place e. none_is_not None place refl e) (All-nil _);
   },
 )
   where

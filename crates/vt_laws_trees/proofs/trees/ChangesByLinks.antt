@@ -20,8 +20,7 @@ module _ (world : World ℕ) (task : Task ℕ) (old : Location ℕ) (place : Pla
   pub may_link : IsFileTree (files_at nat_eq world place.parent)
       → MayAddName (files_at nat_eq world place.parent).tree place.parent.node (name_of place.last) old.node
   may_link trees = record {
-    name_is_free = place_is_free world place
-        (place_is_file world place.parent place.last place.object is.0) plain passed.0 is.1 trees;
+    name_is_free = place_is_free world place (place_is_file world _ place.last _ is.0) plain passed.0 is.1 trees;
     is_there = cc (same_node);
     no_directory = cc (same_node, passed.1.0);
   }

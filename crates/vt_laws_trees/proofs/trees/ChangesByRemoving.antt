@@ -1,5 +1,5 @@
 -- What is removed and renamed may be.
-use Rattle.std.proofs.Common.{arith, eqb-true, ◌≡◌, ◌≢◌, refl, sym, ap, subst, ◌∙◌, true≢false, ℕ, nat_eq, eq-eqb, Bool, true, false, not, List, [], ◌∷◌, ◌&&◌, Option, Some, None, is_some, option_map, unwrap_or}
+use Rattle.std.proofs.Common.{arith, eqb-true, ◌≡◌, ◌≢◌, refl, sym, ap, subst, ◌∙◌, true≢false, ℕ, nat_eq, eq-eqb, Bool, true, false, not, List, [], ◌∷◌, ◌&&◌, Option, Some, None, is_some, option_map}
 use Rattle.vt_spec.proofs.Common.{FileTree, IsDirectory, IsReached, IsTree, Location, NoneFails, Place, Task, World, and_from, common_steps, directory_from_entry, entries_in, entries_in-no_directory, entry_at, entry_named, files_at, found, holds_of, is_directory_at, is_directory_node, is_directory_under, is_removed_at, is_special, led, mount_at, name_of, new_name_rules, nil_from_not_some, node_at, none_is_not, not-false, object_there, same_Some}
 use Rattle.vt_spec.proofs.Tables.{is_nonempty, is_one_object, rename_rules, same_filesystem}
 use Rattle.vt_spec.proofs.Walk.{entry_location}
@@ -34,16 +34,11 @@ module _ (world : World ℕ) (place : Place ℕ) (plain : is_special place.last 
   object = object_there place
 
   object_is : place.object ≡ Some object
-  object_is = by place.object there
-    where
-      by : (o : Option (Location ℕ)) → is_some o ≡ true → o ≡ Some (unwrap_or o place.parent)
-      by None e = absurd (true≢false (sym e))
-      by (Some l) e = refl
+  object_is = grind (arith, common_steps, true≢false)
 
   old_named : (object.mount ≡ place.parent.mount)
       × (entry_at (files_at nat_eq world place.parent).tree place.parent.node (name_of place.last) ≡ Some object.node)
-  old_named = named_by world place.parent (name_of place.last) object
-      (sym object_is ∙ (place_named world place.parent place.last place.object plain is).1)
+  old_named = named_by world place.parent _ object (sym object_is ∙ (place_named world _ place.last _ plain is).1)
 
   -- it is seen in the tree of its directory
   old_node : node_at nat_eq world object ≡ (files_at nat_eq world place.parent).tree.node object.node
@@ -71,8 +66,7 @@ module _ (world : World ℕ) (task : Task ℕ) (from to : Place ℕ)
   old_is = old_named world from from_plain from_is from_there
 
   one_mount : from.parent.mount ≡ to.parent.mount
-  one_mount = eqb-true from.parent.mount to.parent.mount
-      (not-false (nat_eq from.parent.mount to.parent.mount) passed.1.1.1.1.1.1.1.1.0)
+  one_mount = eqb-true from.parent.mount to.parent.mount (not-false _ passed.1.1.1.1.1.1.1.1.0)
 
   to_files : files_at nat_eq world to.parent ≡ files
   to_files = ap (shown world) (sym one_mount)
@@ -87,17 +81,15 @@ module _ (world : World ℕ) (task : Task ℕ) (from to : Place ℕ)
   -- what has the new name
   new_object : (number : ℕ) → entry_at files.tree to.parent.node (name_of to.last) ≡ Some number
       → to.object ≡ Some (record { mount = to.parent.mount; node = number })
-  new_object number entry = to_named.1 ∙ ap (option_map (λ object. record { mount = to.parent.mount; node = object }))
-      (ap (λ (f : FileTree ℕ). entry_at f.tree to.parent.node (name_of to.last)) to_files ∙ entry)
+  new_object number entry = cc (to_named.1, to_files, entry)
 
   to_reached : IsReached files.tree to.parent.node
   to_reached = by to.object refl
     where
       by : (o : Option (Location ℕ)) → to.object ≡ o → IsReached files.tree to.parent.node
-      by None e = subst (λ (f : FileTree ℕ). IsReached f.tree to.parent.node) to_files
-          (not_removed_reached (files_at nat_eq world to.parent).tree
-          (subst (λ (f : FileTree ℕ). IsTree f.tree) (sym to_files) trees.tree) to.parent.node to_named.0
-          (ap (λ o. not (is_some o) && is_removed_at nat_eq world to.parent) (sym e) ∙ to_new.0))
+      by None e = subst (λ (f : FileTree ℕ). IsReached f.tree to.parent.node) to_files (not_removed_reached
+          (files_at nat_eq world to.parent).tree (subst (λ (f : FileTree ℕ). IsTree f.tree) (sym to_files) trees.tree) _
+          to_named.0 (ap (λ o. not (is_some o) && is_removed_at nat_eq world to.parent) (sym e) ∙ to_new.0))
       by (Some object) e =
           let named = named_by world to.parent (name_of to.last) object (sym e ∙ to_named.1) in
           filled_reached files.tree trees.tree to.parent.node to_directory (name_of to.last) object.node
@@ -111,12 +103,10 @@ module _ (world : World ℕ) (task : Task ℕ) (from to : Place ℕ)
   moves_not_under names e = by (is_directory_at nat_eq world old) refl
     where
       same : same_filesystem nat_eq world old to.parent ≡ true
-      same = eq-eqb _ _ (ap (λ m. (mount_at nat_eq world (record { mount = m; node = 0 })).filesystem)
-          (old_is.0 ∙ one_mount))
+      same = eq-eqb _ _ (cc (old_is.0, one_mount))
 
       under : is_directory_under nat_eq (files_at nat_eq world old) old.node to.parent.node ≡ true
-      under = ap (λ m. is_directory_under nat_eq (shown world m) old.node to.parent.node) old_is.0
-          ∙ under_seen files trees to.parent.node to_directory to_reached old.node names e
+      under = cc (old_is.0, under_seen files trees to.parent.node to_directory to_reached old.node names e)
 
       start_directory : (list : List (List ℕ)) → led files.tree old.node list ≡ Some to.parent.node
           → IsDirectory files.tree old.node
@@ -146,13 +136,10 @@ module _ (world : World ℕ) (task : Task ℕ) (from to : Place ℕ)
       seen = ap (λ (f : FileTree ℕ). f.tree.node number) to_files
 
       by : (b : Bool) → is_directory_at nat_eq world old ≡ b → entries_in (files.tree.node number) ≡ []
-      by true is = ap entries_in (sym seen)
-          ∙ nil_from_not_some (entries_in (node_at nat_eq world (record { mount = to.parent.mount; node = number })))
-          (ap (λ b. b && is_nonempty nat_eq world (record { mount = to.parent.mount; node = number })) (sym is)
-          ∙ ap (λ o. is_directory_at nat_eq world old && holds_of (is_nonempty nat_eq world) o) (sym here)
-          ∙ passed.1.1.0)
-      by false is = ap entries_in (sym seen)
-          ∙ entries_in-no_directory (node_at nat_eq world (record { mount = to.parent.mount; node = number }))
+      by true is = ap entries_in (sym seen) ∙ nil_from_not_some _
+          (ap (λ b. b && is_nonempty nat_eq world (record { mount = to.parent.mount; node = number })) (sym is) ∙ ap
+          (λ o. is_directory_at nat_eq world old && holds_of (is_nonempty nat_eq world) o) (sym here) ∙ passed.1.1.0)
+      by false is = ap entries_in (sym seen) ∙ entries_in-no_directory _
           (ap (λ b. not b && is_directory_at nat_eq world (record { mount = to.parent.mount; node = number })) (sym is)
           ∙ ap (λ o. not (is_directory_at nat_eq world old) && holds_of (is_directory_at nat_eq world) o) (sym here)
           ∙ passed.0)

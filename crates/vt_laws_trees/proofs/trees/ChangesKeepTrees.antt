@@ -82,49 +82,36 @@ module _ (files : FileTree ℕ) {directory : ℕ} {name : List ℕ} {number : �
 pub changes_keep_trees : ChangesKeepTrees
 changes_keep_trees files (Make directory name number node) conditions may = made_is_tree files conditions may
 changes_keep_trees files (AddName directory name object) conditions may =
-    is_tree-rearranged files.tree (changed nat_eq files
-    (AddName directory name object)).tree.node Nobody Nowhere conditions (linked_rearranged files conditions may)
+    is_tree-rearranged files.tree _ Nobody Nowhere conditions (linked_rearranged files conditions may)
 changes_keep_trees files (Remove directory name object) conditions may =
-    is_tree-rearranged files.tree (changed nat_eq files (Remove directory name object)).tree.node _ Nowhere conditions
-    (removed_rearranged files conditions may)
-changes_keep_trees files (Move from old to new object) conditions may =
-    subst IsTree (moved_alike files conditions may)
-    (is_tree-rearranged files.tree (changed nat_eq files (Move from old to new object)).tree.node _ _ conditions
-    (moved_rearranged files conditions may))
-changes_keep_trees files (SetBytes file bytes) conditions may =
-    is_tree-rearranged files.tree (changed nat_eq files (SetBytes file bytes)).tree.node Nobody Nowhere conditions
-    (still_rearranged files file (node_with_bytes bytes) (bytes_keep_place bytes) conditions)
-changes_keep_trees files (SetAttr object attr) conditions may =
-    is_tree-rearranged files.tree (changed nat_eq files (SetAttr object attr)).tree.node Nobody Nowhere conditions
-    (still_rearranged files object (node_with_attr attr) (attr_keeps_place attr) conditions)
-changes_keep_trees files (SetMark directory opaque) conditions may =
-    is_tree-rearranged files.tree (changed nat_eq files (SetMark directory opaque)).tree.node Nobody Nowhere conditions
-    (still_rearranged files directory (node_with_mark opaque) (mark_keeps_place opaque) conditions)
+    is_tree-rearranged files.tree _ _ Nowhere conditions (removed_rearranged files conditions may)
+changes_keep_trees files (Move from old to new object) conditions may = subst IsTree (moved_alike files conditions may)
+    (is_tree-rearranged files.tree _ _ _ conditions (moved_rearranged files conditions may))
+changes_keep_trees files (SetBytes file bytes) conditions may = is_tree-rearranged files.tree _
+    Nobody Nowhere conditions (still_rearranged files file (node_with_bytes bytes) (bytes_keep_place bytes) conditions)
+changes_keep_trees files (SetAttr object attr) conditions may = is_tree-rearranged files.tree _
+    Nobody Nowhere conditions (still_rearranged files object (node_with_attr attr) (attr_keeps_place attr) conditions)
+changes_keep_trees files (SetMark directory opaque) conditions may = is_tree-rearranged files.tree _ Nobody
+    Nowhere conditions (still_rearranged files directory (node_with_mark opaque) (mark_keeps_place opaque) conditions)
 changes_keep_trees files (CopyUp object) conditions may = conditions
 
 -- parents of what has no name
 pub changes_keep_own_parents : ChangesKeepOwnParents
 changes_keep_own_parents files (Make directory name number node) conditions own may =
     made_own_parents files conditions may own
-changes_keep_own_parents files (AddName directory name object) conditions own may = own_parent-rearranged files.tree
-    (changed nat_eq files (AddName directory name object)).tree.node Nobody Nowhere conditions
-    (linked_rearranged files conditions may) own
-changes_keep_own_parents files (Remove directory name object) conditions own may = own_parent-rearranged files.tree
-    (changed nat_eq files (Remove directory name object)).tree.node _ Nowhere conditions
-    (removed_rearranged files conditions may) own
+changes_keep_own_parents files (AddName directory name object) conditions own may =
+    own_parent-rearranged files.tree _ Nobody Nowhere conditions (linked_rearranged files conditions may) own
+changes_keep_own_parents files (Remove directory name object) conditions own may =
+    own_parent-rearranged files.tree _ _ Nowhere conditions (removed_rearranged files conditions may) own
 changes_keep_own_parents files (Move from old to new object) conditions own may =
     subst HasOwnParents (moved_alike files conditions may)
-    (own_parent-rearranged files.tree (changed nat_eq files (Move from old to new object)).tree.node _ _ conditions
-    (moved_rearranged files conditions may) own)
-changes_keep_own_parents files (SetBytes file bytes) conditions own may =
-    own_parent-rearranged files.tree (changed nat_eq files (SetBytes file bytes)).tree.node Nobody Nowhere conditions
-    (still_rearranged files file (node_with_bytes bytes) (bytes_keep_place bytes) conditions) own
-changes_keep_own_parents files (SetAttr object attr) conditions own may =
-    own_parent-rearranged files.tree (changed nat_eq files (SetAttr object attr)).tree.node Nobody Nowhere conditions
-    (still_rearranged files object (node_with_attr attr) (attr_keeps_place attr) conditions) own
-changes_keep_own_parents files (SetMark directory opaque) conditions own may = own_parent-rearranged files.tree
-    (changed nat_eq files (SetMark directory opaque)).tree.node Nobody Nowhere conditions
-    (still_rearranged files directory (node_with_mark opaque) (mark_keeps_place opaque) conditions) own
+    (own_parent-rearranged files.tree _ _ _ conditions (moved_rearranged files conditions may) own)
+changes_keep_own_parents files (SetBytes file bytes) conditions own may = own_parent-rearranged files.tree _ Nobody
+    Nowhere conditions (still_rearranged files file (node_with_bytes bytes) (bytes_keep_place bytes) conditions) own
+changes_keep_own_parents files (SetAttr object attr) conditions own may = own_parent-rearranged files.tree _ Nobody
+    Nowhere conditions (still_rearranged files object (node_with_attr attr) (attr_keeps_place attr) conditions) own
+changes_keep_own_parents files (SetMark directory opaque) conditions own may = own_parent-rearranged files.tree _ Nobody
+    Nowhere conditions (still_rearranged files _ (node_with_mark opaque) (mark_keeps_place opaque) conditions) own
 changes_keep_own_parents files (CopyUp object) conditions own may = own
 
 -- numbers: a change of one inode neither makes nor takes away an inode
@@ -136,8 +123,7 @@ numbers_stay files number change same lists k = lists k ∙ sym (part_stays file
 pub numbers_unparented : (files : FileTree ℕ) (o : Option ℕ) → ListsNumbers nat_eq files
     → ListsNumbers nat_eq (without_parent nat_eq files o)
 numbers_unparented files None lists = lists
-numbers_unparented files (Some object) lists =
-    numbers_stay files object (node_with_parent object) (is_some-node_with_parent object) lists
+numbers_unparented files (Some object) lists = numbers_stay files object _ (is_some-node_with_parent object) lists
 
 pub numbers_with_inode : (files : FileTree ℕ) (number : ℕ) (node : Node ℕ) → ListsNumbers nat_eq files
     → ListsNumbers nat_eq (with_inode nat_eq files number node)
@@ -148,9 +134,8 @@ numbers_with_inode files number node lists k = by (nat_eq k number)
     by false = lists k
 
 pub changes_keep_numbers : ChangesKeepNumbers
-changes_keep_numbers files (Make directory name number node) lists =
-    numbers_stay (with_inode nat_eq files number node) directory (node_with_entry name number)
-    (is_some-node_with_entry name number) (numbers_with_inode files number node lists)
+changes_keep_numbers files (Make directory name number node) lists = numbers_stay (with_inode nat_eq files number node)
+    directory _ (is_some-node_with_entry name number) (numbers_with_inode files number node lists)
 changes_keep_numbers files (AddName directory name object) lists =
     numbers_stay files directory (node_with_entry name object) (is_some-node_with_entry name object) lists
 changes_keep_numbers files (Remove directory name object) lists =
@@ -160,11 +145,9 @@ changes_keep_numbers files (Move from old to new object) lists =
     let unparented = without_parent nat_eq files (entry_at files.tree to new) in
     let untaken = without_name nat_eq unparented from old in
     numbers_stay (with_name nat_eq untaken to new object) object (node_with_parent to) (is_some-node_with_parent to)
-    (numbers_stay untaken to (node_with_entry new object) (is_some-node_with_entry new object)
-    (numbers_stay unparented from (node_without_entry old) (is_some-node_without_entry old)
-    (numbers_unparented files (entry_at files.tree to new) lists)))
-changes_keep_numbers files (SetBytes file bytes) lists =
-    numbers_stay files file (node_with_bytes bytes) (is_some-node_with_bytes bytes) lists
+    (numbers_stay untaken to (node_with_entry new object) (is_some-node_with_entry new object) (numbers_stay unparented
+    from _ (is_some-node_without_entry old) (numbers_unparented files (entry_at files.tree to new) lists)))
+changes_keep_numbers files (SetBytes file bytes) lists = numbers_stay files file _ (is_some-node_with_bytes bytes) lists
 changes_keep_numbers files (SetAttr object attr) lists =
     numbers_stay files object (node_with_attr attr) ((attr_keeps_place attr).used) lists
 changes_keep_numbers files (SetMark directory opaque) lists =

@@ -19,8 +19,7 @@ module _ (files : FileTree ℕ) (directory : ℕ) (name : List ℕ) where
   pub untaken_told : (d : ℕ) (n : List ℕ) (k : ℕ)
       → entry_at (without_name nat_eq files directory name).tree d n ≡ Some k
       → (entry_at files.tree d n ≡ Some k) × ¬ ((d ≡ directory) × (n ≡ name))
-  untaken_told d n k e = ⊎_elim (λ t. by (bytes_eq n name) refl t.1
-      (cc (entry_named-without_entry n name (entries_in (files.tree.node directory)), entries_there, t.1)))
+  untaken_told d n k e = ⊎_elim (λ t. by _ refl t.1 (cc (entry_named-without_entry n name _, entries_there, t.1)))
       (λ t. (cc (entries_elsewhere d t.1), λ same. t.1 same.0)) (eqb_tells d directory)
     where
       by : (b : Bool) → bytes_eq n name ≡ b → d ≡ directory
@@ -35,8 +34,7 @@ module _ (files : FileTree ℕ) (directory : ℕ) (name : List ℕ) where
   -- and what was there is left, but for that name
   pub untaken_kept : (d : ℕ) (n : List ℕ) (k : ℕ) → entry_at files.tree d n ≡ Some k
       → ((d ≡ directory) × (n ≡ name)) ⊎ (entry_at (without_name nat_eq files directory name).tree d n ≡ Some k)
-  untaken_kept d n k e = ⊎_elim (λ t. by (bytes_eq n name) refl t.1)
-      (λ t. inr (cc (entries_elsewhere d t.1))) (eqb_tells d directory)
+  untaken_kept d n k e = ⊎_elim (λ t. by _ refl t.1) (λ t. inr (cc (entries_elsewhere d t.1))) (eqb_tells d directory)
     where
       by : (b : Bool) → bytes_eq n name ≡ b → d ≡ directory
           → ((d ≡ directory) × (n ≡ name)) ⊎ (entry_at (without_name nat_eq files directory name).tree d n ≡ Some k)
@@ -46,18 +44,16 @@ module _ (files : FileTree ℕ) (directory : ℕ) (name : List ℕ) where
   -- entries stay in order, and what is empty stays so
   pub untaken_in_order : ((d : ℕ) → is_sorted name_cmp (entries_in (files.tree.node d)) ≡ true)
       → (d : ℕ) → is_sorted name_cmp (entries_in ((without_name nat_eq files directory name).tree.node d)) ≡ true
-  untaken_in_order sorted d = ⊎_elim
-      (λ t. ap (λ m. is_sorted name_cmp (entries_in ((without_name nat_eq files directory name).tree.node m))) t.1
-      ∙ ap (is_sorted name_cmp) entries_there
-      ∙ passes _ (is_sorted-where_key name_cmp (λ x. not (bytes_eq x name)) (entries_in (files.tree.node directory))
-      (T_from_true _ (sorted directory)))) (λ t. cc (entries_elsewhere d t.1, sorted d))
-      (eqb_tells d directory)
+  untaken_in_order sorted d = ⊎_elim (λ t. cc (t.1, entries_there, here))
+      (λ t. cc (entries_elsewhere d t.1, sorted d)) (eqb_tells d directory)
+    where
+      here : is_sorted name_cmp (without_entry name (entries_in (files.tree.node directory))) ≡ true
+      here = passes _ (is_sorted-where_key name_cmp (λ x. not (bytes_eq x name))
+          (entries_in (files.tree.node directory)) (T_from_true _ (sorted directory)))
 
   pub untaken_empty : (d : ℕ) → entries_in (files.tree.node d) ≡ []
       → entries_in ((without_name nat_eq files directory name).tree.node d) ≡ []
-  untaken_empty d empty = ⊎_elim
-      (λ t. cc (t.1, entries_there))
-      (λ t. entries_elsewhere d t.1 ∙ empty) (eqb_tells d directory)
+  untaken_empty d empty = ⊎_elim (λ t. cc (t.1, entries_there)) (λ t. entries_elsewhere d t.1 ∙ empty) (eqb_tells d _)
 
 -- A name given
 module _ (files : FileTree ℕ) (directory : ℕ) (name : List ℕ) (number : ℕ)
@@ -73,8 +69,7 @@ module _ (files : FileTree ℕ) (directory : ℕ) (name : List ℕ) (number : �
 
   -- the name leads to the number
   pub given_entry : entry_at (with_name nat_eq files directory name number).tree directory name ≡ Some number
-  given_entry = ap (entry_named name) given_there
-      ∙ entry_named-with_entry name name number (entries_in (files.tree.node directory))
+  given_entry = ap (entry_named name) given_there ∙ entry_named-with_entry name name number _
       ∙ ap (λ o. cond (is_eq o) (Some number) (entry_named name (entries_in (files.tree.node directory))))
       (tied_itself nat_list_cmp_total name)
 
@@ -83,8 +78,7 @@ module _ (files : FileTree ℕ) (directory : ℕ) (name : List ℕ) (number : �
       → entry_at (with_name nat_eq files directory name number).tree d n ≡ Some k
       → ((d ≡ directory) × (n ≡ name) × (k ≡ number))
       ⊎ ((entry_at files.tree d n ≡ Some k) × ¬ ((d ≡ directory) × (n ≡ name)))
-  given_told d n k e = ⊎_elim (λ t. by (eq_by_cmp name_cmp n name) refl t.1
-      (cc (entry_named-with_entry n name number (entries_in (files.tree.node directory)), given_there, t.1)))
+  given_told d n k e = ⊎_elim (λ t. by _ refl t.1 (cc (entry_named-with_entry n name number _, given_there, t.1)))
       (λ t. inr (cc (given_elsewhere d t.1), λ same. t.1 same.0)) (eqb_tells d directory)
     where
       by : (b : Bool) → eq_by_cmp name_cmp n name ≡ b → d ≡ directory
@@ -106,9 +100,9 @@ module _ (files : FileTree ℕ) (directory : ℕ) (name : List ℕ) (number : �
   -- entries stay in order
   pub given_in_order : ((d : ℕ) → is_sorted name_cmp (entries_in (files.tree.node d)) ≡ true)
       → (d : ℕ) → is_sorted name_cmp (entries_in ((with_name nat_eq files directory name number).tree.node d)) ≡ true
-  given_in_order sorted d = ⊎_elim
-      (λ t. ap (λ m. is_sorted name_cmp (entries_in ((with_name nat_eq files directory name number).tree.node m))) t.1
-      ∙ ap (is_sorted name_cmp) given_there
-      ∙ passes _ (is_sorted-put name_cmp nat_list_cmp_total name number (entries_in (files.tree.node directory))
-      (T_from_true _ (sorted directory)))) (λ t. cc (given_elsewhere d t.1, sorted d))
+  given_in_order sorted d = ⊎_elim (λ t. cc (t.1, given_there, here)) (λ t. cc (given_elsewhere d t.1, sorted d))
       (eqb_tells d directory)
+    where
+      here : is_sorted name_cmp (with_entry name number (entries_in (files.tree.node directory))) ≡ true
+      here = passes _ (is_sorted-put name_cmp nat_list_cmp_total name number (entries_in (files.tree.node directory))
+          (T_from_true _ (sorted directory)))

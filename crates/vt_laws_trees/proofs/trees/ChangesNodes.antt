@@ -14,8 +14,7 @@ pub record KeepsPlace (change : Option (Node ℕ) → Option (Node ℕ)) : Type 
 pub part_stays : {A : Type 0} (files : FileTree ℕ) (number : ℕ) (change : Option (Node ℕ) → Option (Node ℕ))
     (part : Option (Node ℕ) → A) → ((o : Option (Node ℕ)) → part (change o) ≡ part o)
     → (other : ℕ) → part ((changed_node nat_eq files number change).tree.node other) ≡ part (files.tree.node other)
-part_stays files number change part same other =
-    part_kept part files.tree number (change (files.tree.node number)) (same (files.tree.node number)) other
+part_stays files number change part same other = part_kept part files.tree number _ (same _) other
 
 -- the changed inode itself, and the others
 pub changed_node_there : (files : FileTree ℕ) (number : ℕ) (change : Option (Node ℕ) → Option (Node ℕ))

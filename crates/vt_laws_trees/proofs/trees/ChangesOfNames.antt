@@ -63,16 +63,12 @@ module _ (files : FileTree ℕ) {directory : ℕ} {name : List ℕ} {object : �
 
   pub linked_rearranged : IsRearranged files.tree linked.tree.node Nobody Nowhere
   linked_rearranged = record {
-    directories = part_stays files directory (node_with_entry name object) is_directory_node
-        (is_directory-node_with_entry name object);
+    directories = part_stays files directory _ is_directory_node (is_directory-node_with_entry name object);
     in_order = given_in_order files directory name object may.name_is_free.in_directory conditions.in_order;
-    alive = λ d n k e. part_stays files directory (node_with_entry name object) is_some
-        (is_some-node_with_entry name object) k ∙ ⊎_elim
-        (λ new. cc (new.2, may.is_there)) (λ old. conditions.alive d n k old.0)
-        (linked_told d n k e);
-    kept = λ d n k e is. ⊎_elim (λ same. none_is_not (entry_at files.tree directory name) k may.name_is_free.free
-        (cc (same.0, same.1))) inr
-        (given_kept files directory name object may.name_is_free.in_directory d n k e);
+    alive = λ d n k e. part_stays files directory _ is_some (is_some-node_with_entry name object) k
+        ∙ ⊎_elim (λ new. cc (new.2, may.is_there)) (λ old. conditions.alive d n k old.0) (linked_told d n k e);
+    kept = λ d n k e is. ⊎_elim (λ same. none_is_not _ k may.name_is_free.free (cc (same.0, same.1)))
+        inr (given_kept files directory name object may.name_is_free.in_directory d n k e);
     told = λ d n k e is. ⊎_elim
         (λ new. absurd (cc (new.2, may.no_directory)))
         (λ old. inr (old.0, λ nobody. nobody)) (linked_told d n k e);
@@ -87,8 +83,7 @@ module _ (files : FileTree ℕ) {directory : ℕ} {name : List ℕ} {object : �
     leaves_how = λ k is nobody. absurd nobody;
     root_stays = λ nobody. nobody;
     fills = λ k empty. ⊎_elim (λ t. inr (subst (IsReached files.tree) (sym t.1) may.name_is_free.reached))
-        (λ t. inl (given_elsewhere files directory name object may.name_is_free.in_directory k t.1 ∙ empty))
-        (eqb_tells k directory);
+        (λ t. inl (given_elsewhere files _ name object may.name_is_free.in_directory k t.1 ∙ empty)) (eqb_tells k _);
   }
 
 -- An object that has this name has no other, if it is a directory.
@@ -98,8 +93,7 @@ module _ (tree : Tree ℕ) (conditions : IsTree tree) (directory : ℕ) (name : 
       → (d ≡ directory) × (n ≡ name)
   only_name d n k e is same =
       let here : entry_at tree directory name ≡ Some k = cc in
-      let one : d ≡ directory = sym (conditions.one_parent d n k e is)
-      ∙ conditions.one_parent directory name k here is in
+      let one : d ≡ directory = sym (conditions.one_parent d n k e is) ∙ conditions.one_parent _ name k here is in
       (one, conditions.one_name directory n name k (cc) here is)
 
   pub not_root : tree.root ≢ object
@@ -128,8 +122,7 @@ module _ (files : FileTree ℕ) {directory : ℕ} {name : List ℕ} {object : �
       ∙ part_stays files directory (node_without_entry name) is_some (is_some-node_without_entry name) k
 
   removed_kind : (k : ℕ) → is_directory_node (removed.tree.node k) ≡ is_directory_node (files.tree.node k)
-  removed_kind k =
-      part_stays untaken object (node_with_parent object) is_directory_node (is_directory-node_with_parent object) k
+  removed_kind k = part_stays untaken object _ is_directory_node (is_directory-node_with_parent object) k
       ∙ part_stays files directory (node_without_entry name) is_directory_node (is_directory-node_without_entry name) k
 
   removed_told : (d : ℕ) (n : List ℕ) (k : ℕ) → entry_at removed.tree d n ≡ Some k
@@ -183,14 +176,12 @@ module _ (files : FileTree ℕ) where
   pub unparented_kind : (o : Option ℕ) (k : ℕ)
       → is_directory_node ((without_parent nat_eq files o).tree.node k) ≡ is_directory_node (files.tree.node k)
   unparented_kind None k = refl
-  unparented_kind (Some object) k =
-      part_stays files object (node_with_parent object) is_directory_node (is_directory-node_with_parent object) k
+  unparented_kind (Some object) k = part_stays files object _ is_directory_node (is_directory-node_with_parent object) k
 
   pub unparented_used : (o : Option ℕ) (k : ℕ)
       → is_some ((without_parent nat_eq files o).tree.node k) ≡ is_some (files.tree.node k)
   unparented_used None k = refl
-  unparented_used (Some object) k =
-      part_stays files object (node_with_parent object) is_some (is_some-node_with_parent object) k
+  unparented_used (Some object) k = part_stays files object _ is_some (is_some-node_with_parent object) k
 
   pub unparented_own : (o : Option ℕ) (k : ℕ) → o ≡ Some k
       → parent_in k ((without_parent nat_eq files o).tree.node k) ≡ k

@@ -55,8 +55,7 @@ module _ (files : FileTree ℕ) {from : ℕ} {old : List ℕ} {to : ℕ} {new : 
 
   moved_kind : (k : ℕ) → is_directory_node (moved.tree.node k) ≡ is_directory_node (files.tree.node k)
   moved_kind k = part_stays given object (node_with_parent to) is_directory_node (is_directory-node_with_parent to) k
-      ∙ part_stays untaken to (node_with_entry new object) is_directory_node (is_directory-node_with_entry new object) k
-      ∙ untaken_kind k
+      ∙ part_stays untaken to _ is_directory_node (is_directory-node_with_entry new object) k ∙ untaken_kind k
 
   moved_used : (k : ℕ) → is_some (moved.tree.node k) ≡ is_some (files.tree.node k)
   moved_used k = part_stays given object (node_with_parent to) is_some (is_some-node_with_parent to) k
@@ -140,8 +139,7 @@ module _ (files : FileTree ℕ) {from : ℕ} {old : List ℕ} {to : ℕ} {new : 
 
   moved_decided : (k : ℕ) → LeavesName k ⊎ (¬ (LeavesName k))
   moved_decided k = ⊎_elim (λ t. inl (inl t.1))
-      (λ t. ⊎_elim (λ gone. inl (inr gone)) (λ differ. inr (⊎_elim t.1 differ)) (decided_some replaced k))
-      (eqb_tells k object)
+      (λ t. ⊎_elim (λ gone. inl (inr gone)) (λ differ. inr (⊎_elim t.1 differ)) (decided_some _ k)) (eqb_tells k object)
 
   pub moved_rearranged : IsRearranged files.tree moved.tree.node LeavesName IsNewName
   moved_rearranged = record {

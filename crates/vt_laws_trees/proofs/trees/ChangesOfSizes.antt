@@ -1,6 +1,6 @@
 -- Changes keep trees within the limits of names, texts and files.
-use Rattle.std.proofs.Common.{arith, eq-eqb, eqb-true, ◌≡◌, refl, ap, ℕ, nat_eq, nat_le, Bool, true, false, not, cond, List, [], ◌∷◌, length, map, ◌&&◌, Option, Some, None, filter, bytes_eq}
-use Rattle.vt_spec.proofs.Common.{AddName, Content, CopyUp, Directory, Entries, FileTree, Filesystem, Make, Move, Node, Regular, Remove, SetAttr, SetBytes, SetMark, Symlink, Whiteout, World, all-filter, and_parts, changed_node, common_steps, entries_in, entry_named, filesystem_lives, has_fit_names, has_fit_text, is_fit_filesystem, is_no_larger, is_overlay, largest_file, list_all, node_with_attr, node_with_bytes, node_with_entry, node_with_mark, node_with_parent, node_without_entry, only_among, only_used, only_used_by, used_in, with_entry, with_inode, with_name, without_dead_filesystems, without_dead_in, without_dead_mounts, without_entry, without_name, without_parent}
+use Rattle.std.proofs.Common.{arith, eq-eqb, eqb-true, ◌≡◌, refl, ap, ℕ, nat_eq, nat_le, Bool, true, false, not, cond, List, [], ◌∷◌, length, map, ◌&&◌, Option, Some, None, filter}
+use Rattle.vt_spec.proofs.Common.{AddName, Content, CopyUp, Directory, Entries, FileTree, Filesystem, Make, Move, Node, Regular, Remove, SetAttr, SetBytes, SetMark, Symlink, Whiteout, World, all-filter, and_parts, changed_node, common_steps, entries_in, entry_named, filesystem_lives, has_fit_names, has_fit_text, is_fit_filesystem, is_no_larger, is_overlay, largest_file, list_all, node_with_attr, node_with_bytes, node_with_entry, node_with_mark, node_with_parent, node_without_entry, only_among, only_used, only_used_by, used_in, with_entry, with_inode, with_name, without_dead_filesystems, without_dead_in, without_dead_mounts, without_name, without_parent}
 use Rattle.vt_spec.specs.declared.attributes.Attr.{Attr}
 use Rattle.vt_laws_trees.specs.Trees.Sizes.{ChangesKeepSizes, SettlingKeepsSizes, is_fit_name, is_fit_node, is_fit_tree}
 use Rattle.vt_laws_trees.proofs.trees.TreesTasks.{all_mapped, and_from}
@@ -40,8 +40,7 @@ entry_fits name number h (Some node) k = by node.attr node.content k
   where
     by : (attr : Attr) (content : Content ℕ) → fits (Some (record { attr = attr; content = content })) ≡ true
         → fits (node_with_entry name number (Some (record { attr = attr; content = content }))) ≡ true
-    by attr (Directory parent entries opaque) g =
-        of_directory (list_all is_fit_name (map (λ e. e.0) (with_entry name number entries)))
+    by attr (Directory parent entries opaque) g = of_directory _
         (put_fits name number entries h (names_of_directory (list_all is_fit_name (map (λ e. e.0) entries)) g))
     by attr (Regular bytes) g = g
     by attr (Symlink text) g = g
@@ -53,10 +52,7 @@ no_entry_fits name (Some node) k = by node.attr node.content k
   where
     by : (attr : Attr) (content : Content ℕ) → fits (Some (record { attr = attr; content = content })) ≡ true
         → fits (node_without_entry name (Some (record { attr = attr; content = content }))) ≡ true
-    by attr (Directory parent entries opaque) g =
-        of_directory (list_all is_fit_name (map (λ e. e.0) (without_entry name entries)))
-        (filter_fits (λ entry. not (bytes_eq entry.0 name)) entries
-        (names_of_directory (list_all is_fit_name (map (λ e. e.0) entries)) g))
+    by attr (Directory parent entries opaque) g = of_directory _ (filter_fits _ entries (names_of_directory _ g))
     by attr (Regular bytes) g = g
     by attr (Symlink text) g = g
     by attr Whiteout g = g
@@ -79,8 +75,7 @@ bytes_fit bytes h o k = grind (arith, common_steps)
 all_alike : (test other : ℕ → Bool) → ((n : ℕ) → test n ≡ true → other n ≡ true) → (list : List ℕ)
     → list_all test list ≡ true → list_all other list ≡ true
 all_alike test other keeps [] h = refl
-all_alike test other keeps (n ∷ list) h =
-    and_from (other n) (list_all other list) (keeps n ((and_parts (test n) (list_all test list) h).0))
+all_alike test other keeps (n ∷ list) h = and_from (other n) _ (keeps n ((and_parts (test n) (list_all test list) h).0))
     (all_alike test other keeps list ((and_parts (test n) (list_all test list) h).1))
 
 pub changed_fits_there : (files : FileTree ℕ) (number : ℕ) (change : Option (Node ℕ) → Option (Node ℕ))
@@ -100,11 +95,7 @@ unparented_fits files (Some object) h = changed_fits files object (node_with_par
 
 pub inode_fits : (files : FileTree ℕ) (number : ℕ) (node : Node ℕ) → is_fit_node node ≡ true → is_fit_tree files ≡ true
     → is_fit_tree (with_inode nat_eq files number node) ≡ true
-inode_fits files number node k h = and_from (fits ((with_inode nat_eq files number node).tree.node number))
-    (list_all (λ n. fits ((with_inode nat_eq files number node).tree.node n)) files.numbers)
-    (cc (eq-eqb number number refl))
-    (all_alike (λ n. fits (files.tree.node n))
-    (λ n. fits ((with_inode nat_eq files number node).tree.node n)) one files.numbers h)
+inode_fits files number node k h = and_from _ _ (cc (eq-eqb number number refl)) (all_alike _ _ one files.numbers h)
   where
     one : (n : ℕ) → fits (files.tree.node n) ≡ true → fits ((with_inode nat_eq files number node).tree.node n) ≡ true
     one n g = by (nat_eq n number)
@@ -125,10 +116,9 @@ changes_keep_sizes files (Remove directory name object) h fit =
 changes_keep_sizes files (Move from old to new object) h fit =
     let unparented = without_parent nat_eq files (entry_named new (entries_in (files.tree.node to))) in
     let untaken = without_name nat_eq unparented from old in
-    changed_fits (with_name nat_eq untaken to new object) object (node_with_parent to) (parent_fits to)
-    (changed_fits untaken to (node_with_entry new object) (entry_fits new object fit)
-    (changed_fits unparented from (node_without_entry old) (no_entry_fits old)
-    (unparented_fits files (entry_named new (entries_in (files.tree.node to))) h)))
+    changed_fits (with_name nat_eq untaken to new object) object (node_with_parent to)
+    (parent_fits to) (changed_fits untaken to (node_with_entry new object) (entry_fits new object fit)
+    (changed_fits unparented from (node_without_entry old) (no_entry_fits old) (unparented_fits files _ h)))
 changes_keep_sizes files (SetBytes file bytes) h fit =
     changed_fits files file (node_with_bytes bytes) (bytes_fit bytes fit) h
 changes_keep_sizes files (SetAttr object attr) h fit =

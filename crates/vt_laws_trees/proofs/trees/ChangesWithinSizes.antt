@@ -1,8 +1,7 @@
 -- Every call but the mount of an overlay keeps names, link texts and files within the limits.
 use Rattle.std.proofs.Common.{arith, eq-eqb, ◌≡◌, refl, sym, ap, subst, ◌∙◌, true≢false, ℕ, ◌+◌, ◌≤◌, nat_eq, nat_le, le-leb, leb-true, ltb-false, Bool, true, false, not, cond, List, [], ◌∷◌, ◌++◌, length, ◌&&◌, inl, inr, ⊎_elim, Option, Some, None, is_some, ok_or, length-append, length-drop, length-take, All}
-use Rattle.vt_spec.proofs.Common.{Access, All-append, All-cons, All-filter, All-nil, Call, Change, Content, CopyUp, Directory, Filesystem, Fresh, Location, Node, NoneFails, Outcome, Permit, Place, Regular, SetBytes, SetMark, Symlink, Task, TaskName, ToMountPlain, ToOpen, Whiteout, World, and_parts, apply, bytes_in, call_outcome, changed, common_steps, denial, evens, file_mode, files_at, filesystem_at, filesystem_changed, filesystem_lives, filesystems-taken_away, filesystems-without_replaced, filesystems_raised, finished_by, is_copied_up, is_directory_there, is_empty, is_fit_filesystem, is_overlay, is_special, largest_file, linking, list_all, list_any, longest_path, looks_of, making, mount_at, moving, new_directory, new_file, new_plain, node_at, node_with_bytes, none_from_not_some, object_there, odds, open_new_permit, or_false_left, overfills, overwritten, plain_filesystem, pwritten, raised, raised_if_changed, removing, root_attr, settled, task_called, with_change, with_copy, with_files, with_filesystem, with_new, without_dead_filesystems, without_dead_in, without_dead_mounts, without_mounts_on, without_replaced}
+use Rattle.vt_spec.proofs.Common.{Access, All-append, All-cons, All-filter, All-nil, Call, Change, CopyUp, Filesystem, Fresh, Location, Node, NoneFails, Outcome, Permit, Place, SetBytes, Task, TaskName, ToOpen, World, and_parts, apply, bytes_in, call_outcome, changed, common_steps, denial, evens, files_at, filesystem_at, filesystem_changed, filesystem_lives, filesystems-taken_away, filesystems-without_replaced, filesystems_raised, finished_by, is_copied_up, is_directory_there, is_empty, is_fit_filesystem, is_overlay, is_special, largest_file, list_all, list_any, longest_path, looks_of, making, mount_at, moving, new_directory, new_file, new_plain, node_at, node_with_bytes, none_from_not_some, object_there, odds, open_new_permit, or_false_left, overfills, overwritten, plain_filesystem, pwritten, raised, raised_if_changed, removing, root_attr, settled, task_called, with_change, with_copy, with_files, with_new, without_dead_filesystems, without_dead_in, without_dead_mounts, without_mounts_on, without_replaced}
 use Rattle.std.proofs.lemmas.List.Sums.{AllPass-from_list_all, list_all-from_AllPass}
-use Rattle.vt_spec.specs.declared.attributes.Attr.{Attr}
 use Rattle.vt_spec.specs.declared.errors.Rule.TheVariants.{S2}
 use Rattle.vt_spec.proofs.Tables.{pwrite_rules}
 use Rattle.vt_laws_trees.specs.Trees.Calls.{mounts_overlay}
@@ -52,12 +51,10 @@ module _ (fresh : Fresh ℕ) (world : World ℕ) (location : Location ℕ) (chan
       (record {
         plain = replaced_all (λ f. is_overlay f ≡ false) new world.filesystems conditions.plain
             (inl (ap is_some (no_overlay conditions)));
-        fit = list_all-from_AllPass is_fit_filesystem (with_filesystem nat_eq world new).filesystems
-            (replaced_all (λ f. is_fit_filesystem f ≡ true) new world.filesystems fitting (⊎_elim (λ is. inl (keeps is))
-            (λ missing. inr (subst (λ n. All (λ f. nat_eq n f.number ≡ false) world.filesystems)
-            (sym (number_numbered (mount_at nat_eq world location).filesystem world.filesystems)) missing.1))
-            (numbered_all (λ f. is_fit_filesystem f ≡ true)
-            (mount_at nat_eq world location).filesystem world.filesystems fitting)));
+        fit = list_all-from_AllPass is_fit_filesystem _ (replaced_all (λ f. is_fit_filesystem f ≡ true)
+            new world.filesystems fitting (⊎_elim (λ is. inl (keeps is)) (λ missing. inr (subst
+            (λ n. All (λ f. nat_eq n f.number ≡ false) world.filesystems) (sym (number_numbered _ world.filesystems))
+            missing.1)) (numbered_all (λ f. is_fit_filesystem f ≡ true) _ world.filesystems fitting)));
       })
     where
       fitting : All (λ f. is_fit_filesystem f ≡ true) world.filesystems
@@ -72,15 +69,8 @@ overwritten_length offset more bytes most short old =
 overwritten_fits : (offset : ℕ) (more : List ℕ) → offset + length more ≤ largest_file → (o : Option (Node ℕ))
     → fits o ≡ true → fits (node_with_bytes (overwritten offset more (bytes_in o)) o) ≡ true
 overwritten_fits offset more short None k = k
-overwritten_fits offset more short (Some node) k = by node.attr node.content k
-  where
-    by : (attr : Attr) (content : Content ℕ) → fits (Some (record { attr = attr; content = content })) ≡ true
-        → fits (node_with_bytes (overwritten offset more (bytes_in (Some (record { attr = attr; content = content }))))
-        (Some (record { attr = attr; content = content }))) ≡ true
-    by attr (Directory parent entries opaque) g = g
-    by attr (Regular bytes) g = grind (arith, common_steps, le-leb, overwritten_length, leb-true, and_parts)
-    by attr (Symlink text) g = g
-    by attr Whiteout g = g
+overwritten_fits offset more short (Some node) k =
+    grind (arith, common_steps, le-leb, overwritten_length, leb-true, and_parts)
 
 module _ (fresh : Fresh ℕ) (world : World ℕ) (task : Task ℕ) (conditions : IsFitWorld world) where
   -- a change within the limits, also after mounts were taken away
@@ -105,19 +95,16 @@ module _ (fresh : Fresh ℕ) (world : World ℕ) (task : Task ℕ) (conditions :
       → NoneFails (pwrite_rules nat_eq world file offset bytes)
       → IsFitWorld (pwritten nat_eq fresh world file offset bytes)
   fit_pwritten file offset [] passed = conditions
-  fit_pwritten file offset (byte ∷ bytes) passed = change_fits fresh world file
-      (SetBytes file.node (overwritten offset (byte ∷ bytes) (bytes_in (node_at nat_eq world file)))) conditions
-      (changed_fits_there (files_at nat_eq world file) file.node
-      (node_with_bytes (overwritten offset (byte ∷ bytes) (bytes_in (node_at nat_eq world file))))
-      (overwritten_fits offset (byte ∷ bytes) (ltb-false largest_file (offset + length (byte ∷ bytes)) passed.0)
-      (node_at nat_eq world file)))
+  fit_pwritten file offset (byte ∷ bytes) passed =
+      change_fits fresh world file _ conditions (changed_fits_there (files_at nat_eq world file)
+      file.node (node_with_bytes (overwritten offset (byte ∷ bytes) (bytes_in (node_at nat_eq world file))))
+      (overwritten_fits offset
+      (byte ∷ bytes) (ltb-false largest_file (offset + length (byte ∷ bytes)) passed.0) (node_at nat_eq world file)))
 
   -- open(2)
   fit_opened : (file : Location ℕ) (access : Access)
       → IsFitWorld (apply nat_eq fresh world task (ToOpen file access)).world
-  fit_opened file access = alike_fit (apply nat_eq fresh world task (ToOpen file access)).world
-      (with_copy nat_eq (is_copied_up nat_eq world file access) fresh world file) refl
-      (by (is_copied_up nat_eq world file access))
+  fit_opened file access = alike_fit _ _ refl (by (is_copied_up nat_eq world file access))
     where
       by : (b : Bool) → IsFitWorld (with_copy nat_eq b fresh world file)
       by true = fit_change fresh file (CopyUp file.node) tt
@@ -126,19 +113,15 @@ module _ (fresh : Fresh ℕ) (world : World ℕ) (task : Task ℕ) (conditions :
   fit_created : (place : Place ℕ) (access : Access) (mode : ℕ) → HasFitLast world task place
       → is_special place.last ≡ false
       → IsFitWorld (apply nat_eq fresh world task (open_new_permit task place access mode)).world
-  fit_created place access mode last plain =
-      alike_fit (apply nat_eq fresh world task (open_new_permit task place access mode)).world
-      (with_new nat_eq fresh world place (new_file task mode [])) refl (fit_new place (new_file task mode []) last plain
-      (ap (λ b. b && true && true) (le-leb 0 largest_file (omega arith))))
+  fit_created place access mode last plain = alike_fit _ _ refl (fit_new place
+      (new_file task mode []) last plain (ap (λ b. b && true && true) (le-leb 0 largest_file (omega arith))))
 
   -- a new plain filesystem
   fit_more : (after_call : World ℕ) → after_call.filesystems ≡ world.filesystems ++ (plain_filesystem nat_eq fresh ∷ [])
       → IsFitWorld after_call
   fit_more after_call same = record {
-    plain = subst (All (λ f. is_overlay f ≡ false)) (sym same)
-        (All-append (λ f. is_overlay f ≡ false) world.filesystems (plain_filesystem nat_eq fresh ∷ []) conditions.plain
-        (All-cons (λ f. is_overlay f ≡ false) (plain_filesystem nat_eq fresh) [] refl
-        (All-nil (λ f. is_overlay f ≡ false))));
+    plain = subst (All (λ f. is_overlay f ≡ false)) (sym same) (All-append (λ f. is_overlay f ≡ false) world.filesystems
+        _ conditions.plain (All-cons (λ f. is_overlay f ≡ false) (plain_filesystem nat_eq fresh) [] refl (All-nil _)));
     fit = ap (list_all is_fit_filesystem) same
         ∙ all_appended is_fit_filesystem world.filesystems (plain_filesystem nat_eq fresh) conditions.fit
         (new_plain_fits (evens fresh 0) (evens fresh 1));
@@ -151,8 +134,7 @@ module _ (fresh : Fresh ℕ) (world : World ℕ) (task : Task ℕ) (conditions :
   granted_fits call permit other (overwrites_file path bytes place file end named there passed) =
       fit_change fresh file (SetBytes file.node bytes) (no_longer largest_file bytes passed.1.0)
   granted_fits call permit other (writes_new_file path bytes place end named missing fits passed) =
-      fit_new place (new_file task file_mode bytes) (file_is world task path place end).1
-      (or_false_left (is_special place.last) place.slash named.0)
+      fit_new place _ (file_is world task path place end).1 (or_false_left (is_special place.last) place.slash named.0)
       (ap (λ b. b && true && true) (no_longer largest_file bytes fits.0))
   granted_fits call permit other (makes_directory path mode place end passed) =
       fit_new place (directory_made task place mode) (new_is world task path place end).1 passed.0 refl
@@ -163,10 +145,8 @@ module _ (fresh : Fresh ℕ) (world : World ℕ) (task : Task ℕ) (conditions :
   granted_fits call permit other (makes_whiteout path place end passed) =
       fit_new place (whiteout_made task) (new_leaf_is world task path place end).1 passed.0 refl
   granted_fits call permit other (makes_hard_link _ new from place from_end end named passed) =
-      fit_change fresh place.parent (linking from.location place)
-      (fit_name_of place.last named.0 (new_leaf_is world task new place end).1)
-  granted_fits call permit other (unlinks path place end named passed) =
-      fit_change fresh place.parent (removing place (object_there place)) tt
+      fit_change fresh place.parent _ (fit_name_of place.last named.0 (new_leaf_is world task new place end).1)
+  granted_fits call permit other (unlinks path place end named passed) = fit_change fresh place.parent _ tt
   granted_fits call permit other (removes_directory path place end word passed) =
       fit_change_after fresh (without_mounts_on nat_eq world (object_there place)) (filesystems-taken_away world _)
       place.parent (removing place (object_there place)) tt
@@ -176,8 +156,7 @@ module _ (fresh : Fresh ℕ) (world : World ℕ) (task : Task ℕ) (conditions :
       (rename_new_is world task new (is_directory_there nat_eq (looks_of nat_eq world) from) to names.to_end).1)
   granted_fits call permit other (changes_mode path mode here end passed) = fit_change fresh here.location _ tt
   granted_fits call permit other (changes_owner path uid gid here end passed) = fit_change fresh here.location _ tt
-  granted_fits call permit other (changes_mark path mark here admin end passed) =
-      fit_change fresh here.location (SetMark here.location.node mark) tt
+  granted_fits call permit other (changes_mark path mark here admin end passed) = fit_change fresh here.location _ tt
   granted_fits call permit other (opens path access here room end passed) = fit_opened here.location access
   granted_fits call permit other (opens_existing path access mode place file room end named there passed) =
       fit_opened file access
@@ -188,12 +167,10 @@ module _ (fresh : Fresh ℕ) (world : World ℕ) (task : Task ℕ) (conditions :
       fit_created place access mode (new_is world task path place end).1 named.0
   granted_fits call permit other (writes_part number offset bytes descriptor found passed) =
       fit_pwritten descriptor.location offset bytes passed
-  granted_fits call permit other (mounts_tmpfs path flags here admin end passed) =
-      fit_more (apply nat_eq fresh world task (ToMountPlain here.location flags)).world refl
+  granted_fits call permit other (mounts_tmpfs path flags here admin end passed) = fit_more _ refl
   granted_fits call permit other (mounts_overlayfs path words flags here layers admin end walked layered passed) =
       absurd (true≢false other)
-  granted_fits call permit other granted =
-      alike_fit (apply nat_eq fresh world task permit).world world (files_stay fresh world task permit refl) conditions
+  granted_fits call permit other granted = alike_fit _ world (files_stay fresh world task permit refl) conditions
 
   pub outcome_fits : (call : Call) → mounts_overlay call ≡ false
       → IsFitWorld (call_outcome nat_eq fresh world task call).world
@@ -231,9 +208,7 @@ fit_finished : (before : World ℕ) (name : TaskName) (changed : List ℕ) (outc
     → IsFitWorld outcome.world → IsFitWorld (finished_by nat_eq b before name changed outcome).world
 fit_finished before name changed outcome true conditions = conditions
 fit_finished before name changed outcome false conditions =
-    alike_fit (finished_by nat_eq false before name changed outcome).world
-    (filesystems_raised nat_eq changed (settled nat_eq outcome.world)) refl
-    (fit_raised changed (settled nat_eq outcome.world) (fit_settled outcome.world conditions))
+    alike_fit _ _ refl (fit_raised changed (settled nat_eq outcome.world) (fit_settled outcome.world conditions))
 
 pub calls_keep_sizes : CallsKeepSizes
 calls_keep_sizes world fresh name call conditions other =
@@ -243,8 +218,6 @@ calls_keep_sizes world fresh name call conditions other =
 
 pub opening_is_fit : OpeningIsFit
 opening_is_fit fresh = record {
-  plain = All-cons (λ f. is_overlay f ≡ false) (new_plain nat_eq (fresh 2) (fresh 3)) [] refl
-      (All-nil (λ f. is_overlay f ≡ false));
-  fit = and_from (is_fit_filesystem (new_plain nat_eq (fresh 2) (fresh 3))) true (new_plain_fits (fresh 2) (fresh 3))
-      refl;
+  plain = All-cons (λ f. is_overlay f ≡ false) (new_plain nat_eq (fresh 2) (fresh 3)) [] refl (All-nil _);
+  fit = and_from _ true (new_plain_fits (fresh 2) (fresh 3)) refl;
 }

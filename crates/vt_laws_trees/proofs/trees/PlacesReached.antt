@@ -27,13 +27,10 @@ module _ (world : World ℕ) (task : Task ℕ) where
 
   pub rename_new_is : (path : List ℕ) (old_is_directory : Bool) (place : Place ℕ)
       → rename_new_walk nat_eq looks task path old_is_directory ≡ Ok place → NewPlace place
-  rename_new_is path old_is_directory place =
-      at_end NewPlace (rename_new_walk nat_eq looks task path old_is_directory) place
-      (ends_then NewPlace NewPlace (new_walk nat_eq looks task path) _
-      (ends_both (IsNewPlace world task) (HasFitLast world task) (new_walk nat_eq looks task path)
-      (ends_new_walk world task path) (fit_new_walk world task path))
-      (λ place is. ends_unless NewPlace place.steps ((place.slash && not old_is_directory, W3) ∷ []) place
-      (λ passed. is)))
+  rename_new_is path old_is_directory place = at_end NewPlace _ place (ends_then NewPlace
+      NewPlace (new_walk nat_eq looks task path) _ (ends_both (IsNewPlace world task) (HasFitLast world task)
+      (new_walk nat_eq looks task path) (ends_new_walk world task path) (fit_new_walk world task path)) (λ place is.
+      ends_unless NewPlace place.steps ((place.slash && not old_is_directory, W3) ∷ []) place (λ passed. is)))
 
   -- where the walk of a file ends
   abbrev pub NewFilePlace : Place ℕ → Type 0

@@ -66,15 +66,13 @@ module _ (tree : Tree ℕ) where
       by None = ap (λ b. b || false) (eq-eqb e d (sym (same_Some d e h)))
       by (Some b) = ap (λ c. c || is_among nat_eq e (chain most (named_parent nat_eq tree) b))
           (eq-eqb e d (sym (same_Some d e h)))
-  in_chain (suc most) (suc k) d e le h =
-      by (named_parent nat_eq tree d) (sym (up_first k (Some d)) ∙ h) (λ b g. in_chain most k b e (omega arith) g)
+  in_chain (suc most) (suc k) d e le h = by _ (sym (up_first k _) ∙ h) (λ b g. in_chain most k b e (omega arith) g)
     where
       by : (o : Option ℕ) → up tree k o ≡ Some e
           → ((b : ℕ) → up tree k (Some b) ≡ Some e → is_among nat_eq e (chain most (named_parent nat_eq tree) b) ≡ true)
           → is_among nat_eq e (elim o [ None ↦ d ∷ [] | Some b ↦ d ∷ chain most (named_parent nat_eq tree) b ]) ≡ true
       by None g rest = none_is_not None e refl (sym (up_none k) ∙ g)
-      by (Some b) g rest = or_right (nat_eq e d) (is_among nat_eq e (chain most (named_parent nat_eq tree) b))
-          (rest b g)
+      by (Some b) g rest = or_right (nat_eq e d) _ (rest b g)
 
 module _ (tree : Tree ℕ) (conditions : IsTree tree) where
   -- the parent of a directory that has a name is the directory of the name
@@ -172,11 +170,7 @@ module _ (files : FileTree ℕ) (conditions : IsFileTree files) (to : ℕ) (is :
 
   line_listed : (k q : ℕ) → k ≤ height → is_among nat_eq q (line k) ≡ true → is_among nat_eq q files.numbers ≡ true
   unfolding line
-  line_listed zero q le h = by (nat_eq q (above 0)) refl h
-    where
-      by : (b : Bool) → nat_eq q (above 0) ≡ b → (b || false) ≡ true → is_among nat_eq q files.numbers ≡ true
-      by true e g = cc (eqb-true q (above 0) e, above_listed 0 le)
-      by false e g = cc
+  line_listed zero q le h = grind (arith, common_steps, eqb-true, above_listed)
   line_listed (suc k) q le h = by (nat_eq q (above (suc k))) refl h (λ g. line_listed k q (omega arith) g)
     where
       by : (b : Bool) → nat_eq q (above (suc k)) ≡ b → (b || is_among nat_eq q (line k)) ≡ true

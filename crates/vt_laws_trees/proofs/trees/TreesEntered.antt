@@ -1,9 +1,9 @@
 -- What a path leads to is there, where the roots of mounts and their places are.
 use Rattle.std.proofs.Common.{arith, ◌≡◌, ◌≢◌, refl, sym, ap, subst, ◌∙◌, true≢false, ℕ, zero, suc, nat_eq, Bool, true, false, not, cond, List, [], ◌∷◌, length, reverse, ◌==◌, ⊎_elim, Option, Some, None, is_some, option_map, ok_or, Result, Ok, Err, filter, unwrap_or, All, find}
-use Rattle.vt_spec.proofs.Common.{All-head, All-tail, Dot, DotDot, Filesystem, Here, IsTree, LastWord, Location, Mount, Named, NoWord, Stop, Task, World, chain, child_at, common_steps, denial, directory_used, ends_in_slash, entries_in, entry_named, files_at, final_word, followed, hop, is_directory_at, is_directory_node, is_empty, is_lost, is_no_word, last_or, last_walked, last_word, length-reverse, mount_at, mount_in, nil_from_length, no_mount, node_at, none_is_not, parent_location, parts, path_rules, path_text, path_walked, prefix_walked, root_of, same_location, stands_at, then_walk, topmost, unless, walk_start, walk_unless, with_byte, words}
+use Rattle.vt_spec.proofs.Common.{All-head, All-tail, Dot, DotDot, Filesystem, Here, IsTree, LastWord, Location, Mount, Named, NoWord, Stop, Task, World, chain, child_at, common_steps, denial, directory_used, ends_in_slash, entries_in, entry_named, files_at, final_word, followed, hop, is_directory_at, is_directory_node, is_empty, is_lost, is_no_word, last_or, last_walked, last_word, length-reverse, mount_at, mount_in, nil_from_length, no_mount, node_at, none_is_not, parent_location, parts, path_rules, path_text, path_walked, prefix_walked, root_of, same_location, then_walk, topmost, unless, walk_start, walk_unless, with_byte, words}
 use Rattle.vt_spec.specs.declared.errors.Deny.{Deny}
 use Rattle.vt_spec.specs.declared.errors.Rule.TheVariants.{W6, W8}
-use Rattle.vt_spec.proofs.Walk.{entry_location, hops, is_top, symlink_walk, symlink_walk_by, search_rules, slash_rules, stepped, steps_with, up_from, word_walked}
+use Rattle.vt_spec.proofs.Walk.{entry_location, is_top, symlink_walk, symlink_walk_by, search_rules, slash_rules, stepped, steps_with, up_from, word_walked}
 use Rattle.vt_laws_trees.specs.Trees.Calls.{IsStanding}
 use Rattle.vt_laws_trees.proofs.trees.TreesOfWorlds.{numbered_all}
 use Rattle.vt_laws_trees.proofs.trees.TreesWalked.{Ends, ends_next, ends_step, ends_then, ends_unless, not-false, ok_same}
@@ -12,8 +12,7 @@ use Rattle.vt_laws_trees.proofs.trees.TreesWalked.{Ends, ends_next, ends_step, e
 pub found_all : {A : Type 0} (P : A → Type 0) (test : A → Bool) (list : List A) (a : A) → All P list
     → find test list ≡ Some a → P a
 found_all P test [] a h e = none_is_not None a refl e
-found_all P test (first ∷ rest) a h e =
-    by (test first) e (λ later. found_all P test rest a (All-tail P first rest h) later)
+found_all P test (first ∷ rest) a h e = by _ e (λ later. found_all P test rest a (All-tail P first rest h) later)
   where
     by : (b : Bool) → cond b (Some first) (find test rest) ≡ Some a → (find test rest ≡ Some a → P a) → P a
     by true is later = subst P (ap (λ o. unwrap_or o first) is) (All-head P first rest h)
@@ -23,8 +22,7 @@ found_all P test (first ∷ rest) a h e =
 pub chain_ends_at : {A : Type 0} (Q : A → Type 0) (next : A → Option A) → ((a b : A) → Q a → next a ≡ Some b → Q b)
     → (most : ℕ) (default start : A) → Q start → Q (last_or default (chain most next start))
 chain_ends_at Q next step zero default start q = q
-chain_ends_at Q next step (suc most) default start q = by (next start) refl
-    (λ b p. chain_ends_at Q next step most start b p)
+chain_ends_at Q next step (suc most) default start q = by _ refl (λ b p. chain_ends_at Q next step most start b p)
   where
     by : (o : Option _) → next start ≡ o → ((b : _) → Q b → Q (last_or start (chain most next b)))
         → Q (last_or default (elim o [ None ↦ start ∷ [] | Some b ↦ start ∷ chain most next b ]))
@@ -37,12 +35,7 @@ one_part byte list e = grind (arith, common_steps, true≢false)
 
 no_words : (text : List ℕ) → words text ≡ [] → is_empty text ≡ false → ends_in_slash text ≡ true
 no_words [] e h = absurd (true≢false h)
-no_words (byte ∷ []) e h = by (byte == 47) refl e
-  where
-    by : (b : Bool) → (byte == 47) ≡ b → filter (λ part. not (is_empty part)) (with_byte b byte (parts 47 [])) ≡ []
-        → (byte == 47) ≡ true
-    by true is g = is
-    by false is g = absurd (one_part byte (parts 47 []) g)
+no_words (byte ∷ []) e h = grind (arith, common_steps, one_part, parts)
 no_words (byte ∷ next ∷ bytes) e h = by (byte == 47) e (λ g. no_words (next ∷ bytes) g refl)
   where
     by : (b : Bool) → filter (λ part. not (is_empty part)) (with_byte b byte (parts 47 (next ∷ bytes))) ≡ []
@@ -58,10 +51,9 @@ is_some_word word = grind (arith, common_steps)
 pub directory_in_tree : (world : World ℕ) → All (λ (f : Filesystem ℕ). IsTree f.files.tree) world.filesystems
     → (location : Location ℕ) → is_directory_at nat_eq world location ≡ true
     → IsTree (files_at nat_eq world location).tree
-directory_in_tree world trees location is = ⊎_elim (λ tree. tree) (λ missing. absurd (true≢false
-    (sym is ∙ ap (λ (f : Filesystem ℕ). is_directory_node (f.files.tree.node location.node)) missing.0)))
-    (numbered_all (λ filesystem. IsTree filesystem.files.tree)
-    (mount_at nat_eq world location).filesystem world.filesystems trees)
+directory_in_tree world trees location is = ⊎_elim (λ tree. tree) (λ missing. absurd
+    (true≢false (sym is ∙ ap (λ (f : Filesystem ℕ). is_directory_node (f.files.tree.node location.node)) missing.0)))
+    (numbered_all (λ filesystem. IsTree filesystem.files.tree) _ world.filesystems trees)
 
 module _ (world : World ℕ) (trees : All (λ (f : Filesystem ℕ). IsTree f.files.tree) world.filesystems)
     (standing : IsStanding world) where
@@ -82,12 +74,10 @@ module _ (world : World ℕ) (trees : All (λ (f : Filesystem ℕ). IsTree f.fil
           → IsDirectoryThere b
       by None is h = none_is_not None b refl h
       by (Some mount) is h = subst IsDirectoryThere (ap (λ o. unwrap_or o b) h)
-          (found_all (λ m. is_directory_at nat_eq world (root_of m) ≡ true)
-          (stands_at nat_eq a) world.mounts mount standing.roots is)
+          (found_all (λ m. is_directory_at nat_eq world (root_of m) ≡ true) _ world.mounts mount standing.roots is)
 
   topmost_there : (location : Location ℕ) → IsThere location → IsThere (topmost nat_eq world.mounts location)
-  topmost_there location is = chain_ends_at IsThere (λ here. option_map root_of (child_at nat_eq world.mounts here))
-      (λ a b there e. directory_there b (child_there a b e)) (length world.mounts) location location is
+  topmost_there location is = chain_ends_at IsThere _ (λ a b there e. directory_there b (child_there a b e)) _ _ _ is
 
   -- the place of a mount
   place_there : (number : ℕ) (place : Location ℕ) → (mount_in nat_eq world.mounts number).mount_point ≡ Some place
@@ -128,10 +118,8 @@ module _ (world : World ℕ) (trees : All (λ (f : Filesystem ℕ). IsTree f.fil
             is_ok_result : Result (Location ℕ) Deny → Bool
             is_ok_result (Ok l) = true
             is_ok_result (Err d) = false
-        by false false h = subst IsThere (ok_same (topmost nat_eq world.mounts
-            (parent_location nat_eq world location)) reached _ refl h)
-            (topmost_there (parent_location nat_eq world location)
-            (directory_there (parent_location nat_eq world location) (parent_there location is)))
+        by false false h = subst IsThere (ok_same _ reached _ refl h)
+            (topmost_there (parent_location nat_eq world location) (directory_there _ (parent_there location is)))
 
     entry_there : (here : Location ℕ) (name : List ℕ) (object : Location ℕ) → IsDirectoryThere here
         → entry_location nat_eq world here name ≡ Some object → IsThere object
@@ -146,11 +134,9 @@ module _ (world : World ℕ) (trees : All (λ (f : Filesystem ℕ). IsTree f.fil
     -- one word
     step_there : (here : Location ℕ) (word : LastWord) (reached : Location ℕ) → IsDirectoryThere here
         → stepped nat_eq world task here word ≡ Ok reached → IsThere reached
-    step_there here NoWord reached is e =
-        subst IsThere (ok_same here reached (Ok here) refl e) (directory_there here is)
+    step_there here NoWord reached is e = subst IsThere (ok_same here reached _ refl e) (directory_there here is)
     step_there here Dot reached is e = subst IsThere (ok_same here reached (Ok here) refl e) (directory_there here is)
-    step_there here DotDot reached is e = up_there (last_or here (hops nat_eq world task here)) reached
-        (chain_ends_at IsDirectoryThere (hop nat_eq world task) hop_there (length world.mounts) here here is) e
+    step_there here DotDot reached is e = up_there _ reached (chain_ends_at _ _ hop_there _ here here is) e
     step_there here (Named name) reached is e = by (entry_location nat_eq world here name) refl e
       where
         by : (o : Option (Location ℕ)) → entry_location nat_eq world here name ≡ o

@@ -1,6 +1,6 @@
 -- A tree without the inodes that are not used is a tree.
-use Rattle.std.proofs.Common.{arith, eqb-true, ◌≡◌, refl, sym, ap, subst, ◌∙◌, true≢false, ℕ, nat_eq, eq-eqb, Bool, true, false, cond, List, [], ◌∷◌, ◌++◌, not, ◌&&◌, ◌||◌, ⊎_elim, Some, None, is_some, filter, flat_map}
-use Rattle.vt_spec.proofs.Common.{All-filter, All-map, All-weaker, FileTree, Filesystem, HasName, IsDirectory, IsTree, Tree, World, among_targets, any-filter_same, cases_Bool, common_steps, directory_from_entry, directory_used, entries_in, entry_at, filesystem_lives, is_among, is_among_left, is_among_right, is_overlay, is_sorted, layers_in, list_all, list_any, located_in, name_cmp, named_in, none_from_not_some, objects_of_overlay, only_among, only_used, only_used_by, only_used_of, or_right, parent_in, targets_in, used_in, without_dead_filesystems, without_dead_in, without_dead_mounts}
+use Rattle.std.proofs.Common.{arith, eqb-true, ◌≡◌, refl, sym, ap, subst, ◌∙◌, true≢false, ℕ, nat_eq, eq-eqb, Bool, true, false, cond, List, [], ◌∷◌, ◌++◌, ◌&&◌, ◌||◌, ⊎_elim, Some, None, is_some, filter, flat_map}
+use Rattle.vt_spec.proofs.Common.{All-filter, All-map, All-weaker, FileTree, Filesystem, HasName, IsDirectory, IsTree, Tree, World, among_targets, any-filter_same, cases_Bool, common_steps, directory_from_entry, directory_used, entries_in, entry_at, is_among, is_among_left, is_among_right, is_overlay, is_sorted, layers_in, list_all, list_any, located_in, name_cmp, named_in, none_from_not_some, objects_of_overlay, only_among, only_used, only_used_by, only_used_of, or_right, parent_in, used_in, without_dead_filesystems, without_dead_in, without_dead_mounts}
 use Rattle.vt_spec.proofs.Trees.{led_kept}
 use Rattle.vt_laws_trees.specs.Trees.{HasOwnParents, IsFileTree}
 use Rattle.vt_laws_trees.specs.Trees.Settling.{HasFileTrees, HoldsTree, SettlingKeepsTrees, UnusedIsGone, UsedStays}
@@ -20,10 +20,8 @@ among_flat_map f (z ∷ zs) x y h k = by (nat_eq x z) refl (λ e. among_flat_map
 -- the named ones are those that have a name
 pub named_among : (files : FileTree ℕ) → IsFileTree files → (number : ℕ) → HasName files.tree number
     → is_among nat_eq number (named_in files) ≡ true
-named_among files conditions number named =
-    among_flat_map (λ directory. targets_in (files.tree.node directory)) files.numbers named.0 number
-    (conditions.numbers named.0 ∙ directory_used files.tree named.0
-    (directory_from_entry named.1 number (files.tree.node named.0) named.2))
+named_among files conditions number named = among_flat_map _ files.numbers named.0 number (conditions.numbers named.0
+    ∙ directory_used files.tree named.0 (directory_from_entry named.1 number (files.tree.node named.0) named.2))
     (among_targets named.1 (entries_in (files.tree.node named.0)) number named.2)
 
 module _ (used : List ℕ) (files : FileTree ℕ) (holds : HoldsTree used files) (conditions : IsFileTree files) where
@@ -38,12 +36,7 @@ module _ (used : List ℕ) (files : FileTree ℕ) (holds : HoldsTree used files)
 
   -- what is there is used
   kept_used : (number : ℕ) → is_some (kept.node number) ≡ true → IsUsed number
-  kept_used number there = by (is_among nat_eq number used) refl there
-    where
-      by : (b : Bool) → is_among nat_eq number used ≡ b → is_some (cond b (files.tree.node number) None) ≡ true
-          → IsUsed number
-      by true is h = is
-      by false is h = cc
+  kept_used number there = grind (arith, common_steps, is_among)
 
   kept_directory : (number : ℕ) → IsDirectory kept number → IsUsed number
   kept_directory number is = kept_used number (directory_used kept number is)
@@ -57,11 +50,9 @@ module _ (used : List ℕ) (files : FileTree ℕ) (holds : HoldsTree used files)
   -- a directory with an entry is used: without a name it would be empty
   pub entry_used : (directory : ℕ) (name : List ℕ) (number : ℕ) → entry_at files.tree directory name ≡ Some number
       → IsUsed directory
-  entry_used directory name number e = ⊎_elim (λ is. is) (λ unused. no_entries files.tree directory name number
-      (conditions.tree.unnamed_empty directory (directory_from_entry name number (files.tree.node directory) e)
-      (λ root. cc (holds.root))
-      (λ named. cc (holds.named directory named))) e)
-      (cases_Bool (is_among nat_eq directory used))
+  entry_used directory name number e = ⊎_elim (λ is. is) (λ unused. no_entries files.tree directory name
+      number (conditions.tree.unnamed_empty directory (directory_from_entry name number _ e) (λ root. cc (holds.root))
+      (λ named. cc (holds.named directory named))) e) (cases_Bool (is_among nat_eq directory used))
 
   entry_kept : (directory : ℕ) (name : List ℕ) (number : ℕ) → entry_at files.tree directory name ≡ Some number
       → entry_at kept directory name ≡ Some number
@@ -70,8 +61,7 @@ module _ (used : List ℕ) (files : FileTree ℕ) (holds : HoldsTree used files)
 
   entry_was : (directory : ℕ) (name : List ℕ) (number : ℕ) → entry_at kept directory name ≡ Some number
       → entry_at files.tree directory name ≡ Some number
-  entry_was directory name number e =
-      cc (kept_node directory (kept_directory directory (directory_from_entry name number (kept.node directory) e)))
+  entry_was directory name number e = cc (kept_node directory (kept_directory _ (directory_from_entry name number _ e)))
 
   name_was : (number : ℕ) → HasName kept number → HasName files.tree number
   name_was number named = (named.0, named.1, entry_was named.0 named.1 number named.2)
@@ -127,8 +117,7 @@ module _ (used : List ℕ) (files : FileTree ℕ) (holds : HoldsTree used files)
 
   kept_numbers : (k : ℕ) → is_among nat_eq k (filter (λ m. is_among nat_eq m used) files.numbers)
       ≡ is_some (kept.node k)
-  kept_numbers k = any-filter_same (nat_eq k) (λ m. is_among nat_eq m used) (is_among nat_eq k used)
-      (λ m same. ap (λ n. is_among nat_eq n used) (sym (eqb-true k m same))) files.numbers ∙ by (is_among nat_eq k used)
+  kept_numbers k = any-filter_same _ _ _ (λ m same. ap (λ n. is_among nat_eq n used) (sym (eqb-true k m same))) _ ∙ by _
     where
       by : (b : Bool) → (b && is_among nat_eq k files.numbers) ≡ is_some (cond b (files.tree.node k) None)
       by true = conditions.numbers k
@@ -153,8 +142,7 @@ module _ (world : World ℕ) (filesystem : Filesystem ℕ) where
 
   pub among_located : (number : ℕ) → is_among nat_eq number (located_in nat_eq world filesystem.number) ≡ true
       → is_among nat_eq number (used_in nat_eq world filesystem) ≡ true
-  among_located number h = among_named_or_located number (is_among_right number (named_in filesystem.files)
-      (located_in nat_eq world filesystem.number) h)
+  among_located number h = among_named_or_located number (is_among_right number (named_in filesystem.files) _ h)
 
   pub named_is_used : IsFileTree filesystem.files → HoldsTree (used_in nat_eq world filesystem) filesystem.files
   named_is_used conditions = record {
@@ -181,9 +169,8 @@ only_used_is world false filesystem conditions = conditions
 
 pub without_dead_in_is : (chosen : Filesystem ℕ → Bool) (world : World ℕ) → HasFileTrees world
     → HasFileTrees (without_dead_in nat_eq chosen world)
-without_dead_in_is chosen world trees = All-map (λ filesystem. IsFileTree filesystem.files)
-    (λ filesystem. only_used nat_eq world (chosen filesystem) filesystem) world.filesystems
-    (All-weaker (λ filesystem. IsFileTree filesystem.files)
+without_dead_in_is chosen world trees = All-map (λ filesystem. IsFileTree filesystem.files) _
+    world.filesystems (All-weaker (λ filesystem. IsFileTree filesystem.files)
     (λ filesystem. IsFileTree (only_used nat_eq world (chosen filesystem) filesystem).files)
     (λ filesystem conditions. only_used_is world (chosen filesystem) filesystem conditions) world.filesystems trees)
 
@@ -191,10 +178,8 @@ pub settling_keeps_trees : SettlingKeepsTrees
 settling_keeps_trees world trees =
     let mounted = without_dead_mounts nat_eq world in
     let living = without_dead_filesystems nat_eq mounted in
-    let trees_living : HasFileTrees living =
-    All-filter (filesystem_lives nat_eq mounted) (λ filesystem. IsFileTree filesystem.files) world.filesystems trees in
-    without_dead_in_is (λ filesystem. not (is_overlay filesystem)) (without_dead_in nat_eq is_overlay living)
-    (without_dead_in_is is_overlay living trees_living)
+    let trees_living : HasFileTrees living = All-filter _ (λ filesystem. IsFileTree filesystem.files) _ trees in
+    without_dead_in_is _ (without_dead_in nat_eq is_overlay living) (without_dead_in_is is_overlay living trees_living)
 
 -- what is used stays, and what is not is gone
 pub used_stays : UsedStays
@@ -218,7 +203,5 @@ unused_is_gone world filesystem number conditions unused = by _ refl
   where
     by : (b : Bool) → list_all (λ m. is_among nat_eq m (used_in nat_eq world filesystem)) filesystem.files.numbers ≡ b
         → (only_used_by nat_eq b (used_in nat_eq world filesystem) filesystem).files.tree.node number ≡ None
-    by true all = none_from_not_some (filesystem.files.tree.node number) (sym (conditions.numbers number)
-        ∙ all_pass (λ m. is_among nat_eq m
-        (used_in nat_eq world filesystem)) filesystem.files.numbers number all unused)
+    by true all = none_from_not_some _ (sym (conditions.numbers number) ∙ all_pass _ _ number all unused)
     by false all = ap (λ b. cond b (filesystem.files.tree.node number) None) unused

@@ -1,6 +1,6 @@
 -- No call breaks a limit of a task.
 use Rattle.std.proofs.Common.{arith, ◌≡◌, refl, ◌∙◌, true≢false, ℕ, nat_eq, nat_le, Bool, true, false, not, cond, List, [], ◌∷◌, length, map, ◌+◌, Option, Some, None, ok_or, Ok, find}
-use Rattle.vt_spec.proofs.Common.{Access, Call, Change, CopyUp, Fork, ForkWords, Fresh, Location, Mount, Outcome, Permit, Place, SetMark, Task, TaskName, ToOpen, TypeWord, World, all-filter, and_parts, apply, call_outcome, child_credentials, child_of, common_steps, deepest_first, deepest_name, denial, evens, finished_by, folded, is_copied_up, is_within_limits, lazily_unmounted, linking, list_all, looks_of, making, most_descriptors, most_forks, mount_at, mount_numbered, mount_tree, moving, namespace_entered, namespaces_ended, new_file, none_is_not, object_there, odds, open_new_permit, or_parts, overfills, pivoted, pivoted_location, pivoted_task, pwritten, raised, raised_task, removing, replaced_if_called, same_name, task_called, tasks-taken_away, tasks-with_change, tasks-without_replaced, unmounted, unmounted_if_there, unshared, with_change, with_copy, with_descriptor, with_new, with_task, with_type, without_descriptor, without_mounts_on, without_replaced, without_task}
+use Rattle.vt_spec.proofs.Common.{Access, Call, Change, CopyUp, Fork, ForkWords, Fresh, Location, Mount, Outcome, Permit, Place, SetMark, Task, TaskName, ToOpen, TypeWord, World, all-filter, and_parts, apply, call_outcome, child_credentials, child_of, common_steps, deepest_first, deepest_name, denial, evens, finished_by, folded, is_within_limits, lazily_unmounted, linking, list_all, looks_of, making, most_descriptors, most_forks, mount_at, mount_numbered, mount_tree, moving, namespace_entered, namespaces_ended, new_file, none_is_not, object_there, odds, open_new_permit, or_parts, overfills, pivoted, pivoted_location, pivoted_task, pwritten, raised, raised_task, removing, replaced_if_called, same_name, task_called, tasks-taken_away, tasks-with_change, tasks-without_replaced, unmounted, unmounted_if_there, unshared, with_change, with_copy, with_descriptor, with_new, with_task, with_type, without_descriptor, without_mounts_on, without_replaced, without_task}
 use Rattle.vt_spec.specs.declared.errors.Rule.TheVariants.{S2}
 use Rattle.vt_laws_trees.specs.Trees.Limits.{CallsKeepSmallTasks, HasSmallTasks, OpeningHasSmallTasks, names_few_groups}
 use Rattle.vt_laws_trees.proofs.trees.TreesTasks.{all_appended, all_mapped, child_within, closed_within, masked_within, opened_within, parent_within, replaced_within}
@@ -83,9 +83,7 @@ module _ (fresh : Fresh ℕ) (world : World ℕ) (task : Task ℕ) (small : HasS
 
   open_small : HasRoom → (file : Location ℕ) (access : Access)
       → HasSmallTasks (apply nat_eq fresh world task (ToOpen file access)).world
-  open_small room file access =
-      opened_small room (with_copy nat_eq (is_copied_up nat_eq world file access) fresh world file)
-      (copy_tasks (is_copied_up nat_eq world file access) file) file access
+  open_small room file access = opened_small room (with_copy nat_eq _ fresh world file) (copy_tasks _ file) file access
 
   create_small : HasRoom → (place : Place ℕ) (access : Access) (mode : ℕ)
       → HasSmallTasks (apply nat_eq fresh world task (open_new_permit task place access mode)).world
@@ -95,8 +93,7 @@ module _ (fresh : Fresh ℕ) (world : World ℕ) (task : Task ℕ) (small : HasS
 
   pivoted_small : (root new : Mount ℕ) (put : Location ℕ)
       → HasSmallTasks (pivoted nat_eq world task.namespace root new put)
-  pivoted_small root new put = all_mapped is_within_limits
-      (pivoted_task nat_eq task.namespace root new) keeps world.tasks small
+  pivoted_small root new put = all_mapped _ (pivoted_task nat_eq task.namespace root new) keeps world.tasks small
     where
       keeps : (other : Task ℕ) → is_within_limits other ≡ true
           → is_within_limits (pivoted_task nat_eq task.namespace root new other) ≡ true
@@ -188,8 +185,7 @@ module _ (fresh : Fresh ℕ) (world : World ℕ) (task : Task ℕ) (small : HasS
 finished_small : (before : World ℕ) (name : TaskName) (changed : List ℕ) (outcome : Outcome ℕ) (b : Bool)
     → HasSmallTasks outcome.world → HasSmallTasks (finished_by nat_eq b before name changed outcome).world
 finished_small before name changed outcome true small = small
-finished_small before name changed outcome false small =
-    all_mapped is_within_limits (raised_task name) keeps outcome.world.tasks small
+finished_small before name changed outcome false small = all_mapped _ (raised_task name) keeps outcome.world.tasks small
   where
     keeps : (other : Task ℕ) → is_within_limits other ≡ true → is_within_limits (raised_task name other) ≡ true
     keeps other h = by (same_name name other.name)

@@ -1,6 +1,6 @@
 -- A change of a filesystem in a world of trees leaves a world of trees.
 use Rattle.std.proofs.Common.{arith, eqb-true, ◌≡◌, refl, sym, ap, subst, ℕ, nat_eq, Bool, true, false, cond, List, [], ◌∷◌, map, ◌⊎◌, inl, inr, ⊎_elim, Some, None, is_some, unwrap_or, All, find}
-use Rattle.vt_spec.proofs.Common.{All-cons, All-head, All-nil, All-tail, Change, Filesystem, Fresh, Location, World, changed, common_steps, files_at, filesystem_at, filesystem_changed, filesystems-taken_away, filesystems_raised, is_overlay, list_any, mount_at, no_filesystem, none_from_not_some, raised, raised_if_changed, replaced_if_numbered, shown-taken_away, taken_away, with_change, with_files, with_filesystem}
+use Rattle.vt_spec.proofs.Common.{All-cons, All-head, All-nil, All-tail, Change, Filesystem, Fresh, Location, World, changed, common_steps, files_at, filesystem_at, filesystem_changed, filesystems-taken_away, filesystems_raised, is_overlay, mount_at, no_filesystem, none_from_not_some, raised, raised_if_changed, replaced_if_numbered, shown-taken_away, taken_away, with_change, with_files, with_filesystem}
 use Rattle.vt_laws_trees.specs.Trees.{IsFileTree, IsProper}
 use Rattle.vt_laws_trees.specs.Trees.Calls.{AreNew, IsWorldOfTrees}
 use Rattle.vt_laws_trees.proofs.trees.ChangesKeepTrees.{changes_keep_numbers, changes_keep_own_parents, changes_keep_trees}
@@ -14,8 +14,7 @@ pub numbered_all : (P : Filesystem ℕ → Type 0) (number : ℕ) (list : List (
     → P (numbered number list)
     ⊎ ((numbered number list ≡ no_filesystem number) × All (λ filesystem. nat_eq number filesystem.number ≡ false) list)
 numbered_all P number [] h = inr (refl, All-nil (λ filesystem. nat_eq number filesystem.number ≡ false))
-numbered_all P number (filesystem ∷ list) h =
-    by (nat_eq number filesystem.number) refl (numbered_all P number list (All-tail P filesystem list h))
+numbered_all P number (filesystem ∷ list) h = by _ refl (numbered_all P number list (All-tail P filesystem list h))
   where
     by : (b : Bool) → nat_eq number filesystem.number ≡ b → P (numbered number list)
         ⊎ ((numbered number list ≡ no_filesystem number) × All (λ other. nat_eq number other.number ≡ false) list)
@@ -44,8 +43,7 @@ pub replaced_all : (P : Filesystem ℕ → Type 0) (new : Filesystem ℕ) (list 
     → P new ⊎ All (λ filesystem. nat_eq new.number filesystem.number ≡ false) list
     → All P (map (replaced_if_numbered nat_eq new) list)
 replaced_all P new [] h either = All-nil P
-replaced_all P new (filesystem ∷ list) h either =
-    All-cons P (replaced_if_numbered nat_eq new filesystem) (map (replaced_if_numbered nat_eq new) list)
+replaced_all P new (filesystem ∷ list) h either = All-cons P (replaced_if_numbered nat_eq new filesystem) _
     (by (nat_eq new.number filesystem.number) refl either) (replaced_all P new list (All-tail P filesystem list h)
     (⊎_elim inl (λ none. inr (All-tail (λ other. nat_eq new.number other.number ≡ false) filesystem list none)) either))
   where
@@ -60,10 +58,8 @@ pub raised_all : (P : Filesystem ℕ → Type 0) (changed : List ℕ)
     → ((filesystem : Filesystem ℕ) → P filesystem → P (record filesystem { change = raised filesystem.change }))
     → (list : List (Filesystem ℕ)) → All P list → All P (map (raised_if_changed nat_eq changed) list)
 raised_all P changed keeps [] h = All-nil P
-raised_all P changed keeps (filesystem ∷ list) h =
-    All-cons P (raised_if_changed nat_eq changed filesystem) (map (raised_if_changed nat_eq changed) list)
-    (by (list_any (λ number. nat_eq number filesystem.number) changed) (All-head P filesystem list h))
-    (raised_all P changed keeps list (All-tail P filesystem list h))
+raised_all P changed keeps (filesystem ∷ list) h = All-cons P (raised_if_changed nat_eq changed filesystem) _
+    (by _ (All-head P filesystem list h)) (raised_all P changed keeps list (All-tail P filesystem list h))
   where
     by : (b : Bool) → P filesystem → P (cond b (record filesystem { change = raised filesystem.change }) filesystem)
     by true is = keeps filesystem is
@@ -72,10 +68,8 @@ raised_all P changed keeps (filesystem ∷ list) h =
 pub raised_keeps_world : (changed : List ℕ) (world : World ℕ) → IsWorldOfTrees world
     → IsWorldOfTrees (filesystems_raised nat_eq changed world)
 raised_keeps_world changed world conditions = record {
-  plain = raised_all (λ filesystem. is_overlay filesystem ≡ false) changed
-      (λ filesystem is. is) world.filesystems conditions.plain;
-  trees = raised_all (λ filesystem. IsFileTree filesystem.files) changed
-      (λ filesystem is. is) world.filesystems conditions.trees;
+  plain = raised_all (λ filesystem. is_overlay filesystem ≡ false) changed (λ filesystem is. is) _ conditions.plain;
+  trees = raised_all (λ filesystem. IsFileTree filesystem.files) changed (λ filesystem is. is) _ conditions.trees;
 }
 
 -- A change
@@ -107,12 +101,11 @@ module _ (fresh : Fresh ℕ) (world : World ℕ) (location : Location ℕ) (chan
   change_keeps_world conditions proper = subst IsWorldOfTrees (sym (change_of_plain conditions)) (record {
     plain = replaced_all (λ filesystem. is_overlay filesystem ≡ false) new world.filesystems conditions.plain
         (inl (ap is_some (no_overlay conditions)));
-    trees = replaced_all (λ filesystem. IsFileTree filesystem.files) new world.filesystems conditions.trees (⊎_elim
-        (λ is. inl (new_is_tree is (proper is)))
+    trees = replaced_all (λ filesystem. IsFileTree filesystem.files)
+        new world.filesystems conditions.trees (⊎_elim (λ is. inl (new_is_tree is (proper is)))
         (λ missing. inr (subst (λ n. All (λ filesystem. nat_eq n filesystem.number ≡ false) world.filesystems)
         (sym (number_numbered (mount_at nat_eq world location).filesystem world.filesystems)) missing.1))
-        (numbered_all (λ filesystem. IsFileTree filesystem.files)
-        (mount_at nat_eq world location).filesystem world.filesystems conditions.trees));
+        (numbered_all (λ filesystem. IsFileTree filesystem.files) _ world.filesystems conditions.trees));
   })
 
 -- a number that is handed in is new wherever it is used

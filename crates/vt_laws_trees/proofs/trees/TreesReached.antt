@@ -1,6 +1,6 @@
 -- A directory that is not removed is reached from the root, and so is one that has an entry.
 use Rattle.std.proofs.Common.{eqb-true, ◌≡◌, refl, sym, ap, subst, ◌∙◌, true≢false, ℕ, nat_eq, eq-eqb, Bool, true, false, not, cond, List, [], ◌∷◌, map, ◌&&◌, ◌||◌, Some, None, is_some, Ordering, Equal, Greater, Less, is_eq, is_lt}
-use Rattle.vt_spec.proofs.Common.{Entries, IsDirectory, IsReached, IsTree, Tree, and_parts, below_all, entries_in, entry_at, entry_named, eq_by_cmp, has_entry_to, is_among, is_removed, is_sorted, name_cmp, named_parent, nat_list_cmp_total, none_is_not, parent_in, root_reached, tied_itself, when}
+use Rattle.vt_spec.proofs.Common.{Entries, IsDirectory, IsReached, IsTree, Tree, and_parts, below_all, entries_in, entry_at, entry_named, eq_by_cmp, has_entry_to, is_among, is_removed, is_sorted, name_cmp, nat_list_cmp_total, none_is_not, parent_in, root_reached, tied_itself, when}
 use Rattle.vt_spec.proofs.Nodes.{same_name}
 use Rattle.vt_laws_trees.proofs.trees.TreesAbove.{parent_named}
 use Rattle.vt_laws_trees.proofs.trees.TreesRearranged.{no_entries}
@@ -9,8 +9,7 @@ use Rattle.vt_laws_trees.proofs.trees.TreesRearranged.{no_entries}
 below_missing : (name : List ℕ) (entries : Entries ℕ) (number : ℕ) → below_all name_cmp name entries ≡ true
     → entry_named name entries ≡ Some number → ⊥
 below_missing name [] number below e = none_is_not None number refl e
-below_missing name (entry ∷ entries) number below e =
-    by (name_cmp name entry.0) below e (λ b h. below_missing name entries number b h)
+below_missing name (entry ∷ entries) number below e = by _ below e (λ b h. below_missing name entries number b h)
   where
     by : (o : Ordering) → (is_lt o && below_all name_cmp name entries) ≡ true
         → cond (is_eq o) (Some entry.1) (entry_named name entries) ≡ Some number
@@ -40,8 +39,7 @@ listed_entry (entry ∷ entries) number sorted h = by (nat_eq number entry.1) re
         → (name : List ℕ) × (entry_named name (entry ∷ entries) ≡ Some number)
     by true e g rest = (
       entry.0,
-      ap (λ o. cond (is_eq o) (Some entry.1) (entry_named entry.0 entries)) (tied_itself nat_list_cmp_total entry.0)
-          ∙ ap Some (sym (eqb-true number entry.1 e)),
+      cc (tied_itself nat_list_cmp_total entry.0, eqb-true number entry.1 e),
     )
     by false e g rest =
         let found = rest g in
@@ -50,8 +48,7 @@ listed_entry (entry ∷ entries) number sorted h = by (nat_eq number entry.1) re
 module _ (tree : Tree ℕ) (conditions : IsTree tree) (directory : ℕ) (is : IsDirectory tree directory) where
   -- not removed is the root, or has a name
   pub not_removed_reached : is_removed nat_eq tree directory ≡ false → IsReached tree directory
-  not_removed_reached stays = by (nat_eq directory tree.root)
-      (has_entry_to nat_eq tree (parent_in directory (tree.node directory)) directory) refl refl stays
+  not_removed_reached stays = by (nat_eq directory tree.root) _ refl refl stays
     where
       by : (a b : Bool) → nat_eq directory tree.root ≡ a
           → has_entry_to nat_eq tree (parent_in directory (tree.node directory)) directory ≡ b
@@ -80,8 +77,6 @@ module _ (tree : Tree ℕ) (conditions : IsTree tree) (directory : ℕ) (is : Is
 
       by : (b : Bool) → is_removed nat_eq tree directory ≡ b → IsReached tree directory
       by false stays = not_removed_reached stays
-      by true removed = no_entries tree directory name number (conditions.unnamed_empty directory is
-          (λ root. true≢false (sym (eq-eqb directory tree.root root)
-          ∙ no_root (nat_eq directory tree.root) (is_some (named_parent nat_eq tree directory)) removed))
-          (λ named. true≢false (sym (ap is_some (parent_named tree conditions named.0 named.1 directory named.2 is))
-          ∙ no_parent (nat_eq directory tree.root) (is_some (named_parent nat_eq tree directory)) removed))) entry
+      by true removed = no_entries tree directory name number (conditions.unnamed_empty directory is (λ root. true≢false
+          (sym (eq-eqb directory tree.root root) ∙ no_root (nat_eq directory tree.root) _ removed)) (λ named. true≢false
+          (sym (ap is_some (parent_named tree conditions named.0 named.1 _ named.2 is)) ∙ no_parent _ _ removed))) entry

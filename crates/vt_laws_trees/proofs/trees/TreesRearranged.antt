@@ -17,8 +17,7 @@ led_closed tree P step from (name ∷ names) number p e =
 -- what has no entries has none of this name
 pub no_entries : {P : Type 0} (tree : Tree ℕ) (directory : ℕ) (name : List ℕ) (number : ℕ)
     → entries_in (tree.node directory) ≡ [] → entry_at tree directory name ≡ Some number → P
-no_entries tree directory name number empty e =
-    none_is_not (entry_at tree directory name) number (ap (entry_named name) empty) e
+no_entries tree directory name number empty e = none_is_not _ number (ap (entry_named name) empty) e
 
 -- an object that gets no other name is gone: it has no entries, and is its own parent
 pub record Vanishes (before after : Option (Node ℕ)) (number : ℕ) : Type 0 where
@@ -107,15 +106,13 @@ module _ (tree : Tree ℕ) (node : ℕ → Option (Node ℕ)) (Leaves : ℕ → 
       (moves.told directory name number e (before_directory number is))
 
   after_parent_directory : (number : ℕ) → IsDirectory after number → IsDirectory after (parent_in number (node number))
-  after_parent_directory number is = ⊎_elim (λ leaves. ⊎_elim (λ arrives. subst (IsDirectory after)
-      (sym (moves.arrives_parent arrives.0 arrives.1 number arrives.2 (before_directory number is)))
-      (directory_from_entry arrives.1 number (node arrives.0)
-      (moves.arrives_entry arrives.0 arrives.1 number arrives.2)))
+  after_parent_directory number is = ⊎_elim (λ leaves. ⊎_elim (λ arrives. subst
+      (IsDirectory after) (sym (moves.arrives_parent arrives.0 arrives.1 number arrives.2 (before_directory number is)))
+      (directory_from_entry arrives.1 number _ (moves.arrives_entry arrives.0 arrives.1 number arrives.2)))
       (λ gone. subst (IsDirectory after) (sym gone.own_parent) is)
       (moves.leaves_how number (before_directory number is) leaves))
       (λ stays. subst (IsDirectory after) (sym (moves.stays_parent number (before_directory number is) stays))
-      (after_directory (parent_in number (tree.node number))
-      (conditions.parent_directory number (before_directory number is)))) (moves.decided number)
+      (after_directory _ (conditions.parent_directory number (before_directory number is)))) (moves.decided number)
 
   after_reached : (number : ℕ) → IsDirectory after number → HasName after number → IsReached after number
   after_reached number is named = ⊎_elim (λ arrives. entry_reached after named.0 named.1 number
@@ -146,10 +143,8 @@ module _ (tree : Tree ℕ) (node : ℕ → Option (Node ℕ)) (Leaves : ℕ → 
   is_tree-rearranged = record {
     root_directory = after_directory tree.root conditions.root_directory;
     root_parent = moves.stays_parent tree.root conditions.root_directory moves.root_stays ∙ conditions.root_parent;
-    root_unnamed = λ directory name e. ⊎_elim
-        (λ arrives. moves.root_stays (moves.arrives_leaves directory name tree.root arrives))
-        (λ old. conditions.root_unnamed directory name old.0)
-        (moves.told directory name tree.root e conditions.root_directory);
+    root_unnamed = λ directory name e. ⊎_elim (λ arrives. moves.root_stays (moves.arrives_leaves _ name _ arrives))
+        (λ old. conditions.root_unnamed directory name old.0) (moves.told directory name _ e conditions.root_directory);
     in_order = moves.in_order;
     alive = moves.alive;
     one_parent = after_one_parent;

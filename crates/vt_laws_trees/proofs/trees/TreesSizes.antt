@@ -83,11 +83,9 @@ module _ (world : World ℕ) (task : Task ℕ) where
       (list_any (λ word. nat_lt longest_name (length word)) (words path)) passed.1.0).1)
 
   fit_place_walk : (path : List ℕ) → Ends HasFitLast (place_walk nat_eq world task path)
-  fit_place_walk path = ends_then HasFitWords HasFitLast (path_text path) _ (fit_text path) (λ text fit.
-      ends_next HasFitLast (prefix_walked nat_eq world task (followed nat_eq world task) (walk_start task text)
-      (reverse (words text)))
-      (λ here. placed nat_eq world task here (final_word (reverse (words text))) (ends_in_slash text))
-      (λ here. fit_placed here (final_word (reverse (words text))) (ends_in_slash text) (last_fits text fit)))
+  fit_place_walk path = ends_then HasFitWords HasFitLast _ _ (fit_text path) (λ text fit. ends_next HasFitLast
+      (prefix_walked nat_eq world task (followed nat_eq world task) (walk_start task text) (reverse (words text)))
+      (λ here. placed nat_eq world task here _ _) (λ here. fit_placed here _ (ends_in_slash text) (last_fits text fit)))
 
   pub fit_new_walk : (path : List ℕ) → Ends HasFitLast (new_walk nat_eq world task path)
   fit_new_walk path = ends_then HasFitLast HasFitLast (place_walk nat_eq world task path) _ (fit_place_walk path)
@@ -114,19 +112,16 @@ module _ (world : World ℕ) (task : Task ℕ) where
   fit_file_walked : (depth : ℕ) (start : Here ℕ) (text : List ℕ) (slash : Bool) → HasFitWords text
       → Ends HasFitLast (file_walked nat_eq depth world task start text slash)
   fit_file_walked zero start text slash fit = tt
-  fit_file_walked (suc depth) start text slash fit =
-      ends_next HasFitLast (prefix_walked nat_eq world task (followed nat_eq world task) start (reverse (words text)))
-      (λ here. then_walk (placed nat_eq world task here (final_word (reverse (words text)))
-      (slash || ends_in_slash text)) (λ place. file_or_symlink nat_eq world place (symlink_there nat_eq world place)
-      (linked_file depth text slash here place))) (λ here. ends_then HasFitLast HasFitLast
-      (placed nat_eq world task here (final_word (reverse (words text))) (slash || ends_in_slash text))
-      (λ place. file_or_symlink nat_eq world place (symlink_there nat_eq world place)
-      (linked_file depth text slash here place))
+  fit_file_walked (suc depth) start text slash fit = ends_next HasFitLast
+      (prefix_walked nat_eq world task (followed nat_eq world task) start (reverse (words text))) (λ here. then_walk
+      (placed nat_eq world task here (final_word (reverse (words text))) (slash || ends_in_slash text)) (λ place.
+      file_or_symlink nat_eq world place (symlink_there nat_eq world place) (linked_file depth text slash here place)))
+      (λ here. ends_then HasFitLast HasFitLast (placed nat_eq world task here _ (slash || ends_in_slash text)) (λ place.
+      file_or_symlink nat_eq world place (symlink_there nat_eq world place) (linked_file depth text slash here place))
       (fit_placed here (final_word (reverse (words text))) (slash || ends_in_slash text) (last_fits text fit))
-      (λ place last.
-      fit_file_or_link place (symlink_there nat_eq world place) (linked_file depth text slash here place) last (λ inner.
-      ends_then (λ next. HasFitWords inner) HasFitLast
-      (walk_unless place.steps (follow_rules nat_eq world (symlink_of here place) inner)
+      (λ place last. fit_file_or_link place (symlink_there nat_eq world place)
+      (linked_file depth text slash here place) last (λ inner. ends_then (λ next. HasFitWords inner)
+      HasFitLast (walk_unless place.steps (follow_rules nat_eq world (symlink_of here place) inner)
       (symlink_start nat_eq world task here.location (symlink_of here place) inner))
       (λ next. file_walked nat_eq depth world task next inner (slash || ends_in_slash text))
       (ends_unless (λ next. HasFitWords inner) place.steps (follow_rules nat_eq world (symlink_of here place) inner)

@@ -41,11 +41,9 @@ pub record IsWithin (task : Task ℕ) : Type 0 where
   pub umask : nat_lt task.umask 512 ≡ true
 
 pub limits_of : (task : Task ℕ) → IsWithin task → is_within_limits task ≡ true
-limits_of task is = and_from _ (nat_lt task.umask 512) (and_from _ (nat_le (length task.credentials.groups) 32)
-    (and_from _ (nat_le (length task.name) deepest_name) (and_from _ (nat_le task.forks most_forks)
-    (and_from _ (list_all (λ descriptor. nat_lt descriptor.number most_descriptors) task.descriptors)
-    (and_from (nat_le (length task.descriptors) most_descriptors)
-    (are_ascending_from 0 task.descriptors) is.few is.ascending) is.low) is.forks) is.depth) is.groups) is.umask
+limits_of task is = and_from _ (nat_lt task.umask 512) (and_from _ _ (and_from _ _
+    (and_from _ (nat_le task.forks most_forks) (and_from _ _ (and_from _ _ is.few is.ascending) is.low) is.forks)
+    is.depth) is.groups) is.umask
 
 pub within : (task : Task ℕ) → is_within_limits task ≡ true → IsWithin task
 within task is =
@@ -75,16 +73,13 @@ within task is =
 pub all_mapped : {A : Type 0} (test : A → Bool) (change : A → A) → ((a : A) → test a ≡ true → test (change a) ≡ true)
     → (list : List A) → list_all test list ≡ true → list_all test (map change list) ≡ true
 all_mapped test change keeps [] h = refl
-all_mapped test change keeps (a ∷ list) h =
-    and_from (test (change a)) (list_all test (map change list))
-    (keeps a ((and_parts (test a) (list_all test list) h).0))
+all_mapped test change keeps (a ∷ list) h = and_from _ _ (keeps a ((and_parts (test a) (list_all test list) h).0))
     (all_mapped test change keeps list ((and_parts (test a) (list_all test list) h).1))
 
 pub all_appended : {A : Type 0} (test : A → Bool) (list : List A) (a : A) → list_all test list ≡ true → test a ≡ true
     → list_all test (list ++ (a ∷ [])) ≡ true
 all_appended test [] a h k = and_from (test a) true k refl
-all_appended test (b ∷ list) a h k =
-    and_from (test b) (list_all test (list ++ (a ∷ []))) ((and_parts (test b) (list_all test list) h).0)
+all_appended test (b ∷ list) a h k = and_from (test b) _ ((and_parts (test b) (list_all test list) h).0)
     (all_appended test list a ((and_parts (test b) (list_all test list) h).1) k)
 
 pub replaced_within : (new old : Task ℕ) → is_within_limits new ≡ true → is_within_limits old ≡ true
@@ -113,15 +108,12 @@ inserted_all test new (descriptor ∷ list) h k = by (nat_lt new.number descript
     by : (b : Bool) → list_all test (inserted new list) ≡ true
         → list_all test (cond b (new ∷ descriptor ∷ list) (descriptor ∷ inserted new list)) ≡ true
     by true rest = and_from (test new) (list_all test (descriptor ∷ list)) h k
-    by false rest = and_from (test descriptor) (list_all test (inserted new list))
-        ((and_parts (test descriptor) (list_all test list) k).0) rest
+    by false rest = and_from (test descriptor) _ ((and_parts (test descriptor) (list_all test list) k).0) rest
 
 inserted_ascending : (least : ℕ) (new : Descriptor ℕ) (list : List (Descriptor ℕ)) → new.number ≡ free_from least list
     → are_ascending_from least list ≡ true → are_ascending_from least (inserted new list) ≡ true
-inserted_ascending least new [] e h =
-    and_from (nat_le least new.number) true (le-leb least new.number (omega (arith, e))) refl
-inserted_ascending least new (descriptor ∷ list) e h =
-    by (descriptor.number == least) refl e (λ f g. inserted_ascending (least + 1) new list f g)
+inserted_ascending least new [] e h = and_from _ true (le-leb least new.number (omega (arith, e))) refl
+inserted_ascending least new (descriptor ∷ list) e h = by _ refl e (λ f g. inserted_ascending (least + 1) new list f g)
   where
     low : nat_le least descriptor.number ≡ true
     low = (and_parts (nat_le least descriptor.number) (are_ascending_from (descriptor.number + 1) list) h).0

@@ -1,6 +1,6 @@
 -- A right stands behind each effect.
 use Rattle.std.proofs.Common.{arith, Bool, List, None, Option, Result, Some, [], ap, eqb-true, false, inl, inr, nat_eq, refl, subst, sym, true, true≢false, ℕ, ◌&&◌, ◌==◌, ◌||◌, ◌∙◌, ◌∷◌, ◌≡◌, Ok, ◌⊎◌}
-use Rattle.vt_spec.proofs.Common.{Call, Change, Fresh, Location, Looks, Node, NoneFails, Permit, Place, SetAttr, Stop, Task, ToChange, ToRename, ToWritePart, World, after, and_parts, attr_at, attr_in, attr_with_mode, attr_with_owner, bytes_of, cap_sys_admin, common_steps, descriptor_found, descriptor_numbered, entries_of, entry_named, execute_right, has_all, holds_of, is_among, is_directory_there, is_special, judged, looks_of, may_chown, may_not, mount_at, name_of, node_allows, node_at, object_there, opaque_of, or_parts, overfills, owns, policy, rename_rules, same_Some, special_word, write_right, ⊤}
+use Rattle.vt_spec.proofs.Common.{Call, Change, Fresh, Location, Looks, Node, NoneFails, Permit, Place, SetAttr, Stop, Task, ToChange, ToRename, ToWritePart, World, after, and_parts, attr_at, attr_in, attr_with_mode, attr_with_owner, bytes_of, cap_sys_admin, common_steps, descriptor_found, descriptor_numbered, entries_of, entry_named, execute_right, has_all, holds_of, is_among, is_directory_there, is_special, judged, looks_of, may_chown, may_not, mount_at, name_of, node_allows, node_at, opaque_of, or_parts, overfills, owns, rename_rules, same_Some, special_word, write_right, ⊤}
 use Rattle.vt_laws_trees.proofs.calls.effects.EffectsSearched.{IsSearched, MaySearch, searched_file_walk, searched_new_leaf_walk, searched_new_walk, searched_old_leaf_walk, searched_old_walk, searched_rename_walk}
 use Rattle.vt_laws_trees.proofs.calls.inodes.InodesEntries.{other_entries_stay}
 use Rattle.vt_laws_trees.proofs.calls.inodes.InodesOwn.{calls_change_their_own}
@@ -51,8 +51,7 @@ module _ (fresh : Fresh ℕ) (world : World ℕ) (task : Task ℕ) where
       → NoneFails (rename_rules nat_eq looks task from to old)
       → MaySearch world task from.parent → MaySearch world task to.parent
       → HasRights (ToRename from.parent (name_of from.last) to.parent (name_of to.last) old replaced)
-  renamed_named from to old replaced passed from_searched to_searched directory name e =
-      by (same_entry (directory, name) (from.parent.node, name_of from.last)) refl e
+  renamed_named from to old replaced passed from_searched to_searched directory name e = by _ refl e
     where
       may : (may_not looks task from.parent write_right ≡ false) × (may_not looks task to.parent write_right ≡ false)
       may = or_parts _ _ passed.1.1.1.1.1.1.1.1.1.0
@@ -61,8 +60,7 @@ module _ (fresh : Fresh ℕ) (world : World ℕ) (task : Task ℕ) where
           → (same_entry (directory, name) (from.parent.node, name_of from.last)
           || is_among same_entry (directory, name) ((to.parent.node, name_of to.last) ∷ [])) ≡ true
           → MayEnter (mount_at nat_eq world from.parent).filesystem directory
-      by true f e =
-          one from.parent (name_of from.last) (not-false _ may.0, from_searched) directory name (ap (λ b. b || false) f)
+      by true f e = one from.parent _ (not-false _ may.0, from_searched) directory name (ap (λ b. b || false) f)
       by false f e =
           let mounts : from.parent.mount ≡ to.parent.mount = eqb-true from.parent.mount to.parent.mount
           (not-false _ passed.1.1.1.1.1.1.1.1.0) in
@@ -79,57 +77,48 @@ module _ (fresh : Fresh ℕ) (world : World ℕ) (task : Task ℕ) where
   names_granted : (call : Call) (permit : Permit ℕ) → Granted call permit → changes_names call ≡ true → HasRights permit
   names_granted call permit (overwrites_file path bytes place file end named there passed) changes =
       λ directory name e. absurd (true≢false (sym e))
-  names_granted call permit (writes_new_file path bytes place end named missing fits passed) changes =
-      one place.parent (name_of place.last) (
-        not-false _ passed.1.1.1.0,
-        searched _ place end (searched_file_walk world task path) (or_parts _ place.slash named.0).0,
-      )
-  names_granted call permit (makes_directory path mode place end passed) changes =
-      one place.parent (name_of place.last) (
-        not-false _ passed.1.1.1.1.1.0,
-        searched _ place end (searched_new_walk world task path) passed.0,
-      )
-  names_granted call permit (makes_symlink text path place fits end passed) changes =
-      one place.parent (name_of place.last) (
-        not-false _ passed.1.1.1.1.1.0,
-        searched _ place end (searched_new_leaf_walk world task path) passed.0,
-      )
+  names_granted call permit (writes_new_file path bytes place end named missing fits passed) changes = one _ _ (
+    not-false _ passed.1.1.1.0,
+    searched _ place end (searched_file_walk world task path) (or_parts _ place.slash named.0).0,
+  )
+  names_granted call permit (makes_directory path mode place end passed) changes = one place.parent _ (
+    not-false _ passed.1.1.1.1.1.0,
+    searched _ place end (searched_new_walk world task path) passed.0,
+  )
+  names_granted call permit (makes_symlink text path place fits end passed) changes = one place.parent _ (
+    not-false _ passed.1.1.1.1.1.0,
+    searched _ place end (searched_new_leaf_walk world task path) passed.0,
+  )
   names_granted call permit (makes_whiteout path place end passed) changes = one place.parent (name_of place.last) (
     not-false _ passed.1.1.1.1.1.0,
     searched _ place end (searched_new_leaf_walk world task path) passed.0,
   )
-  names_granted call permit (makes_hard_link old new from place from_end end named passed) changes =
-      one place.parent (name_of place.last) (
-        not-false _ passed.1.1.1.1.1.1.0,
-        searched _ place end (searched_new_leaf_walk world task new) named.0,
-      )
+  names_granted call permit (makes_hard_link old new from place from_end end named passed) changes = one _ _ (
+    not-false _ passed.1.1.1.1.1.1.0,
+    searched _ place end (searched_new_leaf_walk world task new) named.0,
+  )
   names_granted call permit (unlinks path place end named passed) changes = one place.parent (name_of place.last) (
     not-false _ passed.1.1.1.1.0,
     searched _ place end (searched_old_leaf_walk world task path) named.0,
   )
-  names_granted call permit (removes_directory path place end word passed) changes =
-      one place.parent (name_of place.last) (
-        not-false _ passed.1.1.1.1.1.1.0,
-        searched _ place end (searched_old_walk world task path) (special_word place.last word.0 word.1.0 word.1.1.0),
-      )
+  names_granted call permit (removes_directory path place end word passed) changes = one place.parent _ (
+    not-false _ passed.1.1.1.1.1.1.0,
+    searched _ place end (searched_old_walk world task path) (special_word place.last word.0 word.1.0 word.1.1.0),
+  )
   names_granted call permit (keeps_names old new from to names same passed) changes = tt
-  names_granted call permit (renames old new from to names two passed) changes =
-      renamed_named from to (object_there from) to.object passed
-      (searched _ from names.from_end (searched_old_leaf_walk world task old) names.from_named.0)
-      (searched _ to names.to_end (searched_rename_walk world task new (is_directory_there nat_eq looks from))
-      names.to_named.0)
+  names_granted call permit (renames old new from to names two passed) changes = renamed_named from to _ to.object
+      passed (searched _ from names.from_end (searched_old_leaf_walk world task old) names.from_named.0) (searched _
+      to names.to_end (searched_rename_walk world task new (is_directory_there nat_eq looks from)) names.to_named.0)
   names_granted call permit (opens path access here room end passed) changes = tt
   names_granted call permit (opens_existing path access mode place file room end named there passed) changes = tt
-  names_granted call permit (creates path access mode place room end named missing passed) changes =
-      one place.parent (name_of place.last) (
-        not-false _ passed.1.1.1.0,
-        searched _ place end (searched_file_walk world task path) (or_parts _ place.slash named.0).0,
-      )
-  names_granted call permit (creates_exclusively path access mode place room end named passed) changes =
-      one place.parent (name_of place.last) (
-        not-false _ passed.1.1.1.0,
-        searched _ place end (searched_new_walk world task path) named.0,
-      )
+  names_granted call permit (creates path access mode place room end named missing passed) changes = one _ _ (
+    not-false _ passed.1.1.1.0,
+    searched _ place end (searched_file_walk world task path) (or_parts _ place.slash named.0).0,
+  )
+  names_granted call permit (creates_exclusively path access mode place room end named passed) changes = one _ _ (
+    not-false _ passed.1.1.1.0,
+    searched _ place end (searched_new_walk world task path) named.0,
+  )
   names_granted call permit granted changes = absurd (true≢false (sym changes))
 
 -- Bytes and attributes
@@ -195,15 +184,13 @@ module _ (fresh : Fresh ℕ) (world : World ℕ) (task : Task ℕ) (filesystem n
   set_so : (so : Node ℕ → Bool) (here : Location ℕ) (so_attr : Attr → Bool)
       → so_attr (attr_in (node_at nat_eq world here)) ≡ true → ((was : Node ℕ) → so was ≡ so_attr was.attr)
       → (attr : Attr) → OwnedSo so (ToChange here (SetAttr here.node attr))
-  set_so so here so_attr holds same attr =
-      at_location (λ f n. (was : Node ℕ) → inode_in world f n ≡ Some was → so was ≡ true) here
-      (λ was is. same was ∙ ap (λ o. so_attr (attr_in o)) (sym is) ∙ holds)
+  set_so so here so_attr holds same attr = at_location
+      (λ f n. (was : Node ℕ) → inode_in world f n ≡ Some was → so was ≡ true) here (λ was is. cc (same was, is, holds))
 
   mode_granted : (call : Call) (permit : Permit ℕ) → GrantedHere call permit → sets_mode call ≡ true
       → OwnedSo (λ was. owns task.credentials was.attr) permit
-  mode_granted call permit (changes_mode path mode here end passed) sets =
-      set_so (λ was. owns task.credentials was.attr) here.location (owns task.credentials)
-      (not-false _ passed.1.1.1.0) (λ was. refl) (attr_with_mode (attr_at shown here.location) mode)
+  mode_granted call permit (changes_mode path mode here end passed) sets = set_so _
+      here.location _ (not-false _ passed.1.1.1.0) (λ was. refl) (attr_with_mode (attr_at shown here.location) mode)
   mode_granted call permit granted sets = absurd (true≢false (sym sets))
 
   abbrev chowns : Attr → Bool
@@ -220,9 +207,8 @@ module _ (fresh : Fresh ℕ) (world : World ℕ) (task : Task ℕ) (filesystem n
 
   owner_granted : (call : Call) (permit : Permit ℕ) → GrantedHere call permit → sets_owner call ≡ true
       → OwnedSo (λ was. chowns was.attr) permit
-  owner_granted call permit (changes_owner path uid gid here end passed) sets =
-      set_so (λ was. chowns was.attr) here.location chowns
-      (owner_or (attr_at shown here.location) (attr_with_owner (attr_at shown here.location) uid gid)
+  owner_granted call permit (changes_owner path uid gid here end passed) sets = set_so _ here.location
+      chowns (owner_or (attr_at shown here.location) (attr_with_owner (attr_at shown here.location) uid gid)
       (not-false _ passed.1.1.1.0)) (λ was. refl) (attr_with_owner (attr_at shown here.location) uid gid)
   owner_granted call permit granted sets = absurd (true≢false (sym sets))
 
@@ -250,56 +236,41 @@ pub changes_are_by_right : ChangesAreByRight
 changes_are_by_right fresh world name call task permit filesystem number was now plain other called judged handed before
     after = record {
       bytes = by_own (λ r. (bytes_of r.content ≡ bytes_of was.content) ⊎ (MayDo world task filesystem number write_right
-          ⊎ HasOpenFor (λ descriptor. descriptor.writes) world task filesystem number))
-          (inl refl) (λ own. either (writes_bytes call)
-          (λ e. inl (stays (λ node. bytes_of node.content) (inode_in world filesystem number) (inode_in
-          (policy nat_eq fresh world name call).world filesystem number) was now before after
-          (only_writes_change_bytes fresh world name call filesystem number plain other e handed)))
+          ⊎ HasOpenFor (λ descriptor. descriptor.writes) world task filesystem number)) (inl refl) (λ own. either
+          (writes_bytes call) (λ e. inl (stays (λ node. bytes_of node.content) (inode_in world filesystem number) _
+          was now before after (only_writes_change_bytes fresh world name call filesystem number plain other e handed)))
           (λ e. inr (bytes_granted fresh world task filesystem number handed call permit granted e own)));
       mode = by_own (λ r. (r.attr.mode ≡ was.attr.mode) ⊎ (owns task.credentials was.attr ≡ true)) (inl refl)
-          (λ own. either (sets_mode call)
-          (λ e. inl (stays (λ node. node.attr.mode) (inode_in world filesystem number) (inode_in
-          (policy nat_eq fresh world name call).world filesystem number) was now before after
-          (only_chmod_changes_modes fresh world name call filesystem number plain other e handed)))
+          (λ own. either (sets_mode call) (λ e. inl (stays (λ node. node.attr.mode) (inode_in world filesystem number) _
+          was now before after (only_chmod_changes_modes fresh world name call filesystem number plain other e handed)))
           (λ e. inr (mode_granted fresh world task filesystem number handed call permit granted e own was before)));
-      owner = by_own (λ r. (owner_of r ≡ owner_of was)
-          ⊎ (chowns fresh world task filesystem number handed was.attr ≡ true)) (inl refl)
-          (λ own. either (sets_owner call) (λ e. inl (stays owner_of (inode_in world filesystem number) (inode_in
-          (policy nat_eq fresh world name call).world filesystem number) was now before after
-          (only_chown_changes_owners fresh world name call filesystem number plain other e handed)))
+      owner =
+          by_own (λ r. (owner_of r ≡ owner_of was) ⊎ (chowns fresh world task filesystem number handed was.attr ≡ true))
+          (inl refl) (λ own. either (sets_owner call) (λ e. inl (stays owner_of (inode_in world filesystem number) _ was
+          now before after (only_chown_changes_owners fresh world name call filesystem number plain other e handed)))
           (λ e. inr (owner_granted fresh world task filesystem number handed call permit granted e own was before)));
       entries = λ entry. entry_by entry (is_own_entry fresh world permit filesystem number entry) refl;
-      mark = either (sets_mark call)
-          (λ e. inl (stays (λ node. opaque_of node.content) (inode_in world filesystem number) (inode_in
-          (policy nat_eq fresh world name call).world filesystem number) was now before after
-          (only_opaque_changes_marks fresh world name call filesystem number plain other e handed)))
+      mark = either (sets_mark call) (λ e. inl (stays (λ node. opaque_of node.content) _ _ was
+          now before after (only_opaque_changes_marks fresh world name call filesystem number plain other e handed)))
           (λ e. inr (mark_granted fresh world task filesystem number handed call permit granted e));
     }
   where
     granted : IsGranted nat_eq (looks_of nat_eq world) (overfills nat_eq fresh world task) task call permit
-    granted =
-        calls_are_granted nat_eq (looks_of nat_eq world) (overfills nat_eq fresh world task) task call permit judged
+    granted = calls_are_granted nat_eq (looks_of nat_eq world) _ task call permit judged
 
     -- an inode that the permit does not name is as it was
     by_own : (P : Node ℕ → Type 0) → P was → (is_own fresh world permit filesystem number ≡ true → P now) → P now
-    by_own P same own = either (is_own fresh world permit filesystem number) (λ e.
-        subst P (unchanged (inode_in world filesystem number) (inode_in
-        (policy nat_eq fresh world name call).world filesystem number) was now before after
+    by_own P same own = either _ (λ e. subst P (unchanged (inode_in world filesystem number) _ was now before after
         (calls_change_their_own fresh world name call task permit filesystem number plain other called judged e)) same)
         own
 
     entry_by : (entry : List ℕ) (b : Bool) → is_own_entry fresh world permit filesystem number entry ≡ b
         → (entry_named entry (entries_of now.content) ≡ entry_named entry (entries_of was.content))
         ⊎ (MayDo world task filesystem number write_right × MayDo world task filesystem number execute_right)
-    entry_by entry false e =
-        inl (stays (λ node. entry_named entry (entries_of node.content)) (inode_in world filesystem number) (inode_in
-        (policy nat_eq fresh world name call).world filesystem number) was now before after
-        (other_entries_stay entry fresh world name call task permit filesystem number plain other called judged e
-        handed))
-    entry_by entry true e = either (changes_names call) (λ f. inl (ap (entry_named entry)
-        (stays (λ node. entries_of node.content) (inode_in world filesystem number) (inode_in
-        (policy nat_eq fresh world name call).world filesystem number) was now before after
-        (only_naming_changes_entries fresh world name call filesystem number plain other f handed))))
+    entry_by entry false e = inl (stays _ (inode_in world filesystem number) _ was now before after (other_entries_stay
+        entry fresh world name call task permit filesystem number plain other called judged e handed))
+    entry_by entry true e = either (changes_names call) (λ f. inl (ap (entry_named entry) (stays _ _ _ was
+        now before after (only_naming_changes_entries fresh world name call filesystem number plain other f handed))))
         (λ f. inr (rights (change_of fresh world permit) (names_granted fresh world task call permit granted f) e))
       where
         rights : (o : Option (Location ℕ × Change ℕ)) → NamedRights fresh world task o → holds_of (λ made.

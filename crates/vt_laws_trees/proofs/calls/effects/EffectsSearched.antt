@@ -69,11 +69,10 @@ module _ (world : World ℕ) (task : Task ℕ) where
   searched_file_walked zero start text slash = tt
   searched_file_walked (suc depth) start text slash =
       ends_next IsSearched (prefix_walked nat_eq world task (followed nat_eq world task) start (reverse (words text))) _
-      (λ here. ends_then IsSearched IsSearched
-      (placed nat_eq world task here (final_word (reverse (words text))) (slash || ends_in_slash text)) _
-      (searched_placed here (final_word (reverse (words text))) (slash || ends_in_slash text)) (λ place is.
-      searched_file_or_symlink place (symlink_there nat_eq world place) _ is (λ inner.
-      ends_next IsSearched (walk_unless place.steps (follow_rules nat_eq world (symlink_of here place) inner)
+      (λ here. ends_then IsSearched IsSearched (placed nat_eq world task here _ (slash || ends_in_slash text)) _
+      (searched_placed here (final_word (reverse (words text))) (slash || ends_in_slash text))
+      (λ place is. searched_file_or_symlink place (symlink_there nat_eq world place) _ is
+      (λ inner. ends_next IsSearched (walk_unless place.steps (follow_rules nat_eq world (symlink_of here place) inner)
       (symlink_start nat_eq world task here.location (symlink_of here place) inner)) _
       (λ next. searched_file_walked depth next inner (slash || ends_in_slash text)))))
 

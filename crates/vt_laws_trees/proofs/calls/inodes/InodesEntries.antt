@@ -1,5 +1,5 @@
 -- In a directory that stays, a call changes no entry but those that its permit names.
-use Rattle.std.proofs.Common.{arith, ◌≡◌, refl, sym, ap, ◌∙◌, true≢false, ℕ, nat_eq, eq-eqb, Bool, true, false, cond, ◌&&◌, List, [], ◌∷◌, Option, Some, None, bytes_eq}
+use Rattle.std.proofs.Common.{arith, ◌≡◌, refl, sym, ap, ◌∙◌, true≢false, ℕ, nat_eq, eq-eqb, Bool, false, cond, ◌&&◌, List, [], ◌∷◌, Option, Some, None, bytes_eq}
 use Rattle.vt_spec.proofs.Common.{AddName, Call, Change, Content, CopyUp, Directory, FileTree, Fresh, Location, Make, Move, Node, Permit, Regular, Remove, SetAttr, SetBytes, SetMark, Symlink, Task, ToChange, ToMake, ToMountOverlay, ToMountPlain, ToOpenNew, ToWritePart, Whiteout, World, bytes_decides, changed, common_steps, content_with_mark, content_with_parent, entries_of, entry_named, entry_named-with_entry, entry_named-without_entry, eq_by_cmp, evens, holds_of, is_among, judge_in, looks_of, mount_at, name_cmp, node_with_attr, node_with_bytes, node_with_entry, node_with_mark, node_without_entry, or_parts, with_bytes, with_entries, with_entry, with_name, without_entry, without_name}
 use Rattle.vt_laws_rules.proofs.given.GivenPermits.{permits_are_for_their_calls}
 use Rattle.vt_laws_trees.proofs.calls.inodes.InodesLeft.{LeftBy, MadeBy, inode_left}
@@ -23,11 +23,7 @@ module _ (entry : List ℕ) where
 
   -- names are not the same by either test
   other_tie : (name : List ℕ) → bytes_eq entry name ≡ false → eq_by_cmp name_cmp entry name ≡ false
-  other_tie name apart = by (eq_by_cmp name_cmp entry name) refl
-    where
-      by : (b : Bool) → eq_by_cmp name_cmp entry name ≡ b → b ≡ false
-      by false e = refl
-      by true e = absurd (true≢false (sym ((bytes_decides entry name).1 (same_name entry name e)) ∙ apart))
+  other_tie name apart = grind (arith, common_steps, eq_by_cmp, name_cmp, true≢false, bytes_decides, same_name)
 
   -- another name leads where it led
   entered : (content : Content ℕ) (name : List ℕ) (object : ℕ) → bytes_eq entry name ≡ false
@@ -100,8 +96,7 @@ module _ (entry : List ℕ) where
     -- in the directory itself the names are others
     other_name : (directory : ℕ) (name : List ℕ) → Apart directory name → other ≡ directory
         → bytes_eq entry name ≡ false
-    other_name directory name apart same =
-        ap (λ b. b && bytes_eq entry name) (sym (eq-eqb other directory same)) ∙ apart
+    other_name directory name apart same = cc (eq-eqb other directory same, apart)
 
     named : (directory : ℕ) (name : List ℕ) (object : ℕ) → Apart directory name → (files : FileTree ℕ)
         → Kept files (with_name nat_eq files directory name object)
@@ -121,8 +116,7 @@ module _ (entry : List ℕ) where
     first : (directory : ℕ) (name : List ℕ) (rest : List (ℕ × List ℕ))
         → is_among same_entry (other, entry) ((directory, name) ∷ rest) ≡ false
         → Apart directory name × (is_among same_entry (other, entry) rest ≡ false)
-    first directory name rest e =
-        or_parts (same_entry (other, entry) (directory, name)) (is_among same_entry (other, entry) rest) e
+    first directory name rest e = or_parts _ (is_among same_entry (other, entry) rest) e
 
     kept : (files : FileTree ℕ) (change : Change ℕ) → NewApart change
         → is_among same_entry (other, entry) (entries_named_by change) ≡ false

@@ -1,6 +1,6 @@
 -- What each permit leaves of an inode, in worlds without overlays.
 use Rattle.std.proofs.Common.{arith, ◌≡◌, refl, sym, subst, ◌∙◌, true≢false, ℕ, nat_eq, eqb-true, eq-eqb, Bool, true, false, cond, List, [], ◌∷◌, ◌++◌, map, find, Option, Some, None, is_some, unwrap_or, All}
-use Rattle.vt_spec.proofs.Common.{Change, CopyUp, Filesystem, Fresh, Location, Node, Overlay, Permit, Task, ToChange, ToEnterNamespace, ToExit, ToMake, ToMountOverlay, ToMountPlain, ToOpen, ToOpenNew, ToRemoveDirectory, ToRename, ToSetType, ToUnmount, ToUnmountLazily, ToUnshare, ToWritePart, World, apply, changed, common_steps, deepest_first, evens, files_at, filesystem_at, filesystem_changed, filesystems-taken_away, filesystems-without_replaced, is_copied_up, is_overlay, mount_at, mount_numbered, mount_tree, namespace_entered, new_directory, new_plain, no_filesystem, odds, pwritten, replaced_if_numbered, root_attr, shown-without_replaced, unshared, with_change, with_copy, with_files, without_replaced, without_task}
+use Rattle.vt_spec.proofs.Common.{Change, CopyUp, Filesystem, Fresh, Location, Node, Overlay, Permit, Task, ToChange, ToEnterNamespace, ToExit, ToMake, ToMountOverlay, ToMountPlain, ToOpen, ToOpenNew, ToRemoveDirectory, ToRename, ToSetType, ToUnmount, ToUnmountLazily, ToUnshare, ToWritePart, World, apply, changed, common_steps, deepest_first, evens, files_at, filesystem_at, filesystem_changed, filesystems-taken_away, filesystems-without_replaced, is_copied_up, is_overlay, mount_at, mount_numbered, mount_tree, namespace_entered, new_directory, new_plain, no_filesystem, odds, pwritten, replaced_if_numbered, root_attr, shown-without_replaced, unshared, with_change, with_copy, without_replaced, without_task}
 use Rattle.vt_laws_trees.specs.Calls.Inodes.{change_of}
 use Rattle.vt_laws_trees.proofs.trees.TreesOfWorlds.{number_numbered, numbered, numbered_anyhow, taken_files}
 use Rattle.vt_laws_trees.proofs.trees.ChangesByOthers.{lazily_filesystems, typed_filesystems}
@@ -52,8 +52,7 @@ module _ (Q : Option (Node ℕ) → Type 0) (number inode : ℕ) where
 
       by : (o : Option (Overlay ℕ)) → is_some o ≡ false
           → Holds (filesystem_changed nat_eq fresh world at o change).filesystems
-      by None e = replaced_holds (with_files at (changed nat_eq at.files change))
-          (λ same. here (same ∙ number_numbered shown world.filesystems)) world.filesystems h
+      by None e = replaced_holds _ (λ same. here (same ∙ number_numbered shown world.filesystems)) world.filesystems h
       by (Some overlay) e = absurd (true≢false e)
 
   module _ (fresh : Fresh ℕ) (world : World ℕ) (plain : IsPlain world) (h : Holds world.filesystems) where

@@ -19,8 +19,7 @@ parent_stays : (files : FileTree ℕ) (object : Option ℕ) (other : ℕ)
     → is_among nat_eq other (option_to_list object) ≡ false
     → (without_parent nat_eq files object).tree.node other ≡ files.tree.node other
 parent_stays files None other apart = refl
-parent_stays files (Some object) other apart =
-    skip (nat_eq other object) _ _ (or_parts (nat_eq other object) false apart).0
+parent_stays files (Some object) other apart = skip (nat_eq other object) _ _ (or_parts _ false apart).0
 
 changed_elsewhere : (files : FileTree ℕ) (change : Change ℕ) (other : ℕ)
     → is_among nat_eq other (named_by files change) ≡ false
@@ -57,10 +56,9 @@ module _ (fresh : Fresh ℕ) (world : World ℕ) (plain : IsPlain world) (filesy
 pub calls_change_their_own : CallsChangeTheirOwn
 calls_change_their_own fresh world name call task permit filesystem number plain no_overlay is judged apart =
     inode_after_call (Kept fresh world plain filesystem number) filesystem number (inr refl) fresh world name call
-    (inl refl) (λ other given is_other judged_other.
-    inode_left (Kept fresh world plain filesystem number) filesystem number fresh world plain (inl refl) other given
-    (left_elsewhere fresh world plain filesystem number other call no_overlay given
-    (permits_are_for_their_calls fresh world other call given judged_other) (let same : other ≡ task = cc in
+    (inl refl) (λ other given is_other judged_other. inode_left (Kept fresh world plain filesystem number) filesystem
+    number fresh world plain (inl refl) other given (left_elsewhere fresh world plain _ number other call no_overlay
+    given (permits_are_for_their_calls fresh world other call given judged_other) (let same : other ≡ task = cc in
     let one : given ≡ permit =
     let both = sym judged_other ∙ ap (λ t. judge_in nat_eq fresh world t call) same ∙ judged in cc in
     ap (λ p. is_own fresh world p filesystem number) one ∙ apart)))

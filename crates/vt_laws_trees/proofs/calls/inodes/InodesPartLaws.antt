@@ -83,16 +83,14 @@ bytes_marked (Symlink text) mark = refl
 bytes_marked Whiteout mark = refl
 
 pub only_writes_change_bytes : OnlyWritesChangeBytes
-only_writes_change_bytes fresh world name call filesystem number plain no_overlay isnt handed =
-    only_these (OfContent bytes_of) fresh world name call filesystem number plain no_overlay handed
-    (λ e. names_kept bytes_of bytes_without bytes_below) (no_such isnt) (λ e. mode_kept bytes_of)
-    (λ e. owner_kept bytes_of) (λ e. marks_kept bytes_of bytes_marked)
+only_writes_change_bytes fresh world name call filesystem number plain no_overlay isnt handed = only_these _
+    fresh world name call filesystem number plain no_overlay handed (λ e. names_kept bytes_of bytes_without bytes_below)
+    (no_such isnt) (λ e. mode_kept bytes_of) (λ e. owner_kept bytes_of) (λ e. marks_kept bytes_of bytes_marked)
 
 pub only_chmod_changes_modes : OnlyChmodChangesModes
-only_chmod_changes_modes fresh world name call filesystem number plain no_overlay isnt handed =
-    only_these (OfAttr (λ attr. attr.mode)) fresh world name call filesystem number plain no_overlay handed
-    (λ e. attr_names_kept (λ attr. attr.mode)) (λ e. attr_bytes_kept (λ attr. attr.mode)) (no_such isnt) (λ e. owner)
-    (λ e. attr_marks_kept (λ attr. attr.mode))
+only_chmod_changes_modes fresh world name call filesystem number plain no_overlay isnt handed = only_these _
+    fresh world name call filesystem number plain no_overlay handed (λ e. attr_names_kept (λ attr. attr.mode))
+    (λ e. attr_bytes_kept (λ attr. attr.mode)) (no_such isnt) (λ e. owner) (λ e. attr_marks_kept (λ attr. attr.mode))
   where
     owner : KeptByOwner (OfAttr (λ attr. attr.mode))
     owner uid gid None = tt
@@ -121,10 +119,9 @@ entries_marked (Symlink text) mark = refl
 entries_marked Whiteout mark = refl
 
 pub only_naming_changes_entries : OnlyNamingChangesEntries
-only_naming_changes_entries fresh world name call filesystem number plain no_overlay isnt handed =
-    only_these (OfContent entries_of) fresh world name call filesystem number plain no_overlay handed
-    (no_such isnt) (λ e. bytes_kept entries_of entries_written) (λ e. mode_kept entries_of)
-    (λ e. owner_kept entries_of) (λ e. marks_kept entries_of entries_marked)
+only_naming_changes_entries fresh world name call filesystem number plain no_overlay isnt handed = only_these _
+    fresh world name call filesystem number plain no_overlay handed (no_such isnt) (λ e. bytes_kept _ entries_written)
+    (λ e. mode_kept entries_of) (λ e. owner_kept entries_of) (λ e. marks_kept entries_of entries_marked)
 
 mark_without : EntriesKeep opaque_of
 mark_without (Directory parent old opaque) entries = refl
@@ -145,10 +142,9 @@ mark_written (Symlink text) bytes = refl
 mark_written Whiteout bytes = refl
 
 pub only_opaque_changes_marks : OnlyOpaqueChangesMarks
-only_opaque_changes_marks fresh world name call filesystem number plain no_overlay isnt handed =
-    only_these (OfContent opaque_of) fresh world name call filesystem number plain no_overlay handed
-    (λ e. names_kept opaque_of mark_without mark_below) (λ e. bytes_kept opaque_of mark_written)
-    (λ e. mode_kept opaque_of) (λ e. owner_kept opaque_of) (no_such isnt)
+only_opaque_changes_marks fresh world name call filesystem number plain no_overlay isnt handed = only_these _
+    fresh world name call filesystem number plain no_overlay handed (λ e. names_kept opaque_of mark_without mark_below)
+    (λ e. bytes_kept opaque_of mark_written) (λ e. mode_kept opaque_of) (λ e. owner_kept opaque_of) (no_such isnt)
 
 -- what no change of content changes
 module _ {A : Type 0} (part : Content ℕ → A) (entries : EntriesKeep part) (parents : ParentsKeep part)

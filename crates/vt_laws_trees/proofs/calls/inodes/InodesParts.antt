@@ -120,8 +120,7 @@ module _ {A : Type 0} (part : Node ℕ → A) where
 
     named_kept : KeptByNames → (directory : ℕ) (name : List ℕ) (object : ℕ) (left : FileTree ℕ)
         → KeptIn left (with_name nat_eq left directory name object)
-    named_kept names directory name object left =
-        kept_at left directory (node_with_entry name object) (names.0 name object)
+    named_kept names directory name object left = kept_at left directory _ (names.0 name object)
 
     unnamed_kept : KeptByNames → (directory : ℕ) (name : List ℕ) (left : FileTree ℕ)
         → KeptIn left (without_name nat_eq left directory name)

@@ -65,8 +65,7 @@ module _ (other : ℕ) where
       unnamed = without_name nat_eq alone from old
   changed_remains files (SetBytes file bytes) there = at_node files file (node_with_bytes bytes) (λ node. refl) there
   changed_remains files (SetAttr object attr) there = at_node files object (node_with_attr attr) (λ node. refl) there
-  changed_remains files (SetMark directory mark) there =
-      at_node files directory (node_with_mark mark) (λ node. refl) there
+  changed_remains files (SetMark directory mark) there = at_node files _ (node_with_mark mark) (λ node. refl) there
   changed_remains files (CopyUp object) there = there
 
   module _ (fresh : Fresh ℕ) (world : World ℕ) (plain : IsPlain world) (filesystem : ℕ) where

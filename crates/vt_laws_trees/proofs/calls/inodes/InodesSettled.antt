@@ -1,5 +1,5 @@
 -- What settling and raising leave of inodes: each is as it was, or gone.
-use Rattle.std.proofs.Common.{arith, ◌≡◌, refl, sym, subst, true≢false, ℕ, nat_eq, eqb-true, Bool, true, false, not, cond, ◌||◌, List, [], ◌∷◌, map, filter, find, Option, Some, None, unwrap_or, Ok, Err, ok_or}
+use Rattle.std.proofs.Common.{arith, ◌≡◌, refl, sym, subst, true≢false, ℕ, nat_eq, eqb-true, Bool, true, false, cond, ◌||◌, List, [], ◌∷◌, map, filter, find, Option, Some, None, unwrap_or, Ok, Err, ok_or}
 use Rattle.vt_spec.proofs.Common.{Call, Filesystem, Fresh, Judgement, Node, Permit, Task, TaskName, World, after, apply, common_steps, denial, denied, filesystem_lives, filesystems_changed_by, filesystems_raised, finished, finished_by, is_overlay, judge_in, no_filesystem, number-only_used, only_looks, only_used, only_used_by, policy, settled, task_called, used_in, without_dead_filesystems, without_dead_in, without_dead_mounts}
 use Rattle.vt_laws_rules.proofs.judged.CallsJudged.{policy_judges_then_applies}
 use Rattle.vt_spec.specs.declared.errors.Rule.TheVariants.{S2}
@@ -33,8 +33,7 @@ module _ (Q : Inode → Type 0) (number inode : ℕ) where
     filtered : (lives : ℕ → Bool) (list : List (Filesystem ℕ)) → HoldsIn list
         → HoldsIn (filter (λ filesystem. lives filesystem.number) list)
     filtered lives [] h = h
-    filtered lives (first ∷ rest) h =
-        by (lives first.number) refl (nat_eq number first.number) refl h (filtered lives rest)
+    filtered lives (first ∷ rest) h = by (lives first.number) refl _ refl h (filtered lives rest)
       where
         stay : List (Filesystem ℕ)
         stay = filter (λ filesystem. lives filesystem.number) rest
@@ -75,10 +74,8 @@ module _ (Q : Inode → Type 0) (number inode : ℕ) where
 
     -- settling
     pub settled_holds : (world : World ℕ) → HoldsIn world.filesystems → HoldsIn (settled nat_eq world).filesystems
-    settled_holds world h =
-        dead_in_holds (λ filesystem. not (is_overlay filesystem)) (without_dead_in nat_eq is_overlay living)
-        (dead_in_holds is_overlay living
-        (filtered (λ n. filesystem_lives nat_eq mounted (no_filesystem n)) world.filesystems h))
+    settled_holds world h = dead_in_holds _ (without_dead_in nat_eq is_overlay living) (dead_in_holds is_overlay
+        living (filtered (λ n. filesystem_lives nat_eq mounted (no_filesystem n)) world.filesystems h))
       where
         mounted : World ℕ
         mounted = without_dead_mounts nat_eq world
@@ -125,6 +122,4 @@ module _ (Q : Inode → Type 0) (number inode : ℕ) where
               (filesystems_changed_by nat_eq world (judge_in nat_eq fresh world task call))
               (after world (judge_in nat_eq fresh world task call) (apply nat_eq fresh world task)))).world.filesystems
           by_task None is = same
-          by_task (Some task) is =
-              by_permit (filesystems_changed_by nat_eq world (judge_in nat_eq fresh world task call)) task is
-              (judge_in nat_eq fresh world task call) refl
+          by_task (Some task) is = by_permit _ task is (judge_in nat_eq fresh world task call) refl

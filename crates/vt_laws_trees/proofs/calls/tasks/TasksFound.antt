@@ -39,8 +39,7 @@ none_left name (first ∷ rest) = grind (arith, common_steps, none_left name res
 pub others_left : (name other : TaskName) → same_name name other ≡ false → (tasks : List (Task ℕ))
     → called other (filter (λ task. not (same_name name task.name)) tasks) ≡ called other tasks
 others_left name other apart [] = refl
-others_left name other apart (first ∷ rest) =
-    by (same_name name first.name) refl (same_name other first.name) refl (others_left name other apart rest)
+others_left name other apart (first ∷ rest) = by _ refl _ refl (others_left name other apart rest)
   where
     stay : List (Task ℕ)
     stay = filter (λ task. not (same_name name task.name)) rest
@@ -60,8 +59,7 @@ pub find_appended : (B : Found → Type 0) (name : TaskName) (new : Task ℕ) (t
     → B (called name tasks) → (called name tasks ≡ None → B (cond (same_name name new.name) (Some new) None))
     → B (called name (tasks ++ (new ∷ [])))
 find_appended B name new [] before later = later refl
-find_appended B name new (first ∷ rest) before later =
-    by (same_name name first.name) before later (find_appended B name new rest)
+find_appended B name new (first ∷ rest) before later = by _ before later (find_appended B name new rest)
   where
     by : (b : Bool) → B (cond b (Some first) (called name rest))
         → (cond b (Some first) (called name rest) ≡ None → B (cond (same_name name new.name) (Some new) None))

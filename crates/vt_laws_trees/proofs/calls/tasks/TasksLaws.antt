@@ -24,8 +24,7 @@ module _ (fresh : Fresh ℕ) (world : World ℕ) (name : TaskName) (call : Call)
 
   rights : IsNoMore was.credentials unraised.credentials
   rights = ⊎_elim (λ same. itself_is_no_more was.credentials unraised.credentials (ap (λ t. t.credentials) same))
-      (⊎_elim (λ changed. ⊎_elim (λ same. itself_is_no_more was.credentials unraised.credentials same)
-      (λ dropped. dropped.2) changed.1.0)
+      (⊎_elim (λ changed. ⊎_elim (λ same. itself_is_no_more was.credentials _ same) (λ dropped. dropped.2) changed.1.0)
       (λ pivot. itself_is_no_more was.credentials unraised.credentials (ap (λ t. t.credentials) pivot.2))) turned
 
   drops : (unraised.credentials ≡ was.credentials) ⊎ ((other ≡ name) × (which : CapabilityWord) × (call ≡ Drop which))
@@ -41,9 +40,8 @@ module _ (fresh : Fresh ℕ) (world : World ℕ) (name : TaskName) (call : Call)
   descriptors : (descriptor : Descriptor ℕ) → Contains unraised.descriptors descriptor
       → Contains was.descriptors descriptor ⊎ ((other ≡ name) × Opens call descriptor)
   descriptors descriptor contains = ⊎_elim (λ same. inl (subst (λ t. Contains t.descriptors descriptor) same contains))
-      (⊎_elim (λ changed.
-      ⊎_elim (λ among. inl (contains_from_among was.descriptors descriptor among)) (λ opens. inr (changed.0, opens))
-      (changed.1.2 descriptor (among_from_contains unraised.descriptors descriptor contains)))
+      (⊎_elim (λ changed. ⊎_elim (λ among. inl (contains_from_among was.descriptors descriptor among))
+      (λ opens. inr (changed.0, opens)) (changed.1.2 descriptor (among_from_contains _ descriptor contains)))
       (λ pivot. inl (subst (λ t. Contains t.descriptors descriptor) pivot.2 contains))) turned
 
   directories : ((other ≡ name) × (moves_directory call ≡ true))
@@ -121,8 +119,7 @@ module _ (fresh : Fresh ℕ) (world : World ℕ) (name : TaskName) (call : Call)
       )
 
 pub other_tasks_stay : OtherTasksStay
-other_tasks_stay fresh world name call other was apart is =
-    by it.0 (task_after fresh world name call other) refl it.1.0 it.1.1
+other_tasks_stay fresh world name call other was apart is = by it.0 _ refl it.1.0 it.1.1
   where
     it : (left : Found) × Left fresh world name call other (Some was) left (task_after fresh world name call other)
     it = found fresh world name call other (Some was) (task_after fresh world name call other) is refl

@@ -93,6 +93,4 @@ tasks_after_call P fresh world name call same done =
         finished nat_eq world name call (filesystems_changed_by nat_eq world (judge_in nat_eq fresh world task call))
         (after world (judge_in nat_eq fresh world task call) (apply nat_eq fresh world task)))).world.tasks
     by_task None is = same
-    by_task (Some task) is =
-        by_permit (filesystems_changed_by nat_eq world (judge_in nat_eq fresh world task call)) task is
-        (judge_in nat_eq fresh world task call) refl
+    by_task (Some task) is = by_permit _ task is (judge_in nat_eq fresh world task call) refl

@@ -1,5 +1,5 @@
 -- What tasks are after a call.
-use Rattle.std.proofs.Common.{arith, ◌≡◌, refl, sym, ap, subst, ◌∙◌, inl, inr, ◌⊎◌, ⊎_elim, ℕ, ◌+◌, nat_eq, eqb-true, eq-eqb, Bool, true, false, cond, not, ◌&&◌, ◌==◌, bit_and, bytes_eq, List, [], ◌∷◌, ◌++◌, map, filter, Option, Some, None, option_map, Ok}
+use Rattle.std.proofs.Common.{arith, ◌≡◌, refl, sym, ap, subst, ◌∙◌, inl, inr, ◌⊎◌, ⊎_elim, ℕ, nat_eq, eqb-true, eq-eqb, Bool, true, false, cond, not, ◌&&◌, ◌==◌, bit_and, bytes_eq, List, [], ◌∷◌, ◌++◌, map, filter, Option, Some, None, option_map, Ok}
 use Rattle.vt_spec.proofs.Common.{Access, Among, Call, CapabilityWord, Creation, Credentials, Descriptor, Drop, Exit, Fork, ForkWords, Fresh, Location, Mount, NoneFails, OpenFile, Permit, PivotRoot, Task, TaskName, ToClose, ToEnterNamespace, ToExit, ToFork, ToOpen, ToOpenNew, ToPivot, ToSetCredentials, ToSetDirectory, ToSetRoot, ToSetUmask, ToUnshare, Umask, World, among-from_filter, and_parts, bytes_decides, child_credentials, child_name, child_of, common_steps, evens, fork_rules, has_all, inserted, judge_in, looks_of, mount_at, mount_numbered, name-replaced_if_called, not-false, pivoted_location, pivoted_task, policy, raised, raised_task, replaced_if_called, same_name, same_task_name, task_called, with_descriptor, with_dropped, without_descriptor}
 use Rattle.std.proofs.lemmas.Nat.{and_assoc}
 use Rattle.std.specs.Int.Bits.{and_self}
@@ -8,8 +8,7 @@ use Rattle.vt_laws_trees.proofs.calls.tasks.TasksFound.{Found, called, find_appe
 use Rattle.vt_laws_trees.proofs.calls.tasks.TasksLeft.{alone, entered, left_tasks, tasks_after_call, with_new}
 use Rattle.vt_laws_rules.specs.Given.{IsFor}
 use Rattle.vt_laws_trees.specs.Calls.Tasks.{IsForked, IsNoMore, MayGive, Opens, Pivots, moves_directory, moves_namespace, moves_root, task_after}
-use Rattle.vt_spec.specs.Machine.Tasks.{capabilities_of}
-use Rattle.vt_spec.specs.Rights.{cap_setgid, cap_setuid, without}
+use Rattle.vt_spec.specs.Rights.{cap_setgid}
 
 -- Capabilities
 
@@ -30,8 +29,7 @@ dropped_is_no_more who dropped = (
   refl,
   refl,
   refl,
-  λ capability. held_of_held who.capabilities (without who.capabilities dropped) capability
-      (part_is_held who.capabilities _),
+  λ capability. held_of_held who.capabilities _ capability (part_is_held who.capabilities _),
 )
 
 either_holds : (a b : Bool) → (not a && not b) ≡ false → (a ≡ true) ⊎ (b ≡ true)
@@ -43,10 +41,8 @@ either_holds false false e = cc
 forked_may_give : (task : Task ℕ) (child : Credentials) → NoneFails (fork_rules task child)
     → MayGive task.credentials child
 forked_may_give task child pass = (
-  λ capability held. held_of_held who.capabilities child.capabilities capability
-      (not-false (has_all who.capabilities child.capabilities) pass.1.1.1.0) held,
-  ⊎_elim (λ same. inl (eqb-true child.uid who.uid same)) inr
-      (either_holds (child.uid == who.uid) (has_all who.capabilities cap_setuid) pass.1.0),
+  λ capability held. held_of_held who.capabilities child.capabilities capability (not-false _ pass.1.1.1.0) held,
+  ⊎_elim (λ same. inl (eqb-true child.uid who.uid same)) inr (either_holds (child.uid == who.uid) _ pass.1.0),
   ⊎_elim (λ same.
       let both = and_parts (child.gid == who.gid) (bytes_eq child.groups who.groups) same in
       inl (eqb-true child.gid who.gid both.0, (bytes_decides child.groups who.groups).0 both.1)) inr
@@ -107,8 +103,7 @@ module _ (fresh : Fresh ℕ) (world : World ℕ) (name : TaskName) (call : Call)
     -- the caller is changed
     changed_becomes : (new : Task ℕ) → new.name ≡ task.name → Changed call task new → BecomesIn (with_new world new)
     changed_becomes new keeps so = subst (λ found. Becomes (task_called world other) found)
-        (sym (find_mapped (replaced_if_called new) (name-replaced_if_called new) other world.tasks))
-        (by (task_called world other) refl)
+        (sym (find_mapped (replaced_if_called new) (name-replaced_if_called new) other world.tasks)) (by _ refl)
       where
         by : (found : Found) → task_called world other ≡ found
             → Becomes found (option_map (replaced_if_called new) found)
@@ -138,18 +133,15 @@ module _ (fresh : Fresh ℕ) (world : World ℕ) (name : TaskName) (call : Call)
             let same : other ≡ task.name = sym (same_task_name task.name other e) in
             subst (λ found. Becomes (task_called world other) found)
             (sym (cc (none_left task.name world.tasks))) (gone (task_called world other) (same ∙ sym named))
-        by false e = subst (λ found. Becomes (task_called world other) found)
-            (sym (others_left task.name other e world.tasks)) still
+        by false e = subst (λ found. Becomes (task_called world other) found) (sym (others_left _ other e _)) still
 
     -- a child is added
     forked_becomes : (words : Option ForkWords) (credentials : Credentials) → call ≡ Fork words
         → credentials ≡ child_credentials task.credentials words → MayGive task.credentials credentials
         → (tasks : List (Task ℕ)) → BecomesIn tasks → BecomesIn (tasks ++ (child_of task credentials ∷ []))
-    forked_becomes words credentials forks given gives tasks before =
-        find_appended (λ found. Becomes (task_called world other) found) other (child_of task credentials) tasks before
-        (λ none.
-        added (same_name other (child_name task)) refl (task_called world other)
-        (subst (λ found. Becomes (task_called world other) found) none before))
+    forked_becomes words credentials forks given gives tasks before = find_appended
+        (λ found. Becomes (task_called world other) found) other (child_of task credentials) tasks before (λ none. added
+        _ refl (task_called world other) (subst (λ found. Becomes (task_called world other) found) none before))
       where
         added : (b : Bool) → same_name other (child_name task) ≡ b → (found : Found) → Becomes found None
             → Becomes found (cond b (Some (child_of task credentials)) None)
@@ -160,8 +152,7 @@ module _ (fresh : Fresh ℕ) (world : World ℕ) (name : TaskName) (call : Call)
         → judge_in nat_eq fresh world task call ≡ Ok (ToPivot mount put)
         → BecomesIn (left_tasks fresh world task (ToPivot mount put))
     pivoted_becomes new old mount put pivots judged = subst (λ found. Becomes (task_called world other) found)
-        (sym (find_mapped (pivoted_task nat_eq task.namespace root there)
-        (pivoted_keeps_name task.namespace root there) other world.tasks)) (by (task_called world other))
+        (sym (find_mapped _ (pivoted_keeps_name task.namespace root there) other world.tasks)) (by _)
       where
         root : Mount ℕ
         root = mount_at nat_eq world task.root
@@ -197,15 +188,14 @@ module _ (fresh : Fresh ℕ) (world : World ℕ) (name : TaskName) (call : Call)
         → IsFor (looks_of nat_eq world) task call permit → BecomesIn (left_tasks fresh world task permit)
     done (ToOpen file access) judged for = changed_becomes (with_descriptor task file access) refl
         (inl refl, inl refl, opened_has file for.0 access for.1 for.2, inr refl, inr refl, inr refl)
-    done (ToOpenNew directory entry node access) judged for =
-        changed_becomes (with_descriptor task (record { mount = directory.mount; node = evens fresh 0 }) access) refl (
-          inl refl,
-          inl refl,
-          opened_has (record { mount = directory.mount; node = evens fresh 0 }) for.0 access for.1 for.2,
-          inr refl,
-          inr refl,
-          inr refl,
-        )
+    done (ToOpenNew directory entry node access) judged for = changed_becomes _ refl (
+      inl refl,
+      inl refl,
+      opened_has (record { mount = directory.mount; node = evens fresh 0 }) for.0 access for.1 for.2,
+      inr refl,
+      inr refl,
+      inr refl,
+    )
     done (ToClose descriptor) judged for = changed_becomes (without_descriptor task descriptor) refl (
       inl refl,
       inl refl,
@@ -224,8 +214,7 @@ module _ (fresh : Fresh ℕ) (world : World ℕ) (name : TaskName) (call : Call)
       inr (
         for.0,
         for.1,
-        subst (IsNoMore task.credentials) (sym for.2)
-            (dropped_is_no_more task.credentials (capabilities_of for.0 task.credentials)),
+        subst (IsNoMore task.credentials) (sym for.2) (dropped_is_no_more task.credentials _),
       ),
       inl refl,
       λ held among. inl among,
@@ -233,11 +222,8 @@ module _ (fresh : Fresh ℕ) (world : World ℕ) (name : TaskName) (call : Call)
       inr refl,
       inr refl,
     )
-    done (ToFork credentials) judged for =
-        forked_becomes for.0 credentials for.1 for.2 (forked_may_give task credentials for.3)
-        (with_new world (record task { forks = task.forks + 1 }))
-        (changed_becomes (record task { forks = task.forks + 1 }) refl
-        (inl refl, inl refl, λ held among. inl among, inr refl, inr refl, inr refl))
+    done (ToFork credentials) judged for = forked_becomes for.0 credentials for.1 for.2 (forked_may_give task _ for.3) _
+        (changed_becomes _ refl (inl refl, inl refl, λ held among. inl among, inr refl, inr refl, inr refl))
     done ToExit judged for = without_becomes for
     done ToUnshare judged for = changed_becomes (alone fresh world task) refl (
       inl refl,
@@ -279,8 +265,7 @@ module _ (fresh : Fresh ℕ) (world : World ℕ) (name : TaskName) (call : Call)
   is_raised : (tasks : List (Task ℕ))
       → IsRaised name other (called other tasks) (called other (map (raised_task name) tasks))
   is_raised tasks = subst (IsRaised name other (called other tasks))
-      (sym (find_mapped (raised_task name) (λ task. ap (λ t. t.name) (raised_is name task)) other tasks))
-      (by (called other tasks) refl)
+      (sym (find_mapped (raised_task name) (λ task. ap (λ t. t.name) (raised_is name task)) other tasks)) (by _ refl)
     where
       by : (found : Found) → called other tasks ≡ found
           → IsRaised name other found (option_map (raised_task name) found)

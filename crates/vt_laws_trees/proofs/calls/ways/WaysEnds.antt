@@ -44,20 +44,13 @@ module _ (world : World ℕ) (task : Task ℕ) (path : List ℕ) where
       (at_topmost (looks_of nat_eq world) here) (λ passed. (here.location, refl, searched)))
 
 pub object_ways_are_searched : ObjectWaysAreSearched
-object_ways_are_searched world task path here e =
-    at_end (IsSearchedEnd world task path) (object_walk nat_eq world task path) here (object_searched world task path) e
+object_ways_are_searched world task path here e = at_end _ _ here (object_searched world task path) e
 
 pub directory_ways_are_searched : DirectoryWaysAreSearched
-directory_ways_are_searched world task path here e =
-    at_end (IsSearchedEnd world task path) (directory_walk nat_eq world task path) here
-    (directory_searched world task path) e
+directory_ways_are_searched world task path here e = at_end _ _ here (directory_searched world task path) e
 
 pub source_ways_are_searched : SourceWaysAreSearched
-source_ways_are_searched world task path here e =
-    at_end (IsSearchedEnd world task path) (source_walk nat_eq (looks_of nat_eq world) task path) here
-    (source_searched world task path) e
+source_ways_are_searched world task path here e = at_end _ _ here (source_searched world task path) e
 
 pub destination_ways_are_searched : DestinationWaysAreSearched
-destination_ways_are_searched world task path here e =
-    at_end (IsEntered world task path) (destination_walk nat_eq (looks_of nat_eq world) task path) here
-    (destination_searched world task path) e
+destination_ways_are_searched world task path here e = at_end _ _ here (destination_searched world task path) e

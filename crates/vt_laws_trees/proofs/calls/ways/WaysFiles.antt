@@ -24,8 +24,7 @@ module _ (world : World ℕ) (task : Task ℕ) where
     ends_here plain =
         subst (λ directory. IsSearchedWayToFile world task start (words text) directory) (sym named.parent) (record {
           passed = to_name.passed;
-          way = file_in start here (words text)
-              (final_word (reverse (words text))) place.object to_name.passed to_name.way named.object plain;
+          way = file_in start here (words text) _ place.object to_name.passed to_name.way named.object plain;
           searched = to_name.searched;
         })
 
@@ -33,9 +32,7 @@ module _ (world : World ℕ) (task : Task ℕ) where
         → IsFileOf (start_of task here inner) inner end → IsFileOf start text end
     goes_through inner linked end further = record {
       passed = to_name.passed ++ further.passed;
-      way = through_symlink start here end.parent (words text)
-          (final_word (reverse (words text))) place.object inner to_name.passed
-          further.passed to_name.way named.object linked further.way;
+      way = through_symlink start here end.parent _ _ _ inner _ _ to_name.way named.object linked further.way;
       searched = All-append (IsSearchable world task) to_name.passed further.passed to_name.searched further.searched;
     }
 
@@ -48,16 +45,12 @@ module _ (world : World ℕ) (task : Task ℕ) where
   file_searched : (depth : ℕ) (start : Here ℕ) (text : List ℕ) (slash : Bool)
       → Ends (IsFileOf start.location text) (file_walked nat_eq depth world task start text slash)
   file_searched zero start text slash = tt
-  file_searched (suc depth) start text slash =
-      ends_then (λ here. IsFront world task start.location (reverse (words text)) here.location)
-      (IsFileOf start.location text)
+  file_searched (suc depth) start text slash = ends_then _ (IsFileOf start.location text)
       (prefix_walked nat_eq world task (followed nat_eq world task) start (reverse (words text))) _
-      (prefix_searched world task start (reverse (words text))) (λ here before.
-      ends_then (IsNamedAt world task here.location (final_word (reverse (words text)))) (IsFileOf start.location text)
-      (placed nat_eq world task here (final_word (reverse (words text))) (slash || ends_in_slash text)) _
-      (placed_step world task here (final_word (reverse (words text))) (slash || ends_in_slash text)) (λ place named.
-      by_symlink (λ next inner. file_searched depth next inner (slash || ends_in_slash text)) here before place named
-      (symlink_there nat_eq world place) refl))
+      (prefix_searched world task start (reverse (words text))) (λ here before. ends_then _
+      (IsFileOf start.location text) (placed nat_eq world task here _ (slash || ends_in_slash text)) _
+      (placed_step world task here (final_word (reverse (words text))) (slash || ends_in_slash text))
+      (λ place named. by_symlink (λ next inner. file_searched depth next inner _) here before place named _ refl))
     where
       further : (here : Here ℕ) → IsFront world task start.location (reverse (words text)) here.location
           → (place : Place ℕ)
@@ -77,17 +70,12 @@ module _ (world : World ℕ) (task : Task ℕ) where
           → IsNamedAt world task here.location (final_word (reverse (words text))) place → (o : Option (List ℕ))
           → symlink_there nat_eq world place ≡ o → Ends (IsFileOf start.location text)
           (file_or_symlink nat_eq world place o (next_text depth text slash here place))
-      by_symlink rest here before place named None plain =
-          ends_here start.location here.location text place before named plain
-      by_symlink rest here before place named (Some inner) linked =
-          ends_then (λ next. next.location ≡ start_of task here.location inner) (IsFileOf start.location text)
+      by_symlink rest here before place named None plain = ends_here _ here.location text place before named plain
+      by_symlink rest here before place named (Some inner) linked = ends_then _ (IsFileOf start.location text)
           (walk_unless place.steps (follow_rules nat_eq world (symlink_of here place) inner)
           (symlink_start nat_eq world task here.location (symlink_of here place) inner)) _
-          (ends_unless (λ (next : Here ℕ). next.location ≡ start_of task here.location inner) place.steps
-          (follow_rules nat_eq world (symlink_of here place) inner)
-          (symlink_start nat_eq world task here.location (symlink_of here place) inner) (λ passed. refl)) (λ next e.
-          further here before place named inner linked next e
-          (file_walked nat_eq depth world task next inner (slash || ends_in_slash text)) (rest next inner))
+          (ends_unless _ place.steps (follow_rules nat_eq world (symlink_of here place) inner) _ (λ passed. refl))
+          (λ next e. further here before place named inner linked next e _ (rest next inner))
 
   module _ (path : List ℕ) where
     abbrev IsFilePlace : Place ℕ → Type 0
@@ -102,5 +90,4 @@ module _ (world : World ℕ) (task : Task ℕ) where
         subst (λ written. IsSearchedToFile world task written place.parent) e searched)))
 
 pub file_ways_are_searched : FileWaysAreSearched
-file_ways_are_searched world task path place e =
-    at_end (IsFilePlace world task path) (file_walk nat_eq world task path) place (file_walk_searched world task path) e
+file_ways_are_searched world task path place e = at_end _ _ place (file_walk_searched world task path) e

@@ -1,5 +1,5 @@
 -- Each directory on the way of a walk is searched: walks to names.
-use Rattle.std.proofs.Common.{arith, ◌≡◌, refl, sym, subst, true≢false, ℕ, nat_eq, Bool, true, false, not, ◌&&◌, List, [], ◌∷◌, ◌++◌, is_some, Ok, Err, Result, reverse, bytes_eq, codes, if◌then◌else◌}
+use Rattle.std.proofs.Common.{arith, ◌≡◌, refl, sym, subst, true≢false, ℕ, nat_eq, Bool, true, false, not, ◌&&◌, List, [], ◌∷◌, ◌++◌, is_some, Ok, Err, Result, reverse, if◌then◌else◌}
 use Rattle.vt_spec.proofs.Common.{All-append, All-cons, All-nil, Dot, DotDot, Here, LastWord, Location, Named, NoWord, Place, Stop, Task, World, common_steps, ends_in_slash, final_word, followed, is_no_word, last_walked, last_word, looks_of, new_name_rules, path_text, prefix_walked, rename_new_walk, reverse-reverse, walk_start, words}
 use mathlib.Core.List.{reverse-cons}
 use Rattle.vt_laws_trees.proofs.calls.ways.WaysEnds.{object_searched}
@@ -26,8 +26,7 @@ module _ (world : World ℕ) (task : Task ℕ) where
   pub prefix_searched : (start : Here ℕ) (ws : List (List ℕ)) → Ends (λ here. IsFront start.location ws here.location)
       (prefix_walked nat_eq world task (followed nat_eq world task) start ws)
   prefix_searched start [] = refl
-  prefix_searched start (word ∷ front) =
-      words_searched world task (followed nat_eq world task) (followed_searched world task) start front
+  prefix_searched start (word ∷ front) = words_searched world task _ (followed_searched world task) start front
 
   -- the last word too, where it was looked up in a directory that may be searched
   pub name_searched : (start here : Location ℕ) (ws : List (List ℕ)) → IsFront start ws here
@@ -40,10 +39,8 @@ module _ (world : World ℕ) (task : Task ℕ) where
       (record {
         passed = before.passed ++ here ∷ [];
         way = name_in start here (reverse front) word before.passed before.way;
-        searched = All-append (IsSearchable world task) before.passed (here ∷ []) before.searched
-            (All-cons (IsSearchable world task) here []
-            (searched (some_word (bytes_eq word (codes ".")) (bytes_eq word (codes "..")) word))
-            (All-nil (IsSearchable world task)));
+        searched = All-append (IsSearchable world task) before.passed (here ∷ []) before.searched (All-cons
+            (IsSearchable world task) here [] (searched (some_word _ _ word)) (All-nil (IsSearchable world task)));
       })
 
   pub text_name_searched : (start here : Location ℕ) (text : List ℕ) → IsFront start (reverse (words text)) here
@@ -93,11 +90,10 @@ module _ (world : World ℕ) (task : Task ℕ) where
         × (stepped nat_eq world task directory last ≡ Ok next.location)
 
     symlink_named : Ends IsNamed (symlink_walk_by nat_eq false world task path)
-    symlink_named = ends_then (λ text. text ≡ path) IsNamed (path_text path) _ (path_text_same path) (λ text e.
-        ends_then (λ here. IsFront (walk_start task text).location (reverse (words text)) here.location) IsNamed
+    symlink_named = ends_then _ IsNamed (path_text path) _ (path_text_same path) (λ text e. ends_then _ IsNamed
         (prefix_walked nat_eq world task (followed nat_eq world task) (walk_start task text) (reverse (words text))) _
-        (prefix_searched (walk_start task text) (reverse (words text))) (λ here before.
-        ends_last text e here before (last_walked nat_eq world task here (final_word (reverse (words text))))
+        (prefix_searched (walk_start task text) (reverse (words text))) (λ here before. ends_last
+        text e here before (last_walked nat_eq world task here (final_word (reverse (words text))))
         (last_searched here (final_word (reverse (words text))))))
       where
         ends_last : (text : List ℕ) → text ≡ path → (here : Here ℕ)
@@ -118,12 +114,10 @@ module _ (world : World ℕ) (task : Task ℕ) where
     IsNamePlace place = IsSearchedToName world task path place.parent place.last
 
     place_searched : Ends IsNamePlace (place_walk nat_eq world task path)
-    place_searched = ends_then (λ text. text ≡ path) IsNamePlace (path_text path) _ (path_text_same path) (λ text e.
-        ends_then (λ here. IsFront (walk_start task text).location (reverse (words text)) here.location) IsNamePlace
+    place_searched = ends_then _ IsNamePlace (path_text path) _ (path_text_same path) (λ text e. ends_then _ IsNamePlace
         (prefix_walked nat_eq world task (followed nat_eq world task) (walk_start task text) (reverse (words text))) _
-        (prefix_searched (walk_start task text) (reverse (words text))) (λ here before.
-        ends_placed text e here before
-        (placed nat_eq world task here (final_word (reverse (words text))) (ends_in_slash text))
+        (prefix_searched (walk_start task text) (reverse (words text))) (λ here before. ends_placed
+        text e here before (placed nat_eq world task here (final_word (reverse (words text))) (ends_in_slash text))
         (placed_step world task here (final_word (reverse (words text))) (ends_in_slash text))))
       where
         ends_placed : (text : List ℕ) → text ≡ path → (here : Here ℕ)
@@ -168,28 +162,19 @@ symlink_ways_are_searched world task path here e =
     grind (arith, common_steps, at_end, symlink_walk_by, object_searched, symlink_named)
 
 pub place_ways_are_searched : PlaceWaysAreSearched
-place_ways_are_searched world task path place e =
-    at_end (IsNamePlace world task path) (place_walk nat_eq world task path) place (place_searched world task path) e
+place_ways_are_searched world task path place e = at_end _ _ place (place_searched world task path) e
 
 pub new_name_ways_are_searched : NewNameWaysAreSearched
-new_name_ways_are_searched world task path place e =
-    at_end (IsNamePlace world task path) (new_walk nat_eq world task path) place (new_searched world task path) e
+new_name_ways_are_searched world task path place e = at_end _ _ place (new_searched world task path) e
 
 pub new_leaf_ways_are_searched : NewLeafWaysAreSearched
-new_leaf_ways_are_searched world task path place e =
-    at_end (IsNamePlace world task path) (new_leaf_walk nat_eq world task path) place
-    (new_leaf_searched world task path) e
+new_leaf_ways_are_searched world task path place e = at_end _ _ place (new_leaf_searched world task path) e
 
 pub old_name_ways_are_searched : OldNameWaysAreSearched
-old_name_ways_are_searched world task path place e =
-    at_end (IsNamePlace world task path) (old_walk nat_eq world task path) place (old_searched world task path) e
+old_name_ways_are_searched world task path place e = at_end _ _ place (old_searched world task path) e
 
 pub old_leaf_ways_are_searched : OldLeafWaysAreSearched
-old_leaf_ways_are_searched world task path place e =
-    at_end (IsNamePlace world task path) (old_leaf_walk nat_eq world task path) place
-    (old_leaf_searched world task path) e
+old_leaf_ways_are_searched world task path place e = at_end _ _ place (old_leaf_searched world task path) e
 
 pub renamed_ways_are_searched : RenamedWaysAreSearched
-renamed_ways_are_searched directory world task path place e =
-    at_end (IsNamePlace world task path) (rename_new_walk nat_eq (looks_of nat_eq world) task path directory) place
-    (renamed_searched world task path directory) e
+renamed_ways_are_searched directory world task path place e = at_end _ _ place (renamed_searched world task path _) e

@@ -36,8 +36,7 @@ module _ (world : World ℕ) (task : Task ℕ) where
   one_way (follows here link inside end word text rest in_text passed step linked inner way)
       (follows there other within other_end again other_text further in_other others stepped otherwise deeper after) =
       let same : link ≡ other = one_place _ link other step stepped in
-      let texts : text ≡ other_text = one_text _ text other_text linked
-      (subst (λ n. symlink_text (node_at nat_eq world n) ≡ Some other_text) (sym same) otherwise) in
+      let texts : text ≡ other_text = one_text _ text other_text linked (cc (same, otherwise)) in
       let inside_both = one_way inner
       (subst (λ t. Way world task (start_of task here t) (words t) in_other within) (sym texts) deeper) in
       let both = one_way way (subst (λ n. Way world task n rest others other_end) (sym inside_both.1) after) in

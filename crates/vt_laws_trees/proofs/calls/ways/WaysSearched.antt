@@ -51,11 +51,8 @@ module _ (world : World ℕ) (task : Task ℕ) where
       record { parent = refl; last = refl; searched = λ some. searchable here.location passed; object = e })
 
 pub each_word_is_looked_up_by_right : EachWordIsLookedUpByRight
-each_word_is_looked_up_by_right world task here next word e =
-    (at_end (IsStep world task here.location word) (word_walked nat_eq world task here word) next
-    (word_step world task here word) e).0
+each_word_is_looked_up_by_right world task here next word e = (at_end _ _ next (word_step world task here word) e).0
 
 pub each_last_word_is_looked_up_by_right : EachLastWordIsLookedUpByRight
 each_last_word_is_looked_up_by_right world task here place word slash some e =
-    (at_end (IsNamedAt world task here.location word) (placed nat_eq world task here word slash) place
-    (placed_step world task here word slash) e).searched some
+    (at_end (IsNamedAt world task here.location word) _ place (placed_step world task here word slash) e).searched some

@@ -5,7 +5,7 @@ use mathlib.Core.List.{reverse-cons}
 use Rattle.vt_laws_trees.proofs.calls.ways.WaysSearched.{IsStep, word_step}
 use Rattle.vt_laws_trees.specs.Calls.Searched.{IsSearchable, IsSearchedTo, IsSearchedWay, Way}
 use Rattle.vt_laws_trees.specs.Calls.Searched.Way.{arrives, follows, goes_on}
-use Rattle.vt_spec.proofs.Walk.{follow_rules, slash_rules, symlink_start, symlink_walked, word_walked, words_walked}
+use Rattle.vt_spec.proofs.Walk.{follow_rules, slash_rules, symlink_start, symlink_walked, words_walked}
 use Rattle.vt_laws_trees.proofs.trees.TreesWalked.{Ends, ends_then, ends_unless}
 
 -- a path is walked as it is written
@@ -57,8 +57,7 @@ module _ (world : World ℕ) (task : Task ℕ) where
             → Ends (λ end. IsSearched here (word ∷ []) end.location) r
         further (Ok end) inner = record {
           passed = here ∷ (inner.passed ++ []);
-          way = follows here next.location end.location end.location word text [] inner.passed [] step.1 linked
-              inner.way (arrives end.location);
+          way = follows here _ end.location end.location word text [] _ [] step.1 linked inner.way (arrives _);
           searched = All-cons (IsSearchable world task) here (inner.passed ++ []) step.0
               (All-append (IsSearchable world task) inner.passed [] inner.searched (All-nil (IsSearchable world task)));
         }
@@ -67,26 +66,15 @@ module _ (world : World ℕ) (task : Task ℕ) where
     pub words_searched : (start : Here ℕ) (ws : List (List ℕ))
         → Ends (λ end. IsSearched start.location (reverse ws) end.location)
         (words_walked nat_eq world task follow start ws)
-    words_searched start [] =
-        record { passed = []; way = arrives start.location; searched = All-nil (IsSearchable world task) }
-    words_searched start (word ∷ front) =
-        ends_then (λ reached. IsSearched start.location (reverse front) reached.location)
-        (λ end. IsSearched start.location (reverse (word ∷ front)) end.location)
-        (words_walked nat_eq world task follow start front) _ (words_searched start front) (λ reached before.
-        ends_then (IsStep world task reached.location (last_word word))
-        (λ end. IsSearched start.location (reverse (word ∷ front)) end.location)
-        (word_walked nat_eq world task reached (last_word word)) _ (word_step world task reached (last_word word))
-        (λ next step.
-        joined reached.location before
-        (if_symlink next (symlink_text (node_at nat_eq world next.location)) (follow reached.location next))
-        (link_searched reached.location word next (symlink_text (node_at nat_eq world next.location)) refl step)))
+    words_searched start [] = record { passed = []; way = arrives start.location; searched = All-nil _ }
+    words_searched start (word ∷ front) = ends_then _ _ _ _ (words_searched start front) (λ reached before. ends_then _
+        _ _ _ (word_step world task reached _) (λ next step. joined _ before _ (link_searched _ word next _ refl step)))
       where
         joined : (reached : Location ℕ) → IsSearched start.location (reverse front) reached
             → (r : Result (Here ℕ) (Stop ℕ)) → Ends (λ end. IsSearched reached (word ∷ []) end.location) r
             → Ends (λ end. IsSearched start.location (reverse (word ∷ front)) end.location) r
-        joined reached before (Ok end) last =
-            subst (λ ws. IsSearched start.location ws end.location) (sym (reverse-cons word front))
-            (searched_append start.location reached end.location (reverse front) (word ∷ []) before last)
+        joined reached before (Ok end) last = subst (λ ws. IsSearched start.location ws end.location)
+            (sym (reverse-cons word front)) (searched_append _ reached end.location _ (word ∷ []) before last)
         joined reached before (Err stop) last = tt
 
   -- the words of a text from where it starts

@@ -140,49 +140,41 @@ module _ (world : World ℕ) (conditions : IsWorld nat_eq world) (overlay : Over
   old_changed : (layer : Layer ℕ) → Among changed layer
       → IsOld world conditions overlay are_layers fresh distinct unused layer
   unfolding changed
-  old_changed layer among =
-      ⊎_elim (λ l. old_live layer (live_changed layer l)) (λ r. old_own layer (changed_of overlay layer r))
-      (from_append (live_upper_and_work world) (upper_and_work overlay) layer among)
+  old_changed layer among = ⊎_elim (λ l. old_live layer (live_changed layer l))
+      (λ r. old_own layer (changed_of overlay layer r)) (from_append _ (upper_and_work overlay) layer among)
 
   old_lower : (layer : Layer ℕ) → Among lowers layer
       → IsOld world conditions overlay are_layers fresh distinct unused layer
   unfolding lowers
-  old_lower layer among =
-      ⊎_elim (λ l. old_live layer (live_lower layer l)) (λ r. old_own layer (lower_of overlay layer r))
-      (from_append (live_lowers nat_eq world) overlay.lowers layer among)
+  old_lower layer among = ⊎_elim (λ l. old_live layer (live_lower layer l))
+      (λ r. old_own layer (lower_of overlay layer r)) (from_append _ overlay.lowers layer among)
 
   -- a directory to which the new overlay's changes go is apart from each live layer
   new_apart : (a b : Layer ℕ) → Among (upper_and_work overlay) a → Among (live_layers world) b → Apart world a b
-  new_apart a b in_new in_live = apart_from world (live_layers world) a b
-      (none_passes (overlaps_one_of nat_eq world (live_layers world)) (upper_and_work overlay)
-      (or_false_left _ _ not_in_use) a in_new) in_live
+  new_apart a b in_new in_live = apart_from world
+      (live_layers world) a b (none_passes _ (upper_and_work overlay) (or_false_left _ _ not_in_use) a in_new) in_live
 
   own_pairs : Pairwise (Apart world) (upper_and_work overlay)
   own_pairs = grind (arith, common_steps, apart_from, or_false_left)
 
   pub changed_after : any_pair (overlap nat_eq after) (live_upper_and_work after) ≡ false
   unfolding changed
-  changed_after = ap (any_pair (overlap nat_eq after)) (live_after upper_and_work (upper_and_work overlay) refl)
-      ∙ from_no_pair (overlap nat_eq world) (overlap nat_eq after) changed
-      (pairwise_append (Apart world) (live_upper_and_work world) (upper_and_work overlay)
-      (no_pair (overlap nat_eq world) (live_upper_and_work world) conditions.overlays.changed_apart) own_pairs
-      (λ a b in_live in_new. apart_both world b a (new_apart b a in_new (live_changed a in_live))))
-      (λ a b in_a in_b. overlaps_same world conditions overlay are_layers fresh distinct unused (b ∷ []) a
-      (old_changed a in_a) (λ other among.
-      ⊎_elim (λ e. subst (IsOld world conditions overlay are_layers fresh distinct unused) e (old_changed b in_b))
+  changed_after = ap (any_pair (overlap nat_eq after)) (live_after upper_and_work _ refl) ∙ from_no_pair _
+      (overlap nat_eq after) changed (pairwise_append (Apart world) _ _ (no_pair _ _ conditions.overlays.changed_apart)
+      own_pairs (λ a b in_live in_new. apart_both world b a (new_apart b a in_new (live_changed a in_live))))
+      (λ a b in_a in_b. overlaps_same
+      world conditions overlay are_layers fresh distinct unused (b ∷ []) a (old_changed a in_a) (λ other among. ⊎_elim
+      (λ e. subst (IsOld world conditions overlay are_layers fresh distinct unused) e (old_changed b in_b))
       (λ no. absurd no) among))
 
   pub lowers_after : list_any (overlaps_one_of nat_eq after (live_lowers nat_eq after)) (live_upper_and_work after)
       ≡ false
   unfolding changed lowers
   lowers_after = ap (list_any (overlaps_one_of nat_eq after (live_lowers nat_eq after)))
-      (live_after upper_and_work (upper_and_work overlay) refl)
-      ∙ ap (λ l. list_any (overlaps_one_of nat_eq after l) changed) (live_after (λ ov. ov.lowers) overlay.lowers refl)
-      ∙ none_pass (overlaps_one_of nat_eq after lowers) changed (λ a in_changed.
-      overlaps_same world conditions overlay are_layers fresh distinct unused lowers a
-      (old_changed a in_changed) old_lower ∙ apart_of_all world lowers a (λ b in_lowers.
-      both a b (from_append (live_upper_and_work world) (upper_and_work overlay) a in_changed)
-      (from_append (live_lowers nat_eq world) overlay.lowers b in_lowers)))
+      (live_after upper_and_work _ refl) ∙ ap (λ l. list_any (overlaps_one_of nat_eq after l) changed)
+      (live_after _ overlay.lowers refl) ∙ none_pass _ changed (λ a in_changed. overlaps_same world conditions
+      overlay are_layers fresh distinct unused lowers a (old_changed a in_changed) old_lower ∙ apart_of_all world
+      lowers a (λ b in_lowers. both a b (from_append _ _ a in_changed) (from_append _ overlay.lowers b in_lowers)))
     where
       both : (a b : Layer ℕ) → Among (live_upper_and_work world) a ⊎ Among (upper_and_work overlay) a
           → Among (live_lowers nat_eq world) b ⊎ Among overlay.lowers b → Apart world a b

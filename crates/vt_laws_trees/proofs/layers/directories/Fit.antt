@@ -52,8 +52,7 @@ all_pass_map p f (first ∷ list) h =
 named_fits : (name : List ℕ) (entries : Entries ℕ) (n : ℕ) → list_all is_fit_name (map (λ e. e.0) entries) ≡ true
     → entry_named name entries ≡ Some n → is_fit_name name ≡ true
 named_fits name [] n all e = none_is_some n e
-named_fits name (entry ∷ entries) n all e = by (eq_by_cmp name_cmp name entry.0) refl e
-    (named_fits name entries n (and_true_right (is_fit_name entry.0) _ all))
+named_fits name (entry ∷ entries) n all e = by _ refl e (named_fits name entries n (and_true_right _ _ all))
   where
     by : (b : Bool) → eq_by_cmp name_cmp name entry.0 ≡ b → cond b (Some entry.1) (entry_named name entries) ≡ Some n
         → (entry_named name entries ≡ Some n → is_fit_name name ≡ true) → is_fit_name name ≡ true
@@ -111,29 +110,23 @@ module _ (layers : List (OpenLayer ℕ)) (are_open : AreOpen layers) (longest : 
       by None e = refl
       by (Some inode) e =
           let is = is_of_object layers are_open longest bounded fresh distinct has_upper n inode e in
-          ap (λ node. fit_node (Some node)) is.node
-          ∙ merged_fits is.object.path is.layer.node.attr is.layer.node.content (ap fit_node (sym is.layer.is)
-          ∙ fits is.object.seen.layer is.layer.layer is.layer.there is.object.seen.object)
+          ap (λ node. fit_node (Some node)) is.node ∙ merged_fits is.object.path is.layer.node.attr
+          is.layer.node.content (ap fit_node (sym is.layer.is) ∙ fits _ is.layer.layer is.layer.there _)
 
 pub new_overlay_is_tree : NewOverlayIsTree
 new_overlay_is_tree fresh world overlay conditions are_layers distinct =
-    merged_is_tree (map (open_layer nat_eq world) (shown_layers overlay))
-    (are_open world conditions overlay are_layers) (inode_count world)
-    (bounded world conditions overlay are_layers) (odds fresh) (odds-distinct fresh distinct) (is_some overlay.upper)
-    (root_shown world conditions overlay are_layers).0 (root_shown world conditions overlay are_layers).1
+    merged_is_tree (map (open_layer nat_eq world) (shown_layers overlay)) (are_open world conditions overlay are_layers)
+    (inode_count world) (bounded world conditions overlay are_layers) (odds fresh) (odds-distinct fresh distinct)
+    (is_some overlay.upper) (root_shown world conditions overlay are_layers).0 (root_shown world conditions overlay _).1
 
 pub new_overlay_has_own_parents : NewOverlayHasOwnParents
-new_overlay_has_own_parents fresh world overlay conditions are_layers distinct =
-    merged_own_parents (map (open_layer nat_eq world) (shown_layers overlay))
-    (are_open world conditions overlay are_layers) (inode_count world)
-    (bounded world conditions overlay are_layers) (odds fresh) (odds-distinct fresh distinct) (is_some overlay.upper)
-    (root_shown world conditions overlay are_layers).0 (root_shown world conditions overlay are_layers).1
+new_overlay_has_own_parents fresh world overlay conditions are_layers distinct = merged_own_parents
+    (map (open_layer nat_eq world) (shown_layers overlay)) (are_open world conditions overlay are_layers)
+    (inode_count world) (bounded world conditions overlay are_layers) (odds fresh) (odds-distinct fresh distinct)
+    (is_some overlay.upper) (root_shown world conditions overlay are_layers).0 (root_shown world conditions overlay _).1
 
 pub new_overlay_lists_numbers : NewOverlayListsNumbers
-new_overlay_lists_numbers fresh world overlay conditions are_layers distinct = merged_lists_numbers (odds fresh 0)
-    (inodes (map (open_layer nat_eq world) (shown_layers overlay)) (are_open world conditions overlay are_layers)
-    (inode_count world) (bounded world conditions overlay are_layers) (odds fresh)
-    (odds-distinct fresh distinct) (is_some overlay.upper))
+new_overlay_lists_numbers fresh world overlay conditions are_layers distinct = merged_lists_numbers (odds fresh 0) _
 
 -- each inode of a layer is within the limits
 layers_fit : (world : World ℕ) (conditions : IsWorld nat_eq world) (overlay : Overlay ℕ)

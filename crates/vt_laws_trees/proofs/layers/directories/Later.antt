@@ -125,9 +125,7 @@ module _ (world : World ℕ) (conditions : IsWorld nat_eq world) (overlay : Over
           let found = any_found (is_real_upper nat_eq made object) new.files.numbers any in
           let leads = upper_led upper is found.0 object (upper_real (made.real found.0) object found.1) in
           let filesystem = filesystem_numbered nat_eq world upper.filesystem in
-          let tree = all_found (λ f. IsTree f.files.tree)
-          (λ f. nat_eq upper.filesystem f.number) world.filesystems conditions.files.trees filesystem
-          (plain_found upper plain) in
+          let tree = all_found (λ f. IsTree f.files.tree) _ _ conditions.files.trees _ (plain_found upper plain) in
           let listed = all_found (λ f. ListsNumbers nat_eq f.files)
           (λ f. nat_eq upper.filesystem f.number) world.filesystems conditions.files.numbers filesystem
           (plain_found upper plain) in
@@ -137,11 +135,9 @@ module _ (world : World ℕ) (conditions : IsWorld nat_eq world) (overlay : Over
           let directory_under = sym (ap (λ b.
           cond b (is_directory_under nat_eq filesystem.files layer.directory upper.directory)
           (is_file_under nat_eq filesystem.files layer.directory upper.directory)) directory) ∙ under in
-          ap (λ n. lies_in_layer nat_eq world n object layer) (eqb-true fs upper.filesystem one)
-          ∙ ap (λ b. b && is_under nat_eq filesystem.files layer.directory object)
-          (and_true_left (nat_eq upper.filesystem layer.filesystem) _ before)
-          ∙ led_below filesystem.files tree listed layer.directory upper.directory leads.0 object directory_under
-          directory leads.1
+          ap (λ n. lies_in_layer nat_eq world n object layer) (eqb-true fs upper.filesystem one) ∙ ap
+          (λ b. b && is_under nat_eq filesystem.files layer.directory object) (and_true_left _ _ before) ∙ led_below
+          filesystem.files tree listed layer.directory upper.directory leads.0 object directory_under directory leads.1
 
   overlays_later : overlays later ≡ overlays world ++ new ∷ []
   overlays_later = filter-append is_overlay world.filesystems (new ∷ [])
@@ -153,11 +149,8 @@ module _ (world : World ℕ) (conditions : IsWorld nat_eq world) (overlay : Over
         lies_same fs object layer old,
         overlays_later,
         list_any-append (counts_in_layer nat_eq later fs object layer) (overlays world) (new ∷ []),
-        any_same (counts_in_layer nat_eq later fs object layer) (counts_in_layer nat_eq world fs object layer)
-            (overlays world) (λ merged among. counts_same fs object layer old merged),
-        absorbed (lies_in_layer nat_eq world fs object layer)
-            (list_any (counts_in_layer nat_eq world fs object layer) (overlays world))
-            (counts_in_layer nat_eq later fs object layer new) (new_counts fs object layer old),
+        any_same _ _ (overlays world) (λ merged among. counts_same fs object layer old merged),
+        absorbed (lies_in_layer nat_eq world fs object layer) _ _ (new_counts fs object layer old),
       )
 
   pub overlaps_same : (others : List (Layer ℕ)) (layer : Layer ℕ) → IsOld layer
@@ -166,11 +159,9 @@ module _ (world : World ℕ) (conditions : IsWorld nat_eq world) (overlay : Over
   overlaps_same others layer old olds =
       cc (
         same_filesystem layer.filesystem old,
-        any_same _ _ (filesystem_numbered nat_eq world layer.filesystem).files.numbers (λ object among.
-            ap (λ b. b && list_any (lies_or_counts_under nat_eq later layer.filesystem object) others)
+        any_same _ _ (filesystem_numbered nat_eq world layer.filesystem).files.numbers
+            (λ object among. ap (λ b. b && list_any (lies_or_counts_under nat_eq later layer.filesystem object) others)
             (under_same layer.filesystem object layer old)
             ∙ ap (λ b. lies_or_counts_under nat_eq world layer.filesystem object layer && b)
-            (any_same (lies_or_counts_under nat_eq later layer.filesystem object)
-            (lies_or_counts_under nat_eq world layer.filesystem object) others
-            (λ other in_others. under_same layer.filesystem object other (olds other in_others)))),
+            (any_same _ _ others (λ other in_others. under_same layer.filesystem object other (olds other in_others)))),
       )

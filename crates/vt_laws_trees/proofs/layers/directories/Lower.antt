@@ -1,18 +1,15 @@
 -- What names lead to from a directory lies under whatever that directory lies under.
-use Rattle.std.proofs.Common.{◌≡◌, ◌≤◌, refl, sym, ap, subst, ◌∙◌, true≢false, arith, ℕ, zero, suc, nat_eq, eqb-true, Bool, true, false, cond, ◌&&◌, ◌||◌, List, [], ◌∷◌, length, Option, Some, None, option_and_then}
-use Rattle.vt_spec.proofs.Common.{FileTree, IsDirectory, IsTree, ListsNumbers, chain, directory_used, entry_at, entry_to, has_entry_to, is_among, is_directory_node, is_directory_under, is_file_under, is_under, led, list_any, named_parent, none_is_some, or_right, same_Some}
+use Rattle.std.proofs.Common.{◌≡◌, ◌≤◌, refl, sym, ap, subst, ◌∙◌, true≢false, arith, ℕ, zero, suc, nat_eq, Bool, true, false, cond, ◌&&◌, List, [], ◌∷◌, length, Some}
+use Rattle.vt_spec.proofs.Common.{FileTree, IsDirectory, IsTree, ListsNumbers, chain, directory_used, entry_at, entry_to, is_among, is_directory_node, is_directory_under, is_file_under, is_under, led, list_any, named_parent, or_right, same_Some, common_steps}
 use Rattle.vt_laws_trees.proofs.layers.layers.UpperChain.{depth_below, up_at_root, up_from}
 use Rattle.vt_laws_trees.proofs.layers.layers.UpperLine.{ReachedIn, has_entries, is_reached_in}
+use Rattle.vt_spec.proofs.Trees.{found}
 
 passes_here : (test : ℕ → Bool) (list : List ℕ) (n : ℕ) → is_among nat_eq n list ≡ true → test n ≡ true
     → list_any test list ≡ true
 passes_here test [] n a t = absurd (true≢false (sym a))
-passes_here test (first ∷ list) n a t = by (nat_eq n first) refl a (λ later. passes_here test list n later t)
-  where
-    by : (b : Bool) → nat_eq n first ≡ b → (b || list_any (nat_eq n) list) ≡ true
-        → (is_among nat_eq n list ≡ true → list_any test list ≡ true) → (test first || list_any test list) ≡ true
-    by true e a rest = ap (λ b. b || list_any test list) (ap test (sym (eqb-true n first e)) ∙ t)
-    by false e a rest = or_right (test first) (list_any test list) (rest a)
+passes_here test (first ∷ list) n a t =
+    grind (arith, common_steps, or_right, passes_here test list n)
 
 module _ (files : FileTree ℕ) (tree : IsTree files.tree) (listed : ListsNumbers nat_eq files) where
   -- as many steps as lead there are enough
@@ -44,41 +41,29 @@ module _ (files : FileTree ℕ) (tree : IsTree files.tree) (listed : ListsNumber
       (ap (λ b. cond b (is_directory_under nat_eq files top directory) (is_file_under nat_eq files top directory)) d
       ∙ under)
   led_below top directory (name ∷ rest) object under d e =
-      by (entry_at files.tree directory name) refl e (λ next u f g. led_below top next rest object u f g)
+      let next = found (λ next. led files.tree next rest) (entry_at files.tree directory name) object e in
+      by next.0 next.1 next.2 (is_directory_node (files.tree.node next.0)) refl
+      (λ u f. led_below top next.0 rest object u f next.2)
     where
       file_below : (next : ℕ) → entry_at files.tree directory name ≡ Some next
           → is_directory_node (files.tree.node next) ≡ false → is_under nat_eq files top next ≡ true
       file_below next f n =
           ap (λ b. cond b (is_directory_under nat_eq files top next) (is_file_under nat_eq files top next)) n
-          ∙ passes_here (λ above. has_entry_to nat_eq files.tree above next
-          && is_directory_under nat_eq files top above) files.numbers directory
-          (listed directory ∙ directory_used files.tree directory d)
-          (ap (λ b. b && is_directory_under nat_eq files top directory) (entry_to files.tree directory name next f)
-          ∙ under)
+          ∙ passes_here _ files.numbers directory (listed directory ∙ directory_used files.tree directory d) (ap
+          (λ b. b && is_directory_under nat_eq files top directory) (entry_to files.tree directory name next f) ∙ under)
 
+      -- names end at what is no directory
       ends : (rest : List (List ℕ)) (next : ℕ) → is_directory_node (files.tree.node next) ≡ false
           → led files.tree next rest ≡ Some object → next ≡ object
       ends [] next n e = same_Some next object e
-      ends (other ∷ rest) next n e = step (entry_at files.tree next other) refl e
-        where
-          step : (o : Option ℕ) → entry_at files.tree next other ≡ o
-              → option_and_then (λ k. led files.tree k rest) o ≡ Some object → next ≡ object
-          step None f e = none_is_some object e
-          step (Some k) f e = absurd (true≢false (sym (has_entries files.tree next other k f) ∙ n))
+      ends (other ∷ rest) next n e =
+          let on = found (λ k. led files.tree k rest) (entry_at files.tree next other) object e in
+          absurd (true≢false (sym (has_entries files.tree next other on.0 on.1) ∙ n))
 
-      at : (next : ℕ) → entry_at files.tree directory name ≡ Some next → (b : Bool)
-          → is_directory_node (files.tree.node next) ≡ b → led files.tree next rest ≡ Some object
+      by : (next : ℕ) → entry_at files.tree directory name ≡ Some next → led files.tree next rest ≡ Some object
+          → (b : Bool) → is_directory_node (files.tree.node next) ≡ b
           → (is_directory_under nat_eq files top next ≡ true → IsDirectory files.tree next
-          → led files.tree next rest ≡ Some object → is_under nat_eq files top object ≡ true)
-          → is_under nat_eq files top object ≡ true
-      at next f true n e on = on (directory_below top directory name next under f n) n e
-      at next f false n e on = subst (λ o. is_under nat_eq files top o ≡ true) (ends rest next n e)
+          → is_under nat_eq files top object ≡ true) → is_under nat_eq files top object ≡ true
+      by next f e true n on = on (directory_below top directory name next under f n) n
+      by next f e false n on = subst (λ o. is_under nat_eq files top o ≡ true) (ends rest next n e)
           (file_below next f n)
-
-      by : (o : Option ℕ) → entry_at files.tree directory name ≡ o
-          → option_and_then (λ next. led files.tree next rest) o ≡ Some object
-          → ((next : ℕ) → is_directory_under nat_eq files top next ≡ true → IsDirectory files.tree next
-          → led files.tree next rest ≡ Some object → is_under nat_eq files top object ≡ true)
-          → is_under nat_eq files top object ≡ true
-      by None f e on = none_is_some object e
-      by (Some next) f e on = at next f (is_directory_node (files.tree.node next)) refl e (on next)

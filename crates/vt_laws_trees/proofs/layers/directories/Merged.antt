@@ -1,13 +1,12 @@
 -- The merged tree of layers is a tree.
-use Rattle.std.proofs.Common.{arith, ◌≡◌, ◌≢◌, ◌≤◌, ◌⊎◌, inl, inr, refl, sym, ap, subst, ◌∙◌, ℕ, ◌+◌, nat_eq, eqb-true, Bool, true, false, not, ◌||◌, List, [], ◌∷◌, ◌++◌, filter, length, map, Option, Some, None, is_some, option_and_then, unwrap_or, filter_map, find, option_map}
+use Rattle.std.proofs.Common.{arith, ◌≡◌, ◌≢◌, ◌≤◌, ◌⊎◌, inl, inr, refl, sym, ap, subst, ◌∙◌, ℕ, ◌+◌, nat_eq, eqb-true, Bool, true, false, not, ◌||◌, List, [], ◌∷◌, ◌++◌, filter, length, map, Option, Some, None, is_some, unwrap_or, filter_map, find, option_map}
 use Rattle.vt_spec.proofs.Common.{Content, Directory, Fresh, HasName, HasOwnParents, IsDirectory, IsTree, ListsNumbers, Merged, MergedInode, OpenLayer, Regular, Shown, Symlink, Tree, Whiteout, common_steps, each_once, entries_in, entries_in-no_directory, entries_of, entry_at, entry_in_directory, entry_named, index_from, inode_of, is_among, is_directory, is_directory_node, is_one_inode, is_sorted, kind_of, last_or, led, list_any, merged_content, name_cmp, none_is_some, parent_in, parent_of, same_Some, same_path, same_truth, shown, without_last}
 use Rattle.vt_spec.specs.Machine.Merging.{number_at, tree_of}
 use Rattle.vt_laws_trees.proofs.layers.directories.Order.{entries_in_order}
 use Rattle.vt_laws_trees.proofs.layers.layers.ShownDirectories.{AreOpen, last_of, longer_is_not_empty, shown_in_directory}
 use Rattle.vt_laws_trees.proofs.layers.layers.ShownMerged.{InLayer, LeadsTo, entry_leads, in_layer, inodes, layer_node_of, number, objects, one_number}
-use Rattle.vt_laws_trees.proofs.layers.layers.ShownNames.{last_name}
 use Rattle.vt_laws_trees.proofs.layers.layers.ShownObjects.{Among, is_object, is_one, object_is, one_itself, path_itself, path_same}
-use Rattle.vt_laws_trees.proofs.layers.layers.ShownPaths.{last_of_longer, not_empty, one_path}
+use Rattle.vt_laws_trees.proofs.layers.layers.ShownPaths.{last_of_longer, not_empty, one_path, last_step}
 use Rattle.vt_laws_trees.proofs.layers.layers.ShownTree.{Arrives, arrives, directory_above, inode_at, merged_tree, object_at, root_number}
 use Rattle.vt_laws_trees.proofs.layers.layers.ShownWhole.{is_of_object}
 use Rattle.vt_laws_trees.proofs.layers.layers.UpperLine.{has_entries}
@@ -45,8 +44,7 @@ numbered_found number [] = refl
 numbered_found number (first ∷ list) = grind (arith, common_steps, numbered_found number list, number)
 
 pub merged_lists_numbers : (root : ℕ) (made : List (MergedInode ℕ)) → ListsNumbers nat_eq (tree_of nat_eq root made)
-merged_lists_numbers root made number =
-    still_among number (map (λ inode. inode.number) made) ∙ numbered_found number made
+merged_lists_numbers root made number = still_among number _ ∙ numbered_found number made
 
 module _ (layers : List (OpenLayer ℕ)) (are_open : AreOpen layers) (longest : ℕ)
     (bounded : (path : List (List ℕ)) (seen : Shown ℕ) → shown layers path ≡ Some seen → length path ≤ longest)
@@ -84,16 +82,14 @@ module _ (layers : List (OpenLayer ℕ)) (are_open : AreOpen layers) (longest : 
 
   numbered_place : (a b : Merged ℕ) → shown layers a.path ≡ Some a.seen → shown layers b.path ≡ Some b.seen
       → num a ≡ num b → (found : Lies a) → is_directory (kind_of found.node.content) ≡ true → a.path ≡ b.path
-  numbered_place a b s t e found d =
-      one_place a b s t (one_number layers are_open longest bounded fresh distinct has_upper a b (among_all a s)
-      (among_all b t) e).seen found d
+  numbered_place a b s t e found d = one_place a b s
+      t (one_number layers are_open longest bounded fresh distinct _ a b (among_all a s) (among_all b t) e).seen found d
 
   -- the number of a directory is that of its path
   path_number : (path : List (List ℕ)) (seen : Shown ℕ) → shown layers path ≡ Some seen → (found : Lies (at path seen))
       → is_directory (kind_of found.node.content) ≡ true → number_at fresh has_upper all path ≡ num (at path seen)
-  path_number path seen s found d = ap (λ o. fresh (unwrap_or o 0))
-      (same_place (λ object. same_path path object.path) (is_one_inode nat_eq has_upper (at path seen)) 0 all
-      (λ other among. agree other (object_is layers are_open longest bounded other among)))
+  path_number path seen s found d = ap (λ o. fresh (unwrap_or o 0)) (same_place (λ object. same_path path object.path) _
+      0 all (λ other among. agree other (object_is layers are_open longest bounded other among)))
     where
       agree : (other : Merged ℕ) → shown layers other.path ≡ Some other.seen
           → same_path path other.path ≡ is_one_inode nat_eq has_upper (at path seen) other
@@ -101,9 +97,8 @@ module _ (layers : List (OpenLayer ℕ)) (are_open : AreOpen layers) (longest : 
           let paths = path_same path other.path e in
           let seens = same_Some seen other.seen (cc (paths)) in
           let whole : at path seen ≡ other = λ i. record { path = paths i; seen = seens i } in
-          cc (whole, one_itself has_upper (at path seen))) (λ e.
-          ap (same_path path) (sym (one_place (at path seen) other s t
-          (is_one layers has_upper (at path seen) other s t e).seen found d)) ∙ path_itself path)
+          cc (whole, one_itself has_upper (at path seen))) (λ e. ap (same_path path)
+          (sym (one_place _ other s t (is_one layers has_upper _ other s t e).seen found d)) ∙ path_itself path)
 
   -- what the merged tree has of a directory
   merged_entries : (path : List (List ℕ)) (content : Content ℕ) → is_directory (kind_of content) ≡ true
@@ -149,8 +144,7 @@ module _ (layers : List (OpenLayer ℕ)) (are_open : AreOpen layers) (longest : 
       by None e d = cc
       by (Some inode) e d =
           let is = is_of_object layers are_open longest bounded fresh distinct has_upper n inode e in
-          let directory = sym (merged_kind is.object.path is.layer.node.content)
-          ∙ ap (λ m. is_directory (kind_of m.content)) (sym is.node) ∙ d in
+          let directory = sym (merged_kind _ _) ∙ ap (λ m. is_directory (kind_of m.content)) (sym is.node) ∙ d in
           let node : tree.node n ≡ Some inode.node = ap (option_map (λ i. i.node)) e in
           record {
             path = is.object.path;
@@ -183,9 +177,7 @@ module _ (layers : List (OpenLayer ℕ)) (are_open : AreOpen layers) (longest : 
   is_entry : (directory : ℕ) (name : List ℕ) (n : ℕ) → entry_at tree directory name ≡ Some n → IsEntry directory name n
   is_entry directory name n e =
       let above = of_directory directory (has_entries tree directory name n e) in
-      by above (shown layers (above.path ++ name ∷ [])) refl
-      (entry_leads layers are_open longest bounded fresh distinct has_upper above.path name)
-      (cc (above.entries))
+      by above _ refl (entry_leads layers are_open longest bounded fresh distinct has_upper _ name) (cc (above.entries))
     where
       by : (above : IsShownDirectory directory) (o : Option (Shown ℕ)) → shown layers (above.path ++ name ∷ []) ≡ o
           → LeadsTo layers are_open longest bounded fresh distinct has_upper above.path name o
@@ -212,8 +204,7 @@ module _ (layers : List (OpenLayer ℕ)) (are_open : AreOpen layers) (longest : 
 
   root_path : (path : List (List ℕ)) (seen : Shown ℕ) → shown layers path ≡ Some seen → fresh 0 ≡ num (at path seen)
       → [] ≡ path
-  root_path path seen s e = numbered_place (at [] top) (at path seen) is_top s (root_is ∙ e) root_lies
-      (root_found root_lies)
+  root_path path seen s e = numbered_place (at [] top) _ is_top s (root_is ∙ e) root_lies (root_found root_lies)
 
   root_number_at : number_at fresh has_upper all [] ≡ fresh 0
   root_number_at = path_number [] top is_top root_lies (root_found root_lies) ∙ root_is
@@ -226,31 +217,22 @@ module _ (layers : List (OpenLayer ℕ)) (are_open : AreOpen layers) (longest : 
 
   -- a directory is the root, or has a name in a directory
   is_led : (n : ℕ) (directory : IsShownDirectory n) → led tree (fresh 0) directory.path ≡ Some n
-  is_led n directory =
-      subst (λ o. Arrives layers are_open longest bounded fresh distinct has_upper top is_top o directory.path
-      (led tree (fresh 0) directory.path)) directory.is_shown
-      (arrives layers are_open longest bounded fresh distinct has_upper top is_top directory.path)
-      ∙ ap Some (sym directory.numbered)
+  is_led n directory = subst (λ o. Arrives layers are_open longest bounded
+      fresh distinct has_upper top is_top o directory.path (led tree (fresh 0) directory.path)) directory.is_shown
+      (arrives layers are_open longest bounded fresh distinct has_upper top is_top _) ∙ ap Some (sym directory.numbered)
 
   root_or_named : (n : ℕ) → IsShownDirectory n → (n ≡ fresh 0) ⊎ HasName tree n
   root_or_named n directory = by directory.path (is_led n directory)
     where
-      named : (front : List (List ℕ)) (name : List ℕ) (o : Option ℕ)
-          → option_and_then (λ d. entry_at tree d name) o ≡ Some n → HasName tree n
-      named front name None e = none_is_some n e
-      named front name (Some d) e = (d, name, e)
-
       by : (path : List (List ℕ)) → led tree (fresh 0) path ≡ Some n → (n ≡ fresh 0) ⊎ HasName tree n
       by [] e = inl (sym (same_Some (fresh 0) n e))
       by (first ∷ rest) e =
-          let last = last_of (first ∷ rest) (not_empty first rest) in
-          inr (named last.0 last.1 (led tree (fresh 0) last.0)
-          (cc (last_name tree (fresh 0) last.0 last.1, last.2)))
+          let last = last_step tree (fresh 0) (first ∷ rest) n (not_empty first rest) e in
+          inr (last.directory, last.name, last.entry)
 
   -- the parent
   has_parent : (n : ℕ) → IsShownDirectory n → IsDirectory tree (parent_in n (tree.node n))
-  has_parent n directory = subst (IsDirectory tree) (sym directory.parent)
-      (by directory.path directory.seen directory.is_shown)
+  has_parent n directory = subst (IsDirectory tree) (sym directory.parent) (by directory.path _ directory.is_shown)
     where
       above : (front : List (List ℕ)) (name : List ℕ) (seen : Shown ℕ) → shown layers (front ++ name ∷ []) ≡ Some seen
           → IsDirectory tree (number_at fresh has_upper all front)
@@ -281,9 +263,8 @@ module _ (layers : List (OpenLayer ℕ)) (are_open : AreOpen layers) (longest : 
   -- the path of a directory under a name
   path_of_entry : (directory : ℕ) (name : List ℕ) (n : ℕ) (entry : IsEntry directory name n) (own : IsShownDirectory n)
       → own.path ≡ entry.above.path ++ name ∷ []
-  path_of_entry directory name n entry own =
-      numbered_place (at own.path own.seen) (at (entry.above.path ++ name ∷ []) entry.seen) own.is_shown entry.is_shown
-      (sym own.numbered ∙ entry.numbered) own.found own.directory
+  path_of_entry directory name n entry own = numbered_place (at own.path own.seen) _
+      own.is_shown entry.is_shown (sym own.numbered ∙ entry.numbered) own.found own.directory
 
   pub merged_is_tree : IsTree tree
   merged_is_tree = record {
@@ -291,21 +272,18 @@ module _ (layers : List (OpenLayer ℕ)) (are_open : AreOpen layers) (longest : 
     root_parent = root_own_parent;
     root_unnamed = λ directory name e.
         let entry = is_entry directory name (fresh 0) e in
-        longer_is_not_empty entry.above.path name
-        (sym (root_path (entry.above.path ++ name ∷ []) entry.seen entry.is_shown entry.numbered));
+        longer_is_not_empty entry.above.path name (sym (root_path _ entry.seen entry.is_shown entry.numbered));
     in_order = λ directory. ordered directory (is_directory_node (tree.node directory)) refl;
     alive = λ directory name n e.
         let entry = is_entry directory name n e in
-        let inode = inode_at layers are_open longest bounded fresh distinct has_upper top is_top
-        (entry.above.path ++ name ∷ []) entry.seen entry.is_shown in
+        let inode = inode_at layers are_open longest bounded fresh distinct has_upper top is_top _ _ entry.is_shown in
         ap (λ k. is_some (tree.node k)) entry.numbered ∙ ap is_some inode.is;
     one_parent = λ directory name n e d.
         let entry = is_entry directory name n e in
         let own = of_directory n d in
         own.parent ∙ ap (λ p. number_at fresh has_upper all (without_last p)) (path_of_entry directory name n entry own)
-        ∙ ap (number_at fresh has_upper all) (without_last_of_longer entry.above.path name)
-        ∙ path_number entry.above.path entry.above.seen entry.above.is_shown entry.above.found entry.above.directory
-        ∙ sym entry.above.numbered;
+        ∙ ap (number_at fresh has_upper all) (without_last_of_longer entry.above.path name) ∙ path_number
+        entry.above.path _ entry.above.is_shown entry.above.found entry.above.directory ∙ sym entry.above.numbered;
     one_name = λ directory name other n e f d.
         let one = is_entry directory name n e in
         let two = is_entry directory other n f in
@@ -322,8 +300,7 @@ module _ (layers : List (OpenLayer ℕ)) (are_open : AreOpen layers) (longest : 
           → is_sorted name_cmp (entries_in (tree.node directory)) ≡ true
       ordered directory true d =
           let own = of_directory directory d in
-          ap (is_sorted name_cmp) own.entries
-          ∙ entries_in_order layers are_open longest bounded fresh distinct has_upper own.path
+          ap (is_sorted name_cmp) own.entries ∙ entries_in_order layers are_open longest bounded fresh distinct _ _
       ordered directory false d = ap (is_sorted name_cmp) (entries_in-no_directory (tree.node directory) d)
 
       neither : (n : ℕ) → (n ≡ fresh 0) ⊎ HasName tree n → n ≢ fresh 0 → ¬ (HasName tree n)

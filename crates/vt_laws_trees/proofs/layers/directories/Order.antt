@@ -38,8 +38,7 @@ module _ {A B : Type 0} where
       → (a : A) × Among list a × Among (f a) b
   from_flat_map f [] b among = absurd among
   from_flat_map f (first ∷ list) b among = ⊎_elim (λ l. (first, inl refl, l))
-      (λ r. let found = from_flat_map f list b r in (found.0, inr found.1, found.2))
-      (from_append (f first) (flat_map f list) b among)
+      (λ r. let found = from_flat_map f list b r in (found.0, inr found.1, found.2)) (from_append (f first) _ b among)
 
   pub pairwise_filter_map : (R : A → A → Type 0) (S : B → B → Type 0) (f : A → Option B)
       → ((a b : A) (x y : B) → f a ≡ Some x → f b ≡ Some y → R a b → S x y) → (list : List A) → Pairwise R list
@@ -60,8 +59,7 @@ module _ {X : Type 0} where
       → Among (map (λ e. e.0) entries) other → NameBelow name other
   all_below name [] h other among = absurd among
   all_below name (entry ∷ entries) h other (inl e) = subst (NameBelow name) e (T_and_left _ _ h)
-  all_below name (entry ∷ entries) h other (inr among) =
-      all_below name entries (T_and_right (is_lt (name_cmp name entry.0)) _ h) other among
+  all_below name (entry ∷ entries) h other (inr among) = all_below name entries (T_and_right _ _ h) other among
 
   pub names_rise : (entries : Entries X) → T (is_sorted name_cmp entries) → Pairwise NameBelow (map (λ e. e.0) entries)
   names_rise [] h = tt
@@ -81,8 +79,7 @@ module _ {X : Type 0} where
 put_each : (entries : Entries ℕ) (names : Entries (Unit {0})) → T (is_sorted name_cmp names)
     → T (is_sorted name_cmp (folded (λ names entry. with_entry entry.0 tt names) names entries))
 put_each [] names h = h
-put_each (entry ∷ entries) names h =
-    put_each entries (with_entry entry.0 tt names) (is_sorted-put name_cmp nat_list_cmp_total entry.0 tt names h)
+put_each (entry ∷ entries) names h = put_each entries _ (is_sorted-put name_cmp nat_list_cmp_total entry.0 tt names h)
 
 pub names_sorted : (views : List (View ℕ)) (path : List (List ℕ)) → T (is_sorted name_cmp (names_at views path))
 names_sorted [] path = tt
@@ -159,17 +156,12 @@ module _ (layers : List (OpenLayer ℕ)) (are_open : AreOpen layers) (longest : 
   pub entries_in_order : (path : List (List ℕ))
       → is_sorted name_cmp (filter_map (entry_in_directory nat_eq fresh has_upper (merged_objects layers longest) path)
       (merged_objects layers longest)) ≡ true
-  entries_in_order path = passes _ (rising_sorted (filter_map (entry_in_directory nat_eq fresh has_upper
-      (merged_objects layers longest) path) (merged_objects layers longest))
-      (pairwise_filter_map (λ a b. PathBelow a.path b.path) (λ a b. NameBelow a.0 b.0)
-      (entry_in_directory nat_eq fresh has_upper (merged_objects layers longest) path) (λ a b x y e f h.
-      last_parent path x.0 y.0 (subst (PathBelow (path ++ x.0 ∷ []))
-      (entry_is_here layers are_open longest bounded fresh distinct has_upper path y.0 b y f).0
-      (subst (λ p. PathBelow p b.path)
-      (entry_is_here layers are_open longest bounded fresh distinct has_upper path x.0 a x e).0 h)))
-      (merged_objects layers longest) (pairwise_filter_map PathBelow (λ a b. PathBelow a.path b.path) (merged_at layers)
-      (λ a b x y e f h. subst (λ p. PathBelow x.path p) (path_of b y f) (subst (λ p. PathBelow p b) (path_of a x e) h))
-      (paths_from longest (map view_of layers) []) (paths_rise (map view_of layers) longest []))))
+  entries_in_order path = passes _ (rising_sorted _ (pairwise_filter_map (λ a b. PathBelow a.path b.path)
+      (λ a b. NameBelow a.0 b.0) _ (λ a b x y e f h. last_parent path x.0 y.0 (subst (PathBelow (path ++ x.0 ∷ []))
+      (entry_is_here layers are_open longest bounded fresh distinct has_upper path y.0 b y f).0 (subst
+      (λ p. PathBelow p b.path) (entry_is_here layers are_open longest bounded fresh distinct _ path x.0 a x e).0 h))) _
+      (pairwise_filter_map PathBelow _ (merged_at layers) (λ a b x y e f h. subst (λ p. PathBelow x.path p)
+      (path_of b y f) (subst (λ p. PathBelow p b) (path_of a x e) h)) _ (paths_rise (map view_of layers) longest []))))
     where
       path_of : (path : List (List ℕ)) (object : Merged ℕ) → merged_at layers path ≡ Some object → path ≡ object.path
       path_of path object e = grind (arith, common_steps, none_is_some, same_Some)

@@ -1,6 +1,6 @@
 -- Each overlay is what its layers show when another one is mounted.
 use Rattle.std.proofs.Common.{arith, ◌≡◌, ◌∙◌, refl, sym, ap, subst, inl, inr, ℕ, zero, suc, nat_eq, eqb-true, Bool, true, false, cond, List, [], ◌∷◌, ◌++◌, map, Some, None, is_some, slice_get, unwrap_or, Option, find, option_to_list}
-use Rattle.vt_spec.proofs.Common.{Filesystem, Fresh, IsMerged, IsWorld, Layer, Overlay, Real, SameObject, World, common_steps, evens, filesystem_numbered, holds_of, is_among, is_plain_layer, is_there, layer_node, list_any, no_filesystem, none_is_some, number_at_path, open_layer, overlay_filesystem, real_node, same_Some, shown, shown_layers, then_some}
+use Rattle.vt_spec.proofs.Common.{Filesystem, Fresh, IsMerged, IsWorld, Layer, Overlay, Real, SameObject, World, common_steps, evens, filesystem_numbered, holds_of, is_among, is_plain_layer, is_there, layer_node, no_filesystem, none_is_some, number_at_path, open_layer, overlay_filesystem, real_node, same_Some, shown, shown_layers, then_some}
 use Rattle.vt_laws_trees.specs.Layers.Layers.Mounted.{AreLayers}
 use Rattle.vt_laws_trees.specs.Layers.Layers.NewOverlays.{OverlaysStillMerge}
 use Rattle.vt_laws_trees.proofs.layers.directories.Apart.{each_passes}
@@ -96,23 +96,18 @@ module _ (world : World ℕ) (conditions : IsWorld nat_eq world) (overlay : Over
       by false t =
           let same = same_filesystem world conditions overlay are_layers fresh distinct unused number t in
           let was = sym (ap (λ f. f.overlay) same) ∙ e in
-          subst (λ f. IsMerged nat_eq after f some_overlay) (sym same)
-          (still_merged (filesystem_numbered nat_eq world number) some_overlay
-          (old_layers some_overlay (overlay_layers world conditions number some_overlay was))
+          subst (λ f. IsMerged nat_eq after f some_overlay) (sym same) (still_merged _
+          some_overlay (old_layers some_overlay (overlay_layers world conditions number some_overlay was))
           (conditions.overlays.overlays_merge number some_overlay was))
       by true t =
           let same : filesystem_numbered nat_eq after number ≡ overlay_filesystem nat_eq fresh world overlay =
-          ap (λ o. unwrap_or o (no_filesystem number))
-          (find_new (λ f. nat_eq number f.number) world.filesystems (overlay_filesystem nat_eq fresh world overlay)
-          (not_found number world.filesystems
-          (ap (λ n. list_any (nat_eq n) (map (λ f. f.number) world.filesystems)) (eqb-true number (evens fresh 0) t)
-          ∙ unused)) t) in
-          subst (λ f. IsMerged nat_eq after f some_overlay) (sym same)
-          (subst (IsMerged nat_eq after (overlay_filesystem nat_eq fresh world overlay))
+          ap (λ o. unwrap_or o (no_filesystem number)) (find_new (λ f. nat_eq number f.number) world.filesystems _
+          (not_found number world.filesystems (cc (eqb-true number (evens fresh 0) t, unused))) t) in
+          subst (λ f. IsMerged nat_eq after f some_overlay)
+          (sym same) (subst (IsMerged nat_eq after (overlay_filesystem nat_eq fresh world overlay))
           (same_Some (made world conditions overlay are_layers fresh distinct) some_overlay
-          (sym (ap (λ f. f.overlay) same) ∙ e)) (still_merged (overlay_filesystem nat_eq fresh world overlay)
-          (made world conditions overlay are_layers fresh distinct) (old_layers overlay are_layers)
-          (made_merged world conditions overlay are_layers fresh distinct)))
+          (sym (ap (λ f. f.overlay) same) ∙ e)) (still_merged (overlay_filesystem nat_eq fresh world overlay) _
+          (old_layers overlay are_layers) (made_merged world conditions overlay are_layers fresh distinct)))
 
 pub overlays_still_merge : OverlaysStillMerge
 overlays_still_merge fresh world overlay places conditions are_layers plain distinct unused passed number some_overlay

@@ -1,6 +1,6 @@
 -- A tree that is found one directory at a time has what layers show at every path.
 use Rattle.std.proofs.Common.{◌≡◌, ◌≢◌, refl, sym, ap, subst, ◌∙◌, true≢false, arith, ℕ, suc, ◌+◌, Bool, true, false, cond, not, ◌||◌, List, [], ◌∷◌, ◌++◌, map, Option, Some, None, is_some, option_and_then, All, option_map, nat_eq}
-use Rattle.vt_spec.proofs.Common.{All-cons, All-head, All-nil, All-tail, IsDirectory, Node, OpenLayer, SameObject, Tree, View, common_steps, directory_no_whiteout, entry_at, hides, is_directory, is_directory_node, layer_node, led, node_led, none_is_some, opaque_of, open_layer, real_object, same_Some, shown_layers, shown_over, slice_get-map, then_some, view_of, when}
+use Rattle.vt_spec.proofs.Common.{All-cons, All-head, All-nil, All-tail, IsDirectory, Node, OpenLayer, SameObject, Tree, View, common_steps, directory_no_whiteout, entry_at, hides, is_directory, is_directory_node, layer_node, led, none_is_some, open_layer, real_object, same_Some, shown_layers, shown_over, slice_get-map, then_some, view_of, when}
 use Rattle.vt_spec.specs.Machine.Views.{Shown, shown}
 use Rattle.vt_laws_trees.specs.Layers.Layers.Directories.{AreViews, PlacedView, merged_under, placed, placed_from, shown_in, shown_node}
 use Rattle.vt_laws_trees.specs.Layers.Layers.DirectoryTrees.{IsMergedByDirectory, IsSaidByDirectory, ObjectsAreThoseShown, OneDirectoryIsEnough, OverlaysAreMergedByDirectory, RealObjectsAreThoseShown, node_shown_by, views_of_overlay}
@@ -33,9 +33,7 @@ module _ (views : List (View ℕ)) where
   merged_of_place : (some_views : List (PlacedView ℕ)) (name : List ℕ) → All IsOfPlace some_views
       → All IsOfPlace (merged_under some_views name)
   merged_of_place [] name are = are
-  merged_of_place (top ∷ lower) name are =
-      by (is_directory_node (node_led top.view (name ∷ []))) (hides (node_led top.view (name ∷ [])))
-      (merged_of_place lower name (All-tail IsOfPlace top lower are))
+  merged_of_place (top ∷ lower) name are = by _ _ (merged_of_place lower name (All-tail IsOfPlace top lower are))
     where
       own : PlacedView ℕ
       own = record {
@@ -79,18 +77,14 @@ module _ (views : List (View ℕ)) where
           ap (λ w. is_directory_node (then_some (when (not w) (record { layer = top.layer; object = object }))
           (shown_node views))) (directory_no_whiteout (top.view.node object) t)
           ∙ ap is_directory_node (All-head IsOfPlace top lower of object) ∙ t) ∙ d))
-      hidden object false t (Some node) e h d =
-          ap (λ b. cond b (own ∷ []) [] ++ cond (not b || opaque_of node.content) [] (merged_under lower name))
-          (sym (ap is_directory_node e) ∙ t)
+      hidden object false t (Some node) e h d = cc (e, t)
 
       by : (o : Option ℕ) → top.view.leads (name ∷ []) ≡ o
           → is_directory_node (then_some (seen_by o) (shown_node views)) ≡ false
           → (is_directory_node (node_shown_by views lower (name ∷ [])) ≡ false → merged_under lower name ≡ [])
           → merged_by (then_some o top.view.node) ≡ []
       by None e d rest = rest d
-      by (Some object) e d rest =
-          hidden object (is_directory_node (top.view.node object)) refl (top.view.node object) refl
-          ((All-head HasView top lower are).there (name ∷ []) object e) d
+      by (Some object) e d rest = hidden object _ refl _ refl ((All-head HasView top lower are).there _ object e) d
 
   placed_of_place : All IsOfPlace (placed views)
   placed_of_place = by views 0 (λ k object.
@@ -125,8 +119,7 @@ module _ (views : List (View ℕ)) where
     goes_on front directory name number from d e is_directory =
         let merged = (is.directories front directory from.is_led d).below name number e is_directory in
         record {
-          is_led = last_name tree tree.root front name ∙ ap (option_and_then (λ n. entry_at tree n name)) from.is_led
-              ∙ e;
+          is_led = last_name tree _ front name ∙ ap (option_and_then (λ n. entry_at tree n name)) from.is_led ∙ e;
           are_views = subst AreViews (sym merged) (merged_are_views (views_of directory) name from.are_views);
           of_place = subst (All IsOfPlace) (sym merged) (merged_of_place (views_of directory) name from.of_place);
           same = λ rest n. ap (λ v. shown_in v rest) merged
@@ -150,10 +143,8 @@ module _ (views : List (View ℕ)) where
             subst (λ o. Said (front ++ name ∷ []) o (shown views (front ++ name ∷ [])))
             (sym (last_name tree directory [] name)) (subst (Said (front ++ name ∷ []) (entry_at tree directory name))
             (from.same (name ∷ []) (not_empty name [])) (entry front directory name from.is_led d))
-        said_below front directory from d name (other ∷ rest) = by (entry_at tree directory name) refl
-            (is_directory_node (then_some (entry_at tree directory name) tree.node)) refl
-            (λ number e f. said_below (front ++ name ∷ []) number
-            (goes_on front directory name number from d e f) f other rest)
+        said_below front directory from d name (other ∷ rest) = by _ refl _ refl (λ number e f. said_below
+            (front ++ name ∷ []) number (goes_on front directory name number from d e f) f other rest)
           where
             path : List (List ℕ)
             path = front ++ name ∷ other ∷ rest
@@ -213,19 +204,16 @@ views_of_layers : (layers : List (OpenLayer ℕ)) (depth : ℕ) → AreOpen laye
 views_of_layers [] depth are = All-nil HasView
 views_of_layers (layer ∷ lower) depth are =
     let first = are 0 layer refl in
-    All-cons HasView (record { layer = depth; view = view_of layer }) (placed_from (depth + 1) (map view_of lower))
-    (layers_are_views layer first.0 first.1) (views_of_layers lower (depth + 1) (λ k l h. are (suc k) l h))
+    All-cons HasView _ _ (layers_are_views layer first.0 first.1) (views_of_layers lower _ (λ k l h. are (suc k) l h))
 
 nodes_of_layers : (layers : List (OpenLayer ℕ)) (seen : Shown ℕ)
     → shown_node (map view_of layers) seen ≡ layer_node layers seen
 nodes_of_layers layers seen = grind (arith, common_steps, slice_get-map)
 
 pub overlays_are_merged_by_directory : OverlaysAreMergedByDirectory
-overlays_are_merged_by_directory world overlay tree views_of path conditions are_layers is =
-    subst (SameObject (then_some (led tree tree.root path) tree.node))
-    (by (shown (views_of_overlay world overlay) path)) (one_directory (views_of_overlay world overlay) tree views_of
-    (views_of_layers (map (open_layer nat_eq world) (shown_layers overlay)) 0
-    (are_open world conditions overlay are_layers)) is path)
+overlays_are_merged_by_directory world overlay tree views_of path conditions are_layers is = subst
+    (SameObject (then_some (led tree tree.root path) tree.node)) (by _) (one_directory (views_of_overlay world overlay)
+    tree views_of (views_of_layers _ 0 (are_open world conditions overlay are_layers)) is path)
   where
     by : (o : Option (Shown ℕ)) → then_some o (shown_node (views_of_overlay world overlay))
         ≡ then_some o (layer_node (map (open_layer nat_eq world) (shown_layers overlay)))
@@ -233,12 +221,8 @@ overlays_are_merged_by_directory world overlay tree views_of path conditions are
     by (Some seen) = nodes_of_layers (map (open_layer nat_eq world) (shown_layers overlay)) seen
 
 pub real_objects_are_those_shown : RealObjectsAreThoseShown
-real_objects_are_those_shown world overlay tree views_of path number conditions are_layers is is_said e =
-    said_of_shown (views_of_overlay world overlay) tree views_of
-    (views_of_layers (map (open_layer nat_eq world) (shown_layers overlay)) 0
-    (are_open world conditions overlay are_layers)) is (λ path seen. real_object (is_some overlay.upper) seen.layer
-    (record { path = path; seen = seen })) overlay.real is_said path number e
-    ∙ by (shown (views_of_overlay world overlay) path)
+real_objects_are_those_shown world overlay tree views_of path number conditions are_layers is is_said e = said_of_shown
+    _ tree _ (views_of_layers _ 0 (are_open world conditions overlay are_layers)) is _ _ is_said path number e ∙ by _
   where
     by : (o : Option (Shown ℕ))
         → option_map (λ seen. real_object (is_some overlay.upper) seen.layer (record { path = path; seen = seen })) o

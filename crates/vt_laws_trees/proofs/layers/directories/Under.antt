@@ -1,11 +1,12 @@
 -- What layers show under a name is what the directories show that are merged under it.
 use Rattle.std.proofs.Common.{◌≡◌, ◌≢◌, refl, ap, ◌∙◌, arith, ℕ, suc, ◌+◌, Bool, true, false, cond, ◌||◌, List, [], ◌∷◌, ◌++◌, Option, Some, None, option_and_then, option_map}
-use Rattle.vt_spec.proofs.Common.{All-cons, All-head, All-nil, All-tail, Node, Tree, View, common_steps, cuts, entry_at, hides, is_directory_node, led, node_led, none_is_some, prefixes, shown_from, shown_over, then_some}
+use Rattle.vt_spec.proofs.Common.{All-cons, All-head, All-nil, All-tail, Node, Tree, View, common_steps, cuts, hides, is_directory_node, led, node_led, none_is_some, prefixes, shown_from, shown_over, then_some, entry_at}
 use Rattle.vt_spec.specs.Machine.Views.{Shown}
 use Rattle.vt_laws_trees.specs.Layers.Layers.Directories.{AreViews, DirectoriesAreMerged, IsView, LayersAreViews, MergedAreViews, PlacedShowTheSame, PlacedView, PlacesAreCountedBack, ShownUnderName, merged_under, placed_from, shown_in, view_under}
 use Rattle.vt_laws_trees.proofs.layers.layers.ShownDirectories.{led_is_there}
 use Rattle.vt_laws_trees.proofs.layers.layers.ShownFronts.{prefix_found, list_any_of_map}
 use Rattle.vt_laws_trees.proofs.layers.layers.UpperLine.{has_entries}
+use Rattle.vt_spec.proofs.Trees.{found}
 
 abbrev pub HasView : PlacedView ℕ → Type 0
 HasView top = IsView top.view
@@ -57,10 +58,8 @@ pub shown_under_name : ShownUnderName
 shown_under_name [] name rest are n = refl
 shown_under_name (top ∷ lower) name rest are n =
     ap (λ b. shown_over top.view top.layer (top.view.leads (name ∷ rest)) b (shown_in lower (name ∷ rest)))
-    (cuts_under top (All-head HasView top lower are) name rest)
-    ∙ merged_shows top (All-head HasView top lower are) name lower (merged_under lower name) rest n
-    (shown_under_name lower name rest (All-tail HasView top lower are) n)
-    (is_directory_node (node_led top.view (name ∷ []))) refl (hides (node_led top.view (name ∷ []))) refl
+    (cuts_under top (All-head HasView top lower are) name rest) ∙ merged_shows top (All-head HasView top lower are)
+    name lower _ rest n (shown_under_name lower name rest (All-tail HasView top lower are) n) _ refl _ refl
 
 -- a view that goes on from a name is one
 pub view_goes_on : (view : View ℕ) (name : List ℕ) → IsView view → IsView (view_under name view)
@@ -71,19 +70,15 @@ view_goes_on view name is = record {
 
 pub merged_are_views : MergedAreViews
 merged_are_views [] name are = are
-merged_are_views (top ∷ lower) name are =
-    by (is_directory_node (node_led top.view (name ∷ []))) (hides (node_led top.view (name ∷ [])))
-    (merged_are_views lower name (All-tail HasView top lower are))
+merged_are_views (top ∷ lower) name are = by _ _ (merged_are_views lower name (All-tail HasView top lower are))
   where
     own : PlacedView ℕ
     own = record { layer = top.layer; view = view_under name top.view }
 
     by : (d h : Bool) → AreViews (merged_under lower name)
         → AreViews (cond d (own ∷ []) [] ++ cond h [] (merged_under lower name))
-    by true true rest = All-cons HasView own [] (view_goes_on top.view name (All-head HasView top lower are))
-        (All-nil HasView)
-    by true false rest = All-cons HasView own (merged_under lower name)
-        (view_goes_on top.view name (All-head HasView top lower are)) rest
+    by true true rest = All-cons HasView own [] (view_goes_on _ name (All-head HasView top lower are)) (All-nil HasView)
+    by true false rest = All-cons HasView own _ (view_goes_on top.view name (All-head HasView top lower are)) rest
     by false true rest = All-nil HasView
     by false false rest = rest
 
@@ -117,14 +112,9 @@ led_through : (tree : Tree ℕ) (from : ℕ) (front rest : List (List ℕ)) (obj
 led_through tree from [] [] object n e = absurd (n refl)
 led_through tree from [] (name ∷ rest) object n e = grind (arith, common_steps, none_is_some, has_entries)
 led_through tree from (name ∷ front) rest object n e =
-    by (entry_at tree from name) (λ next. led_through tree next front rest object n) e
-  where
-    by : (o : Option ℕ) → ((next : ℕ) → led tree next (front ++ rest) ≡ Some object
-        → is_directory_node (then_some (led tree next front) tree.node) ≡ true)
-        → option_and_then (λ next. led tree next (front ++ rest)) o ≡ Some object
-        → is_directory_node (then_some (option_and_then (λ next. led tree next front) o) tree.node) ≡ true
-    by None on e = none_is_some object e
-    by (Some next) on e = on next e
+    let next = found (λ next. led tree next (front ++ rest)) (entry_at tree from name) object e in
+    ap (λ o. is_directory_node (then_some (option_and_then (λ next. led tree next front) o) tree.node)) next.1
+    ∙ led_through tree next.0 front rest object n next.2
 
 pub layers_are_views : LayersAreViews
 layers_are_views layer tree directory = record {

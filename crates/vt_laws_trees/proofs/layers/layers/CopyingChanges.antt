@@ -1,6 +1,6 @@
 -- A change of an overlay does to its upper layer what it is asked, clause by clause.
 use Rattle.std.proofs.Common.{◌≡◌, ◌≢◌, sym, ap, ◌∙◌, true≢false, arith, ℕ, suc, nat_eq, eq-eqb, ne_eqb, true, ◌||◌, List, [], ◌∷◌, ◌++◌, Option, Some, is_some, unwrap_or}
-use Rattle.vt_spec.proofs.Common.{FileTree, Fresh, IsDirectory, IsTree, Merge, Node, Real, Stack, common_steps, entries-node_with_parent, entries-without_parent, entries_in, entry_at, entry_named, hides_directory, is_directory_node, is_opaque_in, led-append, merge_with_moved, merge_with_new, merge_without_name, name_left_by, new_directory, node_set, node_with_entry, node_with_parent, node_without_entry, none_is_some, number_at_path, or-false, part-changed_node, same_Some, shown_in_lowers_at, upper_directory_named, upper_object, upper_of, with_mark, with_moved, with_name, without_contents, without_name, without_parent}
+use Rattle.vt_spec.proofs.Common.{FileTree, Fresh, IsDirectory, IsTree, Merge, Node, Real, Stack, common_steps, entries-node_with_parent, entries-without_parent, entries_in, entry_at, entry_named, hides_directory, is_directory_node, is_opaque_in, led-append, merge_with_moved, merge_with_new, merge_without_name, name_left_by, new_directory, node_set, node_with_entry, node_with_parent, node_without_entry, none_is_some, number_at_path, or-false, part-changed_node, same_Some, shown_in_lowers_at, upper_directory_named, upper_object, upper_of, with_moved, with_name, without_contents, without_name, without_parent}
 use Rattle.vt_laws_trees.specs.Layers.Layers.ChangesUpper.{IsLeft, IsNewBy}
 use Rattle.vt_laws_trees.proofs.layers.layers.CopyingNames.{emptied_is_empty, LeftWith, emptied_other, emptied_part, is_left_by, left_elsewhere, left_part, left_stays, left_where, marked_entries, marked_itself, marked_other, moved_part}
 use Rattle.vt_laws_trees.proofs.layers.layers.CopyingSound.{IsSound, State}
@@ -79,17 +79,12 @@ module _ {files : FileTree ℕ} (tree : IsTree files.tree) {first : ℕ → Opti
   pub removed_left : (directory : ℕ) (name : List ℕ) (object seen : ℕ)
       → entry_at files.tree directory name ≡ Some object → upper_object (real directory) ≡ Some seen
       → IsLeft stack here (merge_without_name nat_eq fresh stack here directory name object) directory name
-  removed_left directory name object seen e has =
-      is_left_by (fresh 0) (shown_in_lowers_at nat_eq stack here directory name) stack
-      (merge_without_name nat_eq fresh stack here directory name object).upper (upper_of here directory) name
-      (removed_with directory name object seen e has)
+  removed_left directory name object seen e has = is_left_by _ _ stack _ _ name (removed_with _ name object seen e has)
 
   pub removed_empty : (directory : ℕ) (name : List ℕ) (object replaced : ℕ)
       → upper_directory_named here directory name ≡ Some replaced
       → entries_in ((merge_without_name nat_eq fresh stack here directory name object).upper.tree.node replaced) ≡ []
-  removed_empty directory name object replaced e = emptied_is_empty (name_left_by nat_eq (is_some
-      (shown_in_lowers_at nat_eq stack here directory name)) fresh stack upper
-      (upper_of here directory) name) (upper_directory_named here directory name) replaced e
+  removed_empty directory name object replaced e = emptied_is_empty _ _ replaced e
 
   pub made_marked : (directory : ℕ) (name : List ℕ) (number : ℕ) (node : Node ℕ) (seen : ℕ)
       → upper_object (real directory) ≡ Some seen → (parent : ℕ) → node.content ≡ new_directory parent
@@ -142,37 +137,27 @@ module _ {files : FileTree ℕ} (tree : IsTree files.tree) {first : ℕ → Opti
 
     pub moved_with : LeftWith (fresh 0) (shown_in_lowers_at nat_eq stack here from old) stack
         (merge_with_moved nat_eq fresh stack here from old to name object).upper (upper_of here from) old
-    moved_with = left_stays (fresh 0) (shown_in_lowers_at nat_eq stack here from old) stack left
-        (with_mark nat_eq (hides_directory nat_eq stack here to name) left (upper_of here object))
-        (upper_of here from) old
-        (marked_entries (hides_directory nat_eq stack here to name) left (upper_of here object) (upper_of here from))
-        (marked_other (hides_directory nat_eq stack here to name) left (upper_of here object) (fresh 0)
-        (λ same. object_new (sym same)))
-        (left_where fresh (shown_in_lowers_at nat_eq stack here from old) stack away (upper_of here from) old
-        (kind_away (upper_of here from)
-        ∙ ap (λ n. is_directory_node (upper.tree.node n)) (upper_of_is here from seen_from has_from)
-        ∙ sound.kinds (path_to files tree from old object e).0 from seen_from
+    moved_with = left_stays (fresh 0) _ stack left _ (upper_of here from) old
+        (marked_entries _ left _ (upper_of here from)) (marked_other _ left _ (fresh 0) (λ same. object_new (sym same)))
+        (left_where fresh _ stack away _ old (kind_away _ ∙ ap (λ n. is_directory_node (upper.tree.node n))
+        (upper_of_is here from seen_from has_from) ∙ sound.kinds (path_to files tree from old object e).0 from seen_from
         (path_to files tree from old object e).1 has_from ∙ has_entries files.tree from old object e) from_new)
 
     pub moved_left : IsLeft stack here (merge_with_moved nat_eq fresh stack here from old to name object) from old
-    moved_left = is_left_by (fresh 0) (shown_in_lowers_at nat_eq stack here from old) stack
-        (merge_with_moved nat_eq fresh stack here from old to name object).upper (upper_of here from) old moved_with
+    moved_left = is_left_by (fresh 0) _ stack _ (upper_of here from) old moved_with
 
     pub moved_marked : IsDirectory files.tree object
         → is_opaque_in ((merge_with_moved nat_eq fresh stack here from old to name object).upper.tree.node
         (upper_of here object))
         ≡ (hides_directory nat_eq stack here to name || is_opaque_in (upper.tree.node (upper_of here object)))
-    moved_marked d = marked_itself (hides_directory nat_eq stack here to name) left (upper_of here object)
-        (left_part is_directory_node (λ change keeps. keeps.directory)
-        (is_some (shown_in_lowers_at nat_eq stack here from old)) fresh stack away (upper_of here from) old
-        (upper_of here object) object_new ∙ kind_away (upper_of here object)
-        ∙ ap (λ n. is_directory_node (upper.tree.node n)) (upper_of_is here object seen has)
-        ∙ sound.kinds ((path_to files tree from old object e).0 ++ old ∷ []) object seen
-        (led-append files.tree files.tree.root (path_to files tree from old object e).0 old from object
+    moved_marked d = marked_itself _ left (upper_of here object) (left_part is_directory_node
+        (λ change keeps. keeps.directory) (is_some (shown_in_lowers_at nat_eq stack here from old)) fresh
+        stack away (upper_of here from) old _ object_new ∙ kind_away _ ∙ ap (λ n. is_directory_node (upper.tree.node n))
+        (upper_of_is here object seen has) ∙ sound.kinds ((path_to files tree from old object e).0 ++ old ∷ [])
+        object seen (led-append files.tree files.tree.root (path_to files tree from old object e).0 old from object
         (path_to files tree from old object e).1 e) has ∙ d) ∙ ap (λ b. hides_directory nat_eq stack here to name || b)
-        (left_part is_opaque_in (λ change keeps. keeps.mark)
-        (is_some (shown_in_lowers_at nat_eq stack here from old)) fresh stack away (upper_of here from) old
-        (upper_of here object) object_new ∙ mark_away (upper_of here object))
+        (left_part is_opaque_in (λ change keeps. keeps.mark) (is_some (shown_in_lowers_at nat_eq stack here from old))
+        fresh stack away (upper_of here from) old (upper_of here object) object_new ∙ mark_away (upper_of here object))
 
     -- what is replaced keeps no whiteout
     pub moved_empty : (replaced number : ℕ) → entry_at files.tree to name ≡ Some number
@@ -192,15 +177,12 @@ module _ {files : FileTree ℕ} (tree : IsTree files.tree) {first : ℕ → Opti
         let base = without_name nat_eq
         (without_parent nat_eq freed (entry_named name (entries_in (freed.tree.node (upper_of here to)))))
         (upper_of here from) old in
-        marked_entries (hides_directory nat_eq stack here to name) left (upper_of here object) replaced
-        ∙ ap entries_in (left_elsewhere (is_some (shown_in_lowers_at nat_eq stack here from old)) fresh stack away
-        (upper_of here from) old replaced not_from (old_differs found.0 replaced found.2))
+        marked_entries _ left (upper_of here object) replaced ∙ ap entries_in (left_elsewhere _
+        fresh stack away (upper_of here from) old replaced not_from (old_differs found.0 replaced found.2))
         ∙ part-changed_node entries_in (with_name nat_eq base (upper_of here to) name (upper_of here object))
-        (upper_of here object) (node_with_parent (upper_of here to))
-        (entries-node_with_parent (upper_of here to)) replaced
-        ∙ ap entries_in (kept_elsewhere base (upper_of here to) (node_with_entry name (upper_of here object)) replaced
-        (ne_eqb replaced (upper_of here to) not_to)) ∙ ap entries_in (kept_elsewhere
-        (without_parent nat_eq freed (entry_named name (entries_in (freed.tree.node (upper_of here to)))))
-        (upper_of here from) (node_without_entry old) replaced (ne_eqb replaced (upper_of here from) not_from))
-        ∙ entries-without_parent freed (entry_named name (entries_in (freed.tree.node (upper_of here to)))) replaced
-        ∙ emptied_is_empty upper (upper_directory_named here to name) replaced is
+        (upper_of here object) (node_with_parent (upper_of here to)) (entries-node_with_parent (upper_of here to))
+        replaced ∙ ap entries_in (kept_elsewhere base (upper_of here to) (node_with_entry name (upper_of here object))
+        replaced (ne_eqb replaced (upper_of here to) not_to)) ∙ ap entries_in (kept_elsewhere
+        (without_parent nat_eq freed (entry_named name (entries_in (freed.tree.node (upper_of here to))))) _
+        (node_without_entry old) replaced (ne_eqb replaced (upper_of here from) not_from)) ∙ entries-without_parent
+        freed (entry_named name (entries_in (freed.tree.node _))) replaced ∙ emptied_is_empty upper _ replaced is

@@ -44,9 +44,7 @@ module _ (files : FileTree ℕ) (first : ℕ → Option (Real ℕ)) (spare : ℕ
     bound = λ number seen e. ⊎_elim
         (λ t. ⊎_elim (λ old. inl old) (λ new. inr (k, omega arith, new)) (told number seen t))
         (λ t. inr (t.0, (let h = t.1 in omega arith), t.2)) (copies.bound number seen e);
-    others = λ number out.
-        copies.others number (or_false_right (nat_eq number object) (is_among nat_eq number rest) out)
-        ∙ apart_from number (or_false_left (nat_eq number object) (is_among nat_eq number rest) out);
+    others = λ number out. copies.others number (or_false_right _ _ out) ∙ apart_from number (or_false_left _ _ out);
   }
     where
       by : (number : ℕ) (b : Bool) → nat_eq number object ≡ b → (b || is_among nat_eq number rest) ≡ true
@@ -72,8 +70,7 @@ module _ (files : FileTree ℕ) (first : ℕ → Option (Real ℕ)) (spare : ℕ
     bound = λ number seen e. inl e;
     others = λ number out. refl;
   }
-  each_copied (object ∷ rest) k real upper sound unused =
-      by (files.tree.node object) refl (upper_object (real object)) refl (each_copied rest (k + 1))
+  each_copied (object ∷ rest) k real upper sound unused = by _ refl _ refl (each_copied rest (k + 1))
     where
       same : is_some (files.tree.node object) ≡ false ⊎ is_some (upper_object (real object)) ≡ true
           → CopiesAll (k + 1) real rest (copied_each nat_eq fresh (k + 1) (At real upper) rest)
@@ -116,5 +113,4 @@ module _ (files : FileTree ℕ) (first : ℕ → Option (Real ℕ)) (spare : ℕ
   pub line_copied : (object : ℕ) (real : ℕ → Option (Real ℕ)) (upper : FileTree ℕ) → Sound real upper
       → ((j number : ℕ) → upper_object (real number) ≢ Some (fresh j))
       → CopiesAll 0 real (line_to nat_eq files object) (copied_up nat_eq fresh (At real upper) object)
-  line_copied object real upper sound unused =
-      each_copied (line_to nat_eq files object) 0 real upper sound (λ j number h. unused j number)
+  line_copied object real upper sound unused = each_copied _ 0 real upper sound (λ j number h. unused j number)

@@ -15,11 +15,10 @@ module _ (fresh : Fresh ℕ) (stack : Stack ℕ) (before : Merge ℕ) (fit : IsF
   rest_stays : (change : Change ℕ) → SpeaksOfWhatIsThere before.files change → (inode : ℕ)
       → ((k : ℕ) → inode ≢ fresh k) → ((number : ℕ) → upper_object (before.real number) ≢ Some inode)
       → IsKept (before.upper.tree.node inode) ((merge_changed nat_eq fresh stack before change).upper.tree.node inode)
-  rest_stays change there inode new apart = changes_keep before.files fit.tree fit.numbers inode
-      (before.upper.tree.node inode) fresh new stack before.real before.upper
-      (record { here = refl; apart = apart; root = fit.root }) change there
-      (λ from old object e later grows copied parent.
-      leaves_upper fresh before fit later grows from old object e parent)
+  rest_stays change there inode new apart = changes_keep before.files fit.tree fit.numbers
+      inode _ fresh new stack before.real before.upper (record { here = refl; apart = apart; root = fit.root })
+      change there (λ from old object e later grows copied parent. leaves_upper
+      fresh before fit later grows from old object e parent)
 
   abbrev nothing_spared : ℕ → Type 0
   nothing_spared number = ⊥
@@ -27,10 +26,9 @@ module _ (fresh : Fresh ℕ) (stack : Stack ℕ) (before : Merge ℕ) (fit : IsF
   -- copies by one supply, with the other spared
   pub by_evens : (object : ℕ) → IsReady fresh before fit (IsNewBy (odds fresh)) (line_to nat_eq before.files object)
       (copied_up nat_eq (evens fresh) before object)
-  by_evens object = one_line fresh before fit (IsNewBy (odds fresh)) (λ number s. (2 * s.0 + 1, s.1)) (evens fresh)
-      (λ j k e. let same = fit.distinct (2 * j) (2 * k) e in omega arith)
-      (λ k s. let same = fit.distinct (2 * k) (2 * s.0 + 1) s.1 in let no : ⊥ = omega arith in no)
-      (λ k. (2 * k, refl)) object
+  by_evens object = one_line fresh before fit (IsNewBy (odds fresh))
+      (λ number s. (2 * s.0 + 1, s.1)) (evens fresh) (λ j k e. let same = fit.distinct (2 * j) (2 * k) e in omega arith)
+      (λ k s. let same = fit.distinct (2 * k) _ s.1 in let no : ⊥ = omega arith in no) (λ k. (2 * k, refl)) object
 
   by_all : (object : ℕ) → IsReady fresh before fit nothing_spared (line_to nat_eq before.files object)
       (copied_up nat_eq fresh before object)
@@ -41,18 +39,14 @@ module _ (fresh : Fresh ℕ) (stack : Stack ℕ) (before : Merge ℕ) (fit : IsF
   pub then_odds : (object other : ℕ) → IsReady fresh before fit nothing_spared
       (line_to nat_eq before.files object ++ line_to nat_eq before.files other)
       (copied_up nat_eq (odds fresh) (copied_up nat_eq (evens fresh) before object) other)
-  then_odds object other = next_line fresh before fit (IsNewBy (odds fresh)) nothing_spared (λ number s. absurd s)
-      (line_to nat_eq before.files object) _ (by_evens object) (odds fresh)
-      (λ j k e. let same = fit.distinct (2 * j + 1) (2 * k + 1) e in omega arith)
-      (λ k s. s) (λ k. (k, refl)) (λ k. (2 * k + 1, refl)) other
+  then_odds object other = next_line fresh before fit _ _ (λ number s. absurd s) _ _ (by_evens object) (odds fresh)
+      (λ j k e. let same = fit.distinct _ _ e in omega arith) (λ k s. s) (λ k. (k, refl)) (λ k. (2 * k + 1, refl)) other
 
   pub then_odd_evens : (object other : ℕ) → IsReady fresh before fit (IsNewBy (odds (odds fresh)))
       (line_to nat_eq before.files object ++ line_to nat_eq before.files other)
       (copied_up nat_eq (evens (odds fresh)) (copied_up nat_eq (evens fresh) before object) other)
-  then_odd_evens object other =
-      next_line fresh before fit (IsNewBy (odds fresh)) (IsNewBy (odds (odds fresh))) (λ number s. (2 * s.0 + 1, s.1))
-      (line_to nat_eq before.files object) _ (by_evens object) (evens (odds fresh))
-      (λ j k e. let same = fit.distinct (2 * (2 * j) + 1) (2 * (2 * k) + 1) e in omega arith)
+  then_odd_evens object other = next_line fresh before fit _ _ (λ number s. (2 * s.0 + 1, s.1)) _ _ (by_evens object)
+      (evens (odds fresh)) (λ j k e. let same = fit.distinct (2 * (2 * j) + 1) (2 * (2 * k) + 1) e in omega arith)
       (λ k s. let same = fit.distinct (2 * (2 * k) + 1) (2 * (2 * s.0 + 1) + 1) s.1 in let no : ⊥ = omega arith in no)
       (λ k. (2 * k, refl)) (λ k. (2 * (2 * k) + 1, refl)) other
 
@@ -109,8 +103,7 @@ module _ (fresh : Fresh ℕ) (stack : Stack ℕ) (before : Merge ℕ) (fit : IsF
         reaches = subst (λ m. ReachesUpper m (merge_with_link nat_eq m directory name object)
             (AddName directory name object)) (sym ready.soundly.is) (λ reached. linked_named
             ready.soundly.sound directory seen.0 seen.1 reached name object);
-        stands = stands_now fresh before fit nothing_spared
-            (line_to nat_eq before.files object ++ line_to nat_eq before.files directory) _ ready;
+        stands = stands_now fresh before fit nothing_spared _ _ ready;
         names_left = tt;
         removed_empty = tt;
         marks = tt;
@@ -154,8 +147,7 @@ module _ (fresh : Fresh ℕ) (stack : Stack ℕ) (before : Merge ℕ) (fit : IsF
             (λ reached another. moved_named before.files before.real
             (odds (odds fresh)) stack ready.soundly.real ready.soundly.upper ready.soundly.sound from old to name object
             seen_from.0 seen_to.0 there.0 seen_from.1 seen_to.1 reached another);
-        stands = stands_now fresh before fit (IsNewBy (odds (odds fresh)))
-            (line_to nat_eq before.files object ++ line_to nat_eq before.files to) _ ready;
+        stands = stands_now fresh before fit (IsNewBy (odds (odds fresh))) _ _ ready;
         names_left = subst (λ m. IsLeft stack m
             (merge_with_moved nat_eq (odds (odds fresh)) stack m from old to name object) from old)
             (sym ready.soundly.is) (moved_left fit.tree
@@ -178,8 +170,7 @@ module _ (fresh : Fresh ℕ) (stack : Stack ℕ) (before : Merge ℕ) (fit : IsF
         tree = ap (λ m. (changed_both nat_eq m file (node_with_bytes bytes)).files) ready.soundly.is;
         reaches =
             let copied = copied_up nat_eq fresh before file in
-            node_set copied.upper.tree (upper_of copied file)
-            (node_with_bytes bytes (copied.upper.tree.node (upper_of copied file)));
+            node_set copied.upper.tree (upper_of copied file) _;
         stands = stands_now fresh before fit nothing_spared (line_to nat_eq before.files file) _ ready;
         names_left = tt;
         removed_empty = tt;
@@ -192,8 +183,7 @@ module _ (fresh : Fresh ℕ) (stack : Stack ℕ) (before : Merge ℕ) (fit : IsF
         tree = ap (λ m. (changed_both nat_eq m object (node_with_attr attr)).files) ready.soundly.is;
         reaches =
             let copied = copied_up nat_eq fresh before object in
-            node_set copied.upper.tree (upper_of copied object)
-            (node_with_attr attr (copied.upper.tree.node (upper_of copied object)));
+            node_set copied.upper.tree (upper_of copied object) _;
         stands = stands_now fresh before fit nothing_spared (line_to nat_eq before.files object) _ ready;
         names_left = tt;
         removed_empty = tt;
@@ -206,8 +196,7 @@ module _ (fresh : Fresh ℕ) (stack : Stack ℕ) (before : Merge ℕ) (fit : IsF
         tree = ap (λ m. (changed_both nat_eq m directory (node_with_mark opaque)).files) ready.soundly.is;
         reaches =
             let copied = copied_up nat_eq fresh before directory in
-            node_set copied.upper.tree (upper_of copied directory)
-            (node_with_mark opaque (copied.upper.tree.node (upper_of copied directory)));
+            node_set copied.upper.tree (upper_of copied directory) _;
         stands = stands_now fresh before fit nothing_spared (line_to nat_eq before.files directory) _ ready;
         names_left = tt;
         removed_empty = tt;

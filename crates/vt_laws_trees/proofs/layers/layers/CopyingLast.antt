@@ -1,5 +1,5 @@
 -- An object is copied behind the directories above it: its copy has no names in it, and stands under its name.
-use Rattle.std.proofs.Common.{◌≡◌, ◌≢◌, ◌≤◌, refl, sym, ap, subst, ◌∙◌, true≢false, arith, ℕ, zero, suc, ◌+◌, nat_eq, eq-eqb, ne_eqb, Bool, true, false, cond, List, [], ◌∷◌, ◌++◌, length, Option, Some, None, is_some, unwrap_or, ⊎_elim}
+use Rattle.std.proofs.Common.{◌≡◌, ◌≢◌, ◌≤◌, refl, sym, ap, subst, ◌∙◌, true≢false, arith, ℕ, zero, suc, ◌+◌, nat_eq, eq-eqb, ne_eqb, Bool, true, false, cond, List, [], ◌∷◌, ◌++◌, length, Option, Some, None, is_some, ⊎_elim}
 use Rattle.vt_spec.proofs.Common.{FileTree, Fresh, IsTree, Merge, Node, Real, Upper, a_name, ancestors, chain, common_steps, copied_content, copied_each, copied_up, copy_of, copy_parent, directories_to, directory_used, entries_in, entries_of-copied_content, entry_at, is_among, is_directory_node, is_in_upper, list_any, list_any-IsPermutation, named_parent, node_set, node_with_entry, same_Some, upper_object, upper_of, with_inode, with_name}
 use Rattle.std.proofs.lemmas.List.Sorted.{IsPermutation-reverse}
 use Rattle.vt_laws_trees.specs.Layers.Layers.ChangesUpper.{IsCopyOf, IsFitToChange}
@@ -27,19 +27,17 @@ not_in_line : (files : FileTree ℕ) (tree : IsTree files.tree)
     → Rattle.vt_spec.specs.Machine.Invariants.ListsNumbers nat_eq files → (directory : ℕ) (name : List ℕ) (object : ℕ)
     → entry_at files.tree directory name ≡ Some object
     → is_among nat_eq object (directories_to nat_eq files directory) ≡ false
-not_in_line files tree numbers directory name object e =
-    by (is_among nat_eq object (directories_to nat_eq files directory)) refl
+not_in_line files tree numbers directory name object e = by _ refl
   where
     reached : (steps : ℕ) × ReachedIn files.tree steps directory
     reached = is_reached_in files tree directory name object e
 
     above : is_among nat_eq object (directories_to nat_eq files directory) ≡ true
         → (fewer : ℕ) × (fewer ≤ reached.0) × ReachedIn files.tree fewer object
-    above t = all_above files tree reached.0 directory reached.1 object
-        (sym (sym (list_any-IsPermutation (nat_eq object) (ancestors nat_eq files directory)
-        (directories_to nat_eq files directory) (IsPermutation-reverse (ancestors nat_eq files directory)))
-        ∙ ap (list_any (nat_eq object)) (chain_enough files tree reached.0 (length files.numbers) directory reached.1
-        (depth_bound files tree numbers reached.0 directory reached.1))) ∙ t)
+    above t = all_above files tree reached.0 directory reached.1 object (sym (sym (list_any-IsPermutation
+        (nat_eq object) (ancestors nat_eq files directory) _ (IsPermutation-reverse (ancestors nat_eq files directory)))
+        ∙ ap (list_any (nat_eq object)) (chain_enough files tree reached.0
+        (length files.numbers) directory reached.1 (depth_bound files tree numbers reached.0 directory reached.1))) ∙ t)
 
     by : (b : Bool) → is_among nat_eq object (directories_to nat_eq files directory) ≡ b
         → is_among nat_eq object (directories_to nat_eq files directory) ≡ false
@@ -89,19 +87,14 @@ module _ (fresh : Fresh ℕ) (before : Merge ℕ) (fit : IsFitToChange fresh bef
         attr = node.attr;
         content = copied_content (copy_parent before (fresh 0) (a_name nat_eq files object)) node.content;
       } in
-      let there : (copy_of nat_eq before object (fresh 0) (Some node) false).upper.tree.node (fresh 0) ≡ Some copied =
-      ap (λ o. (Rattle.vt_spec.specs.Machine.CopyUp.copy_named nat_eq before (fresh 0) o
-      (with_inode nat_eq before.upper (fresh 0) copied)).tree.node (fresh 0)) e
-      ∙ node_set before.upper.tree (fresh 0) (Some copied) in
+      let there : (copy_of nat_eq before object (fresh 0) (Some node) false).upper.tree.node (fresh 0)
+      ≡ Some copied = cc (e, node_set before.upper.tree (fresh 0) (Some copied)) in
       record {
         copy = fresh 0;
         real = ap (λ b. upper_object (cond b (Some (Upper (fresh 0))) (before.real object)))
             (eq-eqb object object refl);
-        is = subst (IsCopyOf (files.tree.node object)) (sym there)
-            (is_copy_of (copy_parent before (fresh 0) (a_name nat_eq files object))
-            (files.tree.node object) node is_node);
-        empty = ap entries_in there ∙ entries_of-copied_content
-            (copy_parent before (fresh 0) (a_name nat_eq files object)) node.content;
+        is = subst (IsCopyOf (files.tree.node object)) (sym there) (is_copy_of _ (files.tree.node object) node is_node);
+        empty = ap entries_in there ∙ entries_of-copied_content _ node.content;
         named = λ name is. absurd (true≢false (sym (ap is_some (sym e ∙ is))));
       }
 
@@ -126,23 +119,19 @@ module _ (fresh : Fresh ℕ) (before : Merge ℕ) (fit : IsFitToChange fresh bef
     later = copy_of nat_eq state object copy (Some node) false
 
     upper_is : later.upper ≡ with_name nat_eq added parent name.1 copy
-    upper_is = ap (λ o. Rattle.vt_spec.specs.Machine.CopyUp.copy_named nat_eq state copy o added) e
-        ∙ ap (λ n. with_name nat_eq added n name.1 copy) (ap (λ o. unwrap_or o name.0) u)
+    upper_is = cc (e, u)
 
     there : later.upper.tree.node copy ≡ Some copied
     there = ap (λ t. t.tree.node copy) upper_is ∙ kept_elsewhere added parent (node_with_entry name.1 copy) copy
         (ne_eqb copy parent (λ same. differ (sym same))) ∙ node_set upper.tree copy (Some copied)
 
     parent_stays : upper_of later name.0 ≡ parent
-    parent_stays = ap (λ b. unwrap_or (upper_object (cond b (Some (Upper copy)) (real name.0))) name.0)
-        (ne_eqb name.0 object (λ same. no_loop files fit.tree name.0 name.1 (entry ∙ ap Some (sym same))))
-        ∙ ap (λ o. unwrap_or o name.0) u
+    parent_stays =
+        cc (ne_eqb name.0 object (λ same. no_loop files fit.tree name.0 name.1 (entry ∙ ap Some (sym same))), u)
 
     has_name : entry_at later.upper.tree (upper_of later name.0) name.1 ≡ Some copy
-    has_name = ap (λ n. entry_at later.upper.tree n name.1) parent_stays
-        ∙ ap (λ t. entry_at t.tree parent name.1) upper_is
-        ∙ ap (λ o. Rattle.vt_spec.specs.Tree.entry_named name.1 (entries_in o))
-        (node_set added.tree parent (node_with_entry name.1 copy (added.tree.node parent)))
+    has_name = ap (λ n. entry_at later.upper.tree n name.1) parent_stays ∙ ap (λ t. entry_at t.tree parent name.1)
+        upper_is ∙ ap (λ o. Rattle.vt_spec.specs.Tree.entry_named name.1 (entries_in o)) (node_set added.tree parent _)
         ∙ name_put name.1 copy (added.tree.node parent)
         (ap is_directory_node (ap (λ b. cond b (Some copied) (upper.tree.node parent)) (ne_eqb parent copy differ))
         ∙ sound.kinds (path_to files fit.tree name.0 name.1 object entry).0 name.0 parent
@@ -152,24 +141,21 @@ module _ (fresh : Fresh ℕ) (before : Merge ℕ) (fit : IsFitToChange fresh bef
     under_name = record {
       copy = copy;
       real = ap (λ b. upper_object (cond b (Some (Upper copy)) (real object))) (eq-eqb object object refl);
-      is = subst (IsCopyOf (files.tree.node object)) (sym there)
-          (is_copy_of (copy_parent state copy (a_name nat_eq files object)) (files.tree.node object) node is_node);
-      empty = ap entries_in there ∙ entries_of-copied_content
-          (copy_parent state copy (a_name nat_eq files object)) node.content;
+      is = subst (IsCopyOf (files.tree.node object)) (sym there) (is_copy_of _ (files.tree.node object) node is_node);
+      empty = ap entries_in there ∙ entries_of-copied_content _ node.content;
       named = λ other is. subst (λ n. entry_at later.upper.tree (upper_of later n.0) n.1 ≡ Some copy)
           (same_Some name other (sym e ∙ is)) has_name;
     }
 
   named_stands : (name : ℕ × List ℕ) → a_name nat_eq files object ≡ Some name
       → CopyStands (copied_each nat_eq fresh 0 before (directories_to nat_eq files name.0 ++ object ∷ []))
-  named_stands name e =
-      subst CopyStands (sym (copied_one_more fresh 0 before (directories_to nat_eq files name.0) object))
-      (subst (λ m. CopyStands (copy_of nat_eq m object (fresh (0 + length line)) (m.files.tree.node object)
-      (is_in_upper m object))) (sym front.soundly.is)
+  named_stands name e = subst CopyStands
+      (sym (copied_one_more fresh 0 before (directories_to nat_eq files name.0) object)) (subst (λ m. CopyStands
+      (copy_of nat_eq m object (fresh (0 + length line)) (m.files.tree.node object) (is_in_upper m object)))
+      (sym front.soundly.is)
       (subst (λ o. CopyStands (copy_of nat_eq state object (fresh (0 + length line)) o (is_in_upper state object)))
       (sym is_node) (subst (λ b. CopyStands (copy_of nat_eq state object (fresh (0 + length line)) (Some node) b))
-      (sym (ap is_some still_below)) (by (upper_object (front.soundly.real name.0)) refl
-      (front.all name.0 (in_its_line files name.0)
+      (sym (ap is_some still_below)) (by _ refl (front.all name.0 (in_its_line files name.0)
       (directory_used files.tree name.0 (has_entries files.tree name.0 name.1 object entry)))))))
     where
       line : List ℕ
@@ -187,16 +173,13 @@ module _ (fresh : Fresh ℕ) (before : Merge ℕ) (fit : IsFitToChange fresh bef
       state = State files before.real unspared front.soundly.real front.soundly.upper
 
       still_below : upper_object (front.soundly.real object) ≡ None
-      still_below = ap upper_object (front.others object
-          (not_in_line files fit.tree fit.numbers name.0 name.1 object entry)) ∙ below
+      still_below = cc (front.others object (not_in_line files fit.tree fit.numbers name.0 name.1 object entry), below)
 
       by : (o : Option ℕ) → upper_object (front.soundly.real name.0) ≡ o → is_some o ≡ true
           → CopyStands (copy_of nat_eq state object (fresh (0 + length line)) (Some node) false)
       by None u h = absurd (true≢false (sym h))
-      by (Some parent) u h = under_name front.soundly.real front.soundly.upper front.soundly.sound
-          (fresh (0 + length line)) name e entry parent u (λ same. ⊎_elim
-          (λ old. fit.unused (0 + length line) name.0 (old ∙ ap Some same))
-          (λ new. let counted = fit.distinct new.0 (0 + length line)
+      by (Some parent) u h = under_name front.soundly.real _ front.soundly.sound _ name e entry parent u (λ same. ⊎_elim
+          (λ old. fit.unused (0 + length line) name.0 (old ∙ ap Some same)) (λ new. let counted = fit.distinct new.0 _
           (sym new.2 ∙ same) in let l = new.1 in let no : ⊥ = omega arith in no) (front.bound name.0 parent u))
 
   pub copy_stands : CopyStands (copied_up nat_eq fresh before object)

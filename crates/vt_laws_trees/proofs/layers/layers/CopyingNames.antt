@@ -58,8 +58,7 @@ name_stays_without name other (Some node) differ = by node.content
     by : (content : Content ℕ) → entry_named name
         (entries_of (with_entries content (without_entry other (entries_of content))))
         ≡ entry_named name (entries_of content)
-    by (Directory parent entries opaque) =
-        cc (entry_named-without_entry name other entries, apart (bytes_eq name other) refl)
+    by (Directory parent entries opaque) = cc (entry_named-without_entry name other entries, apart _ refl)
     by (Regular bytes) = refl
     by (Symlink text) = refl
     by Whiteout = refl
@@ -130,9 +129,7 @@ directory_marked (Some node) d = grind (arith, common_steps, true≢false)
 pub marked_itself : (mark : Bool) (upper : FileTree ℕ) (object : ℕ) → is_directory_node (upper.tree.node object) ≡ true
     → is_opaque_in ((with_mark nat_eq mark upper object).tree.node object)
     ≡ (mark || is_opaque_in (upper.tree.node object))
-marked_itself true upper object d =
-    ap is_opaque_in (node_set upper.tree object (node_with_mark true (upper.tree.node object)))
-    ∙ directory_marked (upper.tree.node object) d
+marked_itself true upper object d = ap is_opaque_in (node_set upper.tree object _) ∙ directory_marked _ d
 marked_itself false upper object d = refl
 
 -- A part of inodes that new names and parents leave is the same in all of the upper tree but at the new whiteout.
@@ -159,13 +156,10 @@ module _ {A : Type 0} (part : Option (Node ℕ) → A)
   moved_part upper from old to name object inode =
       let freed = without_parent nat_eq upper (entry_named name (entries_in (upper.tree.node to))) in
       let left = without_name nat_eq freed from old in
-      part-changed_node part (with_name nat_eq left to name object) object (node_with_parent to)
-      (keeps (node_with_parent to) (parent_keeps to)) inode
-      ∙ part-changed_node part left to (node_with_entry name object)
-      (keeps (node_with_entry name object) (entry_keeps name object)) inode
-      ∙ part-changed_node part freed from (node_without_entry old)
-      (keeps (node_without_entry old) (without_entry_keeps old)) inode
-      ∙ freed_part upper (entry_named name (entries_in (upper.tree.node to))) inode
+      part-changed_node part (with_name nat_eq left to name object)
+      object (node_with_parent to) (keeps (node_with_parent to) (parent_keeps to)) inode ∙ part-changed_node part
+      left to (node_with_entry name object) (keeps _ (entry_keeps name object)) inode ∙ part-changed_node part
+      freed from (node_without_entry old) (keeps _ (without_entry_keeps old)) inode ∙ freed_part upper _ inode
 
   pub left_part : (hidden : Bool) (fresh : Fresh ℕ) (stack : Stack ℕ) (upper : FileTree ℕ) (directory : ℕ)
       (name : List ℕ) (inode : ℕ) → inode ≢ fresh 0

@@ -25,9 +25,7 @@ mark_made node inode is = grind (arith, common_steps, mark_kind, entries-node_wi
 
 marked_made : (mark : Bool) (upper : FileTree ℕ) (object : ℕ) (node : Node ℕ) → IsMadeAs node (upper.tree.node object)
     → IsMadeAs node ((with_mark nat_eq mark upper object).tree.node object)
-marked_made true upper object node is =
-    subst (IsMadeAs node) (sym (node_set upper.tree object (node_with_mark true (upper.tree.node object))))
-    (mark_made node (upper.tree.node object) is)
+marked_made true upper object node is = subst (IsMadeAs node) (sym (node_set upper.tree object _)) (mark_made node _ is)
 marked_made false upper object node is = is
 
 -- a new object gets its parent in the upper layer
@@ -63,10 +61,7 @@ module _ {files : FileTree ℕ} {first : ℕ → Option (Real ℕ)} {spare : ℕ
       → entry_at (merge_with_link nat_eq here directory name object).upper.tree (upper_of here directory) name
       ≡ Some (upper_of here object)
   linked_named directory seen has reached name object = ap (λ o. entry_named name (entries_in o))
-      (node_set upper.tree (upper_of here directory)
-      (node_with_entry name (upper_of here object) (upper.tree.node (upper_of here directory))))
-      ∙ name_put name (upper_of here object) (upper.tree.node (upper_of here directory))
-      (directory_there directory seen has reached)
+      (node_set upper.tree (upper_of here directory) _) ∙ name_put name _ _ (directory_there directory seen has reached)
 
 module _ (files : FileTree ℕ) (first : ℕ → Option (Real ℕ)) (fresh : Fresh ℕ) (stack : Stack ℕ)
     (real : ℕ → Option (Real ℕ)) (upper : FileTree ℕ) (sound : IsSound files first (IsNewBy fresh) real upper) where

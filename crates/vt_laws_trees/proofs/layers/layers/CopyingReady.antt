@@ -62,8 +62,7 @@ module _ (fresh : Fresh ℕ) (before : Merge ℕ) (fit : IsFitToChange fresh bef
       → (object : ℕ) → IsReady spare (list ++ line_to nat_eq files object) (copied_up nat_eq supply merge object)
   next_line wide spare narrower list merge ready supply distinct apart spared own object =
       let sound = ready.soundly.sound in
-      let copies =
-      line_copied files before.real spare supply distinct apart object ready.soundly.real ready.soundly.upper (record {
+      let copies = line_copied files before.real spare supply distinct apart object ready.soundly.real _ (record {
         one = sound.one;
         kinds = sound.kinds;
         stands = sound.stands;

@@ -1,7 +1,7 @@
 -- What is copied up stands in the upper layer: each inode has its own object there, of its kind, and a copy is what is
 -- shown.
 use Rattle.std.proofs.Common.{arith, ◌≡◌, ◌≢◌, ◌⊎◌, inl, inr, refl, sym, ap, subst, ◌∙◌, ℕ, nat_eq, eq-eqb, ne_eqb, true, false, cond, List, Option, Some, None, is_some, ⊎_elim}
-use Rattle.vt_spec.proofs.Common.{Content, Directory, FileTree, Merge, Node, Real, Regular, Symlink, Upper, Whiteout, a_name, bytes_of, common_steps, copied_content, copy_named, copy_of_node, copy_parent, eqb_tells, is_directory, is_directory_node, node_with_entry, none_is_some, number_at_path, opaque_of, part-changed_node, same_Some, upper_object, upper_of, with_inode, with_real}
+use Rattle.vt_spec.proofs.Common.{Content, Directory, FileTree, Merge, Node, Real, Regular, Symlink, Upper, Whiteout, a_name, bytes_of, common_steps, copied_content, copy_named, copy_of_node, copy_parent, eqb_tells, is_directory, is_directory_node, none_is_some, number_at_path, opaque_of, part-changed_node, same_Some, upper_object, with_inode, with_real}
 use Rattle.vt_laws_trees.specs.Layers.Layers.ChangesUpper.{IsCopyOf}
 use Rattle.vt_laws_trees.proofs.layers.layers.CopyingParts.{entry_keeps, kept_copy}
 use Rattle.vt_spec.proofs.NodeChanges.{kind_of-copied_content}
@@ -80,17 +80,13 @@ module _ (files : FileTree ℕ) (first : ℕ → Option (Real ℕ)) (spare : ℕ
         → is_directory_node ((copy_named nat_eq (State real upper) copy named with_copy).tree.node inode)
         ≡ is_directory_node (with_copy.tree.node inode)
     directory_named None inode = refl
-    directory_named (Some name) inode =
-        part-changed_node is_directory_node with_copy (upper_of (State real upper) name.0) (node_with_entry name.1 copy)
-        (entry_keeps name.1 copy).directory inode
+    directory_named (Some name) inode = part-changed_node _ with_copy _ _ (entry_keeps name.1 copy).directory inode
 
     copy_named_so : (seen : Option (Node ℕ)) (named : Option (ℕ × List ℕ)) (inode : ℕ)
         → IsCopyOf seen (with_copy.tree.node inode)
         → IsCopyOf seen ((copy_named nat_eq (State real upper) copy named with_copy).tree.node inode)
     copy_named_so seen None inode is = is
-    copy_named_so seen (Some name) inode is =
-        kept_copy seen with_copy (upper_of (State real upper) name.0) (node_with_entry name.1 copy)
-        (entry_keeps name.1 copy) inode is
+    copy_named_so seen (Some name) inode is = kept_copy seen with_copy _ _ (entry_keeps name.1 copy) inode is
 
     at_copy : with_copy.tree.node copy ≡ Some copied_node
     at_copy = ap (λ b. cond b (Some copied_node) (upper.tree.node copy)) (eq-eqb copy copy refl)
@@ -99,9 +95,7 @@ module _ (files : FileTree ℕ) (first : ℕ → Option (Real ℕ)) (spare : ℕ
     at_other inode differ = ap (λ b. cond b (Some copied_node) (upper.tree.node inode)) (ne_eqb inode copy differ)
 
     is_copy : IsCopyOf (files.tree.node object) (with_copy.tree.node copy)
-    is_copy = subst (IsCopyOf (files.tree.node object)) (sym at_copy)
-        (is_copy_of (copy_parent (State real upper) copy (a_name nat_eq files object))
-        (files.tree.node object) node is_node)
+    is_copy = subst (IsCopyOf (files.tree.node object)) (sym at_copy) (is_copy_of _ _ node is_node)
 
     other_object : (number seen : ℕ) → upper_object (real number) ≡ Some seen → seen ≢ copy
     other_object number seen e same = unused number (cc)
@@ -114,12 +108,9 @@ module _ (files : FileTree ℕ) (first : ℕ → Option (Real ℕ)) (spare : ℕ
           (told_later a seen e);
       kinds = λ path number seen way e. ⊎_elim (λ t. directory_named (a_name nat_eq files object) seen
           ∙ ap (λ n. is_directory_node (with_copy.tree.node n)) t.1 ∙ ap is_directory_node at_copy
-          ∙ ap is_directory (kind_of-copied_content
-          (copy_parent (State real upper) copy (a_name nat_eq files object)) node.content)
-          ∙ sym (ap is_directory_node is_node) ∙ ap (λ n. is_directory_node (files.tree.node n)) (sym t.0))
-          (λ t. directory_named (a_name nat_eq files object) seen
-          ∙ ap is_directory_node (at_other seen (other_object number seen t)) ∙ sound.kinds path number seen way t)
-          (told_later number seen e);
+          ∙ ap is_directory (kind_of-copied_content _ node.content) ∙ sym (ap is_directory_node is_node) ∙ ap
+          (λ n. is_directory_node (files.tree.node n)) (sym t.0)) (λ t. directory_named _ seen ∙ ap is_directory_node
+          (at_other seen (other_object number seen t)) ∙ sound.kinds path number seen way t) (told_later number seen e);
       stands = λ number seen e. ⊎_elim
           (λ t. inr (copy_named_so (files.tree.node number) (a_name nat_eq files object) seen
           (subst (λ n. IsCopyOf (files.tree.node n) (with_copy.tree.node seen)) (sym t.0)

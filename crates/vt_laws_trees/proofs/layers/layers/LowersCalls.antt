@@ -20,8 +20,7 @@ module _ (world : World ℕ) (filesystem inode : ℕ) where
   stays_itself = kept_itself (inode_in world filesystem inode)
 
   pub stays_where_same : (later : World ℕ) → later.filesystems ≡ world.filesystems → Stays later
-  stays_where_same later e = kept_same (inode_in world filesystem inode) (inode_in later filesystem inode)
-      (ap (λ f. f.files.tree.node inode) (same_filesystem world later filesystem e))
+  stays_where_same later e = kept_same _ _ (ap (λ f. f.files.tree.node inode) (same_filesystem world later _ e))
 
   -- a change that is not of the inode, in a world with the same filesystems
   module _ (own : HasNoUpperLayer world filesystem) (fresh : Fresh ℕ) (before : World ℕ)
@@ -32,18 +31,15 @@ module _ (world : World ℕ) (filesystem inode : ℕ) where
     plain_stays : filesystem ≡ mounted → is_among nat_eq inode (inodes_changed change) ≡ false
         → Stays (with_change nat_eq fresh before location change)
     plain_stays at other =
-        subst (λ o. Stays (filesystem_changed nat_eq fresh before (filesystem_at nat_eq before location) o change))
-        (sym (ap (λ f. f.overlay) (ap (filesystem_numbered nat_eq before) (sym at)
-        ∙ same_filesystem world before filesystem same) ∙ own.plain))
-        (filesystem_there (λ f. IsKept (inode_in world filesystem inode) (f.files.tree.node inode)) before
-        (with_files (filesystem_at nat_eq before location)
-        (changed nat_eq (filesystem_at nat_eq before location).files change)) filesystem
-        (at ∙ sym (number_of_filesystem before mounted)) (subst (λ f. IsKept (f.files.tree.node inode)
+        subst (λ o. Stays (filesystem_changed nat_eq fresh before (filesystem_at nat_eq before location) o change)) (sym
+        (ap (λ f. f.overlay) (ap (filesystem_numbered nat_eq before) (sym at) ∙ same_filesystem world before _ same)
+        ∙ own.plain)) (filesystem_there (λ f. IsKept (inode_in world filesystem inode) (f.files.tree.node inode))
+        before (with_files (filesystem_at nat_eq before location) (changed nat_eq _ change))
+        filesystem (at ∙ sym (number_of_filesystem before mounted)) (subst (λ f. IsKept (f.files.tree.node inode)
         ((changed nat_eq (filesystem_at nat_eq before location).files change).tree.node inode))
         (ap (filesystem_numbered nat_eq before) (sym at) ∙ same_filesystem world before filesystem same)
-        (others_stay (filesystem_at nat_eq before location).files change inode other))
-        (λ none. kept_same (inode_in world filesystem inode) None
-        (sym (ap (λ f. f.files.tree.node inode) (sym (same_filesystem world before filesystem same) ∙ none)))))
+        (others_stay _ change inode other)) (λ none. kept_same (inode_in world filesystem inode)
+        None (sym (ap (λ f. f.files.tree.node inode) (sym (same_filesystem world before filesystem same) ∙ none)))))
 
     elsewhere_stays : filesystem ≢ mounted → Stays (with_change nat_eq fresh before location change)
     elsewhere_stays away = kept_same (inode_in world filesystem inode) _ (ap (λ f. f.files.tree.node inode)
@@ -54,8 +50,7 @@ module _ (world : World ℕ) (filesystem inode : ℕ) where
 
     pub change_stays : (filesystem ≡ mounted → is_among nat_eq inode (inodes_changed change) ≡ false)
         → Stays (with_change nat_eq fresh before location change)
-    change_stays other = ⊎_elim (λ t. plain_stays t.1 (other t.1)) (λ t. elsewhere_stays t.1)
-        (eqb_tells filesystem mounted)
+    change_stays other = ⊎_elim (λ t. plain_stays t.1 (other t.1)) (λ t. elsewhere_stays t.1) (eqb_tells _ mounted)
 
   -- what is not locked is not the inode
   module _ (locked : is_locked nat_eq world filesystem inode ≡ true) where

@@ -1,10 +1,10 @@
--- Every call that changes no mount by its own leaves what is locked as it was, in a filesystem that no overlay writes to.
+-- In a filesystem that no overlay writes to, calls that change no mount leave each locked inode as it was.
 use Rattle.std.proofs.Common.{◌≡◌, ◌≢◌, sym, true≢false, ℕ, nat_eq, true, List, [], ◌∷◌, ap, eqb-true, ne_eqb, refl, ◌∙◌, Bool, false}
-use Rattle.vt_spec.proofs.Common.{Access, Call, Change, CopyUp, Fresh, Location, Node, Permit, Place, SetBytes, SetMark, Task, ToOpen, World, apply, call_outcome, evens, file_mode, filesystems-without_replaced, is_among, is_copied_up, is_locked, is_locked_at, linking, looks_of, make_permit, making, mount_at, moving, new_file, not-false, object_there, odds, or_false_left, or_false_right, or_from, or_parts, overfills, pwritten, removing, shown-without_replaced, with_change, with_copy, without_mounts_on, without_replaced}
+use Rattle.vt_spec.proofs.Common.{Access, Call, Change, CopyUp, Fresh, Location, Node, Permit, Place, SetBytes, Task, ToOpen, World, apply, call_outcome, evens, file_mode, filesystems-without_replaced, is_among, is_copied_up, is_locked, is_locked_at, linking, looks_of, make_permit, making, mount_at, moving, new_file, not-false, object_there, odds, or_false_left, or_false_right, or_from, or_parts, overfills, pwritten, removing, shown-without_replaced, with_change, with_copy, without_mounts_on, without_replaced}
 use Rattle.vt_laws_trees.specs.Layers.Layers.Untouched.{HasNoUpperLayer, changes_no_mount, inodes_changed}
 use Rattle.vt_laws_trees.proofs.layers.layers.LowersCalls.{Stays, stays_itself, change_stays, stays_where_same, unlocked_differs}
 use Rattle.vt_laws_rules.proofs.given.CallsGranted.{call_holds}
-use Rattle.vt_laws_rules.specs.Granted.{IsGranted, directory_made, symlink_made, whiteout_made}
+use Rattle.vt_laws_rules.specs.Granted.{IsGranted}
 use Rattle.vt_laws_rules.specs.Granted.IsGranted.{changes_mark, changes_mode, changes_owner, creates, creates_exclusively, makes_directory, makes_hard_link, makes_symlink, makes_whiteout, mounts_overlayfs, mounts_tmpfs, opens, opens_existing, overwrites_file, removes_directory, renames, unlinks, writes_new_file, writes_part}
 use Rattle.vt_laws_trees.proofs.layers.layers.LowersMounts.{same_filesystems_without, same_mounted_without}
 use Rattle.vt_laws_trees.proofs.trees.ChangesByOthers.{files_stay}
@@ -25,9 +25,8 @@ module _ {world : World ℕ} {filesystem : ℕ} (inode : ℕ) (own : HasNoUpperL
   -- a change of one inode that is not locked
   one_stays : (location : Location ℕ) (change : Change ℕ) → inodes_changed change ≡ location.node ∷ []
       → is_locked_at nat_eq world location ≡ false → Kept (with_change nat_eq fresh world location change)
-  one_stays location change is unlocked = change_stays world filesystem inode own fresh world refl location change
-      (λ at. ap (is_among nat_eq inode) is
-      ∙ or_from (nat_eq inode location.node) false (differs location unlocked at) refl)
+  one_stays location change is unlocked = change_stays world filesystem inode own fresh world
+      refl location change (λ at. ap (is_among nat_eq inode) is ∙ or_from _ false (differs location unlocked at) refl)
 
   -- a new object in a directory that is not locked
   new_stays : (place : Place ℕ) (node : Node ℕ) → is_locked_at nat_eq world place.parent ≡ false
@@ -56,38 +55,30 @@ module _ {world : World ℕ} {filesystem : ℕ} (inode : ℕ) (own : HasNoUpperL
       one_stays file (SetBytes file.node bytes) refl passed.1.1.1.1.1.0
   granted_stays call permit c (writes_new_file path bytes place end named missing fits passed) =
       new_stays place (new_file task file_mode bytes) passed.1.1.0
-  granted_stays call permit c (makes_directory path mode place end passed) =
-      new_stays place (directory_made task place mode) passed.1.1.1.1.0
-  granted_stays call permit c (makes_symlink text path place fits end passed) =
-      new_stays place (symlink_made task text) passed.1.1.1.1.0
-  granted_stays call permit c (makes_whiteout path place end passed) =
-      new_stays place (whiteout_made task) passed.1.1.1.1.0
+  granted_stays call permit c (makes_directory path mode place end passed) = new_stays place _ passed.1.1.1.1.0
+  granted_stays call permit c (makes_symlink text path place fits end passed) = new_stays place _ passed.1.1.1.1.0
+  granted_stays call permit c (makes_whiteout path place end passed) = new_stays place _ passed.1.1.1.1.0
   granted_stays call permit c (makes_hard_link old name from place from_end end named passed) =
       one_stays place.parent (linking from.location place) refl
       (or_false_right (is_locked_at nat_eq world from.location) _ passed.1.1.1.1.0)
   granted_stays call permit c (unlinks path place end named passed) =
-      one_stays place.parent (removing place (object_there place)) refl
-      (or_false_right (is_locked_at nat_eq world (object_there place)) _ passed.1.1.1.0)
-  granted_stays call permit c (removes_directory path place end word passed) =
-      change_stays world filesystem inode own fresh (without_mounts_on nat_eq world (object_there place))
-      (same_filesystems_without world (object_there place)) place.parent (removing place (object_there place))
-      (λ at. or_from (nat_eq inode place.parent.node) false
-      (differs place.parent (or_false_right (is_locked_at nat_eq world (object_there place)) _ passed.1.1.1.1.0)
-      (at ∙ same_mounted_without world (object_there place) place.parent)) refl)
+      one_stays place.parent (removing place (object_there place)) refl (or_false_right _ _ passed.1.1.1.0)
+  granted_stays call permit c (removes_directory path place end word passed) = change_stays world filesystem inode own
+      fresh (without_mounts_on nat_eq world (object_there place)) (same_filesystems_without world (object_there place))
+      place.parent (removing place (object_there place)) (λ at. or_from _ false (differs place.parent
+      (or_false_right _ _ passed.1.1.1.1.0) (at ∙ same_mounted_without world (object_there place) place.parent)) refl)
   granted_stays call permit c (renames old name from to names two passed) =
       let of_from = or_parts (is_locked_at nat_eq world from.parent) _ passed.1.1.1.1.1.1.0 in
       change_stays world filesystem inode own fresh (without_replaced nat_eq world to.object)
       (filesystems-without_replaced world to.object) from.parent (moving from to (object_there from))
       (λ at. let there = at ∙ shown-without_replaced world to.object from.parent in
       or_from (nat_eq inode from.parent.node) _ (differs from.parent of_from.0 there)
-      (or_from (nat_eq inode to.parent.node) false
-      (differs to.parent (or_false_left (is_locked_at nat_eq world to.parent) _ of_from.1)
+      (or_from (nat_eq inode to.parent.node) false (differs to.parent (or_false_left _ _ of_from.1)
       (there ∙ ap (λ m. (mount_at nat_eq world (record { mount = m; node = from.parent.node })).filesystem)
       (eqb-true from.parent.mount to.parent.mount (not-false _ passed.1.1.1.1.1.1.1.1.0)))) refl))
   granted_stays call permit c (changes_mode path mode here end passed) = one_stays here.location _ refl passed.1.1.0
   granted_stays call permit c (changes_owner path uid gid here end passed) = one_stays here.location _ refl passed.1.1.0
-  granted_stays call permit c (changes_mark path mark here admin end passed) =
-      one_stays here.location (SetMark here.location.node mark) refl passed.1.1.0
+  granted_stays call permit c (changes_mark path mark here admin end passed) = one_stays _ _ refl passed.1.1.0
   granted_stays call permit c (opens path access here room end passed) = opened_stays here.location access
   granted_stays call permit c (opens_existing path access mode place file room end named there passed) =
       opened_stays file access

@@ -27,16 +27,14 @@ kept_elsewhere files number change inode e =
 pub kept_everywhere : (files : FileTree ℕ) (number : ℕ) (change : Option (Node ℕ) → Option (Node ℕ))
     → ((node : Option (Node ℕ)) → IsKept node (change node)) → (inode : ℕ)
     → IsKept (files.tree.node inode) ((changed_node nat_eq files number change).tree.node inode)
-kept_everywhere files number change keeps inode = ⊎_elim (λ t. subst (λ b. IsKept (files.tree.node inode)
-    (cond b (change (files.tree.node number)) (files.tree.node inode))) (sym t.0)
-    (subst (λ n. IsKept (files.tree.node n) (change (files.tree.node number))) (sym t.1)
-    (keeps (files.tree.node number))))
+kept_everywhere files number change keeps inode = ⊎_elim
+    (λ t. subst (λ b. IsKept (files.tree.node inode) (cond b (change (files.tree.node number)) (files.tree.node inode)))
+    (sym t.0) (subst (λ n. IsKept (files.tree.node n) (change (files.tree.node number))) (sym t.1) (keeps _)))
     (λ t. kept_same (files.tree.node inode) _ (kept_elsewhere files number change inode t.0)) (eqb_tells inode number)
 
 pub kept_by_parent : (files : FileTree ℕ) (number parent inode : ℕ)
     → IsKept (files.tree.node inode) ((changed_node nat_eq files number (node_with_parent parent)).tree.node inode)
-kept_by_parent files number parent inode =
-    kept_everywhere files number (node_with_parent parent) (kept_parent parent) inode
+kept_by_parent files number parent inode = kept_everywhere files number _ (kept_parent parent) inode
 
 pub kept_without_parent : (files : FileTree ℕ) (object : Option ℕ) (inode : ℕ)
     → IsKept (files.tree.node inode) ((without_parent nat_eq files object).tree.node inode)
@@ -50,9 +48,8 @@ kept_moved files from old to new object inode f t =
     let freed = without_parent nat_eq files (entry_named new (entries_in (files.tree.node to))) in
     let left = without_name nat_eq freed from old in
     let named = with_name nat_eq left to new object in
-    kept_both (files.tree.node inode) (named.tree.node inode) _
-    (kept_both (files.tree.node inode) (freed.tree.node inode) _ (kept_without_parent files _ inode)
-    (kept_same (freed.tree.node inode) _ (kept_elsewhere left to (node_with_entry new object) inode t
+    kept_both (files.tree.node inode) (named.tree.node inode) _ (kept_both (files.tree.node inode) _ _
+    (kept_without_parent files _ inode) (kept_same _ _ (kept_elsewhere left to (node_with_entry new object) inode t
     ∙ kept_elsewhere freed from (node_without_entry old) inode f))) (kept_by_parent named object to inode)
 
 pub others_stay : (files : FileTree ℕ) (change : Change ℕ) (inode : ℕ)
@@ -64,10 +61,8 @@ others_stay files (Make directory name number node) inode e = kept_same (files.t
     ∙ ap (λ b. cond b (Some node) (files.tree.node inode)) (or_false_left (nat_eq inode number) _ e))
 others_stay files (AddName directory name object) inode e = kept_same (files.tree.node inode) _
     (kept_elsewhere files directory (node_with_entry name object) inode (or_false_left _ false e))
-others_stay files (Remove directory name object) inode e =
-    kept_both (files.tree.node inode) ((without_name nat_eq files directory name).tree.node inode) _
-    (kept_same (files.tree.node inode) _
-    (kept_elsewhere files directory (node_without_entry name) inode (or_false_left _ false e)))
+others_stay files (Remove directory name object) inode e = kept_both (files.tree.node inode) _ _
+    (kept_same _ _ (kept_elsewhere files directory (node_without_entry name) inode (or_false_left _ false e)))
     (kept_by_parent (without_name nat_eq files directory name) object object inode)
 others_stay files (Move from old to new object) inode e =
     kept_moved files from old to new object inode (or_false_left (nat_eq inode from) _ e)

@@ -1,6 +1,6 @@
 -- Which filesystems a change of the world leaves as they were.
 use Rattle.std.proofs.Common.{arith, ◌≡◌, ◌≢◌, refl, ap, ◌∙◌, true≢false, ℕ, nat_eq, ne_eqb, List, [], ◌∷◌, map, Option, Some, None, unwrap_or, find}
-use Rattle.vt_spec.proofs.Common.{Change, Filesystem, Fresh, Layer, Location, Merge, Overlay, World, common_steps, eqb_tells, filesystem_at, filesystem_changed, filesystem_numbered, mount_at, nat_eq_itself, no_filesystem, overlay_changed, replaced_if_numbered, with_change, with_files, with_filesystem, with_merge}
+use Rattle.vt_spec.proofs.Common.{Change, Filesystem, Fresh, Layer, Location, Merge, Overlay, World, common_steps, eqb_tells, filesystem_at, filesystem_changed, filesystem_numbered, mount_at, nat_eq_itself, no_filesystem, overlay_changed, replaced_if_numbered, with_change, with_filesystem, with_merge}
 
 -- the filesystem with a number has that number
 pub number_of_found : (number : ℕ) (list : List (Filesystem ℕ))
@@ -43,8 +43,7 @@ pub filesystem_there : (P : Filesystem ℕ → Type 0) (world : World ℕ) (new 
     → number ≡ new.number → P new →
     (filesystem_numbered nat_eq world number ≡ no_filesystem number → P (no_filesystem number))
     → P (filesystem_numbered nat_eq (with_filesystem nat_eq world new) number)
-filesystem_there P world new number same is none =
-    by (find (λ filesystem. nat_eq new.number filesystem.number) world.filesystems) refl
+filesystem_there P world new number same is none = by _ refl
   where
     searched : find (λ filesystem. nat_eq number filesystem.number) world.filesystems
         ≡ find (λ filesystem. nat_eq new.number filesystem.number) world.filesystems
@@ -77,11 +76,10 @@ changed_elsewhere fresh world filesystem change number differ upper = by filesys
     merged overlay upper merge away = filesystem_elsewhere (with_filesystem nat_eq world (record filesystem {
       files = merge.files;
       overlay = Some (record overlay { real = merge.real });
-    })) (with_files (filesystem_numbered nat_eq world upper.filesystem) merge.upper) number
-        (λ e. away (e ∙ number_of_filesystem world upper.filesystem)) ∙ filesystem_elsewhere world (record filesystem {
-          files = merge.files;
-          overlay = Some (record overlay { real = merge.real });
-        }) number differ
+    })) _ number (λ e. away (e ∙ number_of_filesystem world _)) ∙ filesystem_elsewhere world (record filesystem {
+      files = merge.files;
+      overlay = Some (record overlay { real = merge.real });
+    }) number differ
 
     layered : (overlay : Overlay ℕ) (layer : Option (Layer ℕ))
         → ((upper : Layer ℕ) → layer ≡ Some upper → number ≢ upper.filesystem)
@@ -101,9 +99,8 @@ pub others_elsewhere : (fresh : Fresh ℕ) (world : World ℕ) (location : Locat
     → UpperIsElsewhere (filesystem_at nat_eq world location).overlay number
     → filesystem_numbered nat_eq (with_change nat_eq fresh world location change) number
     ≡ filesystem_numbered nat_eq world number
-others_elsewhere fresh world location change number differ upper =
-    changed_elsewhere fresh world (filesystem_at nat_eq world location) change number
-    (λ e. differ (e ∙ number_of_filesystem world (mount_at nat_eq world location).filesystem)) upper
+others_elsewhere fresh world location change number differ upper = changed_elsewhere fresh
+    world (filesystem_at nat_eq world location) change number (λ e. differ (e ∙ number_of_filesystem world _)) upper
 
 pub the_rest_stays : (fresh : Fresh ℕ) (world : World ℕ) (location : Location ℕ) (change : Change ℕ)
     → (with_change nat_eq fresh world location change)

@@ -1,11 +1,12 @@
 -- Layers that lead at every path to what is alike show what is alike.
-use Rattle.std.proofs.Common.{◌≡◌, refl, sym, ap, subst, ◌∙◌, true≢false, arith, ℕ, suc, ◌+◌, Bool, true, false, not, ◌||◌, List, [], ◌∷◌, Option, Some, None, is_some, option_and_then, slice_get}
-use Rattle.vt_spec.proofs.Common.{Content, Directory, IsTree, Node, OpenLayer, Regular, SameObject, Shown, Symlink, Tree, Whiteout, at_path, bytes_decides, bytes_of, common_steps, directory_used, entry_at, is_directory, is_kind, is_kind_in, kind_of, layer_node, led, list_any, node_at_path, none_is_some, prefixes, same_Some, same_content, shown, then_some, when}
+use Rattle.std.proofs.Common.{◌≡◌, refl, sym, ap, subst, ◌∙◌, true≢false, arith, ℕ, suc, ◌+◌, Bool, true, false, not, ◌||◌, List, [], ◌∷◌, Option, Some, None, is_some, slice_get}
+use Rattle.vt_spec.proofs.Common.{Content, Directory, IsTree, Node, OpenLayer, Regular, SameObject, Shown, Symlink, Tree, Whiteout, at_path, bytes_decides, bytes_of, common_steps, directory_used, entry_at, is_directory, is_kind, is_kind_in, kind_of, layer_node, led, list_any, node_at_path, prefixes, same_Some, same_content, shown, then_some, when}
 use Rattle.vt_spec.specs.declared.attributes.Kind.TheVariants.{White}
 use Rattle.vt_spec.proofs.Layers.{cuts, shown_from, shown_over}
 use Rattle.vt_spec.specs.Machine.Layers.{hides}
 use Rattle.vt_laws_trees.specs.Layers.Layers.Mounted.{AreAsOthers, IsAlike}
 use Rattle.vt_laws_trees.proofs.layers.layers.ShownDirectories.{AreOpen}
+use Rattle.vt_spec.proofs.Trees.{found}
 
 -- Inodes that are alike
 
@@ -48,13 +49,8 @@ led_alive : (tree : Tree ℕ) → IsTree tree → (path : List (List ℕ)) (star
     → is_some (tree.node start) ≡ true → led tree start path ≡ Some object → is_some (tree.node object) ≡ true
 led_alive tree is [] start object there e = subst (λ n. is_some (tree.node n) ≡ true) (same_Some start object e) there
 led_alive tree is (name ∷ path) start object there e =
-    by (entry_at tree start name) refl e (λ next. led_alive tree is path next object)
-  where
-    by : (o : Option ℕ) → entry_at tree start name ≡ o → option_and_then (λ next. led tree next path) o ≡ Some object
-        → ((next : ℕ) → is_some (tree.node next) ≡ true → led tree next path ≡ Some object
-        → is_some (tree.node object) ≡ true) → is_some (tree.node object) ≡ true
-    by None f e later = none_is_some object e
-    by (Some next) f e later = later next (is.alive start name next f) e
+    let next = found (λ next. led tree next path) (entry_at tree start name) object e in
+    led_alive tree is path next.0 object (is.alive start name next.0 next.1) next.2
 
 -- Layers that are as others
 
@@ -105,10 +101,8 @@ show_alike : (layers others : List (OpenLayer ℕ)) → AreAsOthers layers other
 show_alike [] [] as_others are_open others_open depth path = tt
 show_alike [] (other ∷ others) as_others are_open others_open depth path = absurd as_others
 show_alike (layer ∷ layers) [] as_others are_open others_open depth path = absurd as_others
-show_alike (layer ∷ layers) (other ∷ others) as_others are_open others_open depth path =
-    by (at_path layer path) refl (at_path other path) refl
-    (show_alike layers others as_others.1 (λ k l h. are_open (suc k) l h) (λ k l h. others_open (suc k) l h)
-    (depth + 1) path)
+show_alike (layer ∷ layers) (other ∷ others) as_others are_open others_open depth path = by _ refl _ refl (show_alike
+    layers others as_others.1 (λ k l h. are_open (suc k) l h) (λ k l h. others_open (suc k) l h) (depth + 1) path)
   where
     cut_alike : cuts other path ≡ cuts layer path
     cut_alike = λ i. list_any (λ front. hides_alike _ _ (as_others.0 front) i) (prefixes path)
@@ -167,8 +161,7 @@ show_alike (layer ∷ layers) (other ∷ others) as_others are_open others_open 
         let is : IsAlike (layer.tree.node object) (other.tree.node there) =
         subst (λ o. IsAlike (then_some o layer.tree.node) (other.tree.node there)) e
         (subst (λ o. IsAlike (node_at_path layer path) (then_some o other.tree.node)) f (as_others.0 path)) in
-        on_top object there is (is_kind_in White (layer.tree.node object))
-        (is_kind_in White (other.tree.node there)) refl (white_alike _ _ is)
+        on_top object there is _ (is_kind_in White (other.tree.node there)) refl (white_alike _ _ is)
 
 -- So the same object is shown at every path.
 pub shown_alike : (layers others : List (OpenLayer ℕ)) → AreAsOthers layers others → AreOpen layers → AreOpen others

@@ -1,6 +1,6 @@
 -- What is computed to be shown at a path is what is shown there.
 use Rattle.std.proofs.Common.{◌≡◌, ◌≢◌, ◌<◌, ◌↔◌, refl, sym, ap, subst, ◌∙◌, true≢false, arith, ℕ, zero, suc, ◌+◌, Bool, true, false, not, List, [], ◌∷◌, Option, Some, None}
-use Rattle.vt_spec.proofs.Common.{Content, Directory, Node, OpenLayer, Regular, Shown, Symlink, Whiteout, at_path, common_steps, is_kind, is_kind_in, kind_of, node_at_path, none_is_some, same_Some, shown}
+use Rattle.vt_spec.proofs.Common.{Content, Directory, Node, OpenLayer, Regular, Shown, Symlink, Whiteout, at_path, common_steps, is_kind, is_kind_in, kind_of, node_at_path, none_is_some, same_Some, shown, when}
 use Rattle.vt_spec.specs.declared.attributes.Kind.TheVariants.{White}
 use Rattle.vt_spec.proofs.Layers.{cuts, shown_from, shown_over}
 use Rattle.vt_laws_trees.specs.Layers.Layers.Shown.{HasAt, HasInodeAt, HasUncut, IsCut, IsShown}
@@ -121,7 +121,7 @@ computed_is_shown depth (layer ∷ lower) path seen e =
   where
     top : (object : ℕ) → at_path layer path ≡ Some object → (white : Bool)
         → is_kind_in White (layer.tree.node object) ≡ white
-        → Rattle.vt_spec.specs.Lists.when (not white) (record { layer = depth; object = object }) ≡ Some seen
+        → when (not white) (record { layer = depth; object = object }) ≡ Some seen
         → ShownFrom depth (layer ∷ lower) path seen
     top object a true w e = none_is_some seen e
     top object a false w e = (
@@ -153,18 +153,18 @@ shown_is_computed : (layers : List (OpenLayer ℕ)) (depth : ℕ) (path : List (
     → shown_from depth layers path ≡ Some (record { layer = depth + layer; object = object })
 shown_is_computed [] depth path layer object is = none_is_some is.has_uncut.0.0 is.has_uncut.0.1
 shown_is_computed (top ∷ lower) depth path zero object is =
-    ap (λ o. shown_over top depth o (cuts top path) (shown_from (depth + 1) lower path))
-    (has_top top lower path object is.has_uncut.0)
-    ∙ ap (λ b. Rattle.vt_spec.specs.Lists.when (not b) (record { layer = depth; object = object }))
-    (top_is_no_whiteout top lower path object (has_top top lower path object is.has_uncut.0) is.no_whiteout)
-    ∙ ap (λ d. Some (record { layer = d; object = object })) (omega arith)
+    let leads = has_top top lower path object is.has_uncut.0 in
+    let deep : depth ≡ depth + 0 = omega arith in
+    cc (leads, top_is_no_whiteout top lower path object leads is.no_whiteout, deep)
 shown_is_computed (top ∷ lower) depth path (suc layer) object is =
-    ap (λ o. shown_over top depth o (cuts top path) (shown_from (depth + 1) lower path))
-    (top_has_none top lower path layer object is)
-    ∙ ap (λ b. shown_over top depth None b (shown_from (depth + 1) lower path))
-    (top_cuts_not top lower path layer object is)
-    ∙ shown_is_computed lower (depth + 1) path layer object (lower_shows top lower path layer object is)
-    ∙ ap (λ d. Some (record { layer = d; object = object })) (omega arith)
+    let below = lower_shows top lower path layer object is in
+    let deep : depth + 1 + layer ≡ depth + suc layer = omega arith in
+    cc (
+      top_has_none top lower path layer object is,
+      top_cuts_not top lower path layer object is,
+      shown_is_computed lower (depth + 1) path layer object below,
+      deep,
+    )
 
 pub computed : (layers : List (OpenLayer ℕ)) (path : List (List ℕ)) (seen : Shown ℕ)
     → (shown layers path ≡ Some seen) ↔ IsShown layers path seen

@@ -18,8 +18,7 @@ pub last_of : (path : List (List ℕ)) → path ≢ []
 last_of [] n = absurd (n refl)
 last_of (name ∷ []) n = ([], name, refl)
 last_of (name ∷ other ∷ path) n =
-    let rest = last_of (other ∷ path)
-    (λ e. true≢false (ap (λ l. elim l as (λ _. Bool) [ [] ↦ false | a ∷ b ↦ true ]) e)) in
+    let rest = last_of _ (λ e. true≢false (ap (λ l. elim l as (λ _. Bool) [ [] ↦ false | a ∷ b ↦ true ]) e)) in
     (name ∷ rest.0, rest.1, ap (λ p. name ∷ p) rest.2)
 
 pub longer_is_not_empty : (path : List (List ℕ)) (name : List ℕ) → path ++ name ∷ [] ≢ []
@@ -73,9 +72,8 @@ pub shown_in_directory : (layers : List (OpenLayer ℕ)) → AreOpen layers
     → (depth : ℕ) (path : List (List ℕ)) (name : List ℕ) (seen : Shown ℕ)
     → shown_from depth layers (path ++ name ∷ []) ≡ Some seen → ShowsDirectory depth layers path
 shown_in_directory [] are_open depth path name seen e = none_is_some seen e
-shown_in_directory (layer ∷ lower) are_open depth path name seen e =
-    by (at_path layer (path ++ name ∷ [])) refl (cuts layer (path ++ name ∷ [])) refl e
-    (shown_in_directory lower (λ k l h. are_open (suc k) l h) (depth + 1) path name seen)
+shown_in_directory (layer ∷ lower) are_open depth path name seen e = by _ refl (cuts layer (path ++ name ∷ []))
+    refl e (shown_in_directory lower (λ k l h. are_open (suc k) l h) (depth + 1) path name seen)
   where
     open_layer : IsTree layer.tree × IsDirectory layer.tree layer.directory
     open_layer = are_open 0 layer refl
@@ -115,7 +113,6 @@ shown_in_directory (layer ∷ lower) are_open depth path name seen e =
         → shown_over layer depth o cut (shown_from (depth + 1) lower (path ++ name ∷ [])) ≡ Some seen
         → (shown_from (depth + 1) lower (path ++ name ∷ []) ≡ Some seen → ShowsDirectory (depth + 1) lower path)
         → ShowsDirectory depth (layer ∷ lower) path
-    by (Some object) p cut c e below =
-        has_it object (at_path layer path) refl (sym (last_name layer.tree layer.directory path name) ∙ p)
+    by (Some object) p cut c e below = has_it object _ refl (sym (last_name layer.tree layer.directory path name) ∙ p)
     by None p true c e below = none_is_some seen e
     by None p false c e below = under c (below e) (at_path layer path) refl

@@ -21,10 +21,8 @@ pub prefix_passes : (test : List (List ℕ) → Bool) (path front rest : List (L
 prefix_passes test path [] rest e nonempty t = absurd (nonempty refl)
 prefix_passes test path (name ∷ []) rest e nonempty t = cc
 prefix_passes test path (name ∷ other ∷ front) rest e nonempty t = ap (λ p. list_any test (prefixes p)) (sym e)
-    ∙ or_right (test (name ∷ [])) (list_any test (map (λ front. name ∷ front) (prefixes (other ∷ front ++ rest))))
-    (list_any_of_map test (λ front. name ∷ front) (prefixes (other ∷ front ++ rest))
-    ∙ prefix_passes (λ front. test (name ∷ front)) (other ∷ front ++ rest) (other ∷ front) rest refl
-    (cons_is_not_empty other front) t)
+    ∙ or_right (test (name ∷ [])) _ (list_any_of_map test (λ front. name ∷ front) (prefixes (other ∷ front ++ rest))
+    ∙ prefix_passes (λ front. test (name ∷ front)) _ (other ∷ front) rest refl (cons_is_not_empty other front) t)
 
 -- and one that is found passes
 abbrev PassingFront : (List (List ℕ) → Bool) → List (List ℕ) → Type 0
@@ -69,5 +67,4 @@ hides_inode (Some node) e = (node, refl, hiding node.content e)
 -- a layer cuts where it has something that hides, at a front of the path
 pub cuts_by : (layer : OpenLayer ℕ) (path front : List (List ℕ)) (node : Node ℕ) → IsFrontOf front path
     → node_at_path layer front ≡ Some node → HidesLower node.content → cuts layer path ≡ true
-cuts_by layer path front node is e h =
-    prefix_passes (λ f. hides (node_at_path layer f)) path front is.0 is.1 is.2 (cc (hidden node.content h))
+cuts_by layer path front node is e h = prefix_passes _ path front is.0 is.1 is.2 (cc (hidden node.content h))

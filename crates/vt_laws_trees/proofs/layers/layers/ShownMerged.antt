@@ -1,5 +1,5 @@
 -- A merged tree that is made of its layers has at each path what they show.
-use Rattle.std.proofs.Common.{◌≡◌, ◌≢◌, ◌≤◌, ◌⊎◌, inl, inr, refl, sym, ap, ◌∙◌, true≢false, arith, ℕ, ◌+◌, nat_eq, eq-eqb, eqb-true, Bool, true, false, cond, not, ◌&&◌, List, [], ◌∷◌, ◌++◌, length, Option, Some, None, slice_get, filter_map, is_eq, option_map}
+use Rattle.std.proofs.Common.{◌≡◌, ◌≢◌, ◌≤◌, ◌⊎◌, inl, inr, refl, sym, ap, ◌∙◌, true≢false, arith, ℕ, ◌+◌, nat_eq, eq-eqb, eqb-true, Bool, true, false, cond, not, ◌&&◌, List, [], ◌∷◌, ◌++◌, length, Option, Some, None, slice_get, filter_map, option_map}
 use Rattle.vt_spec.proofs.Common.{Fresh, Merged, MergedInode, Node, OpenLayer, Shown, at_path, common_steps, cons_option, entry_in_directory, entry_named, eq_by_cmp, inode_of, is_directory, is_one_inode, is_root_path, kind_of, last_or, layer_node, merged_content, merged_inode, merged_inodes, merged_objects, name_cmp, nat_list_cmp_total, none_is_some, real_object, real_of, same_Some, same_path, shown, tied_itself, when, without_last}
 use Rattle.vt_spec.specs.Machine.Merging.{merged_number}
 use Rattle.vt_spec.proofs.Nodes.{same_name}
@@ -90,12 +90,9 @@ module _ (layers : List (OpenLayer ℕ)) (are_open : AreOpen layers) (longest : 
   has_inode object among =
       let own = in_layer object (is_shown object among) in
       let own_node = layer_node_of object own in
-      let made = among_filter_map (merged_inode nat_eq fresh has_upper layers objects) objects object
-      (inode_made object own.node) among (ap (option_map (inode_made object)) own_node) in
-      let found = found_among (λ inode. nat_eq (number object) inode.number) inodes (inode_made object own.node) made
-      (eq-eqb (number object) (number object) refl) in
-      let from = from_filter_map
-      (merged_inode nat_eq fresh has_upper layers objects) objects found.element found.among in
+      let made = among_filter_map _ objects object _ among (ap (option_map (inode_made object)) own_node) in
+      let found = found_among _ inodes _ made (eq-eqb (number object) (number object) refl) in
+      let from = from_filter_map _ objects found.element found.among in
       by own own_node found from.0 from.1 from.2 (in_layer from.0 (is_shown from.0 from.1))
     where
       by : (own : InLayer object) → layer_node layers object.seen ≡ Some own.node
@@ -135,8 +132,7 @@ module _ (layers : List (OpenLayer ℕ)) (are_open : AreOpen layers) (longest : 
 
     pub entry_is_here : (object : Merged ℕ) (found : List ℕ × ℕ) → entry object ≡ Some found
         → (object.path ≡ path ++ found.0 ∷ []) × (found.1 ≡ number object)
-    entry_is_here object found e =
-        by object.path refl (not (is_root_path object.path) && same_path path (without_last object.path)) refl e
+    entry_is_here object found e = by object.path refl _ refl e
       where
         parted : (p : List (List ℕ)) → (not (is_root_path p) && same_path path (without_last p)) ≡ true
             → p ≡ path ++ last_or [] p ∷ []
@@ -176,9 +172,8 @@ module _ (layers : List (OpenLayer ℕ)) (are_open : AreOpen layers) (longest : 
             → (Among list target → entry_named name (filter_map entry list) ≡ Some (number target))
             → cond b (Some found.1) (entry_named name (filter_map entry list)) ≡ Some (number target)
         choose found f true t a rest = ap Some (same_as found f (sym (same_name name found.0 t)))
-        choose found f false t (inl same) rest =
-            absurd (true≢false (sym (ap is_eq (tied_itself nat_list_cmp_total name))
-            ∙ ap (λ n. is_name name n.0) (same_Some (name, number target) found (sym (is_first same) ∙ f)) ∙ t))
+        choose found f false t (inl same) rest = absurd (true≢false (cc
+            (tied_itself nat_list_cmp_total name, same_Some (name, number target) found (sym (is_first same) ∙ f), t)))
         choose found f false t (inr later) rest = rest later
 
         by : (o : Option (List ℕ × ℕ)) → entry first ≡ o → (first ≡ target) ⊎ Among list target

@@ -1,16 +1,13 @@
 -- A newly mounted overlay is what its layers show.
-use Rattle.std.proofs.Common.{◌≡◌, ◌≢◌, ◌≤◌, refl, sym, ap, subst, ◌∙◌, true≢false, arith, ℕ, zero, suc, ◌+◌, nat_eq, Bool, true, not, List, [], ◌∷◌, ◌++◌, map, length, Option, Some, None, is_some, option_and_then, slice_get, unwrap_or, find, sum, option_map, option_to_list, bytes_eq}
-use Rattle.vt_spec.proofs.Common.{Content, FileTree, Filesystem, Fresh, IsDirectory, IsMerged, IsTree, IsWorld, Layer, ListsNumbers, Node, OpenLayer, Overlay, Real, SameObject, Shown, World, and_true_left, and_true_right, bytes_decides, common_steps, directory_no_whiteout, entry_at, filesystem_numbered, holds_of, inode_count, is_directory_node, is_overlay, is_plain_layer, is_there, led, list_all, merged_inodes, merged_objects, no_filesystem, node_at_path, node_shown, none_is_some, odds, odds-distinct, open_layer, overlay_filesystem, real_node, real_of, same_Some, same_content, shown, shown_layers, slice_get-map, sum_by-cons, then_some, when}
+use Rattle.std.proofs.Common.{◌≡◌, ◌≢◌, ◌≤◌, refl, sym, ap, subst, ◌∙◌, true≢false, arith, ℕ, zero, suc, nat_eq, Bool, true, not, List, [], ◌∷◌, ◌++◌, map, length, Option, Some, None, is_some, slice_get, unwrap_or, find, sum, option_map, option_to_list, bytes_eq}
+use Rattle.vt_spec.proofs.Common.{Content, Filesystem, Fresh, IsDirectory, IsMerged, IsTree, IsWorld, Layer, ListsNumbers, Node, OpenLayer, Overlay, Real, SameObject, Shown, World, and_true_left, and_true_right, bytes_decides, common_steps, directory_no_whiteout, filesystem_numbered, holds_of, inode_count, is_directory_node, is_plain_layer, is_there, led, list_all, merged_inodes, merged_objects, no_filesystem, node_at_path, node_shown, none_is_some, odds, odds-distinct, open_layer, overlay_filesystem, real_node, real_of, same_Some, same_content, shown, shown_layers, slice_get-map, sum_by-cons, then_some, when}
 use Rattle.vt_laws_trees.specs.Layers.Layers.Mounted.{AreLayers, RemountShowsTheSame}
 use Rattle.vt_laws_trees.proofs.layers.layers.ShownAlike.{shown_alike}
 use Rattle.vt_laws_trees.proofs.layers.layers.ShownAtPath.{computed}
-use Rattle.vt_laws_trees.proofs.layers.layers.ShownDirectories.{AreOpen, last_of}
-use Rattle.vt_laws_trees.proofs.layers.layers.ShownNames.{last_name}
-use Rattle.vt_laws_trees.proofs.layers.layers.ShownPaths.{depth_of_led, length_longer, not_empty}
+use Rattle.vt_laws_trees.proofs.layers.layers.ShownDirectories.{AreOpen}
+use Rattle.vt_laws_trees.proofs.layers.layers.ShownPaths.{length-led}
 use Rattle.vt_laws_trees.proofs.layers.layers.ShownTree.{real_shown_there, shows_layers}
 use Rattle.vt_laws_trees.proofs.layers.layers.ShownWhole.{behind, merged_is_real, merged_no_mark, merged_no_whiteout, merged_one_to_one, merged_real_there, merged_upper}
-use Rattle.vt_laws_trees.proofs.layers.layers.UpperChain.{depth_below}
-use Rattle.vt_laws_trees.proofs.layers.layers.UpperLine.{has_entries, is_reached_in}
 use Rattle.vt_laws_trees.proofs.layers.layers.UpperWorld.{all_found, overlay_layers}
 
 -- a part of a sum is no more than the sum
@@ -43,8 +40,7 @@ module _ (world : World ℕ) (conditions : IsWorld nat_eq world) (overlay : Over
     pub directory : IsDirectory layer.tree layer.directory
 
   pub is_open : (depth : ℕ) (layer : OpenLayer ℕ) → slice_get layers depth ≡ Some layer → IsOpen layer
-  is_open depth layer e = by (slice_get (shown_layers overlay) depth) refl
-      (sym (slice_get-map (open_layer nat_eq world) (shown_layers overlay) depth) ∙ e)
+  is_open depth layer e = by _ refl (sym (slice_get-map (open_layer nat_eq world) (shown_layers overlay) depth) ∙ e)
     where
       there : (plain : Layer ℕ) → is_directory_node
           ((filesystem_numbered nat_eq world plain.filesystem).files.tree.node plain.directory) ≡ true
@@ -52,8 +48,8 @@ module _ (world : World ℕ) (conditions : IsWorld nat_eq world) (overlay : Over
           (λ filesystem. nat_eq plain.filesystem filesystem.number) world.filesystems ≡ o
           → find (λ filesystem. nat_eq plain.filesystem filesystem.number) world.filesystems
           ≡ Some (filesystem_numbered nat_eq world plain.filesystem)
-      there plain d None f = absurd (true≢false (sym (sym (ap (λ o. is_directory_node
-          ((unwrap_or o (no_filesystem plain.filesystem)).files.tree.node plain.directory)) f) ∙ d)))
+      there plain d None f = absurd (true≢false (sym d ∙ ap (λ o. is_directory_node
+          ((unwrap_or o (no_filesystem plain.filesystem)).files.tree.node plain.directory)) f))
       there plain d (Some filesystem) f = f ∙ ap Some (sym (ap (λ o. unwrap_or o (no_filesystem plain.filesystem)) f))
 
       by : (o : Option (Layer ℕ)) → slice_get (shown_layers overlay) depth ≡ o
@@ -61,13 +57,11 @@ module _ (world : World ℕ) (conditions : IsWorld nat_eq world) (overlay : Over
       by None s m = none_is_some layer m
       by (Some plain) s m =
           let passes = all_pass_at (is_plain_layer nat_eq world) (shown_layers overlay) are_layers.1 depth plain s in
-          let directory = and_true_right
-          (not (is_overlay (filesystem_numbered nat_eq world plain.filesystem))) _ passes in
+          let directory = and_true_right _ _ passes in
           subst IsOpen (same_Some (open_layer nat_eq world plain) layer m) (record {
             filesystem = filesystem_numbered nat_eq world plain.filesystem;
             test = λ filesystem. nat_eq plain.filesystem filesystem.number;
-            found = there plain directory (find
-                (λ filesystem. nat_eq plain.filesystem filesystem.number) world.filesystems) refl;
+            found = there plain directory _ refl;
             is = refl;
             directory = directory;
           })
@@ -84,49 +78,16 @@ module _ (world : World ℕ) (conditions : IsWorld nat_eq world) (overlay : Over
   -- no path at which something is shown is longer than there are inodes
   pub bounded : (path : List (List ℕ)) (seen : Shown ℕ) → shown layers path ≡ Some seen
       → length path ≤ inode_count world
-  bounded [] seen s = omega arith
-  bounded (name ∷ path) seen s =
-      let shows = (computed layers (name ∷ path) seen).0 s in
-      let has = shows.has_uncut.0 in
+  bounded path seen s =
+      let has = ((computed layers path seen).0 s).has_uncut.0 in
       let open_one = is_open seen.layer has.0 has.1 in
-      let tree = all_found (λ filesystem.
-      IsTree filesystem.files.tree) open_one.test world.filesystems conditions.files.trees open_one.filesystem
-      open_one.found in
-      let listed = all_found (λ filesystem.
-      ListsNumbers nat_eq filesystem.files) open_one.test world.filesystems conditions.files.numbers open_one.filesystem
-      open_one.found in
+      let tree = all_found (λ filesystem. IsTree filesystem.files.tree) _ _ conditions.files.trees _ open_one.found in
+      let listed = all_found (λ filesystem. ListsNumbers nat_eq filesystem.files) open_one.test world.filesystems
+      conditions.files.numbers open_one.filesystem open_one.found in
       let within = in_sum open_one.test world.filesystems open_one.filesystem open_one.found in
-      let last = last_of (name ∷ path) (not_empty name path) in
-      let longer = sym (length_longer last.0 last.1) ∙ ap length last.2 in
-      by open_one.filesystem.files tree listed has.0.directory last.0 last.1 (omega arith) within
-      (sym (ap (λ p. led open_one.filesystem.files.tree has.0.directory p) (sym last.2)
-      ∙ last_name open_one.filesystem.files.tree has.0.directory last.0 last.1)
-      ∙ ap (λ t. led t has.0.directory (name ∷ path)) (sym open_one.is) ∙ has.2)
-    where
-      by : (files : FileTree ℕ) → IsTree files.tree → ListsNumbers nat_eq files
-          → (start : ℕ) (front : List (List ℕ)) (last : List ℕ) → length (name ∷ path) ≡ suc (length front)
-          → length files.numbers ≤ inode_count world
-          → option_and_then (λ directory. entry_at files.tree directory last) (led files.tree start front)
-          ≡ Some seen.object → length (name ∷ path) ≤ inode_count world
-      by files tree listed start front last counted within e = at (led files.tree start front) refl e
-        where
-          deep : (front : List (List ℕ)) (directory : ℕ) → led files.tree start front ≡ Some directory
-              → entry_at files.tree directory last ≡ Some seen.object → suc (length front) ≤ length files.numbers
-          deep [] directory l e =
-              let reached = is_reached_in files tree directory last seen.object e in
-              let below = depth_below files tree listed reached.0 directory reached.1 in
-              omega arith
-          deep (first ∷ rest) directory l e =
-              let reached = depth_of_led files.tree tree start (first ∷ rest) directory (not_empty first rest) l
-              (has_entries files.tree directory last seen.object e) in
-              let below = depth_below files tree listed (reached.0 + length (first ∷ rest)) directory reached.2 in
-              omega arith
-
-          at : (o : Option ℕ) → led files.tree start front ≡ o
-              → option_and_then (λ directory. entry_at files.tree directory last) o ≡ Some seen.object
-              → length (name ∷ path) ≤ inode_count world
-          at None l e = none_is_some seen.object e
-          at (Some directory) l e = let h = deep front directory l e in omega arith
+      let long = length-led open_one.filesystem.files tree listed has.0.directory path seen.object
+      (ap (λ t. led t has.0.directory path) (sym open_one.is) ∙ has.2) in
+      omega arith
 
   -- the top layer's directory is shown as the root
   pub root_shown : (top : Shown ℕ) × (shown layers [] ≡ Some top)
@@ -136,11 +97,9 @@ module _ (world : World ℕ) (conditions : IsWorld nat_eq world) (overlay : Over
           → (top : Shown ℕ) × (shown (map (open_layer nat_eq world) list) [] ≡ Some top)
       by [] n all = absurd (n refl)
       by (layer ∷ list) n all =
-          let directory = and_true_right (not (is_overlay (filesystem_numbered nat_eq world layer.filesystem))) _
-          (and_true_left (is_plain_layer nat_eq world layer) _ all) in (
+          let directory = and_true_right _ _ (and_true_left (is_plain_layer nat_eq world layer) _ all) in (
             record { layer = 0; object = layer.directory },
-            ap (λ b. when (not b) (record { layer = 0; object = layer.directory })) (directory_no_whiteout
-                ((filesystem_numbered nat_eq world layer.filesystem).files.tree.node layer.directory) directory),
+            ap (λ b. when (not b) (record { layer = 0; object = layer.directory })) (directory_no_whiteout _ directory),
           )
 
   -- the inode behind a real object, by the layers that are shown, is the one that the overlay finds
@@ -221,11 +180,8 @@ pub remount_shows_the_same : RemountShowsTheSame
 remount_shows_the_same fresh before later number left anew conditions is later_conditions are_layers distinct as_left
     path =
     let alike : SameObject (node_shown nat_eq before left path) (node_shown nat_eq later anew path) =
-    shown_alike (map (open_layer nat_eq before) (shown_layers left))
-    (map (open_layer nat_eq later) (shown_layers anew)) as_left
-    (are_open before conditions left (overlay_layers before conditions number left is))
+    shown_alike _ _ as_left (are_open before conditions left (overlay_layers before conditions number left is))
     (are_open later later_conditions anew are_layers) path in
     let anew_shows = (made_merged later later_conditions anew are_layers fresh distinct).shows path in
-    objects_alike _ _ (node_shown nat_eq before left path)
-    (objects_alike _ _ (node_shown nat_eq later anew path) anew_shows alike)
+    objects_alike _ _ _ (objects_alike _ _ (node_shown nat_eq later anew path) anew_shows alike)
     ((conditions.overlays.overlays_merge number left is).shows path)

@@ -65,9 +65,7 @@ name_of_layer : (layers : List (OpenLayer ℕ)) (path : List (List ℕ)) (name :
     → is_some (entry_named name (names_at layers path)) ≡ true
 name_of_layer [] path name depth layer e h = none_is_some layer e
 name_of_layer (top ∷ lower) path name zero layer e h =
-    all_put name (entries_in (node_at_path top path)) (names_at lower path)
-    ∙ ap (λ b. b || is_some (entry_named name (names_at lower path)))
-    (ap (λ l. is_some (entry_named name (entries_in (node_at_path l path)))) (same_Some top layer e) ∙ h)
+    cc (all_put name (entries_in (node_at_path top path)) (names_at lower path), same_Some top layer e, h)
 name_of_layer (top ∷ lower) path name (suc depth) layer e h =
     all_put name (entries_in (node_at_path top path)) (names_at lower path)
     ∙ or_right (is_some (entry_named name (entries_in (node_at_path top path))))
@@ -96,9 +94,8 @@ name_in_layer layer path name object e =
 shown_is_named : (layers : List (OpenLayer ℕ)) (path : List (List ℕ)) (name : List ℕ) (seen : Shown ℕ)
     → IsShown layers (path ++ name ∷ []) seen
     → list_any (is_name name) (map (λ entry. entry.0) (names_at layers path)) ≡ true
-shown_is_named layers path name seen is = sym (is_some-find name_cmp name (names_at layers path))
-    ∙ name_of_layer layers path name seen.layer is.has_uncut.0.0 is.has_uncut.0.1
-    (name_in_layer is.has_uncut.0.0 path name seen.object is.has_uncut.0.2)
+shown_is_named layers path name seen is = sym (is_some-find name_cmp name (names_at layers path)) ∙ name_of_layer layers
+    path name seen.layer _ is.has_uncut.0.1 (name_in_layer is.has_uncut.0.0 path name seen.object is.has_uncut.0.2)
 
 abbrev all_names : List (OpenLayer ℕ) → List (List ℕ) → List (List ℕ)
 all_names layers path = map (λ entry. entry.0) (names_at layers path)
@@ -109,13 +106,10 @@ shows_name layers path name = is_some (shown layers (path ++ name ∷ []))
 pub names_are_those_shown : (layers : List (OpenLayer ℕ)) (path : List (List ℕ)) (name : List ℕ)
     → Contains (names_shown layers path) name ↔ (seen : Shown ℕ) × IsShown layers (path ++ name ∷ []) seen
 names_are_those_shown layers path name = (
-  λ has. is_there (shown layers (path ++ name ∷ [])) refl
-      (and_true_right (list_any (is_name name) (all_names layers path)) (is_some (shown layers (path ++ name ∷ [])))
-      (sym (filtered (shows_name layers path) name (all_names layers path))
-      ∙ name_found name (names_shown layers path) has.0 has.1 has.2)),
-  λ is. contains_name name (names_shown layers path) (filtered (shows_name layers path) name (all_names layers path)
-      ∙ ap (λ b. b && shows_name layers path name) (shown_is_named layers path name is.0 is.1)
-      ∙ ap is_some ((computed layers (path ++ name ∷ []) is.0).1 is.1)),
+  λ has. is_there _ refl (and_true_right (list_any (is_name name) (all_names layers path)) _
+      (sym (filtered (shows_name layers path) name (all_names layers path)) ∙ name_found name _ has.0 has.1 has.2)),
+  λ is. contains_name name _ (filtered _ name (all_names layers path) ∙ ap (λ b. b && shows_name layers path name)
+      (shown_is_named layers path name is.0 is.1) ∙ ap is_some ((computed layers (path ++ name ∷ []) is.0).1 is.1)),
 )
   where
     is_there : (o : Option (Shown ℕ)) → shown layers (path ++ name ∷ []) ≡ o → is_some o ≡ true

@@ -1,6 +1,6 @@
 -- The objects of a merged tree are all that is shown.
 use Rattle.std.proofs.Common.{◌≡◌, ◌<◌, ◌≤◌, ◌⊎◌, inl, inr, refl, sym, ap, subst, ◌∙◌, true≢false, arith, ℕ, zero, suc, ◌+◌, nat_eq, eq-eqb, eqb-true, Bool, true, false, cond, ◌&&◌, List, [], ◌∷◌, ◌++◌, length, get_or, Option, Some, None, is_some, slice_get, ⊎_elim, filter_map, find, flat_map, option_map, bytes_eq, append-nil}
-use Rattle.vt_spec.proofs.Common.{Merged, OpenLayer, Shown, bytes_decides, common_steps, cons_option, index_from, is_one_inode, merged_at, merged_objects, names_shown, none_is_some, paths_from, real_object, same_Some, same_path, shown}
+use Rattle.vt_spec.proofs.Common.{Merged, OpenLayer, Shown, bytes_decides, common_steps, cons_option, index_from, is_one_inode, merged_objects, names_shown, none_is_some, paths_from, real_object, same_Some, same_path, shown}
 use Rattle.vt_spec.specs.Machine.Merging.{same_real}
 use Rattle.vt_laws_trees.proofs.layers.layers.ShownAtPath.{computed}
 use Rattle.vt_laws_trees.proofs.layers.layers.ShownDirectories.{AreOpen, append_assoc, shown_in_directory}
@@ -84,8 +84,7 @@ module _ {A : Type 0} where
   pub placed_among : (test : A → Bool) (k : ℕ) (list : List A) (a : A) → Among list a → test a ≡ true
       → Placed test k list
   placed_among test k [] a among e = absurd among
-  placed_among test k (first ∷ list) a among e =
-      by (test first) refl among (λ later. placed_among test (k + 1) list a later e)
+  placed_among test k (first ∷ list) a among e = by _ refl among (λ later. placed_among test (k + 1) list a later e)
     where
       by : (b : Bool) → test first ≡ b → (first ≡ a) ⊎ Among list a → (Among list a → Placed test (k + 1) list)
           → Placed test k (first ∷ list)
@@ -149,13 +148,10 @@ module _ (layers : List (OpenLayer ℕ)) (are_open : AreOpen layers) where
   paths_complete zero base [] seen h e = grind (arith, common_steps)
   paths_complete (suc depth) base [] seen h e = grind (arith, common_steps)
   paths_complete zero base (name ∷ rest) seen h e = let no : ⊥ = omega arith in absurd no
-  paths_complete (suc depth) base (name ∷ rest) seen h e =
-      inr (among_flat_map (λ n. paths_from depth layers (base ++ n ∷ [])) (names_shown layers base) name
-      (base ++ name ∷ rest) (by (shown layers (base ++ name ∷ [])) refl
-      (shown_before (base ++ name ∷ []) rest seen (ap (shown layers) (append_assoc base (name ∷ []) rest) ∙ e)))
-      (subst (Among (paths_from depth layers (base ++ name ∷ []))) (append_assoc base (name ∷ []) rest)
-      (paths_complete depth (base ++ name ∷ []) rest seen (omega arith)
-      (ap (shown layers) (append_assoc base (name ∷ []) rest) ∙ e))))
+  paths_complete (suc depth) base (name ∷ rest) seen h e = inr (among_flat_map _ _ name (base ++ name ∷ rest) (by _
+      refl (shown_before (base ++ name ∷ []) rest seen (ap (shown layers) (append_assoc base (name ∷ []) rest) ∙ e)))
+      (subst (Among (paths_from depth layers (base ++ name ∷ []))) (append_assoc base (name ∷ []) rest) (paths_complete
+      depth (base ++ name ∷ []) rest seen (omega arith) (ap (shown layers) (append_assoc base (name ∷ []) rest) ∙ e))))
     where
       by : (o : Option (Shown ℕ)) → shown layers (base ++ name ∷ []) ≡ o → is_some o ≡ true
           → Among (names_shown layers base) name
@@ -169,9 +165,7 @@ module _ (layers : List (OpenLayer ℕ)) (are_open : AreOpen layers) where
     -- so the objects are all that is shown, each once for each path
     pub is_object : (path : List (List ℕ)) (seen : Shown ℕ) → shown layers path ≡ Some seen
         → Among (merged_objects layers longest) (record { path = path; seen = seen })
-    is_object path seen e =
-        among_filter_map (merged_at layers) (paths_from longest layers []) path (record { path = path; seen = seen })
-        (paths_complete longest [] path seen (bounded path seen e) e)
+    is_object path seen e = among_filter_map _ _ path _ (paths_complete longest [] path seen (bounded path seen e) e)
         (ap (option_map (λ s. record { path = path; seen = s })) e)
 
     pub object_is : (object : Merged ℕ) → Among (merged_objects layers longest) object

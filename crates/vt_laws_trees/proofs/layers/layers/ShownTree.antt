@@ -1,6 +1,6 @@
 -- A merged tree that is made of its layers has at each path what they show, with its real object.
 use Rattle.std.proofs.Common.{◌≡◌, ◌≢◌, ◌≤◌, refl, sym, ap, subst, ◌∙◌, true≢false, arith, ℕ, zero, suc, ◌+◌, nat_eq, Bool, true, List, [], ◌∷◌, ◌++◌, length, Option, Some, None, option_and_then, filter_map, option_map}
-use Rattle.vt_spec.proofs.Common.{Content, Directory, Fresh, Merged, MergedInode, Node, OpenLayer, Regular, SameObject, Shown, Symlink, Tree, Whiteout, common_steps, entries_in, entries_of, entry_at, entry_in_directory, entry_named, is_directory, kind_of, layer_node, led, merged_at, merged_content, none_is_some, paths_from, real_object, real_of, same_Some, shown, then_some}
+use Rattle.vt_spec.proofs.Common.{Content, Directory, Fresh, Merged, MergedInode, Node, OpenLayer, Regular, SameObject, Shown, Symlink, Tree, Whiteout, common_steps, entries_of, entry_at, entry_in_directory, entry_named, is_directory, kind_of, layer_node, led, merged_at, merged_content, none_is_some, paths_from, real_object, real_of, same_Some, shown, then_some}
 use Rattle.vt_spec.specs.Machine.Merging.{tree_of}
 use Rattle.vt_laws_trees.proofs.layers.layers.ShownAtPath.{computed}
 use Rattle.vt_laws_trees.proofs.layers.layers.ShownDirectories.{AreOpen, last_of, shown_in_directory}
@@ -77,12 +77,11 @@ module _ (layers : List (OpenLayer ℕ)) (are_open : AreOpen layers) (longest : 
           → Arrives (shown layers (path ++ name ∷ [])) (path ++ name ∷ [])
           (entry_named name (entries_of (merged_content nat_eq fresh has_upper all inode.other.path content)))
       from_directory seen s inode (Directory parent entries opaque) e =
-          subst (λ p. Arrives (shown layers (path ++ name ∷ [])) (path ++ name ∷ [])
-          (entry_named name (filter_map (entry_in_directory nat_eq fresh has_upper all p) all)))
+          subst (λ p. Arrives (shown layers (path ++ name ∷ []))
+          (path ++ name ∷ []) (entry_named name (filter_map (entry_in_directory nat_eq fresh has_upper all p) all)))
           (sym (one_directory layers are_open longest bounded fresh distinct has_upper (object_at path seen)
           (is_object layers are_open longest bounded path seen s) inode (ap (λ c. is_directory (kind_of c)) e)))
-          (as_arrives (shown layers (path ++ name ∷ [])) _
-          (entry_leads layers are_open longest bounded fresh distinct has_upper path name))
+          (as_arrives _ _ (entry_leads layers are_open longest bounded fresh distinct has_upper path name))
         where
           as_arrives : (o : Option (Shown ℕ)) (found : Option ℕ)
               → LeadsTo layers are_open longest bounded fresh distinct has_upper path name o found
@@ -102,17 +101,15 @@ module _ (layers : List (OpenLayer ℕ)) (are_open : AreOpen layers) (longest : 
       by : (o : Option (Shown ℕ)) → shown layers path ≡ o → Arrives o path (led merged_tree (fresh 0) path)
           → Arrives (shown layers (path ++ name ∷ [])) (path ++ name ∷ [])
           (option_and_then (λ directory. entry_at merged_tree directory name) (led merged_tree (fresh 0) path))
-      by None s arrives =
-          no_entry path name _ (ap (option_and_then (λ directory. entry_at merged_tree directory name)) arrives)
-          (λ seen t. none_is_some (record {
+      by None s arrives = no_entry path name _
+          (ap (option_and_then (λ directory. entry_at merged_tree _ name)) arrives) (λ seen t. none_is_some (record {
             layer = 0 + (shown_in_directory layers are_open 0 path name seen t).place;
             object = (shown_in_directory layers are_open 0 path name seen t).object;
           }) (sym s ∙ (shown_in_directory layers are_open 0 path name seen t).is))
       by (Some seen) s arrives =
           let inode = inode_at path seen s in
           subst (Arrives (shown layers (path ++ name ∷ [])) (path ++ name ∷ []))
-          (sym (ap (option_and_then (λ directory. entry_at merged_tree directory name)) arrives
-          ∙ ap (λ o. entry_named name (entries_in o)) inode.is)) (from_directory seen s inode inode.node.content refl)
+          (cc (arrives, inode.is)) (from_directory seen s inode inode.node.content refl)
 
   arrives_in : (many : ℕ) (path : List (List ℕ)) → length path ≤ many
       → Arrives (shown layers path) path (led merged_tree (fresh 0) path)
@@ -134,9 +131,8 @@ module _ (layers : List (OpenLayer ℕ)) (are_open : AreOpen layers) (longest : 
   no_white path seen s inode =
       let shows = (computed layers path seen).0 s in
       let here = in_layer layers are_open longest bounded fresh distinct has_upper (object_at path seen) s in
-      let node = same_Some here.node inode.node
-      (sym (layer_node_of layers are_open longest bounded fresh distinct has_upper (object_at path seen) here)
-      ∙ inode.seen) in
+      let node = same_Some here.node
+      inode.node (sym (layer_node_of layers are_open longest bounded fresh distinct has_upper _ here) ∙ inode.seen) in
       shows.no_whiteout inode.node (
         here.layer,
         here.there,
@@ -158,8 +154,7 @@ module _ (layers : List (OpenLayer ℕ)) (are_open : AreOpen layers) (longest : 
             content = merged_content nat_eq fresh has_upper all inode.other.path inode.node.content;
           }))) (sym inode.seen) (
             refl,
-            same_merged layers are_open longest bounded fresh distinct has_upper inode.other.path
-                inode.node.content (no_white path seen s inode),
+            same_merged layers are_open longest bounded fresh distinct has_upper _ _ (no_white path seen s inode),
           )))
 
   -- with its real object
@@ -174,5 +169,4 @@ module _ (layers : List (OpenLayer ℕ)) (are_open : AreOpen layers) (longest : 
       by None s found = none_is_some n (sym found ∙ e)
       by (Some seen) s found =
           let inode = inode_at path seen s in
-          ap (real_of nat_eq made) (same_Some n (num (object_at path seen)) (sym e ∙ found))
-          ∙ inode.real ∙ ap Some (sym inode.one.real)
+          cc (same_Some n (num (object_at path seen)) (sym e ∙ found), inode.real, inode.one.real)

@@ -83,8 +83,7 @@ module _ (layers : List (OpenLayer ℕ)) (are_open : AreOpen layers) (longest : 
       → (layer : InLayer layers are_open longest bounded fresh distinct has_upper object)
       → layer.node.content ≢ Whiteout
   not_white object among layer =
-      let shows = (computed layers object.path object.seen).0
-      (object_is layers are_open longest bounded object among) in
+      let shows = (computed layers object.path _).0 (object_is layers are_open longest bounded object among) in
       shows.no_whiteout layer.node (
         layer.layer,
         layer.there,
@@ -120,8 +119,7 @@ module _ (layers : List (OpenLayer ℕ)) (are_open : AreOpen layers) (longest : 
       by None e = refl
       by (Some inode) e =
           let is = is_of_object n inode e in
-          ap (λ node. is_kind White (kind_of node.content)) is.node
-          ∙ white_merged is.object.path is.layer.node.content (not_white is.object is.among is.layer)
+          ap (λ node. is_kind White (kind_of node.content)) is.node ∙ white_merged _ _ (not_white _ is.among is.layer)
 
   pub merged_no_mark : (n : ℕ) → is_opaque_in (nodes n) ≡ false
   merged_no_mark n = by (inode_of made n nat_eq) refl
@@ -172,8 +170,7 @@ module _ (layers : List (OpenLayer ℕ)) (are_open : AreOpen layers) (longest : 
           subst (SameObject (Some inode.node)) (sym (ap (behind layers has_upper) is.real
           ∙ behind_object is.object is.layer has_upper is.object.seen.layer refl)) (
             ap (λ node. node.attr) is.node,
-            ap (λ node. same_content node.content is.layer.node.content) is.node
-                ∙ same_merged is.object.path is.layer.node.content (not_white is.object is.among is.layer),
+            cc (is.node, same_merged is.object.path is.layer.node.content (not_white is.object is.among is.layer)),
           )
 
   pub merged_real_there : (n : ℕ) → nodes n ≡ None → real_of nat_eq made n ≡ None

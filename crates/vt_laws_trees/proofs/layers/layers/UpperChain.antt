@@ -45,9 +45,8 @@ module _ (files : FileTree ℕ) (tree : IsTree files.tree) where
   one_depth zero zero directory r s = refl
   one_depth zero (suc other) directory r s = absurd (tree.root_unnamed s.0 s.1 (s.3 ∙ ap Some r))
   one_depth (suc steps) zero directory r s = absurd (tree.root_unnamed r.0 r.1 (r.3 ∙ ap Some s))
-  one_depth (suc steps) (suc other) directory r s = ap (λ n. suc n) (one_depth steps other r.0 r.2
-      (subst (ReachedIn files.tree other)
-      (sym (tree.one_parent s.0 s.1 directory s.3 s.4) ∙ tree.one_parent r.0 r.1 directory r.3 r.4) s.2))
+  one_depth (suc steps) (suc other) directory r s = ap (λ n. suc n) (one_depth steps other r.0 r.2 (subst
+      (ReachedIn files.tree other) (sym (tree.one_parent s.0 s.1 _ s.3 s.4) ∙ tree.one_parent r.0 r.1 _ r.3 r.4) s.2))
 
   -- its parent is the step before
   pub parent_of_reached : (steps directory : ℕ) (r : ReachedIn files.tree (suc steps) directory)
@@ -83,9 +82,7 @@ module _ (files : FileTree ℕ) (tree : IsTree files.tree) where
   pub all_above : (steps directory : ℕ) → ReachedIn files.tree steps directory → (q : ℕ)
       → list_any (nat_eq q) (chain steps (named_parent nat_eq files.tree) directory) ≡ true → IsAbove steps q
   all_above zero directory r q e = grind (arith, common_steps, eqb-true, true≢false)
-  all_above (suc steps) directory r q e =
-      by (nat_eq q directory) refl (cc (up_from steps steps directory r))
-      (all_above steps r.0 r.2 q)
+  all_above (suc steps) directory r q e = by _ refl (cc (up_from steps steps directory r)) (all_above steps r.0 r.2 q)
     where
       more : IsAbove steps q → IsAbove (suc steps) q
       more above = (above.0, let h = above.1 in omega arith, above.2)
@@ -132,8 +129,7 @@ module _ (files : FileTree ℕ) (tree : IsTree files.tree) where
       → suc steps ≤ length files.numbers
   depth_below numbers steps directory r =
       let counted = length_up steps directory r in
-      let bounded = no_longer (chain steps (named_parent nat_eq files.tree) directory) files.numbers
-      (distinct_up steps directory r) (λ q e. is_listed q (all_above steps directory r q e)) in
+      let bounded = no_longer _ _ (distinct_up steps directory r) (λ q e. is_listed q (all_above steps _ r q e)) in
       omega arith
     where
       is_listed : (q : ℕ) → IsAbove steps q → list_any (nat_eq q) files.numbers ≡ true

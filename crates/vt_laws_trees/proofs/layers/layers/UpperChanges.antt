@@ -69,13 +69,9 @@ module _ (files : FileTree ℕ) (tree : IsTree files.tree) (numbers : ListsNumbe
 
     removed_keeps : (directory : ℕ) (name : List ℕ) (object : ℕ) → HasUpper real directory
         → (merge_without_name nat_eq fresh stack (With real upper) directory name object).upper.tree.node inode ≡ node
-    removed_keeps directory name object has =
-        emptied_elsewhere inode _ (upper_directory_named (With real upper) directory name)
-        (replaced_differs real upper fine directory name)
-        ∙ left_elsewhere inode (is_some (shown_in_lowers_at nat_eq stack
-        (With real upper) directory name)) fresh stack upper (upper_of (With real upper) directory) name
-        (ne_eqb inode (fresh 0) (new 0)) (upper_differs files tree numbers inode node real upper fine directory has)
-        ∙ fine.here
+    removed_keeps directory name object has = emptied_elsewhere inode _ _
+        (replaced_differs real upper fine directory name) ∙ left_elsewhere inode _ fresh stack upper _ name
+        (ne_eqb inode (fresh 0) (new 0)) (upper_differs files tree numbers inode node real upper fine _ has) ∙ fine.here
 
     moved_keeps : (from : ℕ) (old : List ℕ) (to : ℕ) (name : List ℕ) (object : ℕ) → HasUpper real from
         → HasUpper real to → HasUpper real object
@@ -87,17 +83,13 @@ module _ (files : FileTree ℕ) (tree : IsTree files.tree) (numbers : ListsNumbe
         let away = with_moved nat_eq freed (upper_of (With real upper) from) old (upper_of (With real upper) to) name
         (upper_of (With real upper) object) in
         kept_both node (freed.tree.node inode) _ (kept_same node (freed.tree.node inode)
-        (emptied_elsewhere inode upper (upper_directory_named (With real upper) to name)
-        (replaced_differs real upper fine to name) ∙ fine.here))
-        (kept_both (freed.tree.node inode) (away.tree.node inode) _
-        (kept_moved freed (upper_of (With real upper) from) old (upper_of (With real upper) to) name
-        (upper_of (With real upper) object) inode
-        from_differs (upper_differs files tree numbers inode node real upper fine to t))
-        (kept_same (away.tree.node inode) _
-        (marked_elsewhere inode (hides_directory nat_eq stack (With real upper) to name) _
+        (emptied_elsewhere inode upper _ (replaced_differs real upper fine to name) ∙ fine.here)) (kept_both
+        (freed.tree.node inode) (away.tree.node inode) _ (kept_moved freed _ old (upper_of (With real upper) to)
+        name _ inode from_differs (upper_differs files tree numbers inode node real upper fine to t)) (kept_same
+        (away.tree.node inode) _ (marked_elsewhere inode (hides_directory nat_eq stack (With real upper) to name) _
         (upper_of (With real upper) object) (upper_differs files tree numbers inode node real upper fine object o)
-        ∙ left_elsewhere inode (is_some (shown_in_lowers_at nat_eq stack (With real upper) from old)) fresh stack away
-        (upper_of (With real upper) from) old (ne_eqb inode (fresh 0) (new 0)) from_differs)))
+        ∙ left_elsewhere inode (is_some (shown_in_lowers_at nat_eq stack (With real upper) from old))
+        fresh stack away (upper_of (With real upper) from) old (ne_eqb inode (fresh 0) (new 0)) from_differs)))
 
     -- nothing of it changes, its parent neither, where it is not what the new name had
     pub moved_leaves : (from : ℕ) (old : List ℕ) (to : ℕ) (name : List ℕ) (object : ℕ) → HasUpper real from
@@ -111,15 +103,11 @@ module _ (files : FileTree ℕ) (tree : IsTree files.tree) (numbers : ListsNumbe
         let object_differs = upper_differs files tree numbers inode node real upper fine object o in
         let away = with_moved nat_eq freed (upper_of (With real upper) from) old (upper_of (With real upper) to) name
         (upper_of (With real upper) object) in
-        marked_elsewhere inode (hides_directory nat_eq stack (With real upper) to name) _
-        (upper_of (With real upper) object) object_differs
-        ∙ left_elsewhere inode (is_some (shown_in_lowers_at nat_eq stack (With real upper) from old)) fresh stack away
-        (upper_of (With real upper) from) old (ne_eqb inode (fresh 0) (new 0)) from_differs
-        ∙ moved_elsewhere inode freed (upper_of (With real upper) from) old (upper_of (With real upper) to) name
-        (upper_of (With real upper) object)
-        from_differs (upper_differs files tree numbers inode node real upper fine to t) object_differs spared
-        ∙ emptied_elsewhere inode upper (upper_directory_named (With real upper) to name)
-        (replaced_differs real upper fine to name) ∙ fine.here
+        marked_elsewhere inode (hides_directory nat_eq stack (With real upper) to name) _ _ object_differs
+        ∙ left_elsewhere inode (is_some (shown_in_lowers_at nat_eq stack (With real upper) from old)) fresh stack
+        away (upper_of (With real upper) from) old (ne_eqb inode (fresh 0) (new 0)) from_differs ∙ moved_elsewhere inode
+        freed _ old _ name _ from_differs (upper_differs files tree numbers inode node real upper fine to t)
+        object_differs spared ∙ emptied_elsewhere inode upper _ (replaced_differs real upper fine to name) ∙ fine.here
 
     changed_both_keeps : (object : ℕ) (change : Option (Node ℕ) → Option (Node ℕ)) → HasUpper real object
         → (changed_both nat_eq (With real upper) object change).upper.tree.node inode ≡ node
@@ -154,37 +142,30 @@ module _ (files : FileTree ℕ) (tree : IsTree files.tree) (numbers : ListsNumbe
         → HasUpper later name.0) → HasUpper later from)
         → After (merge_changed nat_eq fresh stack (With real upper) change)
     each_keeps (Make directory name number object) is there from_too =
-        let copied = (up_arrives files tree numbers inode node (evens fresh)
-        (λ k. new (2 * k)) real upper fine directory there).arrives in
+        let copied = (up_arrives files tree numbers inode node _ (λ k. new (2 * k)) real upper fine _ there).arrives in
         subst (λ m. After (merge_with_new nat_eq (odds fresh) stack m directory name number object)) (sym copied.is)
         (same _ (made_keeps (odds fresh)
         (λ k. new (2 * k + 1)) stack copied.real copied.upper copied.fine directory name number object copied.copied))
     each_keeps (AddName directory name object) is there from_too =
-        let first = (up_arrives files tree numbers inode node (evens fresh)
-        (λ k. new (2 * k)) real upper fine object there.1).arrives in
-        let copied = (up_arrives files tree numbers inode node (odds fresh)
-        (λ k. new (2 * k + 1)) first.real first.upper first.fine directory there.0).arrives in
+        let first = (up_arrives files tree numbers inode node _ (λ k. new _) real upper fine object there.1).arrives in
+        let copied = (up_arrives files tree numbers inode node _ (λ k. new _) _ _ first.fine _ there.0).arrives in
         subst (λ m. After (merge_with_link nat_eq (copied_up nat_eq (odds fresh) m directory) directory name object))
         (sym first.is) (subst (λ m. After (merge_with_link nat_eq m directory name object)) (sym copied.is)
         (same _ (linked_keeps fresh new stack copied.real copied.upper copied.fine directory name object
         copied.copied)))
     each_keeps (Remove directory name object) is there from_too =
-        let copied = (up_arrives files tree numbers inode node (evens fresh)
-        (λ k. new (2 * k)) real upper fine directory there).arrives in
+        let copied = (up_arrives files tree numbers inode node _ (λ k. new (2 * k)) real upper fine _ there).arrives in
         subst (λ m. After (merge_without_name nat_eq (odds fresh) stack m directory name object)) (sym copied.is)
-        (same _ (removed_keeps (odds fresh)
-        (λ k. new (2 * k + 1)) stack copied.real copied.upper copied.fine directory name object copied.copied))
+        (same _ (removed_keeps (odds fresh) (λ k. new _) stack _ copied.upper copied.fine _ name object copied.copied))
     each_keeps (Move from old to name object) is there from_too =
         let both = up_arrives files tree numbers inode node (evens fresh) (λ k. new (2 * k)) real upper fine object
         (tree.alive from old object there.0) in
         let first = both.arrives in
-        let copied = (up_arrives files tree numbers inode node (evens (odds fresh))
-        (λ k. new (2 * (2 * k) + 1)) first.real first.upper first.fine to there.1).arrives in
-        subst (λ m. After (merge_with_moved nat_eq (odds (odds fresh)) stack
-        (copied_up nat_eq (evens (odds fresh)) m to) from old to name object)) (sym first.is)
-        (subst (λ m. After (merge_with_moved nat_eq (odds (odds fresh)) stack m from old to name object))
-        (sym copied.is) (moves from old to name object is copied.real copied.upper
-        (ap (λ m. copied_up nat_eq (evens (odds fresh)) m to) first.is ∙ copied.is) copied.fine
+        let copied = (up_arrives files tree numbers inode node _ (λ k. new _) _ _ first.fine to there.1).arrives in
+        subst (λ m. After (merge_with_moved nat_eq (odds (odds fresh))
+        stack (copied_up nat_eq (evens (odds fresh)) m to) from old to name object)) (sym first.is) (subst
+        (λ m. After (merge_with_moved nat_eq (odds (odds fresh)) stack m from old to name object)) (sym copied.is)
+        (moves from old to name object is copied.real copied.upper (cc (first.is, copied.is)) copied.fine
         (copied.grows from (from_too from old object there.0 first.real first.grows first.copied both.parent))
         copied.copied (copied.grows object first.copied)))
     each_keeps (SetBytes file bytes) is there from_too = changed_keeps file (node_with_bytes bytes) there

@@ -104,10 +104,8 @@ module _ (files : FileTree ℕ) (tree : IsTree files.tree) (numbers : ListsNumbe
       ∙ reverse-cons directory (chain most (named_parent nat_eq files.tree) r.0)))
       (let last = copied_last fresh k (MergeOf real upper)
       (reverse (chain most (named_parent nat_eq files.tree) r.0)) directory in
-      subst (λ m. Arrives real m directory) (sym last.1)
-      (then_copied fresh new real (copied_each nat_eq fresh k (MergeOf real upper)
-      (reverse (chain most (named_parent nat_eq files.tree) r.0))) r.0 directory
-      (line_arrives fresh new k real upper fine steps most r.0 r.2 (omega arith))
+      subst (λ m. Arrives real m directory) (sym last.1) (then_copied fresh
+      new real _ r.0 directory (line_arrives fresh new k real upper fine steps most r.0 r.2 (omega arith))
       (directory_used files.tree directory r.4)
       (λ name e. sym (tree.one_parent name.0 name.1 directory (named_so files tree directory name e) r.4)
       ∙ tree.one_parent r.0 r.1 directory r.3 r.4) last.0).arrives)
@@ -134,13 +132,10 @@ module _ (files : FileTree ℕ) (tree : IsTree files.tree) (numbers : ListsNumbe
           let entry = named_so files tree object name e in
           let reached = is_reached_in files tree name.0 name.1 object entry in
           let last = copied_last fresh 0 (MergeOf real upper) (directories_to nat_eq files name.0) object in
-          let both = then_copied fresh new real
-          (copied_each nat_eq fresh 0 (MergeOf real upper) (directories_to nat_eq files name.0)) name.0 object
-          (line_arrives fresh new 0 real upper fine reached.0 (length files.numbers) name.0 reached.1
-          (depth_bound files tree numbers reached.0 name.0 reached.1)) there
-          (λ other is. ap (λ n. n.0) (same_Some other name (cc))) last.0 in
+          let both = then_copied fresh new real _ name.0 object (line_arrives fresh new 0 real upper fine
+          reached.0 (length files.numbers) name.0 reached.1 (depth_bound files tree numbers reached.0 name.0 reached.1))
+          there (λ other is. ap (λ n. n.0) (same_Some other name (cc))) last.0 in
           subst (λ m. ArrivesWithParent real m object) (sym last.1) (record {
             arrives = both.arrives;
-            parent = λ other is. subst (HasUpper both.arrives.real)
-                (ap (λ n. n.0) (same_Some name other (cc))) both.first;
+            parent = λ other is. cc (same_Some name other (cc), both.first);
           })

@@ -23,8 +23,7 @@ named_so files tree object name e = leads_among files.numbers e
         → entry_at files.tree name.0 name.1 ≡ Some object
     leads_among [] e = cc
     leads_among (directory ∷ rest) e =
-        let here = leads_in directory (find (λ entry. nat_eq object entry.1) (entries_in (files.tree.node directory)))
-        refl
+        let here = leads_in directory (find _ (entries_in (files.tree.node directory))) refl
         in grind (arith, here, leads_among rest)
 
 -- what has an entry is a directory
@@ -46,7 +45,7 @@ module _ (files : FileTree ℕ) (tree : IsTree files.tree) where
   reached_directory (suc steps) directory r = r.4
 
   -- from where names lead to a directory, there is one
-  from_directory : (names : List (List ℕ)) (from to : ℕ) → led files.tree from names ≡ Some to
+  pub from_directory : (names : List (List ℕ)) (from to : ℕ) → led files.tree from names ≡ Some to
       → IsDirectory files.tree to → IsDirectory files.tree from
   from_directory [] from to e d = subst (IsDirectory files.tree) (sym (same_Some from to e)) d
   from_directory (name ∷ names) from to e d =
@@ -64,9 +63,7 @@ module _ (files : FileTree ℕ) (tree : IsTree files.tree) where
   -- a directory that has a name, or an entry, is reached
   pub is_reached_in : (directory : ℕ) (name : List ℕ) (object : ℕ) → entry_at files.tree directory name ≡ Some object
       → (steps : ℕ) × ReachedIn files.tree steps directory
-  is_reached_in directory name object e = ⊎_elim (λ same. (0, same.1)) (λ other. below other.1 (has_entry_to nat_eq
-      files.tree (parent_in directory (files.tree.node directory)) directory) refl)
-      (eqb_tells directory files.tree.root)
+  is_reached_in directory name object e = ⊎_elim (λ same. (0, same.1)) (λ other. below other.1 _ refl) (eqb_tells _ _)
     where
       is : IsDirectory files.tree directory
       is = has_entries files.tree directory name object e

@@ -1,7 +1,7 @@
 -- In an overlay whose tree is what its layers show: the root has an object in the upper layer, and so has each
 -- directory that has an entry for an upper object; what lies below has one name.
 use Rattle.std.proofs.Common.{arith, ◌≡◌, refl, sym, ap, ◌∙◌, true≢false, ℕ, zero, suc, nat_eq, eqb-true, Bool, true, false, cond, ◌||◌, List, [], ◌∷◌, ◌++◌, map, Option, Some, None, is_some, option_and_then, filter_map, find, option_map}
-use Rattle.vt_spec.proofs.Common.{Entries, FileTree, IsDirectory, ListsNumbers, OpenLayer, Real, Shown, Tree, Upper, a_name, at_path, common_steps, cons_option, directory_no_whiteout, directory_used, entries_in, entry_at, entry_to, first_of_list, led, led-append, list_any, merged_at, name_in, none_is_some, real_object, same_Some, shown, upper_object, without_last}
+use Rattle.vt_spec.proofs.Common.{Entries, FileTree, IsDirectory, ListsNumbers, OpenLayer, Real, Shown, Tree, Upper, a_name, at_path, common_steps, cons_option, directory_no_whiteout, directory_used, entry_at, entry_to, first_of_list, led, led-append, list_any, merged_at, name_in, none_is_some, real_object, same_Some, shown, upper_object, without_last}
 use Rattle.vt_laws_trees.specs.Layers.Layers.Shown.{IsShown}
 use Rattle.vt_laws_trees.proofs.layers.layers.ShownAtPath.{computed}
 use Rattle.vt_laws_trees.proofs.layers.layers.ShownNames.{last_name}
@@ -44,9 +44,7 @@ has_a_name files numbers directory name object e = searched files.numbers (numbe
     mapped f (Some a) = refl
 
     here : is_some (name_in nat_eq files object directory) ≡ true
-    here = mapped (λ entry. (directory, entry.0))
-        (find (λ entry. nat_eq object entry.1) (entries_in (files.tree.node directory)))
-        ∙ found (entries_in (files.tree.node directory)) (entry_to files.tree directory name object e)
+    here = mapped (λ entry. (directory, entry.0)) _ ∙ found _ (entry_to files.tree directory name object e)
 
     first : (o : Option (ℕ × List ℕ)) (rest : List (ℕ × List ℕ)) → (is_some o ≡ true)
         → is_some (first_of_list (cons_option o rest)) ≡ true

@@ -1,7 +1,7 @@
 -- In a world, a change through an overlay writes to new inodes and to the overlay's own objects in the upper layer
 -- alone.
-use Rattle.std.proofs.Common.{◌≡◌, ◌≢◌, ◌<◌, All, refl, sym, ap, subst, ◌∙◌, true≢false, arith, ℕ, suc, nat_eq, Bool, true, false, cond, not, List, [], ◌∷◌, ◌++◌, map, length, Option, Some, None, is_some, find, option_to_list}
-use Rattle.vt_spec.proofs.Common.{Change, FileTree, Filesystem, Fresh, IsMerged, IsTree, IsWorld, Layer, ListsNumbers, Location, Merge, Node, OpenLayer, Overlay, Real, World, a_name, and_true_left, and_true_right, common_steps, entry_at, files_at, filesystem_at, filesystem_changed, filesystem_numbered, is_directory_node, is_overlay, is_plain_layer, layers_of, led-append, list_all, merge_changed, merge_of, merged_at, mount_at, none_is_some, number_at_path, of_overlay, open_layer, overlay_changed, overlay_or, real_object, same_Some, shown, stack_of, upper_object, with_change, with_files, with_filesystem, with_merge}
+use Rattle.std.proofs.Common.{◌≡◌, ◌≢◌, ◌<◌, All, refl, sym, ap, subst, ◌∙◌, true≢false, arith, ℕ, suc, nat_eq, Bool, true, false, cond, List, [], ◌∷◌, ◌++◌, map, length, Option, Some, None, is_some, find, option_to_list}
+use Rattle.vt_spec.proofs.Common.{Change, FileTree, Filesystem, Fresh, IsMerged, IsTree, IsWorld, Layer, ListsNumbers, Location, Merge, Node, OpenLayer, Overlay, Real, World, a_name, and_true_left, and_true_right, common_steps, entry_at, files_at, filesystem_at, filesystem_changed, filesystem_numbered, is_directory_node, is_plain_layer, layers_of, led-append, list_all, merge_changed, merge_of, merged_at, none_is_some, number_at_path, of_overlay, open_layer, overlay_changed, overlay_or, real_object, same_Some, shown, stack_of, upper_object, with_change, with_files, with_filesystem, with_merge}
 use Rattle.vt_laws_trees.specs.Layers.Layers.Mounted.{AreLayers}
 use Rattle.vt_laws_trees.specs.Layers.Layers.Untouched.{IsKept}
 use Rattle.vt_laws_trees.specs.Layers.Layers.Upper.{IsUpperObject, SpeaksOfWhatIsThere}
@@ -57,9 +57,8 @@ module _ (world : World ℕ) (conditions : IsWorld nat_eq world) (number : ℕ) 
       (overlay_found world number overlay is)
 
   pub overlay_numbers : ListsNumbers nat_eq files
-  overlay_numbers = all_found (λ filesystem. ListsNumbers nat_eq filesystem.files)
-      (λ filesystem. nat_eq number filesystem.number) world.filesystems conditions.files.numbers merged
-      (overlay_found world number overlay is)
+  overlay_numbers = all_found (λ filesystem. ListsNumbers nat_eq filesystem.files) _
+      world.filesystems conditions.files.numbers merged (overlay_found world number overlay is)
 
   pub overlay_merges : IsMerged nat_eq world merged overlay
   overlay_merges = conditions.overlays.overlays_merge number overlay is
@@ -85,8 +84,7 @@ module _ (world : World ℕ) (conditions : IsWorld nat_eq world) (number : ℕ) 
 
   module _ (upper : Layer ℕ) (has : overlay.upper ≡ Some upper) where
     plain_upper : is_plain_layer nat_eq world upper ≡ true
-    plain_upper = and_true_left (is_plain_layer nat_eq world upper) _
-        (sym (ap (λ o. list_all (is_plain_layer nat_eq world)
+    plain_upper = and_true_left _ _ (sym (ap (λ o. list_all (is_plain_layer nat_eq world)
         (option_to_list o ++ option_to_list overlay.work ++ overlay.lowers)) has) ∙ plain_layers)
 
     -- the upper layer is in another filesystem
@@ -95,8 +93,7 @@ module _ (world : World ℕ) (conditions : IsWorld nat_eq world) (number : ℕ) 
 
     upper_directory : is_directory_node
         ((filesystem_numbered nat_eq world upper.filesystem).files.tree.node upper.directory) ≡ true
-    upper_directory =
-        and_true_right (not (is_overlay (filesystem_numbered nat_eq world upper.filesystem))) _ plain_upper
+    upper_directory = and_true_right _ _ plain_upper
 
     abbrev top : OpenLayer ℕ
     top = open_layer nat_eq world upper
@@ -175,9 +172,8 @@ module _ (world : World ℕ) (conditions : IsWorld nat_eq world) (number : ℕ) 
 
       merge_keeps : IsKept before ((merge_changed nat_eq fresh (stack_of nat_eq world overlay upper)
           (merge_of nat_eq world merged overlay upper) change).upper.tree.node inode)
-      merge_keeps = changes_keep files overlay_tree overlay_numbers inode before fresh new
-          (stack_of nat_eq world overlay upper) overlay.real (filesystem_numbered nat_eq world upper.filesystem).files
-          (record { here = refl; apart = apart; root = root_is_upper }) change there from_too
+      merge_keeps = changes_keep files overlay_tree overlay_numbers inode before
+          fresh new _ overlay.real _ (record { here = refl; apart = apart; root = root_is_upper }) change there from_too
 
       world_keeps : (merge : Merge ℕ) → IsKept before (merge.upper.tree.node inode)
           → IsKept before (inode_in (with_merge nat_eq world merged overlay upper merge) upper.filesystem inode)
@@ -209,5 +205,4 @@ pub upper_filesystem_keeps : (fresh : Fresh ℕ) (world : World ℕ) (location :
     → ((k : ℕ) → inode ≢ fresh k) → ¬ (IsUpperObject overlay inode) → IsKept (inode_in world upper.filesystem inode)
     (inode_in (with_change nat_eq fresh world location change) upper.filesystem inode)
 upper_filesystem_keeps fresh world location change overlay upper inode conditions is has there new not_object =
-    change_keeps world conditions
-    (mount_at nat_eq world location).filesystem overlay is upper has inode not_object fresh new change there
+    change_keeps world conditions _ overlay is upper has inode not_object fresh new change there

@@ -1,6 +1,6 @@
 -- Objects of an upper layer lie under no other layer of a live overlay.
 use Rattle.std.proofs.Common.{arith, ◌≡◌, ◌≢◌, refl, sym, ap, subst, ◌∙◌, true≢false, ℕ, nat_eq, eq-eqb, eqb-true, Bool, true, false, not, ◌&&◌, List, [], ◌∷◌, ◌++◌, Option, Some, None, is_some, unwrap_or, inl, inr, ◌⊎◌, ⊎_elim, find, flat_map, option_to_list}
-use Rattle.vt_spec.proofs.Common.{Among, FileTree, Filesystem, IsWorld, Layer, ListsNumbers, Overlay, World, among-append_right, among-filter, among-flat_map, among_from_list_all, among_numbers, and_from, and_true_left, and_true_right, any_among, any_from_among, any_pair, common_steps, filesystem_numbered, holds_of, is_directory_node, is_object_of, is_overlay, is_plain_layer, is_real_upper, is_there, is_under, layers_of, lies_in_layer, lies_or_counts_under, list_all, list_any, live_lowers, live_upper_and_work, no_filesystem, none_among, none_is_some, of_overlay, or_false_left, or_false_right, or_left, or_right, overlap, overlaps_one_of, overlay_or, overlays, upper_and_work, upper_object}
+use Rattle.vt_spec.proofs.Common.{Among, FileTree, Filesystem, IsWorld, Layer, ListsNumbers, Overlay, World, among-append_right, among-filter, among-flat_map, among_from_list_all, among_numbers, and_from, and_true_left, and_true_right, any_among, any_from_among, any_pair, common_steps, filesystem_numbered, holds_of, is_directory_node, is_object_of, is_overlay, is_plain_layer, is_there, is_under, layers_of, lies_in_layer, lies_or_counts_under, list_all, live_lowers, no_filesystem, none_among, none_is_some, of_overlay, or_false_left, or_false_right, or_left, or_right, overlap, overlay_or, overlays, upper_and_work}
 use Rattle.vt_laws_trees.proofs.layers.layers.LowersWorld.{number_of_filesystem}
 use Rattle.vt_laws_trees.specs.Layers.Layers.Upper.{IsUpperObject}
 use Rattle.vt_laws_trees.proofs.layers.layers.UpperWorld.{all_found, overlay_found, overlay_merges}
@@ -59,9 +59,8 @@ module _ (world : World ℕ) where
   pub layer_among : (layers : Overlay ℕ → List (Layer ℕ)) (number : ℕ) (overlay : Overlay ℕ)
       → (filesystem_numbered nat_eq world number).overlay ≡ Some overlay → (layer : Layer ℕ)
       → Among layer (layers overlay) → Among layer (flat_map (of_overlay [] layers) (overlays world))
-  layer_among layers number overlay is layer m =
-      among-flat_map (of_overlay [] layers) (overlays world) (filesystem_numbered nat_eq world number) layer
-      (merged_among number overlay is) (subst (λ o. Among layer (overlay_or [] layers o)) (sym is) m)
+  layer_among layers number overlay is layer m = among-flat_map (of_overlay [] layers) (overlays world) _
+      layer (merged_among number overlay is) (subst (λ o. Among layer (overlay_or [] layers o)) (sym is) m)
 
 module _ (world : World ℕ) (conditions : IsWorld nat_eq world) where
   -- what is there has its number beside the tree
@@ -73,21 +72,18 @@ module _ (world : World ℕ) (conditions : IsWorld nat_eq world) where
           → is_some ((unwrap_or o (no_filesystem number)).files.tree.node inode) ≡ true
           → Among inode (unwrap_or o (no_filesystem number)).files.numbers
       by None e h = absurd (true≢false (sym h))
-      by (Some filesystem) e h = among_numbers filesystem.files.numbers inode
-          (all_found (λ f. ListsNumbers nat_eq f.files)
+      by (Some filesystem) e h = among_numbers _ inode (all_found (λ f. ListsNumbers nat_eq f.files)
           (λ f. nat_eq number f.number) world.filesystems conditions.files.numbers filesystem e inode ∙ h)
 
   -- layers are in plain trees
   pub layer_plain : (number : ℕ) (overlay : Overlay ℕ)
       → (filesystem_numbered nat_eq world number).overlay ≡ Some overlay
       → (layer : Layer ℕ) → Among layer (layers_of overlay) → is_plain_layer nat_eq world layer ≡ true
-  layer_plain number overlay is layer m = among_from_list_all (is_plain_layer nat_eq world) (layers_of overlay)
-      (sym (ap (overlay_or true (λ o. list_all (is_plain_layer nat_eq world) (layers_of o))) is)
-      ∙ among_from_list_all (of_overlay true
-      (λ o. list_all (is_plain_layer nat_eq world) (layers_of o))) world.filesystems
-      conditions.overlays.plain_layers (filesystem_numbered nat_eq world number)
-      (found_among (λ f. nat_eq number f.number) world.filesystems (filesystem_numbered nat_eq world number)
-      (overlay_found world number overlay is))) layer m
+  layer_plain number overlay is layer m = among_from_list_all (is_plain_layer nat_eq world)
+      (layers_of overlay) (sym (ap (overlay_or true (λ o. list_all (is_plain_layer nat_eq world) (layers_of o))) is)
+      ∙ among_from_list_all (of_overlay true (λ o. list_all (is_plain_layer nat_eq world) (layers_of o)))
+      world.filesystems conditions.overlays.plain_layers (filesystem_numbered nat_eq world number)
+      (found_among (λ f. nat_eq number f.number) world.filesystems _ (overlay_found world number overlay is))) layer m
 
   pub no_overlay_in : (layer : Layer ℕ) → is_plain_layer nat_eq world layer ≡ true
       → (filesystem_numbered nat_eq world layer.filesystem).overlay ≡ None
@@ -112,10 +108,8 @@ module _ (world : World ℕ) (conditions : IsWorld nat_eq world) where
 
       -- an object of the upper layer counts under its directory
       is_of : is_object_of nat_eq upper.filesystem object (filesystem_numbered nat_eq world number) overlay ≡ true
-      is_of = and_from _ _ (ap (holds_of (λ layer. nat_eq upper.filesystem layer.filesystem)) has
-          ∙ eq-eqb upper.filesystem upper.filesystem refl) (any_from_among (is_real_upper nat_eq overlay object)
-          (filesystem_numbered nat_eq world number).files.numbers is_object.0 (listed number is_object.0 shown_there)
-          (ap (λ r. holds_of (nat_eq object) (upper_object r)) is_object.1 ∙ eq-eqb object object refl))
+      is_of = and_from _ _ (cc (has, eq-eqb upper.filesystem upper.filesystem refl))
+          (any_from_among _ _ is_object.0 (listed number _ shown_there) (cc (is_object.1, eq-eqb object object refl)))
 
       directory_lies : lies_in_layer nat_eq world upper.filesystem upper.directory upper ≡ true
       directory_lies = and_from _ _ (eq-eqb upper.filesystem upper.filesystem refl)
@@ -133,32 +127,22 @@ module _ (world : World ℕ) (conditions : IsWorld nat_eq world) where
       -- and under no lower layer of a live overlay
       pub no_lower : (lower : Layer ℕ) → Among lower (live_lowers nat_eq world)
           → lies_or_counts_under nat_eq world upper.filesystem object lower ≡ true → ⊥
-      no_lower lower m lies = never_both _ _
-          (none_among (λ (o : ℕ). lies_or_counts_under nat_eq world upper.filesystem o upper
-          && list_any (lies_or_counts_under nat_eq world upper.filesystem o) (live_lowers nat_eq world))
-          (filesystem_numbered nat_eq world upper.filesystem).files.numbers
-          (none_among (overlaps_one_of nat_eq world (live_lowers nat_eq world))
-          (live_upper_and_work world) conditions.overlays.lowers_apart upper
-          (layer_among world upper_and_work number overlay is upper upper_is_layer)) object object_listed) object_counts
-          (any_from_among (lies_or_counts_under nat_eq world upper.filesystem object)
-          (live_lowers nat_eq world) lower m lies)
+      no_lower lower m lies = never_both _ _ (none_among _ _ (none_among _ _ conditions.overlays.lowers_apart
+          upper (layer_among world upper_and_work number overlay is upper upper_is_layer)) object object_listed)
+          object_counts (any_from_among _ (live_lowers nat_eq world) lower m lies)
 
       -- nor under the upper or work directory of another one
       pub no_other : (other : ℕ) → other ≢ number → (overlay2 : Overlay ℕ)
           → (filesystem_numbered nat_eq world other).overlay ≡ Some overlay2
           → (layer : Layer ℕ) → Among layer (upper_and_work overlay2)
           → lies_or_counts_under nat_eq world upper.filesystem object layer ≡ true → ⊥
-      no_other other differ overlay2 is2 layer m lies = ⊎_elim
-          (λ (e : overlap nat_eq world upper layer ≡ false). apart upper layer refl e object_counts lies)
-          (λ (e : overlap nat_eq world layer upper ≡ false). apart layer upper
-          (lies_there world object upper.filesystem layer lies) e lies object_counts)
-          (apart_pairs (overlap nat_eq world) (of_overlay [] upper_and_work)
-          (overlays world) conditions.overlays.changed_apart
-          (filesystem_numbered nat_eq world number) (filesystem_numbered nat_eq world other)
-          (λ e. differ (sym (number_of_filesystem world other) ∙ ap (λ f. f.number) (sym e)
-          ∙ number_of_filesystem world number))
-          (merged_among world number overlay is) (merged_among world other overlay2 is2) upper layer
-          (subst (λ o. Among upper (overlay_or [] upper_and_work o)) (sym is) upper_is_layer)
+      no_other other differ overlay2 is2 layer m lies =
+          ⊎_elim (λ (e : overlap nat_eq world upper layer ≡ false). apart upper layer refl e object_counts lies)
+          (λ (e : overlap nat_eq world layer upper ≡ false). apart layer upper (lies_there world object _ layer lies)
+          e lies object_counts) (apart_pairs _ _ (overlays world) conditions.overlays.changed_apart _ _ (λ e. differ
+          (sym (number_of_filesystem world other) ∙ ap (λ f. f.number) (sym e) ∙ number_of_filesystem world number))
+          (merged_among world number overlay is) (merged_among world other overlay2 is2)
+          upper layer (subst (λ o. Among upper (overlay_or [] upper_and_work o)) (sym is) upper_is_layer)
           (subst (λ o. Among layer (overlay_or [] upper_and_work o)) (sym is2) m))
         where
           apart : (a b : Layer ℕ) → upper.filesystem ≡ a.filesystem → overlap nat_eq world a b ≡ false

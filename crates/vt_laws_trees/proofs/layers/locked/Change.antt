@@ -73,24 +73,22 @@ module _ (world : World ℕ) (fresh : Fresh ℕ) where
     module _ (supply : Fresh ℕ) (mounted : ℕ) (change : Change ℕ) (granted : IsGranted supply mounted change)
         (not_of : IsNotOf mounted) where
       at_mounted : filesystem ≡ mounted → Stays world filesystem inode (changed_in supply world mounted change)
-      at_mounted at = subst (λ o. Stays world filesystem inode
-          (filesystem_changed nat_eq supply world (filesystem_numbered nat_eq world mounted) o change))
+      at_mounted at = subst (λ o. Stays world
+          filesystem inode (filesystem_changed nat_eq supply world (filesystem_numbered nat_eq world mounted) o change))
           (sym (ap (λ n. (filesystem_numbered nat_eq world n).overlay) (sym at) ∙ plain))
-          (filesystem_there (λ f. IsKept (inode_in world filesystem inode) (f.files.tree.node inode)) world
-          (with_files (filesystem_numbered nat_eq world mounted)
-          (changed nat_eq (filesystem_numbered nat_eq world mounted).files change)) filesystem
-          (at ∙ sym (number_of_filesystem world mounted)) (subst (λ n. IsKept (inode_in world n inode)
-          ((changed nat_eq (filesystem_numbered nat_eq world mounted).files change).tree.node inode)) (sym at)
-          (others_stay (filesystem_numbered nat_eq world mounted).files change inode
-          (granted.unlocked inode (ap (λ n. is_locked nat_eq world n inode) (sym at) ∙ locked) new)))
+          (filesystem_there (λ f. IsKept (inode_in world filesystem inode) (f.files.tree.node inode))
+          world (with_files (filesystem_numbered nat_eq world mounted) (changed nat_eq _ change))
+          filesystem (at ∙ sym (number_of_filesystem world mounted)) (subst (λ n. IsKept (inode_in world n inode)
+          ((changed nat_eq (filesystem_numbered nat_eq world mounted).files change).tree.node inode))
+          (sym at) (others_stay (filesystem_numbered nat_eq world mounted).files
+          change inode (granted.unlocked inode (ap (λ n. is_locked nat_eq world n inode) (sym at) ∙ locked) new)))
           (λ none. kept_same (inode_in world filesystem inode) None (sym (ap (λ f. f.files.tree.node inode) none))))
 
       elsewhere : filesystem ≢ mounted → ((overlay : Overlay ℕ) (upper : Layer ℕ)
           → (filesystem_numbered nat_eq world mounted).overlay ≡ Some overlay → overlay.upper ≡ Some upper
           → filesystem ≢ upper.filesystem) → Stays world filesystem inode (changed_in supply world mounted change)
-      elsewhere away no_upper = kept_same (inode_in world filesystem inode) _ (ap (λ f. f.files.tree.node inode)
-          (changed_elsewhere supply world (filesystem_numbered nat_eq world mounted) change filesystem
-          (λ e. away (e ∙ number_of_filesystem world mounted)) no_upper))
+      elsewhere away no_upper = kept_same _ _ (ap (λ f. f.files.tree.node inode) (changed_elsewhere supply
+          world _ change filesystem (λ e. away (e ∙ number_of_filesystem world mounted)) no_upper))
 
       beside : filesystem ≢ mounted → Stays world filesystem inode (changed_in supply world mounted change)
       beside away = by (filesystem_numbered nat_eq world mounted).overlay refl

@@ -1,7 +1,6 @@
 -- Each call on files leaves the filesystems as they were, or with one change that is granted.
-use Rattle.std.proofs.Common.{arith, List, None, Option, Some, [], ap, eqb-true, false, inl, is_some, nat_eq, ne_eqb, not, option_map, refl, subst, sym, true, true≢false, unwrap_or, ℕ, ◌||◌, ◌∙◌, ◌∷◌, ◌≡◌, ◌≢◌, Result, Ok, option_to_list}
-use Rattle.vt_spec.proofs.Common.{Access, Call, Change, Fresh, Here, IsWorld, Location, Node, NoneFails, Overlay, Permit, Place, SetBytes, SetMark, Stop, Task, ToOpen, World, apply, common_steps, entries_in, entry_named, file_mode, filesystem_at, filesystems-without_replaced, is_among, is_locked, is_locked_at, is_special, linking, list_any, looks_of, mount_at, moving, name_of, new_file, node_allows, node_at, not-false, object_there, or_false_left, or_false_right, or_from, or_parts, overfills, pwritten, removing, rename_rules, shown-without_replaced, task_called, with_change, with_new, without_mounts_on, without_replaced, write_right}
-use Rattle.vt_spec.proofs.Walk.{old_leaf_walk}
+use Rattle.std.proofs.Common.{arith, List, None, Option, Some, [], ap, eqb-true, false, inl, is_some, nat_eq, ne_eqb, option_map, refl, subst, sym, true, true≢false, unwrap_or, ℕ, ◌||◌, ◌∙◌, ◌∷◌, ◌≡◌, ◌≢◌, Result, Ok, option_to_list}
+use Rattle.vt_spec.proofs.Common.{Access, Call, Change, Fresh, Here, IsWorld, Location, Node, NoneFails, Overlay, Permit, Place, Stop, Task, ToOpen, World, apply, common_steps, file_mode, filesystem_at, filesystems-without_replaced, is_among, is_locked, is_locked_at, is_special, linking, list_any, looks_of, mount_at, moving, new_file, node_at, not-false, object_there, or_false_left, or_false_right, or_from, or_parts, overfills, pwritten, rename_rules, shown-without_replaced, task_called, with_change, with_new, without_replaced}
 use Rattle.vt_laws_trees.proofs.trees.TreesWalked.{Ends, IsOldPlace, ends_old_leaf_walk, place_named, at_end}
 use Rattle.vt_laws_trees.specs.Layers.Layers.Upper.{SpeaksOfWhatIsThere}
 use Rattle.vt_laws_trees.proofs.layers.locked.Change.{IsNew, Leaves, leaves_change}
@@ -40,8 +39,7 @@ module _ (world : World ℕ) (fresh : Fresh ℕ) (task : Task ℕ) where
 
   -- what is not locked is no inode that is
   differs : (location : Location ℕ) → is_locked_at nat_eq world location ≡ false → Differs location location.node
-  differs location unlocked inode locked =
-      unlocked_differs world (mount_at nat_eq world location).filesystem inode locked location unlocked refl
+  differs location unlocked inode locked = unlocked_differs world _ inode locked location unlocked refl
 
   change_left : (supply : Fresh ℕ) → ((inode : ℕ) → IsNew world fresh inode → (k : ℕ) → inode ≢ supply k)
       → (location : Location ℕ) (change : Change ℕ)
@@ -77,33 +75,24 @@ module _ (world : World ℕ) (fresh : Fresh ℕ) (task : Task ℕ) where
   pwritten_left : (file : Location ℕ) (offset : ℕ) (bytes : List ℕ) → is_locked_at nat_eq world file ≡ false
       → NodeThere file → Left (pwritten nat_eq fresh world file offset bytes)
   pwritten_left file offset [] unlocked there = same
-  pwritten_left file offset (byte ∷ bytes) unlocked there = change_left fresh whole file _
-      (λ inode locked new. or_from (nat_eq inode file.node) false (differs file unlocked inode locked) refl)
-      (λ overlay is. there)
+  pwritten_left file offset (byte ∷ bytes) unlocked there = change_left fresh
+      whole file _ (λ inode locked new. or_from _ false (differs file unlocked inode locked) refl) (λ overlay is. there)
 
   renamed_left : (from to : Place ℕ) → IsOldPlace world task from → is_special from.last ≡ false
       → NoneFails (rename_rules nat_eq (looks_of nat_eq world) task from to (object_there from))
       → Left (with_change nat_eq fresh (without_replaced nat_eq world to.object) from.parent
       (moving from to (object_there from)))
-  renamed_left from to is word passed =
-      leaves_change world fresh fresh (without_replaced nat_eq world to.object) from.parent
-      (moving from to (object_there from))
+  renamed_left from to is word passed = leaves_change world fresh fresh _ from.parent _
       (filesystems-without_replaced world to.object) (shown-without_replaced world to.object from.parent) (record {
         part = whole;
-        unlocked = λ inode locked new.
-            or_from (nat_eq inode from.parent.node) _ (differs from.parent of_from.0 inode locked)
-            (or_from (nat_eq inode to.parent.node) false
-            (differs to.parent (or_false_left (is_locked_at nat_eq world to.parent) _ of_from.1) inode
-            (subst (λ m. is_locked nat_eq world
-            (mount_at nat_eq world (record { mount = m; node = from.parent.node })).filesystem inode
-            ≡ true) one_mount locked)) refl);
+        unlocked = λ inode locked new. or_from _ _ (differs from.parent of_from.0 inode locked) (or_from
+            (nat_eq inode to.parent.node) false (differs to.parent (or_false_left _ _ of_from.1) inode (subst (λ m.
+            is_locked nat_eq world (mount_at nat_eq world (record { mount = m; node = from.parent.node })).filesystem
+            inode ≡ true) one_mount locked)) refl);
         there = λ overlay has. (
-          entry_is from.parent.mount (entry_named (name_of from.last) (entries_in (node_at nat_eq world from.parent)))
-              from.object from.parent (place_named world from.parent from.last from.object word is.0).1 is.1,
-          subst (λ m. NodeThere (record { mount = m; node = to.parent.node })) (sym one_mount)
-              (allowed_is_there _ _ _ (or_false_right
-              (not (node_allows task.credentials write_right (node_at nat_eq world from.parent))) _
-              passed.1.1.1.1.1.1.1.1.1.0)),
+          entry_is _ _ from.object from.parent (place_named world from.parent from.last from.object word is.0).1 is.1,
+          subst (λ m. NodeThere (record { mount = m; node = to.parent.node }))
+              (sym one_mount) (allowed_is_there _ _ _ (or_false_right _ _ passed.1.1.1.1.1.1.1.1.1.0)),
         );
       })
     where
@@ -122,15 +111,13 @@ module _ (fresh : Fresh ℕ) (world : World ℕ) (task : Task ℕ) (conditions :
   there_at : (walk : Result (Here ℕ) (Stop ℕ)) (here : Here ℕ) → walk ≡ Ok here
       → Ends (λ (h : Here ℕ). is_some (node_at nat_eq world h.location) ≡ true) walk
       → is_some (node_at nat_eq world here.location) ≡ true
-  there_at walk here end ends =
-      at_end (λ (h : Here ℕ). is_some (node_at nat_eq world h.location) ≡ true) walk here ends end
+  there_at walk here end ends = at_end _ walk here ends end
 
   pub granted_left : (call : Call) (permit : Permit ℕ) → changes_no_mount call ≡ true
       → IsGranted nat_eq (looks_of nat_eq world) (overfills nat_eq fresh world task) task call permit
       → Leaves world fresh (apply nat_eq fresh world task permit).world
-  granted_left call permit c (overwrites_file path bytes place file end named there passed) =
-      one_left world fresh task file (SetBytes file.node bytes) refl passed.1.1.1.1.1.0
-      (λ overlay is. allowed_is_there _ _ _ passed.1.1.1.1.1.1.0)
+  granted_left call permit c (overwrites_file path bytes place file end named there passed) = one_left world
+      fresh task file _ refl passed.1.1.1.1.1.0 (λ overlay is. allowed_is_there _ _ _ passed.1.1.1.1.1.1.0)
   granted_left call permit c (writes_new_file path bytes place end named missing fits passed) =
       new_left world fresh task place (new_file task file_mode bytes) passed.1.1.0
       (allowed_is_there _ _ _ passed.1.1.1.0)
@@ -142,40 +129,32 @@ module _ (fresh : Fresh ℕ) (world : World ℕ) (task : Task ℕ) (conditions :
       (allowed_is_there _ _ _ passed.1.1.1.1.1.0)
   granted_left call permit c (makes_whiteout path place end passed) =
       new_left world fresh task place (whiteout_made task) passed.1.1.1.1.0 (allowed_is_there _ _ _ passed.1.1.1.1.1.0)
-  granted_left call permit c (makes_hard_link old name from place from_end end named passed) =
-      one_left world fresh task place.parent (linking from.location place) refl
-      (or_false_right (is_locked_at nat_eq world from.location) _ passed.1.1.1.1.0) (λ overlay is. (
+  granted_left call permit c (makes_hard_link old name from place from_end end named passed) = one_left world
+      fresh task place.parent (linking from.location place) refl (or_false_right _ _ passed.1.1.1.1.0) (λ overlay is. (
         allowed_is_there _ _ _ passed.1.1.1.1.1.1.0,
         subst (λ m. is_some (node_at nat_eq world (record { mount = m; node = from.location.node })) ≡ true)
             (eqb-true from.location.mount place.parent.mount (not-false _ passed.1.1.1.1.1.0))
             (there_at _ from from_end (link_walk_there world conditions task called old)),
       ))
-  granted_left call permit c (unlinks path place end named passed) =
-      one_left world fresh task place.parent (removing place (object_there place)) refl
-      (or_false_right (is_locked_at nat_eq world (object_there place)) _ passed.1.1.1.0)
-      (λ overlay is. allowed_is_there _ _ _ passed.1.1.1.1.0)
-  granted_left call permit c (removes_directory path place end word passed) =
-      leaves_change world fresh fresh (without_mounts_on nat_eq world (object_there place)) place.parent
-      (removing place (object_there place)) (same_filesystems_without world (object_there place))
-      (same_mounted_without world (object_there place) place.parent) (record {
+  granted_left call permit c (unlinks path place end named passed) = one_left world fresh task
+      place.parent _ refl (or_false_right _ _ passed.1.1.1.0) (λ overlay is. allowed_is_there _ _ _ passed.1.1.1.1.0)
+  granted_left call permit c (removes_directory path place end word passed) = leaves_change world fresh
+      fresh _ place.parent _ (same_filesystems_without world _) (same_mounted_without world _ place.parent) (record {
         part = λ inode new. new;
-        unlocked = λ inode locked new. or_from (nat_eq inode place.parent.node) false
-            (differs world fresh task place.parent (or_false_right
-            (is_locked_at nat_eq world (object_there place)) _ passed.1.1.1.1.0) inode locked) refl;
+        unlocked = λ inode locked new. or_from (nat_eq inode place.parent.node)
+            false (differs world fresh task place.parent (or_false_right _ _ passed.1.1.1.1.0) inode locked) refl;
         there = λ overlay is. allowed_is_there _ _ _ passed.1.1.1.1.1.1.0;
       })
-  granted_left call permit c (renames old name from to names two passed) = renamed_left world fresh task from to
-      (at_end (IsOldPlace world task) (old_leaf_walk nat_eq world task old) from (ends_old_leaf_walk world task old)
-      names.from_end) names.from_named.0 passed
+  granted_left call permit c (renames old name from to names two passed) = renamed_left world
+      fresh task from to (at_end _ _ from (ends_old_leaf_walk world task old) names.from_end) names.from_named.0 passed
   granted_left call permit c (changes_mode path mode here end passed) =
       one_left world fresh task here.location _ refl passed.1.1.0
       (λ overlay is. there_at _ here end (object_walk_there world conditions task called path))
   granted_left call permit c (changes_owner path uid gid here end passed) =
       one_left world fresh task here.location _ refl passed.1.1.0
       (λ overlay is. there_at _ here end (object_walk_there world conditions task called path))
-  granted_left call permit c (changes_mark path mark here admin end passed) =
-      one_left world fresh task here.location (SetMark here.location.node mark) refl passed.1.1.0
-      (λ overlay is. absurd (true≢false (sym (ap is_some is) ∙ passed.1.1.1.0)))
+  granted_left call permit c (changes_mark path mark here admin end passed) = one_left world fresh
+      task here.location _ refl passed.1.1.0 (λ overlay is. absurd (true≢false (sym (ap is_some is) ∙ passed.1.1.1.0)))
   granted_left call permit c (opens path access here room end passed) =
       opened_left world fresh task here.location access (allowed_is_there _ _ _ passed.1.1.1.1.1.0)
   granted_left call permit c (opens_existing path access mode place file room end named there passed) =
@@ -184,9 +163,8 @@ module _ (fresh : Fresh ℕ) (world : World ℕ) (task : Task ℕ) (conditions :
       new_left world fresh task place (new_file task mode []) passed.1.1.0 (allowed_is_there _ _ _ passed.1.1.1.0)
   granted_left call permit c (creates_exclusively path access mode place room end named passed) =
       new_left world fresh task place (new_file task mode []) passed.1.1.0 (allowed_is_there _ _ _ passed.1.1.1.0)
-  granted_left call permit c (writes_part number offset bytes descriptor found passed) =
-      pwritten_left world fresh task descriptor.location offset bytes passed.1.0
-      (descriptor_there world conditions task called number (λ d. d.writes) descriptor found)
+  granted_left call permit c (writes_part number offset bytes descriptor found passed) = pwritten_left world fresh task
+      _ offset bytes passed.1.0 (descriptor_there world conditions task called number (λ d. d.writes) descriptor found)
   granted_left call permit c (mounts_tmpfs path flags here admin end passed) = absurd (true≢false (sym c))
   granted_left call permit c (mounts_overlayfs path words flags here layers admin end walked layered passed) =
       absurd (true≢false (sym c))

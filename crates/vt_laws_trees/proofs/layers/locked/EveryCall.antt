@@ -29,8 +29,7 @@ module _ (fresh : Fresh ℕ) (world : World ℕ) (task : Task ℕ) (conditions :
     later = (call_outcome nat_eq fresh world task call).world
 
     locked : is_locked nat_eq world layer.filesystem inode ≡ true
-    locked = any_from_among (lies_or_counts_under nat_eq world layer.filesystem inode) (live_layers world) layer
-        (layer_among world layers_of number overlay is layer m) lies
+    locked = any_from_among _ (live_layers world) layer (layer_among world layers_of number overlay is layer m) lies
 
     plain : (filesystem_numbered nat_eq world layer.filesystem).overlay ≡ None
     plain = no_overlay_in world conditions layer (layer_plain world conditions number overlay is layer m)
@@ -42,8 +41,7 @@ module _ (fresh : Fresh ℕ) (world : World ℕ) (task : Task ℕ) (conditions :
     layer_stays : (change : IsChanged world fresh later.filesystems)
         → IsNotOf world fresh conditions layer.filesystem inode locked new plain change.mounted
         → IsKept (inode_in world layer.filesystem inode) (inode_in later layer.filesystem inode)
-    layer_stays change not_of =
-        changed_stays world fresh conditions layer.filesystem inode locked new plain later change not_of
+    layer_stays change not_of = changed_stays world fresh conditions _ inode locked new plain later change not_of
 
 pub lower_layers_stay_locked : (fresh : Fresh ℕ) (world : World ℕ) (task : Task ℕ) (call : Call) (number : ℕ)
     (overlay : Overlay ℕ) (lower : Layer ℕ) (inode : ℕ)
@@ -54,8 +52,7 @@ pub lower_layers_stay_locked : (fresh : Fresh ℕ) (world : World ℕ) (task : T
     (inode_in (call_outcome nat_eq fresh world task call).world lower.filesystem inode)
 lower_layers_stay_locked fresh world task call number overlay lower inode conditions called c is contains lies new =
     let m : Among lower overlay.lowers = among_from_contains overlay.lowers lower contains in
-    let in_layers : Among lower (layers_of overlay) =
-    among-append_right (upper_and_work overlay) overlay.lowers lower m in
+    let in_layers : Among lower (layers_of overlay) = among-append_right _ overlay.lowers lower m in
     ⊎_elim
     (λ e. same_stays fresh world task conditions called call c number overlay is lower in_layers inode lies new e)
     (λ change.
@@ -77,9 +74,8 @@ calls_go_through_one fresh world task call conditions called c = ⊎_elim (λ e.
   0,
   record {
     elsewhere = λ number differ upper. same_filesystem world later number e;
-    others = λ number overlay layer inode differ is m lies new.
-        same_stays fresh world task conditions called call c number overlay is layer
-        (in_all_layers overlay layer (among_from_contains (upper_and_work overlay) layer m)) inode lies new e;
+    others = λ number overlay layer inode differ is m lies new. same_stays fresh world task conditions called
+        call c number overlay is layer (in_all_layers overlay layer (among_from_contains _ layer m)) inode lies new e;
   },
 )) (λ change. (
   change.mounted,

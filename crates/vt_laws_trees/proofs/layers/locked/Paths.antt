@@ -24,12 +24,10 @@ module _ (world : World ℕ) (conditions : IsWorld nat_eq world) (layer : Layer 
   found = grind (arith, common_steps, true≢false)
 
   pub layer_tree : IsTree filesystem.files.tree
-  layer_tree = all_found (λ f. IsTree f.files.tree)
-      (λ f. nat_eq layer.filesystem f.number) world.filesystems conditions.files.trees filesystem found
+  layer_tree = all_found (λ f. IsTree f.files.tree) _ world.filesystems conditions.files.trees filesystem found
 
   layer_numbers : ListsNumbers nat_eq filesystem.files
-  layer_numbers = all_found (λ f. ListsNumbers nat_eq f.files)
-      (λ f. nat_eq layer.filesystem f.number) world.filesystems conditions.files.numbers filesystem found
+  layer_numbers = all_found (λ f. ListsNumbers nat_eq f.files) _ _ conditions.files.numbers filesystem found
 
   top_under : is_directory_under nat_eq filesystem.files layer.directory layer.directory ≡ true
   top_under = sym (ap (λ b. cond b (is_directory_under nat_eq filesystem.files layer.directory layer.directory)
@@ -63,18 +61,15 @@ no_new fresh world filesystem inode none there k e =
 pub lower_paths_are_locked : LowerPathsAreLocked
 lower_paths_are_locked fresh world task call number overlay lower conditions called c is contains none =
     let m : Among lower overlay.lowers = among_from_contains overlay.lowers lower contains in
-    let in_layers : Among lower (layers_of overlay) =
-    among-append_right (upper_and_work overlay) overlay.lowers lower m in
+    let in_layers : Among lower (layers_of overlay) = among-append_right _ overlay.lowers lower m in
     leads_as_before world conditions lower (layer_plain world conditions number overlay is lower in_layers)
-    (call_outcome nat_eq fresh world task call).world (λ inode lies there.
-    lower_layers_stay_locked fresh world task call number overlay lower inode conditions called c is contains lies
-    (no_new fresh world lower.filesystem inode none there))
+    (call_outcome nat_eq fresh world task call).world (λ inode lies there. lower_layers_stay_locked fresh world
+    task call number overlay lower inode conditions called c is contains lies (no_new fresh world _ inode none there))
 
 pub other_paths_stay : OtherPathsStay
 other_paths_stay fresh world task call through number overlay layer conditions goes differ is contains none =
     let m : Among layer (upper_and_work overlay) = among_from_contains (upper_and_work overlay) layer contains in
-    let in_layers : Among layer (layers_of overlay) =
-    among-append_left (upper_and_work overlay) overlay.lowers layer m in
+    let in_layers : Among layer (layers_of overlay) = among-append_left _ overlay.lowers layer m in
     leads_as_before world conditions layer (layer_plain world conditions number overlay is layer in_layers)
     (call_outcome nat_eq fresh world task call).world (λ inode lies there.
     goes.others number overlay layer inode differ is contains lies

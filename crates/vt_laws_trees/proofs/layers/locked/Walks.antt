@@ -17,13 +17,10 @@ module _ (world : World ℕ) (conditions : IsWorld nat_eq world) (task : Task �
   directory_is location is = directory_used (files_at nat_eq world location).tree location.node is
 
   root_there : There task.root
-  root_there = directory_is task.root (and_true_left (is_directory_at nat_eq world task.root) _ (and_true_left _ _
-      (called_stands world conditions task called)))
+  root_there = directory_is _ (and_true_left _ _ (and_true_left _ _ (called_stands world conditions task called)))
 
   own_there : There task.directory
-  own_there = directory_is task.directory
-      (and_true_left (is_directory_at nat_eq world task.directory) _ (and_true_right _ _
-      (called_stands world conditions task called)))
+  own_there = directory_is _ (and_true_left _ _ (and_true_right _ _ (called_stands world conditions task called)))
 
   start_there : (directory : Location ℕ) (path : List ℕ) → There directory → There (start_of task directory path)
   start_there directory path is = by (is_absolute path)
@@ -50,30 +47,24 @@ module _ (world : World ℕ) (conditions : IsWorld nat_eq world) (task : Task �
   words_there : (follow : Follow ℕ) → FollowEnds follow → (here : Here ℕ) → There here.location → (list : List (List ℕ))
       → EndsThere (words_walked nat_eq world task follow here list)
   words_there follow goes here is [] = is
-  words_there follow goes here is (word ∷ front) =
-      ends_then (λ reached. There reached.location) (λ next. There next.location)
-      (words_walked nat_eq world task follow here front) _ (words_there follow goes here is front) (λ reached end.
-      ends_then (λ next. There next.location) (λ next. There next.location)
-      (word_walked nat_eq world task reached (last_word word)) _ (word_ends reached (last_word word)) (λ next found.
-      if_link_there next (follow reached.location next) found (λ text. goes reached.location next text end)
-      (symlink_text (node_at nat_eq world next.location))))
+  words_there follow goes here is (word ∷ front) = ends_then (λ reached. There reached.location)
+      (λ next. There next.location) (words_walked nat_eq world task follow here front) _
+      (words_there follow goes here is front) (λ reached end. ends_then (λ next. There next.location)
+      (λ next. There next.location) _ _ (word_ends reached (last_word word)) (λ next found. if_link_there
+      next _ found (λ text. goes reached.location next text end) (symlink_text (node_at nat_eq world next.location))))
 
   symlink_there : (depth : ℕ) → FollowEnds
       (λ directory link text. symlink_walked nat_eq depth world task directory link text)
   symlink_there zero directory link text is = tt
-  symlink_there (suc depth) directory link text is =
-      ends_then (λ start. There start.location) (λ next. There next.location)
-      (walk_unless link.steps (follow_rules nat_eq world link text)
-      (symlink_start nat_eq world task directory link text)) _
+  symlink_there (suc depth) directory link text is = ends_then _ (λ next. There next.location) (walk_unless link.steps
+      (follow_rules nat_eq world link text) (symlink_start nat_eq world task directory link text)) _
       (ends_unless (λ start. There start.location) link.steps (follow_rules nat_eq world link text)
       (symlink_start nat_eq world task directory link text) (λ passed. start_there directory text is))
-      (λ start start_is.
-      ends_then (λ reached. There reached.location) (λ next. There next.location) (words_walked nat_eq world task
-      (λ inside next inner. symlink_walked nat_eq depth world task inside next inner) start (reverse (words text))) _
-      (words_there (λ inside next inner. symlink_walked nat_eq depth world task inside next inner)
-      (symlink_there depth) start start_is (reverse (words text))) (λ reached end.
-      ends_unless (λ next. There next.location) reached.steps (slash_rules nat_eq world text reached.location) reached
-      (λ passed. end)))
+      (λ start start_is. ends_then (λ reached. There reached.location) (λ next. There next.location)
+      (words_walked nat_eq world task (λ inside next inner. symlink_walked nat_eq depth world task inside next inner)
+      start (reverse (words text))) _ (words_there _ (symlink_there depth) start start_is (reverse (words text)))
+      (λ reached end. ends_unless (λ next. There next.location)
+      reached.steps (slash_rules nat_eq world text reached.location) reached (λ passed. end)))
 
   pub object_walk_there : (path : List ℕ) → EndsThere (object_walk nat_eq world task path)
   object_walk_there path =

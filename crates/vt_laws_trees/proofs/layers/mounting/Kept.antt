@@ -1,6 +1,6 @@
 -- What a world is when an overlay is mounted in it.
 use Rattle.std.proofs.Common.{arith, ◌≡◌, refl, sym, ap, subst, ◌∙◌, true≢false, ℕ, nat_eq, eqb-true, Bool, true, false, ◌&&◌, List, [], ◌∷◌, ◌++◌, map, Option, Some, None, Ok, inl, inr, unwrap_or, All, option_to_list}
-use Rattle.vt_spec.proofs.Common.{All-push, Done, Filesystem, Fresh, HasOwnParents, IsMerged, IsReached, IsTree, IsWorld, Layer, LayerLocations, ListsNumbers, Location, Mount, MountFlags, MountOverlay, NoneFails, Overlay, OverlayInvariants, OverlayWords, Permit, Task, TreeInvariants, World, apply, call_outcome, common_steps, evens, evens-distinct, filesystem_numbered, has_fit_layers, is_among, is_fit_filesystem, is_plain_layer, layers_of, list_all, list_all-append, looks_of, nat_eq_itself, no_filesystem, of_overlay, overfills, overlay_filesystem, overlay_mounted, same_ok, with_new_filesystem}
+use Rattle.vt_spec.proofs.Common.{All-push, Done, Filesystem, Fresh, HasOwnParents, IsMerged, IsReached, IsTree, IsWorld, Layer, LayerLocations, ListsNumbers, Location, Mount, MountFlags, MountOverlay, NoneFails, Overlay, OverlayInvariants, OverlayWords, Permit, Task, TreeInvariants, World, apply, call_outcome, common_steps, evens, evens-distinct, filesystem_numbered, is_among, is_fit_filesystem, is_plain_layer, layers_of, list_all, list_all-append, looks_of, nat_eq_itself, no_filesystem, of_overlay, overfills, overlay_filesystem, overlay_mounted, same_ok, with_new_filesystem}
 use Rattle.vt_spec.proofs.Tables.{layer_rules, layers_walked, overlay_at}
 use Rattle.vt_spec.proofs.Lists
 use Rattle.vt_laws_trees.specs.Layers.Layers.Mounted.{AreLayers}
@@ -31,8 +31,7 @@ merged_with world mounts master filesystem overlay is = grind (arith, common_ste
 pub overlays_with : (world : World ℕ) (mounts : List (Mount ℕ)) (master : ℕ → Option ℕ)
     → OverlayInvariants nat_eq world → OverlayInvariants nat_eq (WithMounts world mounts master)
 overlays_with world mounts master is = record {
-  overlays_merge = λ number overlay e. merged_with world mounts master (filesystem_numbered nat_eq world number) overlay
-      (is.overlays_merge number overlay e);
+  overlays_merge = λ number overlay e. merged_with world mounts master _ overlay (is.overlays_merge number overlay e);
   fit_layers = is.fit_layers;
   plain_layers = is.plain_layers;
   changed_apart = is.changed_apart;
@@ -82,9 +81,8 @@ module _ (world : World ℕ) (conditions : IsWorld nat_eq world) (fresh : Fresh 
         let old = Later.plain_is_old world conditions overlay are_layers
         (evens fresh) (evens-distinct fresh are_new.distinct) unused layer plain in
         ap (λ f. Rattle.std.proofs.Common.not (Rattle.vt_spec.specs.Machine.World.is_overlay f)
-        && Rattle.vt_spec.specs.Tree.is_directory_node (f.files.tree.node layer.directory))
-        (Later.same_filesystem world conditions overlay are_layers
-        (evens fresh) (evens-distinct fresh are_new.distinct) unused layer.filesystem old) ∙ plain
+        && Rattle.vt_spec.specs.Tree.is_directory_node (f.files.tree.node layer.directory)) (Later.same_filesystem world
+        conditions overlay are_layers (evens fresh) (evens-distinct fresh are_new.distinct) unused _ old) ∙ plain
 
     all_plain_later : (layers : List (Layer ℕ)) → list_all (is_plain_layer nat_eq world) layers ≡ true
         → list_all (is_plain_layer nat_eq later) layers ≡ true
@@ -100,8 +98,7 @@ module _ (world : World ℕ) (conditions : IsWorld nat_eq world) (fresh : Fresh 
 
     pushed : (test : Filesystem ℕ → Bool) → list_all test world.filesystems ≡ true → test new ≡ true
         → list_all test (world.filesystems ++ new ∷ []) ≡ true
-    pushed test all last = list_all-append test world.filesystems (new ∷ []) ∙ ap (λ b. b && (test new && true)) all
-        ∙ ap (λ b. b && true) last
+    pushed test all last = list_all-append test _ _ ∙ ap (λ b. b && (test new && true)) all ∙ ap (λ b. b && true) last
 
     trees_later : TreeInvariants nat_eq later
     trees_later = record {
@@ -179,10 +176,8 @@ module _ (world : World ℕ) (conditions : IsWorld nat_eq world) (fresh : Fresh 
           overlays_merge = overlays_still_merge
               (evens fresh) world overlay places conditions are_layers plain (evens-distinct fresh are_new.distinct)
               unused passes;
-          fit_layers = pushed (of_overlay true has_fit_layers) conditions.overlays.fit_layers
-              (fit_layers world task places walked passed);
-          plain_layers = pushed (of_overlay true (λ o. list_all (is_plain_layer nat_eq later) (layers_of o)))
-              (plain_filesystems world.filesystems conditions.overlays.plain_layers)
+          fit_layers = pushed _ conditions.overlays.fit_layers (fit_layers world task places walked passed);
+          plain_layers = pushed _ (plain_filesystems world.filesystems conditions.overlays.plain_layers)
               (all_plain_later (layers_of overlay) plain);
           changed_apart = changed_stay_apart
               (evens fresh) world overlay places conditions are_layers plain (evens-distinct fresh are_new.distinct)
@@ -195,14 +190,11 @@ module _ (world : World ℕ) (conditions : IsWorld nat_eq world) (fresh : Fresh 
 
     trees_mounted : (place : Location ℕ) (flags : MountFlags)
         → TreeInvariants nat_eq (overlay_mounted nat_eq fresh world task place places flags)
-    trees_mounted place flags = trees_with later (overlay_mounted nat_eq fresh world task place places flags).mounts
-        (overlay_mounted nat_eq fresh world task place places flags).master trees_later
+    trees_mounted place flags = trees_with later _ _ trees_later
 
     overlays_mounted : (place : Location ℕ) (flags : MountFlags)
         → OverlayInvariants nat_eq (overlay_mounted nat_eq fresh world task place places flags)
-    overlays_mounted place flags =
-        overlays_with later (overlay_mounted nat_eq fresh world task place places flags).mounts
-        (overlay_mounted nat_eq fresh world task place places flags).master overlays_later
+    overlays_mounted place flags = overlays_with later _ _ overlays_later
 
   -- what the call leaves
   granted_makes : (Said : World ℕ → Type 0)

@@ -119,20 +119,17 @@ module _ (world : World ℕ) (task : Task ℕ) where
         ∙ ap (λ x. x && list_all (is_plain_layer nat_eq world) two) a ∙ b) ∙ c
 
     pub plain_lowers : list_all (is_plain_layer nat_eq world) overlay.lowers ≡ true
-    plain_lowers = plain_places places.lowers (split_left places.lowers _ (split_left
-        (places.lowers ++ option_to_list places.upper) _ none_in_overlay)) walked.lowers
+    plain_lowers = plain_places places.lowers (split_left _ _ (split_left _ _ none_in_overlay)) walked.lowers
 
     pub plain_upper : list_all (is_plain_layer nat_eq world) (option_to_list overlay.upper) ≡ true
     plain_upper = plain_option places.upper (split_right places.lowers _ (split_left
         (places.lowers ++ option_to_list places.upper) _ none_in_overlay)) walked.upper
 
     pub plain_work : list_all (is_plain_layer nat_eq world) (option_to_list overlay.work) ≡ true
-    plain_work = plain_option places.work
-        (split_right (places.lowers ++ option_to_list places.upper) _ none_in_overlay) walked.work
+    plain_work = plain_option places.work (split_right _ _ none_in_overlay) walked.work
 
     pub all_plain : list_all (is_plain_layer nat_eq world) (layers_of overlay) ≡ true
-    all_plain = all_three (option_to_list overlay.upper)
-        (option_to_list overlay.work) overlay.lowers plain_upper plain_work plain_lowers
+    all_plain = all_three _ (option_to_list overlay.work) overlay.lowers plain_upper plain_work plain_lowers
 
     pub shown_plain : list_all (is_plain_layer nat_eq world) (option_to_list overlay.upper ++ overlay.lowers) ≡ true
     shown_plain = list_all-append (is_plain_layer nat_eq world) (option_to_list overlay.upper) overlay.lowers

@@ -1,6 +1,6 @@
 -- What a change of the upper layer leaves of what is shown.
 use Rattle.std.proofs.Common.{arith, ◌≡◌, ◌≢◌, refl, sym, ap, subst, ◌∙◌, true≢false, ℕ, nat_eq, Bool, true, false, not, cond, List, [], ◌∷◌, ◌++◌, Option, Some, None, append-nil}
-use Rattle.vt_spec.proofs.Common.{AddName, Change, CopyUp, FileTree, IsDirectory, IsTree, Make, Move, Node, Remove, SetAttr, SetBytes, SetMark, Tree, View, changed, changed_node, common_steps, eqb_tells, is_kind, is_kind_in, kind_of, led, list_any, node_led, node_with_attr, node_with_bytes, node_with_mark, or_false_left, or_false_right, prefixes, same_option, shown_from, then_some, when}
+use Rattle.vt_spec.proofs.Common.{AddName, Change, CopyUp, FileTree, IsDirectory, IsTree, Make, Move, Node, Remove, SetAttr, SetBytes, SetMark, Tree, View, changed, changed_node, common_steps, eqb_tells, is_kind_in, led, list_any, node_led, node_with_attr, node_with_bytes, node_with_mark, or_false_left, or_false_right, prefixes, same_option, shown_from, then_some, when}
 use Rattle.vt_spec.specs.declared.attributes.Attr.{Attr}
 use Rattle.vt_spec.specs.declared.attributes.Kind.TheVariants.{White}
 use Rattle.vt_laws_trees.specs.Layers.Layers.Mounted.{IsAlike}
@@ -85,8 +85,7 @@ Stays before after path =
 not_named : (files : FileTree ℕ) (top directory : ℕ) (name : List ℕ) (path : List (List ℕ))
     → goes_through (view_in files top) directory name path ≡ false
     → names_entry (view_in files top) directory name path ≡ false
-not_named files top directory name path none =
-    itself_fails (names_entry (view_in files top) directory name) path refl none
+not_named files top directory name path none = itself_fails _ path refl none
 
 module _ (files : FileTree ℕ) (top : ℕ) where
   names_stay : (change : Change ℕ) → Rattle.vt_laws_trees.specs.Layers.Layers.Views.changes_names_alone change ≡ true
@@ -152,9 +151,8 @@ module _ (files : FileTree ℕ) (top : ℕ) where
         (λ path none. names_stay (Remove directory name object) refl path
         (cc (remove_ends_paths files top directory object name path)))
         path none
-    lead_alike (Move from old to new object) plain path none =
-        all_stay (Move from old to new object) path (stays path no_new no_old) (λ front is. stays front
-        (prefixes_fail (names_entry (view_in files top) to new) path front is no_new)
+    lead_alike (Move from old to new object) plain path none = all_stay (Move from old to new object)
+        path (stays path no_new no_old) (λ front is. stays front (prefixes_fail _ path front is no_new)
         (prefixes_fail (names_entry (view_in files top) from old) path front is no_old))
       where
         no_new : goes_through (view_in files top) to new path ≡ false
@@ -172,14 +170,12 @@ module _ (files : FileTree ℕ) (top : ℕ) where
         all_stay (SetBytes file bytes) path (stays path) (λ front is. stays front)
       where
         stays : (path : List (List ℕ)) → Stays (view_in files top) (view_after files (SetBytes file bytes) top) path
-        stays path = one_stays file (node_with_bytes bytes) (bytes_hide bytes) path
-            ((bytes_change_one_inode files top file bytes).0 path)
+        stays path = one_stays file _ (bytes_hide bytes) path ((bytes_change_one_inode files top file bytes).0 path)
     lead_alike (SetAttr object attr) plain path none =
         all_stay (SetAttr object attr) path (stays path) (λ front is. stays front)
       where
         stays : (path : List (List ℕ)) → Stays (view_in files top) (view_after files (SetAttr object attr) top) path
-        stays path = one_stays object (node_with_attr attr) (attr_hides attr) path
-            ((attr_changes_one_inode files top object attr).0 path)
+        stays path = one_stays object _ (attr_hides attr) path ((attr_changes_one_inode files top object attr).0 path)
     lead_alike (SetMark directory opaque) plain path none = record {
       leads = leads path;
       inode = holds_led IsOneKind (λ o. (hides_itself o).of_kind) files.tree
@@ -214,14 +210,12 @@ on_top view lowers path object white e is = cc
 
 pub new_name_is_shown : NewNameIsShown
 new_name_is_shown files top directory number name node lowers is vacant bare path e =
-    on_top (view_after files (Make directory name number node) top) lowers path number
-    (is_kind White (kind_of node.content)) (make_adds_path files top directory number name node is vacant bare path
-    ∙ ap (λ b. cond b (Some number) (led files.tree top path)) e)
+    on_top (view_after files (Make directory name number node) top) lowers path number _ (make_adds_path files
+    top directory number name node is vacant bare path ∙ ap (λ b. cond b (Some number) (led files.tree top path)) e)
     (ap (is_kind_in White) (make_adds_inode files top directory number name node is.in_directory vacant).0)
 
 pub link_is_shown : LinkIsShown
 link_is_shown files top directory object name lowers is file path e =
-    on_top (view_after files (AddName directory name object) top) lowers path object
-    (is_kind_in White (files.tree.node object)) (add_name_adds_path files top directory object name is file path
-    ∙ ap (λ b. cond b (Some object) (led files.tree top path)) e) (white_alike (files.tree.node object) _
-    (names_leave_inodes files (AddName directory name object) top object refl))
+    on_top (view_after files (AddName directory name object) top) lowers path object _ (add_name_adds_path files
+    top directory object name is file path ∙ ap (λ b. cond b (Some object) (led files.tree top path)) e)
+    (white_alike (files.tree.node object) _ (names_leave_inodes files (AddName directory name object) top object refl))

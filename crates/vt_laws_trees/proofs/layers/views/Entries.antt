@@ -28,9 +28,8 @@ module _ (files : FileTree ℕ) (directory : ℕ) (name : List ℕ) where
     where
       told : (word : List ℕ) → entry_named word (entries_in (node_with_entry name number (files.tree.node directory)))
           ≡ cond (bytes_eq word name) (Some number) (entry_at files.tree directory word)
-      told word = ap (entry_named word) (entries-node_with_entry name number (files.tree.node directory) is)
-          ∙ entry_named-with_entry word name number (entries_in (files.tree.node directory))
-          ∙ ap (λ b. cond b (Some number) (entry_at files.tree directory word)) (sym (texts_ties word name))
+      told word = ap (entry_named word) (entries-node_with_entry name number _ is) ∙ entry_named-with_entry word name
+          number _ ∙ ap (λ b. cond b (Some number) (entry_at files.tree directory word)) (sym (texts_ties word name))
 
   pub taken : (other : ℕ) (word : List ℕ) → entry_at (without_name nat_eq files directory name).tree other word
       ≡ cond (is_entry directory name other word) None (entry_at files.tree other word)

@@ -1,6 +1,6 @@
 -- Views that lead alike along a path show the same there.
 use Rattle.std.proofs.Common.{arith, ◌≡◌, refl, sym, ap, ◌∙◌, true≢false, ℕ, ◌+◌, Bool, not, ◌||◌, List, [], ◌∷◌, map, Option, Some, None}
-use Rattle.vt_spec.proofs.Common.{Node, View, common_steps, cuts, hides, is_directory, is_kind, is_kind_in, list_any, node_led, prefixes, shown_from, shown_over}
+use Rattle.vt_spec.proofs.Common.{Node, View, common_steps, cuts, hides, is_directory, is_kind, is_kind_in, list_any, prefixes, shown_from, shown_over}
 use Rattle.vt_spec.specs.declared.attributes.Kind.TheVariants.{White}
 use Rattle.vt_spec.specs.Machine.Views.{Shown}
 use Rattle.vt_laws_trees.specs.Layers.Layers.Mounted.{IsAlike}
@@ -29,19 +29,15 @@ pub prefixes_agree : (one other : List (List ℕ) → Bool) (path : List (List �
     → ((front : List (List ℕ)) → IsFrontOf front path → other front ≡ one front)
     → list_any other (prefixes path) ≡ list_any one (prefixes path)
 prefixes_agree one other [] same = refl
-prefixes_agree one other (word ∷ path) same =
-    ap (λ b. other (word ∷ []) || b) (list_any_of_map other (λ front. word ∷ front) (prefixes path)
-    ∙ prefixes_agree (λ front. one (word ∷ front)) (λ front. other (word ∷ front)) path
-    (λ front is. same (word ∷ front) (is.0, ap (λ p. word ∷ p) is.1, cons_is_not_empty word front))
-    ∙ sym (list_any_of_map one (λ front. word ∷ front) (prefixes path)))
-    ∙ ap (λ b. b || list_any one (map (λ front. word ∷ front) (prefixes path)))
+prefixes_agree one other (word ∷ path) same = ap (λ b. other (word ∷ []) || b) (list_any_of_map other _ (prefixes path)
+    ∙ prefixes_agree (λ front. one (word ∷ front)) (λ front. other (word ∷ front))
+    path (λ front is. same (word ∷ front) (is.0, ap (λ p. word ∷ p) is.1, cons_is_not_empty word front)) ∙ sym
+    (list_any_of_map one _ (prefixes path))) ∙ ap (λ b. b || list_any one (map (λ front. word ∷ front) (prefixes path)))
     (same (word ∷ []) (path, refl, cons_is_not_empty word []))
 
 module _ (path : List (List ℕ)) where
   pub cuts_alike : (one other : View ℕ) → LeadAlikeTo path one other → cuts other path ≡ cuts one path
-  cuts_alike one other is =
-      prefixes_agree (λ front. hides (node_led one front)) (λ front. hides (node_led other front)) path
-      (λ front f. hiding_alike (node_led one front) (node_led other front) (is.on_the_way front f))
+  cuts_alike one other is = prefixes_agree _ _ path (λ front f. hiding_alike _ _ (is.on_the_way front f))
 
   over_alike : (one other : View ℕ) → LeadAlikeTo path one other → (depth : ℕ) (lower : Option (Shown ℕ))
       → shown_over other depth (other.leads path) (cuts other path) lower

@@ -25,8 +25,7 @@ named_by tree directory name [] start e = absurd (true≢false (sym e))
 named_by tree directory name (word ∷ []) start e =
     let same = is_that_entry directory name start word e in
     ([], ap (λ w. w ∷ []) (sym same.1), ap Some same.0)
-named_by tree directory name (word ∷ next ∷ rest) start e =
-    by (entry_at tree start word) refl e (named_by tree directory name (next ∷ rest))
+named_by tree directory name (word ∷ next ∷ rest) start e = by _ refl e (named_by tree directory name (next ∷ rest))
   where
     by : (o : Option ℕ) → entry_at tree start word ≡ o
         → holds_of (λ inner. ends_in tree directory name inner (next ∷ rest)) o ≡ true
@@ -41,12 +40,10 @@ named_by tree directory name (word ∷ next ∷ rest) start e =
 pub prefixes_longer : (test : List (List ℕ) → Bool) (way : List (List ℕ)) (name : List ℕ)
     → list_any test (prefixes (way ++ name ∷ [])) ≡ (list_any test (prefixes way) || test (way ++ name ∷ []))
 prefixes_longer test [] name = or-false (test (name ∷ []))
-prefixes_longer test (word ∷ way) name =
-    ap (λ b. test (word ∷ []) || b) (list_any_of_map test (λ front. word ∷ front) (prefixes (way ++ name ∷ []))
-    ∙ prefixes_longer (λ front. test (word ∷ front)) way name
-    ∙ ap (λ b. b || test (word ∷ way ++ name ∷ [])) (sym (list_any_of_map test (λ front. word ∷ front) (prefixes way))))
-    ∙ sym (or_assoc (test (word ∷ [])) (list_any test (map (λ front. word ∷ front) (prefixes way)))
-    (test (word ∷ way ++ name ∷ [])))
+prefixes_longer test (word ∷ way) name = ap (λ b. test (word ∷ []) || b) (list_any_of_map test (λ front. word ∷ front) _
+    ∙ prefixes_longer (λ front. test (word ∷ front)) way name ∙ ap (λ b. b || test (word ∷ way ++ name ∷ []))
+    (sym (list_any_of_map test (λ front. word ∷ front) (prefixes way)))) ∙ sym (or_assoc (test (word ∷ []))
+    (list_any test (map (λ front. word ∷ front) (prefixes way))) (test (word ∷ way ++ name ∷ [])))
 
 -- a layer that leads nowhere at a path, and on the way there as another
 shown_under : (before after : View ℕ) (lowers : List (View ℕ)) (way : List (List ℕ)) (name : List ℕ)
@@ -70,15 +67,12 @@ module _ (files : FileTree ℕ) (top directory : ℕ) (name : List ℕ) where
   pub way_goes_elsewhere : IsTree files.tree → (object : ℕ) → entry_at files.tree directory name ≡ Some object
       → (way : List (List ℕ)) → led files.tree top way ≡ Some directory
       → goes_through (view_in files top) directory name way ≡ false
-  way_goes_elsewhere tree object named way e = fails (goes_through (view_in files top) directory name way)
-      (λ t. back (through_is_split files top directory name way t))
+  way_goes_elsewhere tree object named way e = fails _ (λ t. back (through_is_split files top directory name way t))
     where
       back : (first rest : List (List ℕ)) × (first ++ name ∷ rest ≡ way) × (led files.tree top first ≡ Some directory)
           → ⊥
-      back parts = no_way_up files tree directory name object named parts.1
-          (sym (ap (option_and_then (λ next. led files.tree next parts.1)) named)
-          ∙ sym (led_parts files.tree parts.0 (name ∷ parts.1) top directory parts.3)
-          ∙ ap (led files.tree top) parts.2 ∙ e)
+      back parts = no_way_up files tree directory name object
+          named parts.1 (cc (named, led_parts files.tree parts.0 (name ∷ parts.1) top directory parts.3, parts.2, e))
 
 pub removed_shows_below : RemovedShowsBelow
 removed_shows_below files top directory object name lowers tree is_top named path e =
@@ -89,13 +83,11 @@ removed_shows_below files top directory object name lowers tree is_top named pat
         ≡ shown_in_lowers (view_in files top) lowers path
     at there = subst (λ p. shown_from 0 (view_after files (Remove directory name object) top ∷ lowers) p
         ≡ shown_in_lowers (view_in files top) lowers p) there.1
-        (shown_under (view_in files top) (view_after files (Remove directory name object) top) lowers there.0 name
-        (remove_ends_paths files top directory object name (there.0 ++ name ∷ [])
-        ∙ ap (λ b. cond b None (led files.tree top (there.0 ++ name ∷ [])))
-        (goes_through_named files top directory name there.0
-        (ap (names_entry (view_in files top) directory name) there.1 ∙ e)))
-        (lead_alike files top tree is_top (Remove directory name object) tt there.0
-        (way_goes_elsewhere files top directory name tree object named there.0 there.2)))
+        (shown_under (view_in files top) _ lowers there.0 name (remove_ends_paths files top directory object name
+        (there.0 ++ name ∷ []) ∙ ap (λ b. cond b None (led files.tree top (there.0 ++ name ∷ []))) (goes_through_named
+        files top directory name there.0 (ap (names_entry (view_in files top) directory name) there.1 ∙ e)))
+        (lead_alike files top tree is_top (Remove directory name object)
+        tt there.0 (way_goes_elsewhere files top directory name tree object named there.0 there.2)))
 
 pub moved_shows_below : MovedShowsBelow
 moved_shows_below files top from to object old new lowers tree is_top can path e apart =
@@ -105,25 +97,21 @@ moved_shows_below files top from to object old new lowers tree is_top can path e
         → shown_from 0 (view_after files (Move from old to new object) top ∷ lowers) path
         ≡ shown_in_lowers (view_in files top) lowers path
     at there =
-        let elsewhere : goes_through (view_in files top) to new (there.0 ++ old ∷ [])
-        ≡ false = ap (goes_through (view_in files top) to new) there.1 ∙ apart in
+        let elsewhere : goes_through (view_in files top) to new (there.0 ++ old ∷ []) ≡ false = cc (there.1, apart) in
         subst (λ p. shown_from 0 (view_after files (Move from old to new object) top ∷ lowers) p
-        ≡ shown_in_lowers (view_in files top) lowers p) there.1
-        (shown_under (view_in files top) (view_after files (Move from old to new object) top) lowers there.0 old
-        (old_leads_nowhere files top from to object old new can (there.0 ++ old ∷ []) elsewhere
-        ∙ ap (λ b. cond b None (led files.tree top (there.0 ++ old ∷ [])))
+        ≡ shown_in_lowers (view_in files top) lowers p)
+        there.1 (shown_under (view_in files top) _ lowers there.0 old (old_leads_nowhere files top from to object
+        old new can (there.0 ++ old ∷ []) elsewhere ∙ ap (λ b. cond b None (led files.tree top (there.0 ++ old ∷ [])))
         (goes_through_named files top from old there.0 (ap (names_entry (view_in files top) from old) there.1 ∙ e)))
-        (lead_alike files top tree is_top (Move from old to new object) can there.0 (neither there.0 elsewhere
-        (way_goes_elsewhere files top from old tree object can.named there.0 there.2))))
+        (lead_alike files top tree is_top (Move from old to new object) can there.0
+        (neither there.0 elsewhere (way_goes_elsewhere files top from old tree object can.named there.0 there.2))))
       where
         none_left : (test : List (List ℕ) → Bool) (way : List (List ℕ))
             → list_any test (prefixes (way ++ old ∷ [])) ≡ false → list_any test (prefixes way) ≡ false
         none_left test [] none = refl
-        none_left test (word ∷ way) none =
-            prefixes_fail test (word ∷ way ++ old ∷ []) (word ∷ way) (old ∷ [], refl, cons_is_not_empty word way) none
+        none_left test (word ∷ way) none = prefixes_fail test _ _ (old ∷ [], refl, cons_is_not_empty word way) none
 
         neither : (way : List (List ℕ)) → goes_through (view_in files top) to new (way ++ old ∷ []) ≡ false
             → goes_through (view_in files top) from old way ≡ false
             → (goes_through (view_in files top) to new way || goes_through (view_in files top) from old way) ≡ false
-        neither way no_new no_old = ap (λ b. b || goes_through (view_in files top) from old way)
-            (none_left (names_entry (view_in files top) to new) way no_new) ∙ no_old
+        neither way no_new no_old = cc (none_left (names_entry (view_in files top) to new) way no_new, no_old)

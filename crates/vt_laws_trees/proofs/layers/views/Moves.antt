@@ -8,6 +8,7 @@ use Rattle.vt_laws_trees.proofs.layers.layers.UpperLine.{ReachedIn, has_entries,
 use Rattle.vt_laws_trees.proofs.layers.views.Entries.{entries_stay, given, is_entry, taken}
 use Rattle.vt_laws_trees.proofs.layers.views.Names.{no_entries}
 use Rattle.vt_laws_trees.proofs.layers.views.Walks.{goes_through_it, passes, split}
+use Rattle.vt_spec.proofs.Trees.{found}
 
 pub through_is_split : ThroughIsSplit
 through_is_split files top directory name path e =
@@ -18,13 +19,8 @@ pub led_parts : (tree : Tree ℕ) (way : List (List ℕ)) (rest : List (List ℕ
     → led tree start way ≡ Some middle → led tree start (way ++ rest) ≡ led tree middle rest
 led_parts tree [] rest start middle e = ap (λ d. led tree d rest) (same_Some start middle e)
 led_parts tree (word ∷ way) rest start middle e =
-    by (entry_at tree start word) e (λ next. led_parts tree way rest next middle)
-  where
-    by : (o : Option ℕ) → option_and_then (λ next. led tree next way) o ≡ Some middle
-        → ((next : ℕ) → led tree next way ≡ Some middle → led tree next (way ++ rest) ≡ led tree middle rest)
-        → option_and_then (λ next. led tree next (way ++ rest)) o ≡ led tree middle rest
-    by None e later = none_is_some middle e
-    by (Some next) e later = later next e
+    let next = found (λ next. led tree next way) (entry_at tree start word) middle e in
+    ap (option_and_then (λ next. led tree next (way ++ rest))) next.1 ∙ led_parts tree way rest next.0 middle next.2
 
 -- No names lead from an object up to a directory that has it
 
@@ -46,13 +42,9 @@ steps_on : (tree : Tree ℕ) (names : List (List ℕ)) (steps from to : ℕ) →
     → led tree from names ≡ Some to → IsDirectory tree to → ReachedIn tree (after_steps names steps) to
 steps_on tree [] steps from to r e d = subst (ReachedIn tree steps) (same_Some from to e) r
 steps_on tree (name ∷ names) steps from to r e d =
-    by (entry_at tree from name) refl e (λ next. steps_on tree names (suc steps) next to)
-  where
-    by : (o : Option ℕ) → entry_at tree from name ≡ o → option_and_then (λ next. led tree next names) o ≡ Some to
-        → ((next : ℕ) → ReachedIn tree (suc steps) next → led tree next names ≡ Some to → IsDirectory tree to
-        → ReachedIn tree (after_steps names (suc steps)) to) → ReachedIn tree (after_steps names (suc steps)) to
-    by None o e on = none_is_some to e
-    by (Some next) o e on = on next (from, name, r, o, leads_to_directory tree names next to e d) e d
+    let next = found (λ next. led tree next names) (entry_at tree from name) to e in
+    let there = leads_to_directory tree names next.0 to next.2 d in
+    steps_on tree names (suc steps) next.0 to (from, name, r, next.1, there) next.2 d
 
 pub no_way_up : (files : FileTree ℕ) → IsTree files.tree → (from : ℕ) (old : List ℕ) (object : ℕ)
     → entry_at files.tree from old ≡ Some object → (names : List (List ℕ)) → led files.tree object names ≢ Some from
@@ -100,11 +92,10 @@ module _ (before after : Tree ℕ) (from : ℕ) (old : List ℕ) (to : ℕ) (new
 
     -- nor does a way to the new name's directory
     way_led : (way : List (List ℕ)) (start : ℕ) → led before start way ≡ Some to → led after start way ≡ Some to
-    way_led way start e = others_led way start (passes_not to new start way (λ first rest is l.
-        stops_there (entry_at before to new) refl rest (sym (led_parts before first (new ∷ rest) start to l)
-        ∙ ap (led before start) is ∙ e))) ∙ ap (λ b. cond b None (led before start way))
-        (passes_not from old start way (λ first rest is l.
-        not_under rest (sym (ap (option_and_then (λ next. led before next rest)) named)
+    way_led way start e = others_led way start (passes_not to new start way (λ first rest is l. stops_there _
+        refl rest (sym (led_parts before first (new ∷ rest) start to l) ∙ ap (led before start) is ∙ e)))
+        ∙ ap (λ b. cond b None (led before start way)) (passes_not from old
+        start way (λ first rest is l. not_under rest (sym (ap (option_and_then (λ next. led before next rest)) named)
         ∙ sym (led_parts before first (old ∷ rest) start from l) ∙ ap (led before start) is ∙ e))) ∙ e
 
     pub moved_led : (way rest : List (List ℕ)) (start : ℕ) → led before start way ≡ Some to

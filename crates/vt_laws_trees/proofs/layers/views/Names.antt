@@ -26,8 +26,7 @@ module _ (before after : Tree ℕ) (directory : ℕ) (name : List ℕ) (object :
       → (start : ℕ) (path : List (List ℕ)) → led after start path
       ≡ cond (names_entry (record { leads = λ p. led before start p; node = λ n. before.node n }) directory name path)
       (Some object) (led before start path)
-  given_led bare start path = entry_led before after directory name (Some object) told
-      (λ k e. no_entries before k (bare k e))
+  given_led bare start path = entry_led before after directory name _ told (λ k e. no_entries before k (bare k e))
       (λ k e word. ap (λ n. entry_at after n word) (sym (same_Some object k e)) ∙ stays_empty word) path start
       ∙ ap (λ b. cond b (Some object) (led before start path)) (sym (names_it before directory name path start))
 
@@ -68,14 +67,11 @@ module _ (files : FileTree ℕ) (directory number : ℕ) (name : List ℕ) (node
   number_differs same = cc
 
   number_there : made.tree.node number ≡ Some node
-  number_there =
-      node_other grown.tree directory (node_with_entry name number (grown.tree.node directory)) number number_differs
-      ∙ node_set files.tree number (Some node)
+  number_there = node_other grown.tree directory _ number number_differs ∙ node_set files.tree number (Some node)
 
   others_alike : (inode : ℕ) → inode ≢ number → IsAlike (files.tree.node inode) (made.tree.node inode)
-  others_alike inode differ =
-      subst (λ o. IsAlike o (made.tree.node inode)) (node_other files.tree number (Some node) inode differ)
-      (alike_after grown directory (node_with_entry name number) (entry_keeps name number) inode)
+  others_alike inode differ = subst (λ o. IsAlike o (made.tree.node inode))
+      (node_other files.tree number _ inode differ) (alike_after grown directory _ (entry_keeps name number) inode)
 
   module _ (bare : entries_of node.content ≡ []) where
     made_told : (other : ℕ) (word : List ℕ) → entry_at made.tree other word
@@ -144,20 +140,15 @@ names_leave_inodes files (AddName directory name object) top inode e =
     alike_after files directory (node_with_entry name object) (entry_keeps name object) inode
 names_leave_inodes files (Remove directory name object) top inode e =
     let left = without_name nat_eq files directory name in
-    alike_both (files.tree.node inode) (left.tree.node inode) _
-    (alike_after files directory (node_without_entry name) (without_entry_keeps name) inode)
+    alike_both _ (left.tree.node inode) _ (alike_after files directory _ (without_entry_keeps name) inode)
     (alike_kept (left.tree.node inode) _ (kept_by_parent left object object inode))
 names_leave_inodes files (Move from old to new object) top inode e =
     let freed = without_parent nat_eq files (entry_named new (entries_in (files.tree.node to))) in
     let left = without_name nat_eq freed from old in
     let named = with_name nat_eq left to new object in
-    alike_both (files.tree.node inode) (freed.tree.node inode) _ (alike_kept (files.tree.node inode) _
-    (kept_without_parent files (entry_named new (entries_in (files.tree.node to))) inode))
-    (alike_both (freed.tree.node inode) (left.tree.node inode) _
-    (alike_after freed from (node_without_entry old) (without_entry_keeps old) inode)
-    (alike_both (left.tree.node inode) (named.tree.node inode) _
-    (alike_after left to (node_with_entry new object) (entry_keeps new object) inode)
-    (alike_kept (named.tree.node inode) _ (kept_by_parent named object to inode))))
+    alike_both _ _ _ (alike_kept _ _ (kept_without_parent files _ inode)) (alike_both _ (left.tree.node inode) _
+    (alike_after freed from (node_without_entry old) (without_entry_keeps old) inode) (alike_both (left.tree.node inode)
+    _ _ (alike_after left to _ (entry_keeps new object) inode) (alike_kept _ _ (kept_by_parent named object to inode))))
 names_leave_inodes files (CopyUp object) top inode e = alike_same (files.tree.node inode) _ refl
 names_leave_inodes files (Make directory name number node) top inode e = cc
 names_leave_inodes files (SetBytes file bytes) top inode e = cc
@@ -180,12 +171,11 @@ module _ (before after : Tree ℕ) (top : ℕ) (path : List (List ℕ)) where
 
 pub make_is_seen : MakeIsSeen
 make_is_seen files top directory number name node tree is_top is vacant bare path =
-    seen_by files.tree (made files directory number name node is.in_directory vacant).tree top path
-    (names_entry (view_in files top) directory name path) (Some number) (Some node)
-    (make_adds_path files top directory number name node is vacant bare path)
+    seen_by files.tree (made files directory number name node is.in_directory vacant).tree
+    top path _ (Some number) (Some node) (make_adds_path files top directory number name node is vacant bare path)
     (alike_same (Some node) _ (number_there files directory number name node is.in_directory vacant))
-    (λ inode e. others_alike files directory number name node is.in_directory vacant inode
-    (λ same. cc (led_is_there (record { tree = files.tree; directory = top }) tree is_top path inode e)))
+    (λ inode e. others_alike files directory number name node is.in_directory
+    vacant inode (λ same. cc (led_is_there (record { tree = files.tree; directory = top }) tree is_top path inode e)))
 
 pub add_name_is_seen : AddNameIsSeen
 add_name_is_seen files top directory object name is file path =
@@ -196,8 +186,6 @@ add_name_is_seen files top directory object name is file path =
     (λ inode e. names_leave_inodes files (AddName directory name object) top inode refl)
 
 pub remove_is_seen : RemoveIsSeen
-remove_is_seen files top directory object name named empty path =
-    seen_by files.tree (left files directory object name).tree top path
-    (names_entry (view_in files top) directory name path) None None
-    (remove_takes_path files top directory object name named empty path) (make_seen None)
-    (λ inode e. names_leave_inodes files (Remove directory name object) top inode refl)
+remove_is_seen files top directory object name named empty path = seen_by files.tree (left files _ object name).tree
+    top path _ None None (remove_takes_path files top directory object name named empty path)
+    (make_seen None) (λ inode e. names_leave_inodes files (Remove directory name object) top inode refl)

@@ -14,8 +14,7 @@ pub led_where : (before after : Tree ℕ) (path : List (List ℕ)) (start : ℕ)
     → ((way : List (List ℕ)) (inode : ℕ) → led before start way ≡ Some inode → (word : List ℕ)
     → entry_at after inode word ≡ entry_at before inode word) → led after start path ≡ led before start path
 led_where before after [] start same = refl
-led_where before after (word ∷ rest) start same =
-    cc (same [] start refl word, by (entry_at before start word) refl (led_where before after rest))
+led_where before after (word ∷ rest) start same = cc (same [] start refl word, by _ refl (led_where before after rest))
   where
     by : (o : Option ℕ) → entry_at before start word ≡ o
         → ((next : ℕ) → ((way : List (List ℕ)) (inode : ℕ) → led before next way ≡ Some inode → (word : List ℕ)

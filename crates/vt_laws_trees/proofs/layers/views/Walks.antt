@@ -189,24 +189,10 @@ module _ (before after : Tree ℕ) (directory : ℕ) (name : List ℕ) (to : Opt
           → ((inner : ℕ) → led after inner rest ≡ led_over inner rest)
           → option_and_then (λ next. led after next rest) (cond b to (entry_at before start word))
           ≡ led_over start (word ∷ rest)
-      by true is [] later = option_and_then-Some to ∙ ap (λ b. cond b to
-          (cond (passes before directory name start (word ∷ [])) None (led before start (word ∷ [])))) (sym is)
+      by true is [] later = cc (option_and_then-Some to, is)
       by true is (next ∷ rest) later =
           let same = is_that_entry directory name start word is in
-          let entry : entry_at before start word
-          ≡ entry_at before directory name = ap (λ d. entry_at before d word) same.0
-          ∙ ap (entry_at before directory) same.1 in
-          over_leads_no_more to leaf_after next rest
-          ∙ ap (λ b. cond (b || holds_of (λ inner. passes before directory name inner (next ∷ rest))
-          (entry_at before start word)) None (led before start (word ∷ next ∷ rest))) (sym is) ∙ ap (λ b. cond b to
-          (cond (passes before directory name start (word ∷ next ∷ rest)) None (led before start (word ∷ next ∷ rest))))
-          (sym (ap (holds_of (λ inner. ends_in before directory name inner (next ∷ rest))) entry
-          ∙ over_ends (entry_at before directory name) refl (next ∷ rest)))
-      by false is [] later = option_and_then-Some (entry_at before start word) ∙ alone (entry_at before start word)
-          ∙ ap (λ b. cond b to
-          (cond (b || holds_of (λ inner. false) (entry_at before start word)) None (led before start (word ∷ []))))
-          (sym is)
-      by false is (next ∷ rest) later = on (entry_at before start word) next rest later
-          ∙ ap (λ b. cond (ends_in before directory name start (word ∷ next ∷ rest)) to
-          (cond (b || holds_of (λ inner. passes before directory name inner (next ∷ rest))
-          (entry_at before start word)) None (led before start (word ∷ next ∷ rest)))) (sym is)
+          let entry : entry_at before start word ≡ entry_at before directory name = cc (same.0, same.1) in
+          cc (over_leads_no_more to leaf_after next rest, is, entry, over_ends _ refl (next ∷ rest))
+      by false is [] later = cc (option_and_then-Some (entry_at before start word), alone _, is)
+      by false is (next ∷ rest) later = cc (on (entry_at before start word) next rest later, is)

@@ -1,6 +1,6 @@
 -- What lower layers show after a change they showed before.
 use Rattle.std.proofs.Common.{arith, ◌≡◌, refl, sym, ap, subst, ◌∙◌, eq-eqb, ℕ, suc, ◌+◌, nat_eq, Bool, true, false, cond, List, Option, Some, None, is_some}
-use Rattle.vt_spec.proofs.Common.{AddName, Change, CopyUp, Fresh, Lower, Make, Merge, Move, Real, Remove, SameObject, SetAttr, SetBytes, SetMark, Shown, Stack, Upper, common_steps, copied_up, directory_used, hides_directory, layer_node, merge_changed, none_is_some, number_at_path, odds, odds-distinct, real_object, same_Some, shown, shown_in_lowers_at, then_some, upper_object}
+use Rattle.vt_spec.proofs.Common.{AddName, Change, CopyUp, Fresh, Lower, Make, Merge, Move, Real, Remove, SameObject, SetAttr, SetBytes, SetMark, Shown, Stack, Upper, common_steps, copied_up, directory_used, layer_node, merge_changed, none_is_some, number_at_path, odds, odds-distinct, real_object, same_Some, shown, then_some}
 use Rattle.vt_laws_trees.specs.Trees.{MayAddName, MayMake, MayRemove}
 use Rattle.vt_laws_trees.specs.Layers.Layers.ChangesUpper.{StandsInUpper}
 use Rattle.vt_laws_trees.specs.Layers.Layers.Shown.{IsShown}
@@ -17,7 +17,7 @@ use Rattle.vt_laws_trees.proofs.overlays.steps.WholeLines.{below_before, object_
 use Rattle.vt_laws_trees.proofs.overlays.steps.WholeMade.{new_bare}
 use Rattle.vt_laws_trees.proofs.overlays.steps.WholeMoved.{below_stays}
 use Rattle.vt_laws_trees.proofs.overlays.steps.WholeParts.{object_is_not_none, real_by}
-use Rattle.vt_laws_trees.proofs.overlays.changes.WholeTogether.{both_copied, twice, changes_keep_shown, copied, is_copied, stands_now, still_unused}
+use Rattle.vt_laws_trees.proofs.overlays.changes.WholeTogether.{ready_above, twice, changes_keep_shown, copied, is_copied, stands_now, still_unused}
 
 -- nothing comes to lie below, and what lies below gets no name
 pub record Uncovers (merge later : Merge ℕ) : Type 0 where
@@ -46,8 +46,7 @@ shown_before stack merge later whole after uncovers path layer object e = by (nu
     there : is_some (layer_node (layers_under stack later) (record { layer = suc layer; object = object })) ≡ true
     there =
         let open_one = whole.layers (suc layer) is.has_uncut.0.0 is.has_uncut.0.1 in
-        ap (λ o. is_some (then_some o (λ l. l.tree.node object))) is.has_uncut.0.1
-        ∙ led_is_there is.has_uncut.0.0 open_one.0 open_one.1 path object is.has_uncut.0.2
+        cc (is.has_uncut.0.1, led_is_there is.has_uncut.0.0 open_one.0 open_one.1 path object is.has_uncut.0.2)
 
     -- the object at the path is one
     same_object : (old : Shown ℕ) (found : ℕ)
@@ -112,9 +111,8 @@ module _ (fresh : Fresh ℕ) (stack : Stack ℕ) (merge : Merge ℕ) (whole : Is
           → (b : Bool) → cond b (Some number) (number_at_path one.files path) ≡ Some n
           → cond (nat_eq n number) (Some (Upper (odds fresh 0))) (one.real n) ≡ Some (Lower layer way)
           → number_at_path merge.files path ≡ Some n
-      by path n layer way one files true f e = none_is_some (odds fresh 0)
-          (sym (ap upper_object (sym (ap (λ b. cond b (Some (Upper (odds fresh 0))) (one.real n))
-          (eq-eqb n number (sym (same_Some number n f)))) ∙ e)))
+      by path n layer way one files true f e =
+          none_is_some (odds fresh 0) (cc (eq-eqb n number (sym (same_Some number n f)), e))
       by path n layer way one files false f e = sym (ap (λ fs. number_at_path fs path) files) ∙ f
   uncovers (AddName d w object) may =
       let first = is_copied fresh whole distinct unused object may.is_there in
@@ -162,13 +160,10 @@ module _ (fresh : Fresh ℕ) (stack : Stack ℕ) (merge : Merge ℕ) (whole : Is
       by path n one files false f = sym (ap (λ fs. number_at_path fs path) files) ∙ f
   uncovers (Move f old t new o) asked =
       let m = twice fresh stack merge whole distinct unused f old t new o asked.0 in
-      let two = both_copied fresh stack merge f old t new o in
       record {
         below = m.lower;
         names = λ path n layer way e r. sym (ap (λ fs. number_at_path fs path) m.files)
-            ∙ below_stays (odds (odds fresh)) stack two m.whole f old t new o m.from m.to m.object m.may m.vacant
-            (λ d. m.cut d ∙ asked.1 (m.was_directory d)) (is_some (shown_in_lowers_at nat_eq stack two f old))
-            (hides_directory nat_eq stack two t new) refl refl path n layer way e r;
+            ∙ below_stays (ready_above m) (λ d. m.cut d ∙ asked.1 (m.was_directory d)) path n layer way e r;
       }
   uncovers (SetBytes file bytes) there =
       let is = (object_copied stack fresh distinct merge file whole unused there).copied in

@@ -119,9 +119,8 @@ module _ {fresh : Fresh ℕ} {world : World ℕ} {location : Location ℕ} {chan
   -- lower layers lead where they led
   lower_leads : (lower : Layer ℕ) → Lists.Among lower overlay.lowers
       → LeadsAsBefore world (with_change nat_eq fresh world location change) lower
-  lower_leads lower m =
-      leads_as_before world it.conditions lower lower_plain (with_change nat_eq fresh world location change)
-      (λ inode lies there. by inode lies there (nat_eq lower.filesystem upper.filesystem) refl)
+  lower_leads lower m = leads_as_before world it.conditions lower
+      lower_plain (with_change nat_eq fresh world location change) (λ inode lies there. by inode lies there _ refl)
     where
       in_layers : Lists.Among lower (layers_of overlay)
       in_layers = among-append_right (upper_and_work overlay) overlay.lowers lower m

@@ -84,8 +84,7 @@ module _ (one other : Layer ℕ → OpenLayer ℕ) where
           (then_some o (layer_node (layers_under stack_other merge)))) (sym (shown_same path))
           (by path (shown (layers_under stack_one merge) path) refl (is.shows path));
       names = λ path number e. cc (is.names path number e, shown_same path);
-      real_objects = λ number. alike_objects (merge.files.tree.node number) _ (merge.files.tree.node number) _
-          (is.real_objects number) (make_seen _) (behind_alike (merge.real number));
+      real_objects = λ number. alike_objects _ _ _ _ (is.real_objects number) (make_seen _) (behind_alike _);
       real_there = is.real_there;
       no_whiteout = is.no_whiteout;
       no_mark = is.no_mark;
@@ -99,6 +98,4 @@ module _ (one other : Layer ℕ → OpenLayer ℕ) where
             → SameObject (then_some (number_at_path merge.files path) merge.files.tree.node)
             (then_some o (layer_node (layers_under stack_other merge)))
         by path None e same = same
-        by path (Some seen) e same = alike_objects
-            (then_some (number_at_path merge.files path) merge.files.tree.node) _ _ _ same (make_seen _)
-            (node_alike path seen e)
+        by path (Some seen) e same = alike_objects _ _ _ _ same (make_seen _) (node_alike path seen e)

@@ -54,11 +54,10 @@ module _ (world later : World ℕ) (filesystem : Filesystem ℕ) (other : Overla
       let is = (computed (map one (shown_layers other)) path seen).0 e in
       subst (λ x. IsAlike (then_some x (λ l. l.tree.node seen.object))
       (then_some (slice_get (map two (shown_layers other)) seen.layer) (λ l. l.tree.node seen.object)))
-      (sym (slice_get-map one (shown_layers other) seen.layer))
-      (subst (λ x. IsAlike (then_some (option_map one (slice_get (shown_layers other) seen.layer))
-      (λ l. l.tree.node seen.object)) (then_some x (λ l. l.tree.node seen.object)))
-      (sym (slice_get-map two (shown_layers other) seen.layer)) (by (slice_get (shown_layers other) seen.layer) refl
-      (λ layer f. ap (λ l. at_path l path) (same_Some layer is.has_uncut.0.0
+      (sym (slice_get-map one (shown_layers other) seen.layer)) (subst (λ x. IsAlike
+      (then_some (option_map one (slice_get (shown_layers other) seen.layer)) (λ l. l.tree.node seen.object))
+      (then_some x (λ l. l.tree.node seen.object))) (sym (slice_get-map two (shown_layers other) seen.layer))
+      (by _ refl (λ layer f. ap (λ l. at_path l path) (same_Some layer is.has_uncut.0.0
       (sym f ∙ sym (slice_get-map one (shown_layers other) seen.layer) ∙ is.has_uncut.0.1)) ∙ is.has_uncut.0.2)))
     where
       by : (x : Option (Layer ℕ)) → slice_get (shown_layers other) seen.layer ≡ x
@@ -101,9 +100,7 @@ module _ (world later : World ℕ) (filesystem : Filesystem ℕ) (other : Overla
           → SameObject (then_some (number_at_path filesystem.files path) filesystem.files.tree.node)
           (then_some o (layer_node (map two (shown_layers other))))
       by path None e same = same
-      by path (Some seen) e same = alike_objects
-          (then_some (number_at_path filesystem.files path) filesystem.files.tree.node) _ _ _ same
-          (alike_same _ _ refl) (node_alike path seen e)
+      by path (Some seen) e same = alike_objects _ _ _ _ same (alike_same _ _ refl) (node_alike path seen e)
 
       there : (number object : ℕ) → other.real number ≡ Some (Upper object) → (x : Option (Layer ℕ)) → other.upper ≡ x
           → holds_of (λ layer. is_there nat_eq world layer.filesystem object) x ≡ true
@@ -150,9 +147,8 @@ module _ (fresh : Fresh ℕ) (world : World ℕ) (location : Location ℕ) (chan
     apart_upper : (layer : Layer ℕ) → Lists.Among layer (upper_and_work other) → (inode : ℕ)
         → lies_or_counts_under nat_eq world layer.filesystem inode layer ≡ true
         → upper.filesystem ≡ layer.filesystem → ¬ (IsUpperObject overlay inode)
-    apart_upper layer m inode lies same object = no_other world conditions
-        (mount_at nat_eq world location).filesystem overlay is upper has inode object number differ other is_other layer
-        m (subst (λ n. lies_or_counts_under nat_eq world n inode layer ≡ true) (sym same) lies)
+    apart_upper layer m inode lies same object = no_other world conditions (mount_at nat_eq world location).filesystem
+        overlay is upper has inode object number differ other is_other layer m (cc (same, lies))
 
     apart_lower : (layer : Layer ℕ) → Lists.Among layer other.lowers → (inode : ℕ)
         → lies_or_counts_under nat_eq world layer.filesystem inode layer ≡ true
@@ -163,13 +159,11 @@ module _ (fresh : Fresh ℕ) (world : World ℕ) (location : Location ℕ) (chan
         (subst (λ n. lies_or_counts_under nat_eq world n inode layer ≡ true) (sym same) lies)
 
     leads : (layer : Layer ℕ) → Lists.Among layer (shown_layers other) → LeadsAsBefore world later layer
-    leads layer m = ⊎_elim (up other.upper refl) low
-        (Lists.among-append (option_to_list other.upper) other.lowers layer m)
+    leads layer m = ⊎_elim (up other.upper refl) low (Lists.among-append _ other.lowers layer m)
       where
         low : Lists.Among layer other.lowers → LeadsAsBefore world later layer
         low l =
-            let plain = layer_plain world conditions number other is_other layer
-            (among-append_right (upper_and_work other) other.lowers layer l) in
+            let plain = layer_plain world conditions number other is_other layer (among-append_right _ _ layer l) in
             leads_as_before world conditions layer plain later
             (λ inode lies there. inode_kept layer plain inode there (apart_lower layer l inode lies))
 
@@ -179,8 +173,7 @@ module _ (fresh : Fresh ℕ) (world : World ℕ) (location : Location ℕ) (chan
         up (Some top) e (inr l) = absurd l
         up (Some top) e (inl same) =
             let m = in_upper layer (cc) in
-            let plain = layer_plain world conditions number other is_other layer
-            (among-append_left (upper_and_work other) other.lowers layer m) in
+            let plain = layer_plain world conditions number other is_other layer (among-append_left _ _ layer m) in
             leads_as_before world conditions layer plain later
             (λ inode lies there. inode_kept layer plain inode there (apart_upper layer m inode lies))
 
@@ -188,27 +181,23 @@ module _ (fresh : Fresh ℕ) (world : World ℕ) (location : Location ℕ) (chan
         → IsKept (inode_in world layer.filesystem object) (inode_in later layer.filesystem object)
     own layer object e of =
         let m = in_upper layer e in
-        let plain = layer_plain world conditions number other is_other layer
-        (among-append_left (upper_and_work other) other.lowers layer m) in
+        let plain = layer_plain world conditions number other is_other layer (among-append_left _ _ layer m) in
         inode_kept layer plain object (ap (holds_of (λ l. is_there nat_eq world l.filesystem object)) (sym e)
         ∙ (overlay_merges world conditions number other is_other).upper_there of.0 object of.1)
         (apart_upper layer m object (object_counts world conditions number other is_other layer e object of))
 
     same_filesystem : filesystem_numbered nat_eq later number ≡ filesystem_numbered nat_eq world number
-    same_filesystem = others_elsewhere fresh world location change number differ
-        (λ o u f g s. none_is_some other (sym (no_overlay_in world conditions upper
-        (layer_plain world conditions (mount_at nat_eq world location).filesystem overlay is upper
-        (subst (λ x. Lists.Among upper (option_to_list x ++ option_to_list overlay.work ++ overlay.lowers)) (sym has)
-        (inl refl)))) ∙ ap (λ n. (filesystem_numbered nat_eq world n).overlay)
-        (ap (λ l. l.filesystem) (same_Some upper u
-        (sym has ∙ ap (λ v. v.upper) (same_Some overlay o (sym is ∙ f)) ∙ g)) ∙ sym s) ∙ is_other))
+    same_filesystem = others_elsewhere fresh world location change number differ (λ o u f g s. none_is_some
+        other (sym (no_overlay_in world conditions upper (layer_plain world conditions _ overlay
+        is upper (subst (λ x. Lists.Among upper (option_to_list x ++ option_to_list overlay.work ++ overlay.lowers))
+        (sym has) (inl refl)))) ∙ ap (λ n. (filesystem_numbered nat_eq world n).overlay) (ap (λ l. l.filesystem)
+        (same_Some upper u (sym has ∙ ap (λ v. v.upper) (same_Some overlay o (sym is ∙ f)) ∙ g)) ∙ sym s) ∙ is_other))
 
     pub other_merged : (filesystem_numbered nat_eq later number ≡ filesystem_numbered nat_eq world number)
         × IsMerged nat_eq later (filesystem_numbered nat_eq world number) other
     other_merged = (
       same_filesystem,
-      stays_merged world later (filesystem_numbered nat_eq world number) other leads own
-          (overlay_merges world conditions number other is_other),
+      stays_merged world later _ other leads own (overlay_merges world conditions number other is_other),
     )
 
 pub other_overlays_stay_merged : OtherOverlaysStayMerged
@@ -227,8 +216,7 @@ module _ (fresh : Fresh ℕ) (world : World ℕ) (task : Task ℕ) (call : Call)
   after = (call_outcome nat_eq fresh world task call).world
 
   call_leads : (layer : Layer ℕ) → Lists.Among layer (shown_layers other) → LeadsAsBefore world after layer
-  call_leads layer m = ⊎_elim (up other.upper refl) low
-      (Lists.among-append (option_to_list other.upper) other.lowers layer m)
+  call_leads layer m = ⊎_elim (up other.upper refl) low (Lists.among-append _ other.lowers layer m)
     where
       low : Lists.Among layer other.lowers → LeadsAsBefore world after layer
       low l = lower_paths_are_locked fresh world task call number other layer conditions called kind is_other
@@ -263,8 +251,7 @@ module _ (fresh : Fresh ℕ) (world : World ℕ) (task : Task ℕ) (call : Call)
       × IsMerged nat_eq after (filesystem_numbered nat_eq world number) other
   call_merged = (
     call_same,
-    stays_merged world after (filesystem_numbered nat_eq world number) other call_leads call_own
-        (overlay_merges world conditions number other is_other),
+    stays_merged world after _ other call_leads call_own (overlay_merges world conditions number other is_other),
   )
 
 pub calls_keep_other_overlays : CallsKeepOtherOverlays

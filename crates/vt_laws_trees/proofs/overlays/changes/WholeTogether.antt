@@ -1,6 +1,6 @@
 -- A whole change of an overlay: copies first, and then what is asked.
-use Rattle.std.proofs.Common.{true, ◌⊎◌, ⊎_elim, inl, inr, ◌*◌, ◌+◌, ◌≡◌, sym, subst, ◌∙◌, ℕ, nat_eq, None, refl, ap, List, [], ◌∷◌, ◌++◌, Option, Some, is_some, option_and_then}
-use Rattle.vt_spec.proofs.Common.{AddName, CopyUp, Fresh, IsDirectory, Lower, Make, Merge, Move, Remove, SetAttr, SetBytes, SetMark, Stack, Upper, copied_up, directory_no_whiteout, directory_used, entry_at, evens, evens-distinct, has_lower_directory, led, led-append, none_is_some, number_at_path, odds, odds-distinct, odds-no_evens, path_to, same_Some, upper_object, upper_of}
+use Rattle.std.proofs.Common.{true, ◌⊎◌, ⊎_elim, inl, inr, ◌*◌, ◌+◌, ◌≡◌, sym, subst, ◌∙◌, ℕ, nat_eq, None, ap, List, [], ◌∷◌, ◌++◌, Some, is_some}
+use Rattle.vt_spec.proofs.Common.{AddName, CopyUp, Fresh, IsDirectory, Lower, Make, Merge, Move, Remove, SetAttr, SetBytes, SetMark, Stack, Upper, copied_up, directory_no_whiteout, directory_used, entry_at, evens, evens-distinct, has_lower_directory, led, led-append, number_at_path, odds, odds-distinct, odds-no_evens, path_to, same_Some, upper_object, upper_of}
 use Rattle.vt_laws_trees.specs.Trees.{MayAddName, MayMake, MayMove, MayRemove}
 use Rattle.vt_laws_trees.specs.Layers.Layers.ChangesUpper.{StandsInUpper, IsNewBy}
 use Rattle.vt_laws_trees.specs.Layers.Layers.Upper.{IsThere}
@@ -15,10 +15,12 @@ use Rattle.vt_laws_trees.proofs.overlays.whole.UpperTold.{Told, told_both, told_
 use Rattle.vt_laws_trees.proofs.overlays.steps.WholeAttributes.{attr_keeps_whole, bytes_keep_whole, upper_real}
 use Rattle.vt_laws_trees.proofs.overlays.steps.WholeLines.{IsCopied, object_copied, stands_copied, to_object}
 use Rattle.vt_laws_trees.proofs.overlays.steps.WholeMoved.{move_keeps_shown}
+use Rattle.vt_laws_trees.proofs.overlays.steps.WholeMovedTree.{IsMoveAbove}
 use Rattle.vt_laws_trees.proofs.overlays.steps.WholeNames.{above_named, named_above}
 use Rattle.vt_laws_trees.proofs.overlays.steps.WholeLinked.{link_keeps_shown}
 use Rattle.vt_laws_trees.proofs.overlays.steps.WholeMade.{make_keeps_shown}
 use Rattle.vt_laws_trees.proofs.overlays.steps.WholeRemoved.{remove_keeps_shown}
+use Rattle.vt_spec.proofs.Trees.{found}
 
 -- an object copied by even numbers
 module _ (fresh : Fresh ℕ) {stack : Stack ℕ} {merge : Merge ℕ} (whole : IsWhole stack merge)
@@ -42,23 +44,22 @@ module _ (fresh : Fresh ℕ) {stack : Stack ℕ} {merge : Merge ℕ} (whole : Is
 -- the directory of a name whose object stands in the upper layer does so too
 pub stands_above : (stack : Stack ℕ) (merge : Merge ℕ) → IsWhole stack merge → (d : ℕ) (w : List ℕ) (object : ℕ)
     → entry_at merge.files.tree d w ≡ Some object → StandsInUpper merge object → StandsInUpper merge d
-stands_above stack merge whole d w object named stands = by (led merge.upper.tree stack.directory way.0) refl
-    (sym (last_name merge.upper.tree stack.directory way.0 w)
-    ∙ named_above stack merge whole (way.0 ++ w ∷ []) object (upper_of merge object)
-    (led-append merge.files.tree merge.files.tree.root way.0 w d object way.1 named) (upper_real merge object stands))
+stands_above stack merge whole d w object named stands =
+    let above = above_named stack merge whole way.0 up.0 up.1 (directory_no_whiteout (merge.upper.tree.node up.0)
+    (has_entries merge.upper.tree up.0 w (upper_of merge object) up.2)) in
+    subst (StandsInUpper merge) (same_Some above.0 d (sym above.1 ∙ way.1)) (ap (λ r. is_some (upper_object r)) above.2)
   where
     way : (q : List (List ℕ)) × (number_at_path merge.files q ≡ Some d)
     way = let reached = is_reached_in merge.files whole.tree d w object named in
         way_to merge.files.tree reached.0 d reached.1
 
-    by : (x : Option ℕ) → led merge.upper.tree stack.directory way.0 ≡ x
-        → option_and_then (λ n. entry_at merge.upper.tree n w) x ≡ Some (upper_of merge object) → StandsInUpper merge d
-    by None l e = none_is_some _ e
-    by (Some u) l e =
-        let found = above_named stack merge whole way.0 u l (directory_no_whiteout (merge.upper.tree.node u)
-        (has_entries merge.upper.tree u w (upper_of merge object) e)) in
-        subst (StandsInUpper merge) (same_Some found.0 d (sym found.1 ∙ way.1))
-        (ap (λ r. is_some (upper_object r)) found.2)
+    up : (u : ℕ) × (led merge.upper.tree stack.directory way.0 ≡ Some u)
+        × (entry_at merge.upper.tree u w ≡ Some (upper_of merge object))
+    up = found (λ n. entry_at merge.upper.tree n w) (led merge.upper.tree stack.directory way.0) (upper_of merge object)
+        (sym (last_name merge.upper.tree stack.directory way.0 w)
+        ∙ named_above stack merge whole (way.0 ++ w ∷ []) object (upper_of merge object)
+        (led-append merge.files.tree merge.files.tree.root way.0 w d object way.1 named)
+        (upper_real merge object stands))
 
 -- what is new by some of the numbers is so by all
 pub new_of_evens : (fresh : Fresh ℕ) (y : ℕ) → IsNewBy (evens fresh) y → IsNewBy fresh y
@@ -94,6 +95,13 @@ pub record IsReadyToMove (fresh : Fresh ℕ) (stack : Stack ℕ) (merge : Merge 
   pub objects : (n object : ℕ) → two.real n ≡ Some (Upper object)
       → (merge.real n ≡ Some (Upper object)) ⊎ IsNewBy fresh object
   pub sizes : is_fit_tree merge.files ≡ true → is_fit_tree merge.upper ≡ true → is_fit_tree two.upper ≡ true
+
+-- what a move in the upper layer rests on, once all is copied
+pub ready_above : {fresh : Fresh ℕ} {stack : Stack ℕ} {merge : Merge ℕ} {f : ℕ} {old : List ℕ} {t : ℕ}
+    {new : List ℕ} {o : ℕ} {two : Merge ℕ} → IsReadyToMove fresh stack merge f old t new o two
+    → IsMoveAbove (odds (odds fresh)) stack two f old t new o
+ready_above m =
+    record { whole = m.whole; from = m.from; to = m.to; object = m.object; may = m.may; vacant = m.vacant }
 
 pub twice : (fresh : Fresh ℕ) (stack : Stack ℕ) (merge : Merge ℕ) → IsWhole stack merge
     → ((j k : ℕ) → fresh j ≡ fresh k → j ≡ k)

@@ -43,8 +43,7 @@ overlays_are_whole world number overlay upper conditions is has = record {
   layers = subst (λ o. AreOpen (map (open_layer nat_eq world) (option_to_list o ++ overlay.lowers))) has
       (are_open world conditions overlay (overlay_layers world conditions number overlay is));
   reached = conditions.overlays.uppers_reached number overlay upper is has;
-  shown = to_shown world (filesystem_numbered nat_eq world number) overlay upper
-      (subst (IsMerged nat_eq world (filesystem_numbered nat_eq world number))
+  shown = to_shown world _ overlay upper (subst (IsMerged nat_eq world (filesystem_numbered nat_eq world number))
       (is_with_upper world (filesystem_numbered nat_eq world number) overlay upper has)
       (overlay_merges world conditions number overlay is));
 }

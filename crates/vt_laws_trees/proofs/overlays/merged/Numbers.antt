@@ -1,15 +1,14 @@
 -- Which number is at a path of a merged tree, and what its inode is.
 use Rattle.std.proofs.Common.{arith, ◌≡◌, ◌≢◌, refl, sym, ap, subst, ◌∙◌, ℕ, nat_eq, eq-eqb, eqb-true, Bool, true, false, cond, ◌||◌, T, List, [], ◌∷◌, ◌++◌, map, Option, Some, None, is_some, option_and_then, filter_map, is_eq, option_map, unwrap_or}
-use Rattle.vt_spec.proofs.Common.{Content, Directory, Entries, FileTree, Filesystem, HasName, HasOwnParents, Node, OpenLayer, Overlay, Real, Regular, SameObject, Shown, Symlink, Whiteout, World, a_name, bytes_eq-Decides, common_steps, cons_option, directory_used, entries_in, entries_of, entry_at, entry_named, filesystem_numbered, is_directory, is_directory_node, is_opaque_in, is_sorted, kind_of, layer_node, led-append, list_any, name_cmp, names_shown, nat_list_cmp_total, node_shown, none_is_some, nothing_is_no_object, number_at_path, opaque_of, parent_in, parent_of, real_node, real_object, real_shown, same_Some, same_content, same_entries, shown, then_some, view_of}
+use Rattle.vt_spec.proofs.Common.{Content, Directory, Entries, FileTree, Filesystem, HasName, HasOwnParents, Node, OpenLayer, Overlay, Real, Regular, SameObject, Shown, Symlink, Whiteout, World, a_name, bytes_eq-Decides, common_steps, cons_option, directory_used, entries_in, entries_of, entry_at, entry_named, filesystem_numbered, is_directory, is_directory_node, is_opaque_in, is_sorted, kind_of, layer_node, led-append, list_any, name_cmp, names_shown, nat_list_cmp_total, node_shown, none_is_some, number_at_path, opaque_of, parent_in, parent_of, real_node, real_object, real_shown, same_Some, same_content, same_entries, shown, then_some, view_of}
 use Rattle.vt_spec.proofs.Layers.{names_at}
 use Rattle.vt_spec.proofs.Nodes.{same_name}
 use Rattle.vt_laws_trees.specs.Overlays.MergedTrees.{InodesAreThoseShown, IsMergedTree, IsNamedBy, MergedTreesAreOne, NumbersAreThoseShown, OtherInodesAreHeld, OverlaysAreMergedTrees, content_as, entries_shown, inode_held, inode_shown, layers_shown, node_as, number_shown, parent_shown}
 use Rattle.vt_laws_trees.proofs.layers.directories.Order.{NameBelow, Pairwise, names_rise, names_sorted, pairwise_filter, pairwise_filter_map, rising_sorted}
 use Rattle.vt_laws_trees.proofs.layers.layers.ShownAtPath.{computed}
-use Rattle.vt_laws_trees.proofs.layers.layers.ShownDirectories.{last_of}
 use Rattle.vt_laws_trees.proofs.layers.layers.ShownMounted.{are_open}
 use Rattle.vt_laws_trees.proofs.layers.layers.ShownNames.{is_name, last_name, name_found, names_are_those_shown}
-use Rattle.vt_laws_trees.proofs.layers.layers.ShownPaths.{not_empty}
+use Rattle.vt_laws_trees.proofs.layers.layers.ShownPaths.{not_empty, last_step}
 use Rattle.vt_laws_trees.proofs.layers.layers.UpperLine.{is_reached_in, named_so}
 use Rattle.vt_laws_trees.proofs.layers.layers.UpperShown.{without_last_of_longer, has_a_name, way_to}
 use Rattle.vt_laws_trees.proofs.layers.layers.UpperWorld.{all_found, overlay_found, overlay_layers, overlay_numbers, overlay_tree}
@@ -48,8 +47,7 @@ node_filled parent entries number None None s mark up names = refl
 node_filled parent entries number None (Some shown) s mark up names = absurd s
 node_filled parent entries number (Some node) None s mark up names = absurd s
 node_filled parent entries number (Some node) (Some shown) s mark up names =
-    let content = same_filled parent entries node.content shown.content s.1 mark
-    (λ d own. by node.content d own (up d)) names in
+    let content = same_filled parent entries node.content _ s.1 mark (λ d own. by node.content d own (up d)) names in
     λ i. Some (record { attr = s.0 i; content = content i })
   where
     by : (content : Content ℕ) → is_directory (kind_of content) ≡ true → (own : ℕ)
@@ -90,10 +88,8 @@ listed number name (other ∷ names) = by (number other) refl (is_name name othe
 
 in_order : (number : List ℕ → Option ℕ) (names : List (List ℕ)) → Pairwise NameBelow names
     → T (is_sorted name_cmp (with_names number names))
-in_order number names rise = rising_sorted (with_names number names)
-    (pairwise_filter_map NameBelow (λ a b. NameBelow a.0 b.0) (λ name. option_map (λ n. (name, n)) (number name))
-    (λ a b x y e f h. subst (λ q. NameBelow x.0 q) (name_is b y (number b) f)
-    (subst (λ q. NameBelow q b) (name_is a x (number a) e) h)) names rise)
+in_order number names rise = rising_sorted _ (pairwise_filter_map NameBelow _ _ (λ a b x y e f h. subst
+    (λ q. NameBelow x.0 q) (name_is b y (number b) f) (subst (λ q. NameBelow q b) (name_is a x _ e) h)) names rise)
   where
     name_is : (name : List ℕ) (entry : List ℕ × ℕ) (o : Option ℕ) → option_map (λ n. (name, n)) o ≡ Some entry
         → name ≡ entry.0
@@ -113,16 +109,15 @@ module _ (number_of : Real ℕ → ℕ) (held : ℕ → Option (Real ℕ)) (worl
   pub lastly : (path : List (List ℕ)) (number : ℕ) → path ≢ [] → at path ≡ Some number
       → HasEntry filesystem.files path number
   lastly path number longer e =
-      let last = last_of path longer in
-      by last.0 last.1 last.2 (at last.0) refl
-      (cc (last_name filesystem.files.tree filesystem.files.tree.root last.0 last.1, last.2))
-    where
-      by : (front : List (List ℕ)) (name : List ℕ) → front ++ name ∷ [] ≡ path → (o : Option ℕ) → at front ≡ o
-          → option_and_then (λ d. entry_at filesystem.files.tree d name) o ≡ Some number
-          → HasEntry filesystem.files path number
-      by front name split None l e = none_is_some number e
-      by front name split (Some d) l e =
-          record { front = front; name = name; directory = d; split = split; leads = l; entry = e }
+      let last = last_step filesystem.files.tree filesystem.files.tree.root path number longer e in
+      record {
+        front = last.front;
+        name = last.name;
+        directory = last.directory;
+        split = last.split;
+        leads = last.leads;
+        entry = last.entry;
+      }
 
   -- what a path leads to is there,
   reached_there : (path : List (List ℕ)) (number : ℕ) → at path ≡ Some number
@@ -137,13 +132,7 @@ module _ (number_of : Real ℕ → ℕ) (held : ℕ → Option (Real ℕ)) (worl
   -- and has the number of its real object
   numbered : (number : ℕ) → is_some (filesystem.files.tree.node number) ≡ true
       → option_map number_of (overlay.real number) ≡ Some number
-  numbered number there = by (overlay.real number) refl (is.merged.real_objects number)
-    where
-      by : (o : Option (Real ℕ)) → overlay.real number ≡ o
-          → SameObject (filesystem.files.tree.node number) (then_some o (real_node nat_eq world overlay))
-          → option_map number_of o ≡ Some number
-      by None e same = absurd (nothing_is_no_object (filesystem.files.tree.node number) there same)
-      by (Some object) e same = ap Some (sym (named.numbered number object e))
+  numbered number there = grind (arith, common_steps)
 
   pub numbers_are_shown : (path : List (List ℕ)) → at path ≡ number_shown number_of world overlay path
   numbers_are_shown path = by (at path) refl (is.merged.shows path)
@@ -151,8 +140,7 @@ module _ (number_of : Real ℕ → ℕ) (held : ℕ → Option (Real ℕ)) (worl
       none : (o : Option (Shown ℕ)) → shown layers path ≡ o → SameObject None (then_some o (layer_node layers))
           → None ≡ option_map number_of (real_by (is_some overlay.upper) path o)
       none None e same = refl
-      none (Some seen) e same = absurd
-          (object_is_not_none (layer_node layers seen) (shown_is_there layers is.layers path seen e) same)
+      none (Some seen) e same = absurd (object_is_not_none _ (shown_is_there layers is.layers path seen e) same)
 
       by : (o : Option ℕ) → at path ≡ o
           → SameObject (then_some o filesystem.files.tree.node) (node_shown nat_eq world overlay path)
@@ -177,14 +165,12 @@ module _ (number_of : Real ℕ → ℕ) (held : ℕ → Option (Real ℕ)) (worl
             → option_map number_of (real_by (is_some overlay.upper) (path ++ name ∷ []) o) ≡ None
         by None e = refl
         by (Some seen) e =
-            let has = (names_are_those_shown layers path name).1
-            (seen, (computed layers (path ++ name ∷ []) seen).0 e) in
+            let has = (names_are_those_shown layers path name).1 (seen, (computed layers _ seen).0 e) in
             absurd (cc (name_found name (names_shown layers path) has.0 has.1 has.2, out))
 
     found : (name : List ℕ) → entry_named name
         (entries_shown number_of world overlay path) ≡ number_shown number_of world overlay (path ++ name ∷ [])
-    found name = listed (λ n. number_shown number_of world overlay (path ++ n ∷ [])) name (names_shown layers path)
-        ∙ by (list_any (is_name name) (names_shown layers path)) refl
+    found name = listed _ name (names_shown layers path) ∙ by (list_any (is_name name) (names_shown layers path)) refl
       where
         by : (b : Bool) → list_any (is_name name) (names_shown layers path) ≡ b
             → cond b (number_shown number_of world overlay (path ++ name ∷ [])) None
@@ -193,12 +179,10 @@ module _ (number_of : Real ℕ → ℕ) (held : ℕ → Option (Real ℕ)) (worl
         by false e = sym (not_shown name e)
 
     entries_are : entries_in (filesystem.files.tree.node number) ≡ entries_shown number_of world overlay path
-    entries_are = same_entries name_cmp nat_list_cmp_total (λ x y e. same_name x y (ap is_eq e))
-        (entries_in (filesystem.files.tree.node number)) (entries_shown number_of world overlay path)
-        (subst T (sym (is.tree.in_order number)) tt)
-        (in_order (λ n. number_shown number_of world overlay (path ++ n ∷ [])) (names_shown layers path)
-        (pairwise_filter NameBelow (λ name. is_some (shown layers (path ++ name ∷ [])))
-        (map (λ entry. entry.0) (names_at layers path))
+    entries_are = same_entries name_cmp nat_list_cmp_total (λ x y e. same_name x y (ap is_eq e)) _
+        (entries_shown number_of world overlay path) (subst T (sym (is.tree.in_order number)) tt) (in_order
+        (λ n. number_shown number_of world overlay (path ++ n ∷ [])) (names_shown layers path) (pairwise_filter
+        NameBelow (λ name. is_some (shown layers (path ++ name ∷ []))) (map (λ entry. entry.0) (names_at layers path))
         (names_rise (names_at layers path) (names_sorted (map view_of layers) path))))
         (λ name. entry_is name ∙ sym (found name))
 
@@ -215,18 +199,14 @@ module _ (number_of : Real ℕ → ℕ) (held : ℕ → Option (Real ℕ)) (worl
             ∙ ap (λ p. unwrap_or (number_shown number_of world overlay p) 0) (cc)
         by (word ∷ way) e =
             let last = lastly path number (λ empty. not_empty word way (cc)) leads in
-            is.tree.one_parent last.directory last.name number last.entry is_directory
-            ∙ ap (λ o. unwrap_or o 0) (sym last.leads ∙ numbers_are_shown last.front)
-            ∙ ap (λ p. unwrap_or (number_shown number_of world overlay p) 0)
+            is.tree.one_parent last.directory last.name number last.entry is_directory ∙ ap (λ o. unwrap_or o 0)
+            (sym last.leads ∙ numbers_are_shown _) ∙ ap (λ p. unwrap_or (number_shown number_of world overlay p) 0)
             (cc (without_last_of_longer last.front last.name, last.split))
 
     pub inode_is : filesystem.files.tree.node number ≡ inode_shown number_of world overlay path
-    inode_is =
-        node_filled (parent_shown number_of world overlay path) (entries_shown number_of world overlay path) number
-        (filesystem.files.tree.node number) (node_shown nat_eq world overlay path)
-        (subst (λ o. SameObject (then_some o filesystem.files.tree.node)
-        (node_shown nat_eq world overlay path)) leads (is.merged.shows path))
-        (is.merged.no_mark number) parent_is (λ d. entries_are)
+    inode_is = node_filled _ _ number (filesystem.files.tree.node number) (node_shown nat_eq world overlay path)
+        (subst (λ o. SameObject (then_some o filesystem.files.tree.node) (node_shown nat_eq world overlay path))
+        leads (is.merged.shows path)) (is.merged.no_mark number) parent_is (λ d. entries_are)
 
   -- a name is at the end of a path
   path_of_name : (number : ℕ) → HasName filesystem.files.tree number → (path : List (List ℕ)) × (at path ≡ Some number)
@@ -240,12 +220,10 @@ module _ (number_of : Real ℕ → ℕ) (held : ℕ → Option (Real ℕ)) (worl
   pub other_is_held : (number : ℕ) → ((path : List (List ℕ)) → at path ≢ Some number)
       → (filesystem.files.tree.node number ≡ inode_held world overlay held number) × (overlay.real number ≡ held number)
   other_is_held number out = (
-    node_filled number [] number (filesystem.files.tree.node number)
-        (then_some (held number) (real_node nat_eq world overlay))
-        (subst (λ o. SameObject (filesystem.files.tree.node number)
-        (then_some o (real_node nat_eq world overlay))) real (is.merged.real_objects number))
-        (is.merged.no_mark number) (λ d. is.own_parents number d no_name)
-        (λ d. is.tree.unnamed_empty number d no_root no_name),
+    node_filled number [] number (filesystem.files.tree.node number) _
+        (subst (λ o. SameObject (filesystem.files.tree.node number) (then_some o (real_node nat_eq world overlay)))
+        real (is.merged.real_objects number)) (is.merged.no_mark number)
+        (λ d. is.own_parents number d no_name) (λ d. is.tree.unnamed_empty number d no_root no_name),
     real,
   )
     where
@@ -342,8 +320,7 @@ pub overlays_are_merged_trees : OverlaysAreMergedTrees
 overlays_are_merged_trees world number overlay conditions is = record {
   layers = are_open world conditions overlay (overlay_layers world conditions number overlay is);
   tree = overlay_tree world conditions number overlay is;
-  own_parents = all_found (λ filesystem. HasOwnParents filesystem.files.tree)
-      (λ filesystem. nat_eq number filesystem.number) world.filesystems
+  own_parents = all_found (λ filesystem. HasOwnParents filesystem.files.tree) _ world.filesystems
       conditions.files.own_parents (filesystem_numbered nat_eq world number) (overlay_found world number overlay is);
   numbers = overlay_numbers world conditions number overlay is;
   merged = conditions.overlays.overlays_merge number overlay is;

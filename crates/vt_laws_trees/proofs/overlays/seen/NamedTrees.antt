@@ -1,19 +1,11 @@
 -- What is seen so is named so.
-use Rattle.std.proofs.Common.{◌≡◌, ◌≢◌, refl, sym, ap, ◌∙◌, ℕ, nat_eq, List, [], ◌∷◌, Option, Some, None, option_and_then}
-use Rattle.vt_spec.proofs.Common.{Filesystem, HasName, Overlay, Real, Tree, World, entry_at, found_passes, holds_of, none_is_some, number_at_path, paths_from, same_Some}
-use Rattle.vt_laws_trees.proofs.layers.layers.ShownDirectories.{last_of}
-use Rattle.vt_laws_trees.proofs.layers.layers.ShownNames.{last_name}
-use Rattle.vt_laws_trees.proofs.layers.layers.ShownPaths.{not_empty}
+use Rattle.std.proofs.Common.{◌≡◌, ◌≢◌, refl, sym, ap, ◌∙◌, ℕ, nat_eq, List, [], ◌∷◌, Option, Some, None}
+use Rattle.vt_spec.proofs.Common.{Filesystem, HasName, Overlay, Real, World, found_passes, holds_of, number_at_path, paths_from, same_Some}
+use Rattle.vt_laws_trees.proofs.layers.layers.ShownPaths.{not_empty, last_step}
 use Rattle.vt_laws_trees.specs.Overlays.MergedTrees.{IsMergedTree, layers_shown, number_shown}
 use Rattle.vt_laws_trees.proofs.overlays.merged.Numbers.{numbers_are_those}
 use Rattle.vt_laws_trees.specs.Overlays.TreesSeen.{SeenTreesAreNamed, path_numbered, real_by, real_seen}
 use Rattle.vt_laws_trees.proofs.overlays.seen.SeenTrees.{shown_number}
-
--- what a path that is not the root's leads to has a name
-has_name : (tree : Tree ℕ) (number : ℕ) (d : Option ℕ) (name : List ℕ)
-    → option_and_then (λ directory. entry_at tree directory name) d ≡ Some number → HasName tree number
-has_name tree number None name e = none_is_some number e
-has_name tree number (Some directory) name e = (directory, name, e)
 
 module _ (number_of : Real ℕ → ℕ) (held : ℕ → Option (Real ℕ)) (longest : ℕ) {world : World ℕ}
     {filesystem : Filesystem ℕ} {overlay : Overlay ℕ} (is : IsMergedTree world filesystem overlay)
@@ -51,9 +43,9 @@ module _ (number_of : Real ℕ → ℕ) (held : ℕ → Option (Real ℕ)) (long
       at : (path : List (List ℕ)) → number_at_path filesystem.files path ≡ Some number → ⊥
       at [] e = no_root (sym (same_Some filesystem.files.tree.root number e))
       at (word ∷ path) e =
-          let last = last_of (word ∷ path) (not_empty word path) in
-          no_name (has_name filesystem.files.tree number (number_at_path filesystem.files last.0) last.1
-          (cc (last_name filesystem.files.tree filesystem.files.tree.root last.0 last.1, last.2)))
+          let tree = filesystem.files.tree in
+          let last = last_step tree tree.root (word ∷ path) number (not_empty word path) e in
+          no_name (last.directory, last.name, last.entry)
 
       by : (o : Option (List (List ℕ))) → found number ≡ o → overlay.real number ≡ held number
       by None f = real_is number None f

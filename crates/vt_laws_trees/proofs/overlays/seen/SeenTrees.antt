@@ -55,8 +55,7 @@ module _ {number_of : Real ℕ → ℕ} {held : ℕ → Option (Real ℕ)} {worl
       (numbers_are_those number_of held world filesystem overlay is named path ∙ shows)
   same number None e = others_are_held number_of held world filesystem overlay is named number (λ path at.
       let shows = sym (numbers_are_those number_of held world filesystem overlay is named path) ∙ at in
-      not_missed (passes number) (paths_from longest (layers_shown world overlay) []) path
-      (cc (eq-eqb number number refl)) (gone_through path number shows) e)
+      not_missed (passes number) _ path (cc (eq-eqb number number refl)) (gone_through path number shows) e)
 
   root : filesystem.files.tree.root ≡ unwrap_or (number_shown number_of world overlay []) 0
   root = ap (λ o. unwrap_or o 0) (numbers_are_those number_of held world filesystem overlay is named [])
@@ -65,11 +64,9 @@ pub trees_are_seen : MergedTreesAreSeen
 trees_are_seen number_of held world filesystem overlay is named longest listed larger = (
   λ i. record {
     root = root is named longest listed larger i;
-    node = λ number. (same is named longest listed larger number
-        (path_numbered number_of longest world overlay number) refl).0 i;
+    node = λ number. (same is named longest listed larger number _ refl).0 i;
   },
-  λ i. λ number. (same is named longest listed larger number
-      (path_numbered number_of longest world overlay number) refl).1 i,
+  λ i. λ number. (same is named longest listed larger number _ refl).1 i,
 )
 
 -- in a world with all invariants the numbers beside each tree are those of its inodes

@@ -1,5 +1,5 @@
 -- Bytes and attributes of what stands in the upper layer are set: the tree is still what the layers show.
-use Rattle.std.proofs.Common.{arith, ◌≡◌, refl, sym, ap, subst, ◌∙◌, true≢false, eqb-true, eq-eqb, ℕ, zero, suc, nat_eq, Bool, true, false, cond, List, map, Option, Some, None, is_some, slice_get, unwrap_or}
+use Rattle.std.proofs.Common.{arith, ◌≡◌, refl, sym, ap, subst, ◌∙◌, true≢false, eqb-true, eq-eqb, ℕ, zero, suc, nat_eq, Bool, true, false, cond, List, map, Option, Some, None, is_some, slice_get}
 use Rattle.vt_spec.proofs.Common.{IsTree, ListsNumbers, Lower, Merge, Node, OpenLayer, Real, SameObject, SetAttr, SetBytes, Stack, Upper, bytes_eq_itself, changed_both, changed_node, common_steps, is_kind_in, is_opaque_in, node_with_attr, node_with_bytes, none_is_some, number_at_path, part-changed_node, same_Some, then_some, upper_object, upper_of, view_of}
 use Rattle.vt_spec.specs.declared.attributes.Attr.{Attr}
 use Rattle.vt_spec.specs.declared.attributes.Kind.TheVariants.{White}
@@ -13,12 +13,7 @@ use Rattle.vt_laws_trees.proofs.overlays.steps.WholeParts.{IsFine, fine, real_by
 -- the object that an inode of the upper layer has there
 pub upper_real : (merge : Merge ℕ) (number : ℕ) → StandsInUpper merge number
     → merge.real number ≡ Some (Upper (upper_of merge number))
-upper_real merge number h = by (merge.real number) h
-  where
-    by : (o : Option (Real ℕ)) → is_some (upper_object o) ≡ true → o ≡ Some (Upper (unwrap_or (upper_object o) number))
-    by None h = cc
-    by (Some (Upper object)) h = refl
-    by (Some (Lower layer path)) h = cc
+upper_real merge number h = grind (arith, common_steps)
 
 -- what a change of one inode keeps of its shape
 pub record KeepsShape (change : Option (Node ℕ) → Option (Node ℕ)) : Type 0 where
@@ -104,8 +99,7 @@ module _ {stack : Stack ℕ} {merge : Merge ℕ} (whole : IsWhole stack merge) (
     objects = object_same;
     there = λ number none. is_fine.there number (not_there (later.files.tree.node number) (merge.files.tree.node number)
         (part-changed_node is_some merge.files file change shape.there number) none);
-    whiteout = λ number. part-changed_node (is_kind_in White) merge.files file change shape.white number
-        ∙ is_fine.whiteout number;
+    whiteout = λ number. part-changed_node _ merge.files file change shape.white number ∙ is_fine.whiteout number;
     mark = λ number. part-changed_node is_opaque_in merge.files file change shape.mark number ∙ is_fine.mark number;
     upper = λ number object r. part-changed_node is_some merge.upper (upper_of merge file) change shape.there object
         ∙ is_fine.upper number object r;
@@ -138,14 +132,12 @@ pub attr_keeps_whole : AttrKeepsWhole
 attr_keeps_whole stack merge object attr whole stands =
     let top = top_open stack merge whole in
     whole_later whole object stands (attr_shape attr)
-    ((attr_changes_one_inode merge.files merge.files.tree.root object attr).0)
-    (λ path. ap (real_by path) (shown_elsewhere_stays merge.upper
-    (SetAttr (upper_of merge object) attr) stack.directory (map view_of stack.lowers) top.0 top.1 tt path refl))
-    (changes_keep_trees merge.files (SetAttr object attr) whole.tree tt)
+    ((attr_changes_one_inode merge.files merge.files.tree.root object attr).0) (λ path. ap (real_by path)
+    (shown_elsewhere_stays merge.upper (SetAttr (upper_of merge object) attr) stack.directory (map view_of stack.lowers)
+    top.0 top.1 tt path refl)) (changes_keep_trees merge.files (SetAttr object attr) whole.tree tt)
     (changes_keep_numbers merge.files (SetAttr object attr) whole.numbers)
-    (changes_keep_trees merge.upper (SetAttr (upper_of merge object) attr) top.0 tt)
-    (part-changed_node Rattle.vt_spec.specs.Tree.is_directory_node merge.upper (upper_of merge object)
-    (node_with_attr attr) (λ o. elim o as (λ o. Rattle.vt_spec.specs.Tree.is_directory_node (node_with_attr attr o)
+    (changes_keep_trees merge.upper (SetAttr (upper_of merge object) attr) top.0 tt) (part-changed_node _ merge.upper
+    (upper_of merge object) _ (λ o. elim o as (λ o. Rattle.vt_spec.specs.Tree.is_directory_node (node_with_attr attr o)
     ≡ Rattle.vt_spec.specs.Tree.is_directory_node o) [ None ↦ refl | Some node ↦ refl ]) stack.directory ∙ top.1) (
       whole.reached.0,
       (attr_changes_one_inode merge.upper merge.upper.tree.root
@@ -156,14 +148,12 @@ pub bytes_keep_whole : BytesKeepWhole
 bytes_keep_whole stack merge file bytes whole stands =
     let top = top_open stack merge whole in
     whole_later whole file stands (bytes_shape bytes)
-    ((bytes_change_one_inode merge.files merge.files.tree.root file bytes).0)
-    (λ path. ap (real_by path) (shown_elsewhere_stays merge.upper
-    (SetBytes (upper_of merge file) bytes) stack.directory (map view_of stack.lowers) top.0 top.1 tt path refl))
-    (changes_keep_trees merge.files (SetBytes file bytes) whole.tree tt)
+    ((bytes_change_one_inode merge.files merge.files.tree.root file bytes).0) (λ path. ap (real_by path)
+    (shown_elsewhere_stays merge.upper (SetBytes (upper_of merge file) bytes) stack.directory (map view_of stack.lowers)
+    top.0 top.1 tt path refl)) (changes_keep_trees merge.files (SetBytes file bytes) whole.tree tt)
     (changes_keep_numbers merge.files (SetBytes file bytes) whole.numbers)
-    (changes_keep_trees merge.upper (SetBytes (upper_of merge file) bytes) top.0 tt)
-    (part-changed_node Rattle.vt_spec.specs.Tree.is_directory_node merge.upper (upper_of merge file)
-    (node_with_bytes bytes) (Rattle.vt_spec.proofs.Nodes.is_directory-node_with_bytes bytes) stack.directory ∙ top.1) (
+    (changes_keep_trees merge.upper (SetBytes (upper_of merge file) bytes) top.0 tt) (part-changed_node _ merge.upper
+    (upper_of merge file) _ (Rattle.vt_spec.proofs.Nodes.is_directory-node_with_bytes bytes) stack.directory ∙ top.1) (
       whole.reached.0,
       (bytes_change_one_inode merge.upper merge.upper.tree.root
           (upper_of merge file) bytes).0 whole.reached.0 ∙ whole.reached.1,

@@ -1,5 +1,5 @@
 -- One object is copied up: the tree is still what the layers show.
-use Rattle.std.proofs.Common.{arith, ◌≡◌, ◌≢◌, refl, sym, ap, subst, ◌∙◌, true≢false, eq-eqb, ne_eqb, ◌⊎◌, ⊎_elim, inl, inr, ℕ, nat_eq, Bool, true, false, not, cond, List, [], ◌∷◌, ◌++◌, map, Option, Some, None, is_some, option_and_then}
+use Rattle.std.proofs.Common.{arith, ◌≡◌, ◌≢◌, refl, sym, ap, subst, ◌∙◌, true≢false, eq-eqb, ne_eqb, ◌⊎◌, ⊎_elim, inl, inr, ℕ, nat_eq, Bool, true, false, not, cond, List, [], ◌∷◌, ◌++◌, map, Option, Some, None, is_some}
 use Rattle.vt_spec.proofs.Common.{Content, Directory, FileTree, HasOwnParents, IsDirectory, IsNewIn, IsReached, IsTree, Make, Merge, Node, Real, Regular, SameObject, Stack, Symlink, Upper, View, Whiteout, a_name, bytes_eq_itself, changed, common_steps, copied_content, copy_named, copy_of_node, copy_parent, cuts, directory_no_whiteout, directory_used, entries_in, entries_in-no_directory, entries_of, entries_of-copied_content, entry_at, entry_named, eqb_tells, hides, is_directory, is_directory_node, is_kind, is_kind_in, kind_of, led, led-append, name_cmp, node_led, node_other, node_set, none_is_some, number_at_path, parent_in, parent_of, same_Some, same_content, shown, shown_from, then_some, upper_object, upper_of, view_of, when, with_inode, with_real}
 use Rattle.vt_spec.specs.declared.attributes.Kind.TheVariants.{White}
 use Rattle.vt_laws_trees.specs.Trees.{MayMake}
@@ -9,15 +9,14 @@ use Rattle.vt_laws_trees.specs.Layers.Layers.Mounted.{IsAlike}
 use Rattle.vt_laws_trees.specs.Layers.Layers.Views.{TakesName, goes_through, names_entry, view_in}
 use Rattle.vt_laws_trees.specs.Overlays.WhatIsShown.{CopyKeepsWhole, IsWhole, layers_under, real_seen}
 use Rattle.vt_laws_trees.proofs.layers.layers.ShownAlike.{white_alike}
-use Rattle.vt_laws_trees.proofs.layers.layers.ShownDirectories.{last_of, led_is_there}
+use Rattle.vt_laws_trees.proofs.layers.layers.ShownDirectories.{led_is_there}
 use Rattle.vt_laws_trees.proofs.layers.layers.ShownFronts.{prefix_found, prefix_passes}
-use Rattle.vt_laws_trees.proofs.layers.layers.ShownNames.{last_name}
 use Rattle.vt_laws_trees.proofs.layers.layers.UpperLine.{has_entries, is_reached_in, named_so}
 use Rattle.vt_laws_trees.proofs.layers.layers.UpperShown.{below_is_at, has_a_name, way_to}
 use Rattle.vt_laws_trees.proofs.layers.views.After.{new_name_is_shown, on_top, shown_elsewhere_stays}
 use Rattle.vt_laws_trees.proofs.layers.views.Fronts.{prefixes_agree, hides_so, hiding_alike}
 use Rattle.vt_laws_trees.proofs.layers.views.Moves.{led_parts}
-use Rattle.vt_laws_trees.proofs.layers.layers.ShownPaths.{not_empty}
+use Rattle.vt_laws_trees.proofs.layers.layers.ShownPaths.{not_empty, last_step}
 use Rattle.vt_laws_trees.proofs.layers.views.Names.{alike_same, inode_entries, make_adds_inode, make_adds_path, make_is_seen, no_entries}
 use Rattle.vt_laws_trees.proofs.layers.views.Stay.{inode_moves_no_path}
 use Rattle.vt_laws_trees.proofs.overlays.whole.UpperGoes.{Goes, goes_by}
@@ -102,8 +101,7 @@ module _ {stack : Stack ℕ} {merge : Merge ℕ} (whole : IsWhole stack merge) (
       by (Some seen) t = refl
 
   copy_object : (parent : ℕ) → SameObject (merge.files.tree.node object) (Some (copy_node parent))
-  copy_object parent = subst (λ o. SameObject o (Some (copy_node parent))) (sym is)
-      (refl, copy_same parent node.content not_white)
+  copy_object parent = subst (λ o. SameObject o (Some (copy_node parent))) (sym is) (refl, copy_same parent _ not_white)
 
   -- some inode without a name
   copy_parent_itself : (content : Content ℕ) → parent_of copy (copied_content copy content) ≡ copy
@@ -125,13 +123,11 @@ module _ {stack : Stack ℕ} {merge : Merge ℕ} (whole : IsWhole stack merge) (
       (entries_of-copied_content copy node.content) directory)
 
   apart_led : (start : ℕ) (path : List (List ℕ)) → led apart.tree start path ≡ led merge.upper.tree start path
-  apart_led start path = inode_moves_no_path merge.upper copy (copy_node copy) vacant
-      (entries_of-copied_content copy node.content) start path
+  apart_led start path = inode_moves_no_path merge.upper copy _ vacant (entries_of-copied_content copy _) start path
 
   was_directory : (k : ℕ) → IsDirectory apart.tree k → (k ≡ copy) ⊎ IsDirectory merge.upper.tree k
   was_directory k d = ⊎_elim (λ t. inl t.1)
-      (λ t. inr (sym (ap is_directory_node (node_other merge.upper.tree copy (Some (copy_node copy)) k t.1)) ∙ d))
-      (eqb_tells k copy)
+      (λ t. inr (sym (ap is_directory_node (node_other merge.upper.tree copy _ k t.1)) ∙ d)) (eqb_tells k copy)
 
   still_directory : (k : ℕ) → IsDirectory merge.upper.tree k → IsDirectory apart.tree k
   still_directory k d = ap is_directory_node (apart_there k (directory_used merge.upper.tree k d)) ∙ d
@@ -155,75 +151,57 @@ module _ {stack : Stack ℕ} {merge : Merge ℕ} (whole : IsWhole stack merge) (
     root_parent = apart_parent merge.upper.tree.root top_tree.root_directory ∙ top_tree.root_parent;
     root_unnamed = λ directory name e. top_tree.root_unnamed directory name (sym (apart_entry directory name) ∙ e);
     in_order = λ directory. ap (Rattle.std.specs.FinMap.Entries.is_sorted name_cmp)
-        (inode_entries merge.upper copy (copy_node copy) vacant (entries_of-copied_content copy node.content) directory)
-        ∙ top_tree.in_order directory;
+        (inode_entries merge.upper copy _ vacant (entries_of-copied_content copy _) _) ∙ top_tree.in_order directory;
     alive = λ directory name k e.
         let there = top_tree.alive directory name k (sym (apart_entry directory name) ∙ e) in
         ap is_some (apart_there k there) ∙ there;
     one_parent = λ directory name k e d.
         let old = named_directory directory name k e d in
         apart_parent k old ∙ top_tree.one_parent directory name k (sym (apart_entry directory name) ∙ e) old;
-    one_name = λ directory name other k e f d.
-        top_tree.one_name directory name other k (sym (apart_entry directory name) ∙ e)
-        (sym (apart_entry directory other) ∙ f) (named_directory directory name k e d);
+    one_name = λ directory name other k e f d. top_tree.one_name directory name other
+        k (sym (apart_entry directory name) ∙ e) (sym (apart_entry directory other) ∙ f) (named_directory _ name k e d);
     parent_directory = λ k d. ⊎_elim (λ same. subst (IsDirectory apart.tree)
-        (sym (ap (λ n. parent_in n (apart.tree.node n)) same
-        ∙ ap (parent_in copy) (node_set merge.upper.tree copy (Some (copy_node copy)))
-        ∙ copy_parent_itself node.content)) (subst (IsDirectory apart.tree) same d))
-        (λ old. subst (IsDirectory apart.tree) (sym (apart_parent k old))
-        (still_directory _ (top_tree.parent_directory k old))) (was_directory k d);
+        (sym (ap (λ n. parent_in n (apart.tree.node n)) same ∙ ap (parent_in copy) (node_set merge.upper.tree copy _)
+        ∙ copy_parent_itself _)) (subst (IsDirectory apart.tree) same d)) (λ old. subst (IsDirectory apart.tree)
+        (sym (apart_parent k old)) (still_directory _ (top_tree.parent_directory k old))) (was_directory k d);
     reached = λ k d named.
         let old = named_directory named.0 named.1 k named.2 d in
         let way = top_tree.reached k old (named.0, named.1, sym (apart_entry named.0 named.1) ∙ named.2) in
         (way.0, apart_led merge.upper.tree.root way.0 ∙ way.1);
-    unnamed_empty = λ k d no_root unnamed. ⊎_elim (λ same. ap (λ n. entries_in (apart.tree.node n)) same
-        ∙ ap entries_in (node_set merge.upper.tree copy (Some (copy_node copy)))
-        ∙ entries_of-copied_content copy node.content)
-        (λ old. inode_entries merge.upper copy (copy_node copy) vacant (entries_of-copied_content copy node.content) k
-        ∙ top_tree.unnamed_empty k old no_root
-        (λ named. unnamed (named.0, named.1, apart_entry named.0 named.1 ∙ named.2))) (was_directory k d);
+    unnamed_empty = λ k d no_root unnamed. ⊎_elim (λ same. ap (λ n. entries_in (apart.tree.node n)) same ∙ ap entries_in
+        (node_set merge.upper.tree copy (Some (copy_node copy))) ∙ entries_of-copied_content copy node.content) (λ old.
+        inode_entries merge.upper copy _ vacant (entries_of-copied_content copy node.content) k ∙ top_tree.unnamed_empty
+        k old no_root (λ named. unnamed (named.0, named.1, apart_entry named.0 named.1 ∙ named.2))) (was_directory k d);
   }
 
   module _ (unnamed : a_name nat_eq merge.files object ≡ None) where
     no_path : (path : List (List ℕ)) → number_at_path merge.files path ≢ Some object
     no_path [] e =
-        let found = above_named stack merge whole [] stack.directory refl
-        (directory_no_whiteout (merge.upper.tree.node stack.directory) top_directory) in
+        let found = above_named stack merge whole [] stack.directory refl (directory_no_whiteout _ top_directory) in
         none_is_some stack.directory (sym low
         ∙ ap (λ n. upper_object (merge.real n)) (sym (same_Some found.0 object (sym found.1 ∙ e)))
         ∙ ap upper_object found.2)
     no_path (word ∷ path) e =
-        let last = last_of (word ∷ path) (not_empty word path) in
-        by last.1 (led merge.files.tree merge.files.tree.root last.0)
-        (sym (last_name merge.files.tree merge.files.tree.root last.0 last.1)
-        ∙ ap (led merge.files.tree merge.files.tree.root) last.2 ∙ e)
-      where
-        by : (name : List ℕ) (o : Option ℕ)
-            → option_and_then (λ directory. entry_at merge.files.tree directory name) o ≡ Some object → ⊥
-        by name None e = none_is_some object e
-        by name (Some directory) e = true≢false
-            (sym (has_a_name merge.files whole.numbers directory name object e) ∙ ap is_some unnamed)
+        let last = last_step merge.files.tree merge.files.tree.root (word ∷ path) object (not_empty word path) e in
+        true≢false (sym (has_a_name merge.files whole.numbers last.directory last.name object last.entry)
+        ∙ ap is_some unnamed)
 
     abbrev beside : Merge ℕ
     beside = record merge { real = real_later; upper = apart }
 
     node_same : (path : List (List ℕ))
         → node_led (view_in apart stack.directory) path ≡ node_led (view_in merge.upper stack.directory) path
-    node_same path = ap (λ o. then_some o apart.tree.node) (apart_led stack.directory path)
-        ∙ by (led merge.upper.tree stack.directory path) refl
+    node_same path = ap (λ o. then_some o apart.tree.node) (apart_led stack.directory path) ∙ by _ refl
       where
         by : (o : Option ℕ) → led merge.upper.tree stack.directory path ≡ o
             → then_some o apart.tree.node ≡ then_some o merge.upper.tree.node
         by None e = refl
-        by (Some k) e = apart_there k (led_is_there
-            (record { tree = merge.upper.tree; directory = stack.directory }) top_tree top_directory path k e)
+        by (Some k) e = apart_there k (led_is_there _ top_tree top_directory path k e)
 
     seen_same : (path : List (List ℕ)) → real_seen stack beside path ≡ real_seen stack merge path
-    seen_same path = ap (real_by path) (over_same (view_in merge.upper stack.directory) (view_in apart stack.directory)
-        (map view_of stack.lowers) path (apart_led stack.directory path) (λ k e. ap (is_kind_in White) (apart_there k
-        (led_is_there (record { tree = merge.upper.tree; directory = stack.directory }) top_tree top_directory path k
-        e))) (prefixes_agree (λ front. hides (node_led (view_in merge.upper stack.directory) front))
-        (λ front. hides (node_led (view_in apart stack.directory) front)) path (λ front f. ap hides (node_same front))))
+    seen_same path = ap (real_by path) (over_same _ _ (map view_of stack.lowers) path (apart_led stack.directory path)
+        (λ k e. ap (is_kind_in White) (apart_there k (led_is_there _ top_tree top_directory path k e)))
+        (prefixes_agree _ _ path (λ front f. ap hides (node_same front))))
 
     paths_beside : (path : List (List ℕ))
         → then_some (number_at_path merge.files path) real_later ≡ real_seen stack beside path
@@ -235,10 +213,9 @@ module _ {stack : Stack ℕ} {merge : Merge ℕ} (whole : IsWhole stack merge) (
             (ne_eqb n object (λ same. no_path path (e ∙ ap Some same)))
 
     own_parent_beside : HasOwnParents merge.upper.tree → HasOwnParents apart.tree
-    own_parent_beside own k is none = ⊎_elim (λ same. ap (λ n. parent_in n (apart.tree.node n)) same
-        ∙ ap (parent_in copy) (node_set merge.upper.tree copy (Some (copy_node copy)))
-        ∙ copy_parent_itself node.content ∙ sym same) (λ old. apart_parent k old ∙ own k old
-        (λ named. none (named.0, named.1, apart_entry named.0 named.1 ∙ named.2))) (was_directory k is)
+    own_parent_beside own k is none = ⊎_elim (λ same. ap (λ n. parent_in n (apart.tree.node n)) same ∙ ap
+        (parent_in copy) (node_set merge.upper.tree copy _) ∙ copy_parent_itself _ ∙ sym same) (λ old. apart_parent k
+        old ∙ own k old (λ named. none (named.0, named.1, apart_entry named.0 named.1 ∙ named.2))) (was_directory k is)
 
     beside_goes : Goes stack.directory merge.upper apart
     beside_goes = record {
@@ -253,15 +230,11 @@ module _ {stack : Stack ℕ} {merge : Merge ℕ} (whole : IsWhole stack merge) (
 
     beside_is_whole : IsWhole stack beside
     beside_is_whole = whole_again stack merge beside whole whole.tree whole.numbers apart_is_tree
-        (still_directory stack.directory top_directory)
-        (whole.reached.0, apart_led merge.upper.tree.root whole.reached.0 ∙ whole.reached.1)
-        (grown_is_fine stack merge fine_before merge.files apart object copy vacant
-        (λ n differ. alike_same (merge.files.tree.node n) (merge.files.tree.node n) refl)
-        (λ u differ. alike_same (merge.upper.tree.node u) (apart.tree.node u)
-        (node_other merge.upper.tree copy (Some (copy_node copy)) u differ))
-        (subst (SameObject (merge.files.tree.node object))
-        (sym (node_set merge.upper.tree copy (Some (copy_node copy)))) (copy_object copy))
-        (ap is_some is) (fine_before.whiteout object) (fine_before.mark object) paths_beside)
+        (still_directory stack.directory top_directory) (whole.reached.0, apart_led _ whole.reached.0 ∙ whole.reached.1)
+        (grown_is_fine stack merge fine_before merge.files apart object copy vacant (λ n differ. alike_same _ _ refl)
+        (λ u differ. alike_same _ (apart.tree.node u) (node_other merge.upper.tree copy _ u differ)) (subst
+        (SameObject (merge.files.tree.node object)) (sym (node_set merge.upper.tree copy (Some (copy_node copy))))
+        (copy_object copy)) (ap is_some is) (fine_before.whiteout object) (fine_before.mark object) paths_beside)
 
   -- an object under its name
   module _ (d : ℕ) (w : List ℕ) (has : entry_at merge.files.tree d w ≡ Some object)
@@ -305,9 +278,8 @@ module _ {stack : Stack ℕ} {merge : Merge ℕ} (whole : IsWhole stack merge) (
       where
         seen : (r : ℕ) → entry_at merge.upper.tree ud w ≡ Some r → (white : Bool)
             → is_kind_in White (merge.upper.tree.node r) ≡ white → ⊥
-        seen r e white k = at white (sym (ap (λ o. then_some o merge.real) here) ∙ fine_before.paths (way.0 ++ w ∷ [])
-            ∙ ap (real_by (way.0 ++ w ∷ [])) (on_top before lowers (way.0 ++ w ∷ []) r white
-            (led-append merge.upper.tree stack.directory way.0 w ud r up_way e) k))
+        seen r e white k = at white (sym (ap (λ o. then_some o merge.real) here) ∙ fine_before.paths _ ∙ ap (real_by _)
+            (on_top before lowers _ r white (led-append merge.upper.tree stack.directory way.0 w ud r up_way e) k))
           where
             at : (white : Bool) → merge.real object
                 ≡ real_by (way.0 ++ w ∷ []) (when (not white) (record { layer = 0; object = r })) → ⊥
@@ -333,8 +305,7 @@ module _ {stack : Stack ℕ} {merge : Merge ℕ} (whole : IsWhole stack merge) (
     others_alike = (make_adds_inode merge.upper stack.directory ud copy w (copy_node ud) ud_directory vacant).1
 
     is_old : (path : List (List ℕ)) (k : ℕ) → led merge.upper.tree stack.directory path ≡ Some k → k ≢ copy
-    is_old path k l same = true≢false (sym (led_is_there
-        (record { tree = merge.upper.tree; directory = stack.directory }) top_tree top_directory path k l)
+    is_old path k l same = true≢false (sym (led_is_there _ top_tree top_directory path k l)
         ∙ ap (λ n. is_some (merge.upper.tree.node n)) same ∙ ap is_some vacant)
 
     hides_at : (front : List (List ℕ)) (b : Bool) → names_entry before ud w front ≡ b
@@ -353,15 +324,12 @@ module _ {stack : Stack ℕ} {merge : Merge ℕ} (whole : IsWhole stack merge) (
 
     -- a copy of a directory lets be seen what is below
     cuts_same : is_directory (kind_of node.content) ≡ true → (path : List (List ℕ)) → cuts after path ≡ cuts before path
-    cuts_same is_dir path =
-        prefixes_agree (λ front. hides (node_led before front)) (λ front. hides (node_led after front)) path
-        (λ front f. by front (names_entry before ud w front) refl)
+    cuts_same is_dir path = prefixes_agree _ _ path (λ front f. by front (names_entry before ud w front) refl)
       where
         by : (front : List (List ℕ)) (b : Bool) → names_entry before ud w front ≡ b
             → hides (node_led after front) ≡ hides (node_led before front)
         by front true e = hides_at front true e ∙ copy_hides_not ud node node.content is_dir
-            ∙ sym (ap (λ o. hides (then_some o merge.upper.tree.node))
-            (named_led merge.upper stack.directory ud w front e ∙ free))
+            ∙ sym (ap (λ o. hides (then_some o merge.upper.tree.node)) (named_led merge.upper _ ud w front e ∙ free))
         by front false e = hides_at front false e
 
     -- and that of a file hides just what was hidden
@@ -375,10 +343,9 @@ module _ {stack : Stack ℕ} {merge : Merge ℕ} (whole : IsWhole stack merge) (
     number_none : is_directory (kind_of node.content) ≡ false → (path : List (List ℕ))
         → goes_through before ud w path ≡ true → names_entry before ud w path ≡ false
         → number_at_path merge.files path ≡ None
-    number_none not_dir path through other = through_bare merge.files merge.files.tree.root d object w has
-        (no_entries merge.files.tree object
-        (entries_in-no_directory (merge.files.tree.node object) (ap is_directory_node is ∙ not_dir))) path
-        (same_through stack merge whole d ud real_d ud_directory w path ∙ through)
+    number_none not_dir path through other = through_bare merge.files merge.files.tree.root d object
+        w has (no_entries merge.files.tree object (entries_in-no_directory _ (ap is_directory_node is ∙ not_dir)))
+        path (same_through stack merge whole d ud real_d ud_directory w path ∙ through)
         (same_entry stack merge whole d ud real_d ud_directory w path ∙ other)
 
     shown_same : (path : List (List ℕ)) → names_entry before ud w path ≡ false
@@ -398,8 +365,7 @@ module _ {stack : Stack ℕ} {merge : Merge ℕ} (whole : IsWhole stack merge) (
         by : (b : Bool) → is_directory (kind_of node.content) ≡ b
             → shown_from 0 (after ∷ lowers) path ≡ shown_from 0 (before ∷ lowers) path
         by true is_dir = over_same before after lowers path (leads_same path e)
-            (λ k l. white_alike (merge.upper.tree.node k) (with_copy.tree.node k) (others_alike k (is_old path k l)))
-            (cuts_same is_dir path)
+            (λ k l. white_alike _ (with_copy.tree.node k) (others_alike k (is_old path k l))) (cuts_same is_dir path)
         by false not_dir = file not_dir (goes_through before ud w path) refl
 
     paths_above : (path : List (List ℕ))
@@ -422,8 +388,7 @@ module _ {stack : Stack ℕ} {merge : Merge ℕ} (whole : IsWhole stack merge) (
             (new_name_is_shown merge.upper stack.directory ud copy w (copy_node ud) lowers takes vacant bare path e
             ∙ ap (λ b. when (not b) (record { layer = 0; object = copy }))
             (ap (is_kind White) (kind_of-copied_content ud node.content) ∙ not_white)))
-        by false e = other e (number_at_path merge.files path) refl ∙ fine_before.paths path
-            ∙ sym (ap (real_by path) (shown_same path e))
+        by false e = other e _ refl ∙ fine_before.paths path ∙ sym (ap (real_by path) (shown_same path e))
 
     new_object : with_copy.tree.node copy ≡ Some (copy_node ud)
     new_object = (make_adds_inode merge.upper stack.directory ud copy w (copy_node ud) ud_directory vacant).0
@@ -434,8 +399,7 @@ module _ {stack : Stack ℕ} {merge : Merge ℕ} (whole : IsWhole stack merge) (
         in_directory = ud_directory;
         reached = (
           whole.reached.0 ++ way.0,
-          led_parts merge.upper.tree whole.reached.0 way.0 merge.upper.tree.root stack.directory whole.reached.1
-              ∙ up_way,
+          led_parts merge.upper.tree whole.reached.0 way.0 merge.upper.tree.root _ whole.reached.1 ∙ up_way,
         );
         free = free;
       };
@@ -444,17 +408,13 @@ module _ {stack : Stack ℕ} {merge : Merge ℕ} (whole : IsWhole stack merge) (
     }
 
     above_goes : Goes stack.directory merge.upper with_copy
-    above_goes = goes_by stack.directory merge.upper (Make ud w copy (copy_node ud))
-        (top_good stack merge whole) may_copy tt
+    above_goes = goes_by _ merge.upper (Make ud w copy (copy_node ud)) (top_good stack merge whole) may_copy tt
 
     above_is_whole : IsWhole stack above
-    above_is_whole = whole_again stack merge above whole whole.tree whole.numbers
-        (changes_keep_trees merge.upper (Make ud w copy (copy_node ud)) top_tree may_copy)
-        (directory_alike (merge.upper.tree.node stack.directory) (with_copy.tree.node stack.directory)
-        (others_alike stack.directory (is_old [] stack.directory refl)) ∙ top_directory)
-        (still_reached (names_entry (view_in merge.upper merge.upper.tree.root) ud w whole.reached.0) refl)
-        (grown_is_fine stack merge fine_before merge.files with_copy object copy vacant
-        (λ n differ. alike_same (merge.files.tree.node n) (merge.files.tree.node n) refl)
+    above_is_whole = whole_again stack merge above whole
+        whole.tree whole.numbers (changes_keep_trees merge.upper (Make ud w copy (copy_node ud)) top_tree may_copy)
+        (directory_alike _ _ (others_alike _ (is_old [] _ refl)) ∙ top_directory) (still_reached _ refl) (grown_is_fine
+        stack merge fine_before merge.files with_copy object copy vacant (λ n differ. alike_same _ _ refl)
         others_alike (subst (SameObject (merge.files.tree.node object)) (sym new_object) (copy_object ud))
         (ap is_some is) (fine_before.whiteout object) (fine_before.mark object) paths_above)
       where
@@ -498,15 +458,13 @@ pub copy_cuts : (stack : Stack ℕ) (merge : Merge ℕ) (object copy : ℕ) (nod
     → is_directory (kind_of node.content) ≡ true → (path : List (List ℕ))
     → cuts (view_in (copy_of_node nat_eq merge object copy node).upper stack.directory) path
     ≡ cuts (view_in merge.upper stack.directory) path
-copy_cuts stack merge object copy node whole is low vacant parents is_dir path =
-    by (a_name nat_eq merge.files object) refl
+copy_cuts stack merge object copy node whole is low vacant parents is_dir path = by _ refl
   where
     by : (o : Option (ℕ × List ℕ)) → a_name nat_eq merge.files object ≡ o
         → cuts (view_in (copy_named nat_eq merge copy o (with_inode nat_eq merge.upper copy (record {
           attr = node.attr;
           content = copied_content (copy_parent merge copy o) node.content;
         }))) stack.directory) path ≡ cuts (view_in merge.upper stack.directory) path
-    by None e = prefixes_agree (λ front. hides (node_led (view_in merge.upper stack.directory) front)) _ path
-        (λ front f. ap hides (node_same whole object copy node is low vacant e front))
+    by None e = prefixes_agree _ _ path (λ front f. ap hides (node_same whole object copy node is low vacant e front))
     by (Some name) e = cuts_same whole object copy node is low vacant name.0 name.1
         (named_so merge.files whole.tree object name e) (parents name e) is_dir path

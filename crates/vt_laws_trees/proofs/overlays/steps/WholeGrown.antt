@@ -1,6 +1,6 @@
 -- An overlay in which one inode has a new object in the upper layer, and all others are as they were but for names.
 use Rattle.std.proofs.Common.{arith, ◌≡◌, ◌≢◌, refl, sym, ap, subst, ◌∙◌, true≢false, eqb-true, eq-eqb, ℕ, nat_eq, Bool, true, false, cond, List, Option, Some, None, is_some, bytes_eq}
-use Rattle.vt_spec.proofs.Common.{Content, FileTree, Lower, Merge, Node, Real, SameObject, Stack, Upper, bytes_of, common_steps, eqb_tells, is_directory, is_directory_node, is_kind_in, is_opaque_in, kind_of, none_before, number_at_path, same_Some, same_content, then_some, with_real}
+use Rattle.vt_spec.proofs.Common.{Content, FileTree, Merge, Node, Real, SameObject, Stack, Upper, bytes_of, common_steps, eqb_tells, is_directory, is_directory_node, is_kind_in, is_opaque_in, kind_of, none_before, number_at_path, same_Some, same_content, then_some, with_real}
 use Rattle.vt_spec.specs.declared.attributes.Kind.{Kind}
 use Rattle.vt_spec.specs.declared.attributes.Kind.TheVariants.{Dir, File, Symlink, White}
 use Rattle.vt_laws_trees.specs.Layers.Layers.Mounted.{IsAlike}
@@ -53,24 +53,12 @@ module _ (stack : Stack ℕ) (merge : Merge ℕ) (is_fine : IsFine stack merge) 
       (then_some (cond b (Some (Upper copy)) (merge.real n)) (inode_behind stack grown))
   object_same n true e = subst (λ k. SameObject (files.tree.node k) (upper.tree.node copy))
       (sym (eqb-true n number e)) new
-  object_same n false e = by (merge.real n) refl (is_fine.objects n)
-    where
-      by : (o : Option (Real ℕ)) → merge.real n ≡ o
-          → SameObject (merge.files.tree.node n) (then_some o (inode_behind stack merge))
-          → SameObject (files.tree.node n) (then_some o (inode_behind stack grown))
-      by None r same = alike_objects (merge.files.tree.node n) None (files.tree.node n) None same
-          (others n (differs n e)) (make_seen None)
-      by (Some (Upper u)) r same = alike_objects (merge.files.tree.node n) (merge.upper.tree.node u) (files.tree.node n)
-          (upper.tree.node u) same (others n (differs n e)) (above u (not_new n u r))
-      by (Some (Lower layer path)) r same =
-          alike_objects (merge.files.tree.node n) (inode_behind stack merge (Lower layer path)) (files.tree.node n)
-          (inode_behind stack merge (Lower layer path)) same (others n (differs n e)) (make_seen _)
+  object_same n false e = grind (arith, common_steps, alike_objects, differs, make_seen, not_new)
 
   real_there : (n : ℕ) (b : Bool) → nat_eq n number ≡ b → files.tree.node n ≡ None
       → cond b (Some (Upper copy)) (merge.real n) ≡ None
   real_there n true e none = cc (eqb-true n number e)
-  real_there n false e none = is_fine.there n
-      (none_before (merge.files.tree.node n) (files.tree.node n) (others n (differs n e)).there none)
+  real_there n false e none = is_fine.there n (none_before _ (files.tree.node n) (others n (differs n e)).there none)
 
   upper_there : (n object : ℕ) (b : Bool) → cond b (Some (Upper copy)) (merge.real n) ≡ Some (Upper object)
       → is_some (upper.tree.node object) ≡ true

@@ -1,15 +1,14 @@
 -- Names that are given and taken in the upper layer, and the one name of a directory there.
 use Rattle.std.proofs.Common.{◌≡◌, refl, sym, ap, subst, ◌∙◌, true≢false, arith, ℕ, suc, ◌+◌, nat_eq, map, slice_get, Bool, true, false, not, cond, List, [], ◌∷◌, ◌++◌, Option, Some, None, is_some, option_and_then}
-use Rattle.vt_spec.proofs.Common.{FileTree, IsDirectory, IsTree, Merge, OpenLayer, Shown, Stack, Tree, Upper, at_path, changed_node, common_steps, cuts, directory_no_whiteout, entries_in, entry_at, entry_named, is_directory_node, led, led-append, node_led, node_with_parent, node_without_entries, none_is_some, number_at_path, or_left, or_right, same_Some, shown_over, then_some, upper_directory_named, view_of, when, without_contents}
+use Rattle.vt_spec.proofs.Common.{FileTree, IsDirectory, Merge, OpenLayer, Shown, Stack, Tree, Upper, at_path, changed_node, common_steps, cuts, directory_no_whiteout, entries_in, entry_at, entry_named, is_directory_node, led, led-append, node_led, node_with_parent, node_without_entries, none_is_some, number_at_path, or_left, or_right, same_Some, shown_over, then_some, upper_directory_named, view_of, when, without_contents}
 use Rattle.vt_spec.proofs.Layers.{shown_from}
 use Rattle.vt_spec.specs.Machine.Views
 use Rattle.vt_laws_trees.specs.Layers.Layers.Mounted.{IsAlike}
 use Rattle.vt_laws_trees.specs.Layers.Layers.Views.{names_entry, view_in}
 use Rattle.vt_laws_trees.proofs.layers.layers.CopyingParts.{parent_keeps, without_entries_keeps}
 use Rattle.vt_laws_trees.proofs.layers.layers.LowersKept.{kept_elsewhere}
-use Rattle.vt_laws_trees.proofs.layers.layers.ShownDirectories.{last_of}
 use Rattle.vt_laws_trees.proofs.layers.layers.ShownNames.{last_name}
-use Rattle.vt_laws_trees.proofs.layers.layers.ShownPaths.{not_empty}
+use Rattle.vt_laws_trees.proofs.layers.layers.ShownPaths.{not_empty, last_step}
 use Rattle.vt_laws_trees.proofs.layers.layers.UpperLine.{is_reached_in}
 use Rattle.vt_laws_trees.proofs.layers.layers.UpperShown.{way_to}
 use Rattle.vt_laws_trees.proofs.layers.views.Entries.{is_entry}
@@ -106,36 +105,22 @@ module _ {stack : Stack ℕ} {merge : Merge ℕ} (whole : IsWhole stack merge) (
       → names_entry (view_in merge.upper stack.directory) ud w path ≡ true
   one_named is_dir [] l =
       let top_directory = (top_open stack merge whole).1 in
-      let root = above_named stack merge whole [] stack.directory refl
-      (directory_no_whiteout (merge.upper.tree.node stack.directory) top_directory) in
+      let root = above_named stack merge whole [] stack.directory refl (directory_no_whiteout _ top_directory) in
       absurd (whole.tree.root_unnamed d w (named ∙ ap Some
       ((is_fine stack merge whole).one object merge.files.tree.root (ap is_some real_o)
       (real_o ∙ ap (λ n. Some (Upper n)) (sym (same_Some stack.directory uo l)) ∙ sym root.2
       ∙ ap merge.real (sym (same_Some merge.files.tree.root root.0 root.1))))))
   one_named is_dir (word ∷ rest) l =
-      let last = last_of (word ∷ rest) (not_empty word rest) in
-      subst (λ p. names_entry (view_in merge.upper stack.directory) ud w p ≡ true) last.2
-      (at last.0 last.1 (led merge.upper.tree stack.directory last.0) refl
-      (sym (last_name merge.upper.tree stack.directory last.0 last.1)
-      ∙ ap (led merge.upper.tree stack.directory) last.2 ∙ l))
-    where
-      top_tree : IsTree merge.upper.tree
-      top_tree = (top_open stack merge whole).0
-
-      uo_directory : IsDirectory merge.upper.tree uo
-      uo_directory = directory_stands stack merge whole object uo real_o ∙ is_dir
-
-      at : (front : List (List ℕ)) (name : List ℕ) (o : Option ℕ) → led merge.upper.tree stack.directory front ≡ o
-          → option_and_then (λ n. entry_at merge.upper.tree n name) o ≡ Some uo
-          → names_entry (view_in merge.upper stack.directory) ud w (front ++ name ∷ []) ≡ true
-      at front name None f e = none_is_some uo e
-      at front name (Some parent) f e =
-          let same = sym (top_tree.one_parent parent name uo e uo_directory)
-          ∙ top_tree.one_parent ud w uo named_in_upper uo_directory in
-          let one = top_tree.one_name ud name w uo
-          (ap (λ n. entry_at merge.upper.tree n name) (sym same) ∙ e) named_in_upper uo_directory in
-          ap (λ n. names_entry (view_in merge.upper stack.directory) ud w (front ++ n ∷ [])) one
-          ∙ entry_named_so merge.upper stack.directory ud w front (f ∙ ap Some same)
+      let top_tree = (top_open stack merge whole).0 in
+      let uo_directory = directory_stands stack merge whole object uo real_o ∙ is_dir in
+      let last = last_step merge.upper.tree stack.directory (word ∷ rest) uo (not_empty word rest) l in
+      let same = sym (top_tree.one_parent last.directory last.name uo last.entry uo_directory)
+      ∙ top_tree.one_parent ud w uo named_in_upper uo_directory in
+      let one = top_tree.one_name ud last.name w uo
+      (ap (λ n. entry_at merge.upper.tree n last.name) (sym same) ∙ last.entry) named_in_upper uo_directory in
+      subst (λ p. names_entry (view_in merge.upper stack.directory) ud w p ≡ true)
+      (ap (λ n. last.front ++ n ∷ []) (sym one) ∙ last.split)
+      (entry_named_so merge.upper stack.directory ud w last.front (last.leads ∙ ap Some same))
 
 -- the upper directory that has a name is the object's
 pub own_upper : (merge : Merge ℕ) (d : ℕ) (w : List ℕ) (uo : ℕ) → upper_directory_named merge d w ≡ Some uo

@@ -11,7 +11,7 @@ use Rattle.vt_laws_trees.proofs.layers.layers.UpperChain.{depth_bound, up_at_roo
 use Rattle.vt_laws_trees.proofs.layers.layers.UpperLine.{ReachedIn, has_entries, is_reached_in, named_so, reached_directory}
 use Rattle.vt_laws_trees.proofs.overlays.whole.UpperGoes.{Goes, goes_both, goes_none}
 use Rattle.vt_laws_trees.specs.Trees.Sizes.{is_fit_node, is_fit_tree}
-use Rattle.vt_laws_trees.proofs.trees.ChangesOfSizes.{fits, inode_fits}
+use Rattle.vt_laws_trees.proofs.trees.ChangesOfSizes.{inode_fits}
 use Rattle.vt_laws_trees.proofs.overlays.whole.UpperSizes.{copy_fits_limits, fits_here, name_fits, name_sized}
 use Rattle.vt_laws_trees.proofs.overlays.whole.UpperTold.{Told, told_both, told_inode, told_name, told_none}
 use Rattle.vt_laws_trees.proofs.overlays.steps.WholeCopied.{copy_cuts, copy_goes, copy_keeps_whole}
@@ -80,20 +80,17 @@ module _ (files : FileTree ℕ) (tree : IsTree files.tree) (numbers : ListsNumbe
           tt,
         );
         ends = inl refl;
-        there = λ x m. ⊎_elim (λ same.
-            subst (IsThere files) same (directory_used files.tree directory
-            (reached_directory files tree zero directory r))) (λ none. absurd none) m;
+        there = λ x m. ⊎_elim (λ same. subst (IsThere files)
+            same (directory_used files.tree directory (reached_directory files tree zero _ r))) (λ none. absurd none) m;
         directories = λ d x m. ⊎_elim (λ same. subst (IsDirectory files.tree) same d) (λ none. absurd none) m;
       })
   to_directory (suc steps) zero directory r h = absurd (let no : ⊥ = omega arith in no)
   to_directory (suc steps) (suc most) directory r h = subst (λ list. GoodLine files list directory)
       (sym (ap (λ list. reverse list) (up_from files tree most steps directory r)
       ∙ reverse-cons directory (chain most (named_parent nat_eq files.tree) r.0)))
-      (one_more (reverse (chain most (named_parent nat_eq files.tree) r.0)) r.0 directory
-      (to_directory steps most r.0 r.2 (omega arith)) (has_entries files.tree r.0 r.1 directory r.3)
-      (directory_used files.tree directory r.4)
-      (λ name e. sym (tree.one_parent name.0 name.1 directory (named_so files tree directory name e) r.4)
-      ∙ tree.one_parent r.0 r.1 directory r.3 r.4))
+      (one_more _ r.0 directory (to_directory steps most r.0 r.2 (omega arith))
+      (has_entries files.tree r.0 r.1 directory r.3) (directory_used files.tree directory r.4) (λ name e. sym
+      (tree.one_parent name.0 name.1 directory (named_so files tree _ name e) r.4) ∙ tree.one_parent r.0 r.1 _ r.3 r.4))
 
   pub to_object : (object : ℕ) → IsThere files object → GoodLine files (line_to nat_eq files object) object
   to_object object there = by (a_name nat_eq files object) refl
@@ -161,8 +158,7 @@ module _ (stack : Stack ℕ) (fresh : Fresh ℕ) (distinct : (j k : ℕ) → fre
       → IsNewBy fresh copy
       → Told (IsNewBy fresh) merge.upper (copy_named nat_eq merge copy o (with_inode nat_eq merge.upper copy node))
   copy_told merge copy node bare None own = told_inode (IsNewBy fresh) merge.upper copy node bare
-  copy_told merge copy node bare (Some name) own =
-      told_both (IsNewBy fresh) merge.upper (with_inode nat_eq merge.upper copy node)
+  copy_told merge copy node bare (Some name) own = told_both _ merge.upper (with_inode nat_eq merge.upper copy node)
       (copy_named nat_eq merge copy (Some name) (with_inode nat_eq merge.upper copy node))
       (told_inode (IsNewBy fresh) merge.upper copy node bare)
       (told_name (IsNewBy fresh) (with_inode nat_eq merge.upper copy node) (upper_of merge name.0) name.1 copy own)
@@ -176,14 +172,12 @@ module _ (stack : Stack ℕ) (fresh : Fresh ℕ) (distinct : (j k : ℕ) → fre
   copy_sized merge whole object copy node is o named f h = by o named
     where
       limits : (p : ℕ) → is_fit_node (record { attr = node.attr; content = copied_content p node.content }) ≡ true
-      limits p = copy_fits_limits p node
-          (ap fits (sym is) ∙ fits_here merge.files whole.numbers f object (ap is_some is))
+      limits p = copy_fits_limits p node (cc (is, fits_here merge.files whole.numbers f object (ap is_some is)))
 
       by : (o : Option (ℕ × List ℕ)) → a_name nat_eq merge.files object ≡ o
           → is_fit_tree (copy_named nat_eq merge copy o (with_inode nat_eq merge.upper copy
           (record { attr = node.attr; content = copied_content (copy_parent merge copy o) node.content }))) ≡ true
-      by None e = inode_fits merge.upper copy
-          (record { attr = node.attr; content = copied_content copy node.content }) (limits copy) h
+      by None e = inode_fits merge.upper copy _ (limits copy) h
       by (Some name) e =
           let inode : Node ℕ = record {
             attr = node.attr;
@@ -227,8 +221,7 @@ module _ (stack : Stack ℕ) (fresh : Fresh ℕ) (distinct : (j k : ℕ) → fre
     all = λ n m. absurd m;
     cut = λ d path. refl;
   }
-  line_copied (object ∷ rest) k merge done whole line up there unused =
-      by (merge.files.tree.node object) refl (is_in_upper merge object) refl (line_copied rest (k + 1))
+  line_copied (object ∷ rest) k merge done whole line up there unused = by _ refl _ refl (line_copied rest (k + 1))
     where
       up_with : (m : Merge ℕ) → ((n : ℕ) → StandsInUpper merge n → StandsInUpper m n) → StandsInUpper m object
           → (n : ℕ) → Among (object ∷ done) n → StandsInUpper m n
@@ -253,11 +246,9 @@ module _ (stack : Stack ℕ) (fresh : Fresh ℕ) (distinct : (j k : ℕ) → fre
           (copied_each nat_eq fresh (k + 1) (copy_of_node nat_eq merge object (fresh k) node) rest) (object ∷ rest)
       goes node is low later =
           let one = copy_of_node nat_eq merge object (fresh k) node in
-          let now = copy_keeps_whole stack merge object (fresh k) node whole is
-          (none_from_not_some (upper_object (merge.real object)) low) (unused k (omega arith))
-          (λ name e. up name.0 (line.0 name e)) in
-          let grows : (n : ℕ) → StandsInUpper merge n
-          → StandsInUpper one n = λ n h. grown_still merge object (fresh k) n h in
+          let now = copy_keeps_whole stack merge object (fresh k)
+          node whole is (none_from_not_some _ low) (unused k (omega arith)) (λ name e. up name.0 (line.0 name e)) in
+          let grows : (n : ℕ) → StandsInUpper merge n → StandsInUpper one n = λ n h. grown_still merge object _ n h in
           let stands : StandsInUpper one object =
           ap (λ b. is_some (upper_object (cond b (Some (Upper (fresh k))) (merge.real object))))
           (eq-eqb object object refl) in
@@ -266,32 +257,25 @@ module _ (stack : Stack ℕ) (fresh : Fresh ℕ) (distinct : (j k : ℕ) → fre
             attr = node.attr;
             content = copied_content (copy_parent merge (fresh k) (a_name nat_eq merge.files object)) node.content;
           }) (a_name nat_eq merge.files object) x none differ in
-          let next = later one (object ∷ done) now line.1 (up_with one grows stands) (λ x m. there x (inr m))
-          (λ j h. still (fresh j) (unused j (omega arith))
-          (λ e. let same = distinct j k e in absurd (let no : ⊥ = omega arith in no))) in
+          let next = later one _ now line.1 (up_with one grows stands) (λ x m. there x (inr m)) (λ j h. still (fresh j)
+          (unused j (omega arith)) (λ e. let same = distinct j k e in absurd (let no : ⊥ = omega arith in no))) in
           record {
             copied = record {
               whole = next.copied.whole;
               files = next.copied.files;
               grows = λ n h. next.copied.grows n (grows n h);
               vacant = λ x none out. next.copied.vacant x (still x none (out k)) out;
-              lower = λ n layer path e. below_before merge object (fresh k) n layer path
-                  (next.copied.lower n layer path e);
-              upper = goes_both stack.directory merge.upper one.upper (copied_each nat_eq fresh (k + 1) one rest).upper
-                  (copy_goes stack merge object (fresh k) node whole is
-                  (none_from_not_some (upper_object (merge.real object)) low) (unused k (omega arith))
-                  (λ name e. up name.0 (line.0 name e))) next.copied.upper;
+              lower = λ n layer path e. below_before merge object _ n layer path (next.copied.lower n layer path e);
+              upper = goes_both _ _ one.upper _ (copy_goes stack merge object _ node whole is (none_from_not_some _ low)
+                  (unused k (omega arith)) (λ name e. up name.0 (line.0 name e))) next.copied.upper;
               names = told_both (IsNewBy fresh) merge.upper one.upper (copied_each nat_eq fresh (k + 1) one rest).upper
                   (copy_told merge (fresh k) (record {
                     attr = node.attr;
                     content = copied_content
                         (copy_parent merge (fresh k) (a_name nat_eq merge.files object)) node.content;
-                  }) (entries_of-copied_content
-                  (copy_parent merge (fresh k) (a_name nat_eq merge.files object)) node.content)
-                  (a_name nat_eq merge.files object) (k, refl)) next.copied.names;
+                  }) (entries_of-copied_content _ node.content) _ (k, refl)) next.copied.names;
               objects = λ n o e. ⊎_elim (λ f. own_before merge object k n o f) inr (next.copied.objects n o e);
-              sizes = λ f h. next.copied.sizes f
-                  (copy_sized merge whole object (fresh k) node is (a_name nat_eq merge.files object) refl f h);
+              sizes = λ f h. next.copied.sizes f (copy_sized merge whole object (fresh k) node is _ refl f h);
             };
             all = λ n m. ⊎_elim (λ e. subst (StandsInUpper (copied_each nat_eq fresh (k + 1) one rest)) e
                 (next.copied.grows object stands)) (λ l. next.all n l) m;
@@ -313,8 +297,7 @@ module _ (stack : Stack ℕ) (fresh : Fresh ℕ) (distinct : (j k : ℕ) → fre
       → IsLineCopied stack fresh merge (copied_up nat_eq fresh merge object) (line_to nat_eq merge.files object)
   object_copied merge object whole unused there =
       let good = to_object merge.files whole.tree whole.numbers object there in
-      line_copied (line_to nat_eq merge.files object) 0 merge [] whole good.line (λ n m. absurd m) good.there
-      (λ j h. unused j)
+      line_copied _ 0 merge [] whole good.line (λ n m. absurd m) good.there (λ j h. unused j)
 
   pub stands_copied : (merge : Merge ℕ) (object : ℕ) (whole : IsWhole stack merge)
       (unused : (k : ℕ) → merge.upper.tree.node (fresh k) ≡ None) (there : IsThere merge.files object)

@@ -1,12 +1,12 @@
 -- An object of the upper layer is put under a further name: the tree is still what the layers show.
 use Rattle.std.proofs.Common.{arith, ◌≡◌, refl, sym, ap, subst, ◌∙◌, true≢false, ℕ, nat_eq, Bool, true, false, not, cond, ◌||◌, List, [], ◌∷◌, ◌++◌, map, Option, Some, None, is_some, option_and_then}
-use Rattle.vt_spec.proofs.Common.{AddName, FileTree, IsDirectory, IsTree, Merge, Node, SameObject, Stack, Upper, View, changed, common_steps, entry_at, hides, is_directory_node, is_kind_in, led, led-append, merge_with_link, node_led, none_is_some, number_at_path, opaque_of, shown, shown_from, then_some, upper_of, view_of, when}
+use Rattle.vt_spec.proofs.Common.{AddName, FileTree, IsDirectory, IsTree, Merge, Node, SameObject, Stack, Upper, View, changed, common_steps, entry_at, hides, is_directory_node, is_kind_in, led, led-append, merge_with_link, node_led, none_is_some, number_at_path, opaque_of, shown_from, then_some, upper_of, view_of, when}
 use Rattle.vt_spec.specs.declared.attributes.Kind.TheVariants.{White}
 use Rattle.vt_laws_trees.specs.Trees.{MayAddName}
 use Rattle.vt_laws_trees.specs.Layers.Layers.ChangesUpper.{StandsInUpper}
 use Rattle.vt_laws_trees.specs.Layers.Layers.Mounted.{IsAlike}
 use Rattle.vt_laws_trees.specs.Layers.Layers.Views.{TakesName, goes_through, names_entry, view_in}
-use Rattle.vt_laws_trees.specs.Overlays.WhatIsShown.{IsWhole, LinkKeepsShown, layers_under, real_seen}
+use Rattle.vt_laws_trees.specs.Overlays.WhatIsShown.{IsWhole, LinkKeepsShown, real_seen}
 use Rattle.vt_laws_trees.proofs.layers.layers.ShownFronts.{prefix_found, prefix_passes}
 use Rattle.vt_laws_trees.proofs.layers.layers.ShownNames.{last_name}
 use Rattle.vt_laws_trees.proofs.layers.views.After.{link_is_shown, on_top, shown_elsewhere_stays}
@@ -76,8 +76,7 @@ module _ {stack : Stack ℕ} {merge : Merge ℕ} (whole : IsWhole stack merge) {
   uo_file = directory_stands stack merge whole object uo real_object ∙ may.no_directory
 
   uo_not_white : is_kind_in White (merge.upper.tree.node uo) ≡ false
-  uo_not_white = no_white_object (merge.files.tree.node object) (merge.upper.tree.node uo)
-      (object_above stack merge whole object uo real_object)
+  uo_not_white = no_white_object _ (merge.upper.tree.node uo) (object_above stack merge whole object uo real_object)
 
   abbrev way : List (List ℕ)
   way = may.name_is_free.reached.0
@@ -92,10 +91,9 @@ module _ {stack : Stack ℕ} {merge : Merge ℕ} (whole : IsWhole stack merge) {
       by : (b : Bool) → is_kind_in White (merge.upper.tree.node r) ≡ b
           → is_kind_in White (merge.upper.tree.node r) ≡ true
       by true k = k
-      by false k = none_is_some (Upper r) (sym (ap (λ o. then_some o merge.real) nothing_here)
-          ∙ fine_before.paths (way ++ w ∷ []) ∙ ap (real_by (way ++ w ∷ []))
-          (on_top before lowers (way ++ w ∷ []) r false (led-append merge.upper.tree stack.directory way w ud r
-          (named_above stack merge whole way d ud may.name_is_free.reached.1 real_d) e) k))
+      by false k = none_is_some (Upper r) (sym (ap (λ o. then_some o merge.real) nothing_here) ∙ fine_before.paths
+          (way ++ w ∷ []) ∙ ap (real_by (way ++ w ∷ [])) (on_top before lowers _ r false (led-append merge.upper.tree
+          stack.directory way w ud r (named_above stack merge whole way d ud may.name_is_free.reached.1 real_d) e) k))
 
   takes : TakesName merge.upper.tree ud w
   takes = record {
@@ -112,8 +110,7 @@ module _ {stack : Stack ℕ} {merge : Merge ℕ} (whole : IsWhole stack merge) {
   leads_none : (path : List (List ℕ)) → goes_through before ud w path ≡ true → names_entry before ud w path ≡ false
       → led upper.tree stack.directory path ≡ None
   leads_none path through other = add_name_adds_path merge.upper stack.directory ud uo w takes uo_file path
-      ∙ ap (λ b. cond b (Some uo) (led merge.upper.tree stack.directory path)) other
-      ∙ by (entry_at merge.upper.tree ud w) refl
+      ∙ ap (λ b. cond b (Some uo) (led merge.upper.tree stack.directory path)) other ∙ by _ refl
     where
       by : (o : Option ℕ) → entry_at merge.upper.tree ud w ≡ o → led merge.upper.tree stack.directory path ≡ None
       by None e = through_free merge.upper stack.directory ud w e path through
@@ -124,9 +121,7 @@ module _ {stack : Stack ℕ} {merge : Merge ℕ} (whole : IsWhole stack merge) {
   hides_here front e =
       let alike = subst (λ x. IsAlike (cond x (merge.upper.tree.node uo) (node_led before front))
       (node_led after front)) e (add_name_is_seen merge.upper stack.directory ud uo w takes uo_file front) in
-      hiding_alike (merge.upper.tree.node uo) (node_led after front)
-      (hides_so (merge.upper.tree.node uo) (node_led after front) alike)
-      ∙ file_hides (merge.upper.tree.node uo) (fine_before.upper object uo real_object) uo_file
+      hiding_alike _ _ (hides_so _ _ alike) ∙ file_hides _ (fine_before.upper object uo real_object) uo_file
 
   number_none : (path : List (List ℕ)) → goes_through before ud w path ≡ true → number_at_path merge.files path ≡ None
   number_none path through = through_free merge.files merge.files.tree.root d w may.name_is_free.free path
@@ -141,9 +136,8 @@ module _ {stack : Stack ℕ} {merge : Merge ℕ} (whole : IsWhole stack merge) {
       by true through =
           let found = prefix_found (names_entry before ud w) path through in
           cut_shows_none after lowers path (leads_none path through other)
-          (prefix_passes (λ front. hides (node_led after front)) path found.0 found.1.0 found.1.1 found.1.2
-          (hides_here found.0 found.2)) ∙ sym (real_by_none path (shown (layers_under stack merge) path)
-          (sym (fine_before.paths path) ∙ ap (λ o. then_some o merge.real) (number_none path through)))
+          (prefix_passes _ path found.0 found.1.0 found.1.1 found.1.2 (hides_here found.0 found.2)) ∙ sym (real_by_none
+          path _ (sym (fine_before.paths path) ∙ ap (λ o. then_some o merge.real) (number_none path through)))
       by false elsewhere = shown_elsewhere_stays merge.upper
           (AddName ud w uo) stack.directory lowers top_tree top_directory (takes, uo_file) path elsewhere
 
@@ -161,8 +155,7 @@ module _ {stack : Stack ℕ} {merge : Merge ℕ} (whole : IsWhole stack merge) {
       by true e = ap (λ o. then_some o merge.real) (goes true e) ∙ real_object ∙ sym (ap (real_by path)
           (link_is_shown merge.upper stack.directory ud uo w lowers takes uo_file path e
           ∙ ap (λ b. when (not b) (record { layer = 0; object = uo })) uo_not_white))
-      by false e = ap (λ o. then_some o merge.real) (goes false e) ∙ fine_before.paths path
-          ∙ sym (ap (real_by path) (shown_same path e))
+      by false e = cc (goes false e, fine_before.paths path, shown_same path e)
 
   pub later_is_fine : IsFine stack later
   later_is_fine = rearranged_is_fine stack merge fine_before files upper

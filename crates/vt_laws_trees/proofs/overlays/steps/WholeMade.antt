@@ -1,6 +1,6 @@
 -- A new object under a name that shows nothing: the tree is still what the layers show.
 use Rattle.std.proofs.Common.{arith, ◌≡◌, refl, sym, ap, subst, ◌∙◌, true≢false, eqb-true, eq-eqb, ne_eqb, inl, inr, ℕ, suc, nat_eq, Bool, true, false, not, cond, List, [], ◌∷◌, ◌++◌, map, Option, Some, None, is_some, option_and_then}
-use Rattle.vt_spec.proofs.Common.{Content, Directory, FileTree, IsDirectory, IsNewIn, IsTree, Make, Merge, Node, Real, Regular, SameObject, Shown, Stack, Symlink, Upper, View, Whiteout, bytes_eq_itself, changed, changed_node, common_steps, content_with_mark, content_with_parent, cuts, entries_in, entries_of, entry_at, hides, hides_directory, is_directory, is_directory_node, is_directory_shown, is_kind, is_kind_in, is_opaque_in, kind_of, led, led-append, merge_with_new, node_led, node_with_entry, node_with_mark, none_is_some, number_at_path, opaque_of, same_content, shown, shown_from, shown_in_lowers, shown_in_lowers_at, shown_over, then_some, upper_of, view_of, when, with_mark, with_real}
+use Rattle.vt_spec.proofs.Common.{Content, Directory, FileTree, IsDirectory, IsNewIn, IsTree, Make, Merge, Node, Real, Regular, SameObject, Shown, Stack, Symlink, Upper, View, Whiteout, bytes_eq_itself, changed, changed_node, common_steps, content_with_mark, content_with_parent, cuts, entries_in, entries_of, entry_at, hides, hides_directory, is_directory, is_directory_node, is_directory_shown, is_kind, is_kind_in, kind_of, led, led-append, node_led, node_with_entry, node_with_mark, none_is_some, number_at_path, opaque_of, same_content, shown, shown_from, shown_in_lowers_at, then_some, upper_of, view_of, when, with_mark, with_real}
 use Rattle.vt_spec.specs.declared.attributes.Kind.TheVariants.{White}
 use Rattle.vt_laws_trees.specs.Trees.{MayMake}
 use Rattle.vt_laws_trees.specs.Layers.Layers.ChangesUpper.{StandsInUpper}
@@ -39,10 +39,7 @@ pub below_name : (stack : Stack ℕ) (merge : Merge ℕ) (whole : IsWhole stack 
     → cuts (view_in merge.upper stack.directory) way ≡ false
     → shown_in_lowers_at nat_eq stack merge d w ≡ shown_from 1 (map view_of stack.lowers) (way ++ w ∷ [])
 below_name stack merge whole d w way e is_directory uncut =
-    ap (shown_in_lowers (record { tree = merge.upper.tree; directory = stack.directory }) stack.lowers)
-    (path_to_is merge whole.tree whole.numbers way d w e is_directory)
-    ∙ ap (λ b. cond b None (shown_from 1 (map view_of stack.lowers) (way ++ w ∷ [])))
-    (ap (cuts (view_in merge.upper stack.directory)) (without_last_of_longer way w) ∙ uncut)
+    cc (path_to_is merge whole.tree whole.numbers way d w e is_directory, without_last_of_longer way w, uncut)
 
 module _ (stack : Stack ℕ) (merge : Merge ℕ) (whole : IsWhole stack merge) (d : ℕ) (w : List ℕ) (number : ℕ)
     (node : Node ℕ) (stands : StandsInUpper merge d)
@@ -107,10 +104,8 @@ module _ (stack : Stack ℕ) (merge : Merge ℕ) (whole : IsWhole stack merge) (
       by : (b : Bool) → is_kind_in White (merge.upper.tree.node r) ≡ b
           → is_kind_in White (merge.upper.tree.node r) ≡ true
       by true k = k
-      by false k = none_is_some (Upper r) (sym (ap (λ o. then_some o merge.real) nothing_here)
-          ∙ fine_before.paths (way ++ w ∷ []) ∙ ap (real_by (way ++ w ∷ []))
-          (on_top before lowers (way ++ w ∷ []) r false
-          (led-append merge.upper.tree stack.directory way w ud r up_way e) k))
+      by false k = none_is_some (Upper r) (sym (ap (λ o. then_some o merge.real) nothing_here) ∙ fine_before.paths _
+          ∙ ap (real_by _) (on_top before lowers _ r false (led-append merge.upper.tree _ way w ud r up_way e) k))
 
   takes : TakesName merge.upper.tree ud w
   takes = record {
@@ -154,34 +149,27 @@ module _ (stack : Stack ℕ) (merge : Merge ℕ) (whole : IsWhole stack merge) (
       seen : (seen : Shown ℕ) (to rest : List (List ℕ)) → to ++ w ∷ rest ≡ path
           → led merge.upper.tree stack.directory to ≡ Some ud
           → hides (Some new) ≡ false → cuts after path ≡ false → shown_from 1 lowers path ≡ Some seen → ⊥
-      seen s to [] is l h uncut e =
-          true≢false (sym (entry_named_so merge.upper stack.directory ud w to l) ∙ ap (names_entry before ud w) is
-          ∙ other)
+      seen s to [] is l h uncut e = true≢false (cc (entry_named_so merge.upper stack.directory ud w to l, is, other))
       seen s to (next ∷ rest) is l h uncut e =
           let there = same_is _ d (same_place stack merge whole d ud real_d ud_directory to ∙ same_holds _ ud l) in
           let shows = shown_longer stack.lowers (λ k layer f. whole.layers (suc k) layer f) 1 rest (to ++ w ∷ []) next s
           (ap (shown_from 1 lowers) (append_assoc to (w ∷ []) (next ∷ rest) ∙ is) ∙ e) in
           true≢false (sym (ap (is_directory_shown (layers_under stack merge))
           (below_name stack merge whole d w to there may.name_is_free.in_directory (uncut_to there))
-          ∙ directory_below_top (record { tree = merge.upper.tree; directory = stack.directory }) stack.lowers
-          (to ++ w ∷ []) shows) ∙ clear h)
+          ∙ directory_below_top _ stack.lowers (to ++ w ∷ []) shows) ∙ clear h)
         where
           uncut_to : number_at_path merge.files to ≡ Some d → cuts before to ≡ false
-          uncut_to there = fails (cuts before to)
-              (λ cut. found (prefix_found (λ front. hides (node_led before front)) to cut))
+          uncut_to there = fails (cuts before to) (λ cut. found (prefix_found _ to cut))
             where
               found : (front : List (List ℕ)) × Rattle.vt_laws_trees.specs.Layers.Layers.Shown.IsFrontOf front to
                   × (hides (node_led before front) ≡ true) → ⊥
               found f = at (names_entry before ud w f.0) refl
                 where
                   at : (b : Bool) → names_entry before ud w f.0 ≡ b → ⊥
-                  at true n = none_is_some d (sym (number_none to
-                      (prefix_passes (names_entry before ud w) to f.0 f.1.0 f.1.1 f.1.2 n)) ∙ there)
-                  at false n = true≢false (sym (prefix_passes (λ front. hides (node_led after front)) path f.0
-                      (f.1.0 ++ w ∷ next ∷ rest)
-                      (sym (append_assoc f.0 f.1.0 (w ∷ next ∷ rest)) ∙ ap (λ p. p ++ w ∷ next ∷ rest) f.1.1 ∙ is) f.1.2
-                      (WholeNew.hides_at merge.upper stack.directory top_tree top_directory ud c w new takes vacant bare
-                      f.0 false n ∙ f.2)) ∙ uncut)
+                  at true n = none_is_some d (sym (number_none to (prefix_passes _ to f.0 f.1.0 f.1.1 f.1.2 n)) ∙ there)
+                  at false n = true≢false (sym (prefix_passes _ path f.0 (f.1.0 ++ w ∷ next ∷ rest)
+                      (cc (append_assoc f.0 f.1.0 (w ∷ next ∷ rest), f.1.1, is)) f.1.2 (WholeNew.hides_at merge.upper
+                      stack.directory top_tree top_directory ud c w new takes vacant bare f.0 false n ∙ f.2)) ∙ uncut)
 
       lower_none : hides (Some new) ≡ false → cuts after path ≡ false → (o : Option (Shown ℕ))
           → shown_from 1 lowers path ≡ o → o ≡ None
@@ -196,9 +184,7 @@ module _ (stack : Stack ℕ) (merge : Merge ℕ) (whole : IsWhole stack merge) (
       by true h false cut = absurd (true≢false (sym
           (WholeNew.cuts_through merge.upper stack.directory top_tree top_directory ud c w new takes vacant bare h path
           through) ∙ cut))
-      by false h false cut = ap (λ o. shown_over after 0 o (cuts after path) (shown_from 1 lowers path)) leads
-          ∙ ap (λ b. shown_over after 0 None b (shown_from 1 lowers path)) cut
-          ∙ lower_none h cut (shown_from 1 lowers path) refl
+      by false h false cut = cc (leads, cut, lower_none h cut _ refl)
 
   shown_same : (path : List (List ℕ)) → names_entry before ud w path ≡ false
       → shown_from 0 (after ∷ lowers) path ≡ shown_from 0 (before ∷ lowers) path
@@ -217,10 +203,8 @@ module _ (stack : Stack ℕ) (merge : Merge ℕ) (whole : IsWhole stack merge) (
     where
       old : (o : Option ℕ) → number_at_path merge.files path ≡ o → then_some o real ≡ then_some o merge.real
       old None l = refl
-      old (Some n) l = ap (λ b. cond b (Some (Upper c)) (merge.real n)) (ne_eqb n number (λ is.
-          true≢false (sym (led_is_there
-          (record { tree = merge.files.tree; directory = merge.files.tree.root }) whole.tree whole.tree.root_directory
-          path n l) ∙ ap (λ k. is_some (merge.files.tree.node k)) is ∙ ap is_some may.number_is_new)))
+      old (Some n) l = ap (λ b. cond b (Some (Upper c)) (merge.real n)) (ne_eqb n number
+          (λ is. true≢false (cc (led_is_there _ whole.tree whole.tree.root_directory path n l, is, may.number_is_new))))
 
       goes : (b : Bool) → names_entry before ud w path ≡ b
           → number_at_path files path ≡ cond b (Some number) (number_at_path merge.files path)
@@ -243,14 +227,12 @@ module _ (stack : Stack ℕ) (merge : Merge ℕ) (whole : IsWhole stack merge) (
       may.number_is_new).0
 
   pub later_is_fine : IsFine stack later
-  later_is_fine = grown_is_fine stack merge fine_before files upper number c vacant
-      (make_adds_inode merge.files merge.files.tree.root d number w node may.name_is_free.in_directory
-      may.number_is_new).1
+  later_is_fine = grown_is_fine stack merge fine_before files upper number c vacant (make_adds_inode merge.files
+      merge.files.tree.root d number w node may.name_is_free.in_directory may.number_is_new).1
       (WholeNew.others_alike merge.upper stack.directory top_tree top_directory ud c w new takes vacant bare)
       (subst (λ o. SameObject o (upper.tree.node c)) (sym number_there) (subst (SameObject (Some node))
       (sym (WholeNew.new_there merge.upper stack.directory top_tree top_directory ud c w new takes vacant bare)) same))
-      (ap is_some number_there) (ap (is_kind_in White) number_there ∙ white)
-      (ap is_opaque_in number_there ∙ new_unmarked d node may.fits) paths_later
+      (ap is_some number_there) (cc (number_there, white)) (cc (number_there, new_unmarked d node may.fits)) paths_later
 
 -- The mark of a new directory
 module _ (files : FileTree ℕ) (ud c : ℕ) (w : List ℕ) (new : Node ℕ) (is_directory : IsDirectory files.tree ud)
@@ -262,14 +244,10 @@ module _ (files : FileTree ℕ) (ud c : ℕ) (w : List ℕ) (new : Node ℕ) (is
   unmarked = changed nat_eq files (Make ud w c new)
 
   apart : (k : ℕ) → k ≡ c → nat_eq k ud ≡ false
-  apart k is = ne_eqb k ud (λ same.
-      true≢false (sym is_directory ∙ ap (λ n. is_directory_node (files.tree.node n)) (sym same ∙ is)
-      ∙ ap is_directory_node vacant))
+  apart k is = ne_eqb k ud (λ same. true≢false (cc (is_directory, same, is, vacant)))
 
   ud_apart : nat_eq ud c ≡ false
-  ud_apart = ne_eqb ud c (λ same.
-      true≢false (sym is_directory ∙ ap (λ n. is_directory_node (files.tree.node n)) same
-      ∙ ap is_directory_node vacant))
+  ud_apart = ne_eqb ud c (λ same. true≢false (cc (is_directory, same, vacant)))
 
   nodes_same : (k : ℕ) (b : Bool) → nat_eq k c ≡ b → cond b (node_with_mark true (unmarked.tree.node c))
       (cond (nat_eq k ud) (node_with_entry w c (cond (nat_eq ud c) (Some new) (files.tree.node ud)))
@@ -320,13 +298,10 @@ mark_hides p node (Symlink b) = refl
 mark_hides p node Whiteout = refl
 
 pub make_keeps_shown : MakeKeepsShown
-make_keeps_shown fresh stack merge d w number node whole stands vacant may white =
-    what_is_shown stack (merge_with_new nat_eq fresh stack merge d w number node)
-    (by (hides_directory nat_eq stack merge d w) refl)
+make_keeps_shown fresh stack merge d w number node whole stands vacant may white = what_is_shown stack _ (by _ refl)
   where
     upper_directory : IsDirectory merge.upper.tree (upper_of merge d)
-    upper_directory = directory_stands stack merge whole d (upper_of merge d) (upper_real merge d stands)
-        ∙ may.name_is_free.in_directory
+    upper_directory = directory_stands stack merge whole d _ (upper_real merge d stands) ∙ may.name_is_free.in_directory
 
     by : (b : Bool) → hides_directory nat_eq stack merge d w ≡ b → IsFine stack (record {
       files = changed nat_eq merge.files (Make d w number node);
@@ -334,10 +309,8 @@ make_keeps_shown fresh stack merge d w number node whole stands vacant may white
       upper = with_mark nat_eq b (changed nat_eq merge.upper (Make (upper_of merge d) w (fresh 0)
           (record { attr = node.attr; content = content_with_parent (upper_of merge d) node.content }))) (fresh 0);
     })
-    by false h = later_is_fine stack merge whole d w number node stands may (fresh 0) vacant
-        (record { attr = node.attr; content = content_with_parent (upper_of merge d) node.content })
-        (refl, parent_same (upper_of merge d) node.content white)
-        (entries_of-content_with_parent (upper_of merge d) node.content ∙ new_bare d node may.fits)
+    by false h = later_is_fine stack merge whole d w number node stands may (fresh 0) vacant _
+        (refl, parent_same _ _ white) (entries_of-content_with_parent _ node.content ∙ new_bare d node may.fits)
         white (ap (is_kind White) (kind_of-content_with_parent (upper_of merge d) node.content) ∙ white) (λ shows. h)
     by true h = subst (λ u. IsFine stack (record {
       files = changed nat_eq merge.files (Make d w number node);

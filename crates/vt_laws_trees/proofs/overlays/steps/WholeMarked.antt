@@ -86,8 +86,7 @@ module _ (stack : Stack ℕ) (merge : Merge ℕ) (whole : IsWhole stack merge) (
   none_below front rest word e None shows = refl
   none_below front rest word e (Some seen) shows =
       let longer = shown_longer stack.lowers (λ k layer g. whole.layers (suc k) layer g) 1 rest front word seen shows in
-      let have = lowers_have stack.lowers 1 longer.place longer.object longer.layer front longer.there longer.is
-      longer.at longer.directory in
+      let have = lowers_have stack.lowers 1 longer.place _ _ front longer.there longer.is longer.at longer.directory in
       let named = above_named stack merge whole front above e
       (no_white_object (merge.files.tree.node directory) (merge.upper.tree.node above)
       (object_above stack merge whole directory above real)) in
@@ -101,8 +100,7 @@ module _ (stack : Stack ℕ) (merge : Merge ℕ) (whole : IsWhole stack merge) (
   through front [] path split e None at =
       none_is_some above (cc (append-nil front))
   through front (word ∷ rest) path split e None at =
-      let none = ap (shown_from 1 lowers) (sym split)
-      ∙ none_below front rest word e (shown_from 1 lowers (front ++ word ∷ rest)) refl in
+      let none = ap (shown_from 1 lowers) (sym split) ∙ none_below front rest word e _ refl in
       nothing after path (leads path ∙ at) none ∙ sym (nothing before path at none)
 
   shown_same : (path : List (List ℕ)) → shown_from 0 (after ∷ lowers) path ≡ shown_from 0 (before ∷ lowers) path
@@ -115,8 +113,7 @@ module _ (stack : Stack ℕ) (merge : Merge ℕ) (whole : IsWhole stack merge) (
           shown_elsewhere_stays merge.upper (SetMark above opaque) stack.directory lowers top.0 top.1 tt path e
       by true e =
           let found = prefix_found (λ front. same_option nat_eq (before.leads front) (Some above)) path e in
-          through found.0 found.1.0 path found.1.1 (same_is (before.leads found.0) above found.2) (before.leads path)
-          refl
+          through found.0 found.1.0 path found.1.1 (same_is _ above found.2) (before.leads path) refl
 
   objects_same : (number : ℕ) → SameObject (merge.files.tree.node number)
       (then_some (merge.real number) (inode_behind stack later))
@@ -160,8 +157,7 @@ module _ (stack : Stack ℕ) (merge : Merge ℕ) (whole : IsWhole stack merge) (
       ) fine_later
 
 pub mark_keeps_whole : MarkKeepsWhole
-mark_keeps_whole stack merge directory opaque whole stands bare =
-    whole_later stack merge whole directory stands opaque bare
+mark_keeps_whole stack merge directory opaque whole stands bare = whole_later stack merge whole _ stands opaque bare
 
 pub mark_of_the_tree_is_not_shown : MarkOfTheTreeIsNotShown
 mark_of_the_tree_is_not_shown stack merge directory d is =

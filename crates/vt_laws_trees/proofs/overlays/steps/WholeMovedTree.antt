@@ -1,6 +1,6 @@
 -- Where names lead in the upper layer after a move, with what is left of the old name and of a replaced directory.
-use Rattle.std.proofs.Common.{arith, ◌≡◌, ◌≢◌, refl, sym, ap, subst, ◌∙◌, true≢false, eq-eqb, ne_eqb, ℕ, nat_eq, Bool, true, false, cond, ◌&&◌, List, [], ◌∷◌, ◌++◌, Option, Some, None, is_some, option_and_then}
-use Rattle.vt_spec.proofs.Common.{FileTree, Fresh, IsDirectory, IsTree, Merge, Move, Stack, Upper, View, common_steps, directory_no_whiteout, entries-node_with_mark, entries_in, entry_at, entry_named, is_directory_node, led, name_left_by, node_other, node_with_entry, node_with_mark, node_without_entry, none_from_not_some, none_is_some, number_at_path, same_Some, upper_directory_named, upper_of, whiteout_of, with_inode, with_mark, with_moved, without_contents}
+use Rattle.std.proofs.Common.{arith, ◌≡◌, ◌≢◌, refl, sym, ap, subst, ◌∙◌, true≢false, eq-eqb, ne_eqb, ℕ, nat_eq, Bool, true, false, cond, ◌&&◌, List, [], ◌∷◌, ◌++◌, Option, Some, None, is_some, option_and_then, bytes_eq}
+use Rattle.vt_spec.proofs.Common.{FileTree, Fresh, IsDirectory, IsTree, Merge, Move, Stack, Upper, View, common_steps, directory_no_whiteout, entries-node_with_mark, entries_in, entry_at, entry_named, is_directory_node, led, name_left_by, node_other, node_with_entry, node_with_mark, node_without_entry, none_from_not_some, none_is_some, number_at_path, same_Some, upper_directory_named, upper_of, when, whiteout_of, with_inode, with_mark, with_moved, without_contents, bytes_eq_itself, directory_used, without_last}
 use Rattle.vt_laws_trees.specs.Trees.{MayMove}
 use Rattle.vt_laws_trees.specs.Layers.Layers.ChangesUpper.{StandsInUpper}
 use Rattle.vt_laws_trees.specs.Layers.Layers.Mounted.{IsAlike}
@@ -8,7 +8,7 @@ use Rattle.vt_laws_trees.specs.Layers.Layers.Views.{goes_through, names_entry, v
 use Rattle.vt_laws_trees.proofs.layers.layers.CopyingParts.{entry_keeps, without_entry_keeps}
 use Rattle.vt_laws_trees.proofs.layers.layers.ShownFronts.{prefix_passes}
 use Rattle.vt_laws_trees.proofs.layers.layers.UpperLine.{has_entries}
-use Rattle.vt_laws_trees.proofs.layers.views.After.{fails}
+use Rattle.vt_laws_trees.proofs.layers.views.After.{fails, itself_fails}
 use Rattle.vt_laws_trees.proofs.layers.views.Lower.{is_named}
 use Rattle.vt_laws_trees.proofs.layers.views.Entries.{entries_stay, given, is_entry, is_that_entry, taken}
 use Rattle.vt_laws_trees.proofs.layers.views.Moves.{led_parts, move_told, no_way_up, through_is_split}
@@ -19,13 +19,26 @@ use Rattle.vt_laws_trees.specs.Overlays.WhatIsShown.{IsWhole}
 use Rattle.vt_laws_trees.proofs.overlays.steps.WholeAttributes.{top_open, upper_real}
 use Rattle.vt_laws_trees.proofs.overlays.steps.WholeGrown.{directory_alike}
 use Rattle.vt_laws_trees.proofs.overlays.steps.WholeLeft.{beside_led, emptied_alike, emptied_entries, named_in_upper, one_named, own_upper, up_way, way}
-use Rattle.vt_laws_trees.proofs.overlays.steps.WholeNames.{above_named, directory_stands, is_fine}
+use Rattle.vt_laws_trees.proofs.overlays.steps.WholeNames.{above_named, directory_stands, is_fine, entry_named_so}
 use Rattle.vt_laws_trees.proofs.overlays.steps.WholeParts.{IsFine}
+use Rattle.vt_laws_trees.proofs.layers.layers.ShownDirectories.{append_assoc, last_of, longer_is_not_empty}
+use Rattle.vt_laws_trees.proofs.layers.layers.UpperShown.{without_last_of_longer}
+use Rattle.vt_laws_trees.proofs.layers.layers.ShownPaths.{not_empty}
+use Rattle.vt_spec.proofs.Trees.{found}
 
-module _ (fresh : Fresh ℕ) {stack : Stack ℕ} {merge : Merge ℕ} (whole : IsWhole stack merge) {f : ℕ}
-    {old : List ℕ} {t : ℕ} {new : List ℕ} {o : ℕ} (stands_f : StandsInUpper merge f)
-    (stands_t : StandsInUpper merge t) (stands_o : StandsInUpper merge o)
-    (may : MayMove merge.files.tree f old t new o) (vacant : merge.upper.tree.node (fresh 0) ≡ None) where
+-- What a move in the upper layer rests on: the overlay is whole, both directories and the object stand in its upper
+-- layer, and no inode has the number of a whiteout.
+pub record IsMoveAbove (fresh : Fresh ℕ) (stack : Stack ℕ) (merge : Merge ℕ) (f : ℕ) (old : List ℕ) (t : ℕ)
+    (new : List ℕ) (o : ℕ) : Type 0 where
+  pub whole : IsWhole stack merge
+  pub from : StandsInUpper merge f
+  pub to : StandsInUpper merge t
+  pub object : StandsInUpper merge o
+  pub may : MayMove merge.files.tree f old t new o
+  pub vacant : merge.upper.tree.node (fresh 0) ≡ None
+
+module _ {fresh : Fresh ℕ} {stack : Stack ℕ} {merge : Merge ℕ} {f : ℕ} {old : List ℕ} {t : ℕ} {new : List ℕ}
+    {o : ℕ} (it : IsMoveAbove fresh stack merge f old t new o) where
   abbrev pub uf : ℕ
   uf = upper_of merge f
 
@@ -42,60 +55,59 @@ module _ (fresh : Fresh ℕ) {stack : Stack ℕ} {merge : Merge ℕ} (whole : Is
   before = view_in merge.upper stack.directory
 
   pub real_f : merge.real f ≡ Some (Upper uf)
-  real_f = upper_real merge f stands_f
+  real_f = upper_real merge f it.from
 
   pub real_t : merge.real t ≡ Some (Upper ut)
-  real_t = upper_real merge t stands_t
+  real_t = upper_real merge t it.to
 
   pub real_o : merge.real o ≡ Some (Upper uo)
-  real_o = upper_real merge o stands_o
+  real_o = upper_real merge o it.object
 
   fine_before : IsFine stack merge
-  fine_before = is_fine stack merge whole
+  fine_before = is_fine stack merge it.whole
 
   top_tree : IsTree merge.upper.tree
-  top_tree = (top_open stack merge whole).0
+  top_tree = (top_open stack merge it.whole).0
 
   top_directory : IsDirectory merge.upper.tree stack.directory
-  top_directory = (top_open stack merge whole).1
+  top_directory = (top_open stack merge it.whole).1
 
   pub uf_directory : IsDirectory merge.upper.tree uf
-  uf_directory = directory_stands stack merge whole f uf real_f ∙ has_entries merge.files.tree f old o may.named
+  uf_directory = directory_stands stack merge it.whole f uf real_f ∙ has_entries merge.files.tree f old o it.may.named
 
   pub ut_directory : IsDirectory merge.upper.tree ut
-  ut_directory = directory_stands stack merge whole t ut real_t ∙ may.in_directory
+  ut_directory = directory_stands stack merge it.whole t ut real_t ∙ it.may.in_directory
 
   abbrev pub from_way : List (List ℕ)
-  from_way = (way whole f uf old uo may.named real_f real_o).0
+  from_way = (way it.whole f uf old uo it.may.named real_f real_o).0
 
   pub from_number : number_at_path merge.files from_way ≡ Some f
-  from_number = (way whole f uf old uo may.named real_f real_o).1
+  from_number = (way it.whole f uf old uo it.may.named real_f real_o).1
 
   pub up_from : led merge.upper.tree stack.directory from_way ≡ Some uf
-  up_from = up_way whole f uf old uo may.named real_f real_o
+  up_from = up_way it.whole f uf old uo it.may.named real_f real_o
 
   pub named_up : entry_at merge.upper.tree uf old ≡ Some uo
-  named_up = named_in_upper whole f uf old uo may.named real_f real_o
+  named_up = named_in_upper it.whole f uf old uo it.may.named real_f real_o
 
   -- names behind the old name, in the overlay and in the upper layer
   pub number_behind : (rest : List (List ℕ))
       → number_at_path merge.files (from_way ++ old ∷ rest) ≡ led merge.files.tree o rest
   number_behind rest = led_parts merge.files.tree from_way (old ∷ rest) merge.files.tree.root f from_number
-      ∙ ap (option_and_then (λ n. led merge.files.tree n rest)) may.named
+      ∙ ap (option_and_then (λ n. led merge.files.tree n rest)) it.may.named
 
   pub led_behind : (rest : List (List ℕ))
       → led merge.upper.tree stack.directory (from_way ++ old ∷ rest) ≡ led merge.upper.tree uo rest
-  led_behind rest = led_parts merge.upper.tree from_way (old ∷ rest) stack.directory uf up_from
-      ∙ ap (option_and_then (λ n. led merge.upper.tree n rest)) named_up
+  led_behind rest = cc (led_parts merge.upper.tree from_way (old ∷ rest) stack.directory uf up_from, named_up)
 
   pub not_up : (names : List (List ℕ)) → led merge.upper.tree uo names ≢ Some uf
   not_up names = no_way_up merge.upper top_tree uf old uo named_up names
 
   pub not_under : (names : List (List ℕ)) → led merge.upper.tree uo names ≢ Some ut
   not_under names e =
-      let found = above_named stack merge whole (from_way ++ old ∷ names) ut (led_behind names ∙ e)
+      let found = above_named stack merge it.whole (from_way ++ old ∷ names) ut (led_behind names ∙ e)
       (directory_no_whiteout (merge.upper.tree.node ut) ut_directory) in
-      may.not_under names (sym (number_behind names) ∙ found.1
+      it.may.not_under names (sym (number_behind names) ∙ found.1
       ∙ ap Some (fine_before.one found.0 t (ap is_some found.2) (found.2 ∙ sym real_t)))
 
   -- the two names are two
@@ -104,14 +116,8 @@ module _ (fresh : Fresh ℕ) {stack : Stack ℕ} {merge : Merge ℕ} (whole : Is
   two_names other word a b =
       let one = is_that_entry ut new other word a in
       let two = is_that_entry uf old other word b in
-      let same : t ≡ f = fine_before.one t f (ap is_some real_t)
-      (real_t ∙ ap (λ n. Some (Upper n)) (sym one.0 ∙ two.0) ∙ sym real_f) in
+      let same : t ≡ f = fine_before.one t f (ap is_some real_t) (cc (real_t, one.0, two.0, real_f)) in
       grind (arith, common_steps)
-
-  -- what stands under the old name
-  abbrev pub value : Bool → Option ℕ
-  value true = Some c
-  value false = None
 
   -- The changed tree, from the upper layer or from the one with a replaced directory emptied
   module _ (base : FileTree ℕ) (alike : (u : ℕ) → IsAlike (merge.upper.tree.node u) (base.tree.node u))
@@ -130,22 +136,22 @@ module _ (fresh : Fresh ℕ) {stack : Stack ℕ} {merge : Merge ℕ} (whole : Is
         (names_leave_inodes base (Move uf old ut new uo) stack.directory u refl)
 
     moved_vacant : moved_base.tree.node c ≡ None
-    moved_vacant = none_from_not_some (moved_base.tree.node c) ((moved_alike c).there ∙ ap is_some vacant)
+    moved_vacant = none_from_not_some (moved_base.tree.node c) ((moved_alike c).there ∙ ap is_some it.vacant)
 
     not_c : (u : ℕ) → is_some (merge.upper.tree.node u) ≡ true → u ≢ c
-    not_c u there same = true≢false (sym there ∙ ap (λ n. is_some (merge.upper.tree.node n)) same ∙ ap is_some vacant)
+    not_c u there same = true≢false (cc (there, same, it.vacant))
 
     abbrev apart : FileTree ℕ
     apart = with_inode nat_eq moved_base c (whiteout_of stack.mounter)
 
     uf_apart : IsDirectory apart.tree uf
     uf_apart = ap is_directory_node (node_other moved_base.tree c (Some (whiteout_of stack.mounter)) uf
-        (not_c uf (Rattle.vt_spec.proofs.Nodes.directory_used merge.upper.tree uf uf_directory)))
+        (not_c uf (directory_used merge.upper.tree uf uf_directory)))
         ∙ directory_alike (merge.upper.tree.node uf) (moved_base.tree.node uf) (moved_alike uf) ∙ uf_directory
 
     told_left : (b : Bool) (other : ℕ) (word : List ℕ)
         → entry_at (name_left_by nat_eq b fresh stack moved_base uf old).tree other word
-        ≡ cond (is_entry uf old other word) (value b) (entry_at moved_base.tree other word)
+        ≡ cond (is_entry uf old other word) (when b c) (entry_at moved_base.tree other word)
     told_left true other word = given apart uf old c uf_apart other word
         ∙ ap (λ entries. cond (is_entry uf old other word) (Some c) (entry_named word entries))
         (inode_entries moved_base c (whiteout_of stack.mounter) moved_vacant refl other)
@@ -159,15 +165,15 @@ module _ (fresh : Fresh ℕ) {stack : Stack ℕ} {merge : Merge ℕ} (whole : Is
 
     pub told : (other : ℕ) (word : List ℕ) → entry_at final.tree other word
         ≡ cond (is_entry ut new other word) (Some uo)
-        (cond (is_entry uf old other word) (value left) (entry_at base.tree other word))
+        (cond (is_entry uf old other word) (when left c) (entry_at base.tree other word))
     told other word = told_marked marks other word ∙ told_left left other word
-        ∙ ap (cond (is_entry uf old other word) (value left)) (move_told base uf old ut new uo
+        ∙ ap (cond (is_entry uf old other word) (when left c)) (move_told base uf old ut new uo
         (directory_alike (merge.upper.tree.node ut) (base.tree.node ut) (alike ut) ∙ ut_directory) other word)
         ∙ by (is_entry ut new other word) refl (is_entry uf old other word) refl
       where
         by : (a : Bool) → is_entry ut new other word ≡ a → (b : Bool) → is_entry uf old other word ≡ b
-            → cond b (value left) (cond a (Some uo) (cond b None (entry_at base.tree other word)))
-            ≡ cond a (Some uo) (cond b (value left) (entry_at base.tree other word))
+            → cond b (when left c) (cond a (Some uo) (cond b None (entry_at base.tree other word)))
+            ≡ cond a (Some uo) (cond b (when left c) (entry_at base.tree other word))
         by true e true g = absurd (two_names other word e g)
         by true e false g = refl
         by false e true g = refl
@@ -204,38 +210,37 @@ module _ (fresh : Fresh ℕ) {stack : Stack ℕ} {merge : Merge ℕ} (whole : Is
 
     told_between : (b : Bool) (other : ℕ) (word : List ℕ)
         → entry_at (name_left_by nat_eq b fresh stack merge.upper uf old).tree other word
-        ≡ cond (is_entry uf old other word) (value b) (entry_at merge.upper.tree other word)
+        ≡ cond (is_entry uf old other word) (when b c) (entry_at merge.upper.tree other word)
     told_between true other word = given apart_upper uf old c
         (ap is_directory_node (node_other merge.upper.tree c (Some (whiteout_of stack.mounter)) uf
-        (λ same. true≢false (sym (Rattle.vt_spec.proofs.Nodes.directory_used merge.upper.tree uf uf_directory)
-        ∙ ap (λ n. is_some (merge.upper.tree.node n)) same ∙ ap is_some vacant))) ∙ uf_directory) other word
+        (λ same. true≢false (sym (directory_used merge.upper.tree uf uf_directory)
+        ∙ ap (λ n. is_some (merge.upper.tree.node n)) same ∙ ap is_some it.vacant))) ∙ uf_directory) other word
         ∙ ap (λ entries. cond (is_entry uf old other word) (Some c) (entry_named word entries))
-        (inode_entries merge.upper c (whiteout_of stack.mounter) vacant refl other)
+        (inode_entries merge.upper c (whiteout_of stack.mounter) it.vacant refl other)
     told_between false other word = taken merge.upper uf old other word
 
     told_moved : (other : ℕ) (word : List ℕ) → entry_at moved.tree other word
         ≡ cond (is_entry ut new other word) (Some uo) (entry_at between.tree other word)
-    told_moved other word = told merge.upper untouched left marks other word
-        ∙ ap (cond (is_entry ut new other word) (Some uo)) (sym (told_between left other word))
+    told_moved other word = cc (told merge.upper untouched left marks other word, told_between left other word)
 
-    leaf : (b : Bool) (k : ℕ) → value b ≡ Some k → (word : List ℕ)
+    leaf : (b : Bool) (k : ℕ) → when b c ≡ Some k → (word : List ℕ)
         → entry_at (name_left_by nat_eq b fresh stack merge.upper uf old).tree k word ≡ None
     leaf false k e word = none_is_some k e
-    leaf true k e word = ap (λ n. entry_at (name_left_by nat_eq true fresh stack merge.upper uf old).tree n word)
-        (sym (same_Some c k e)) ∙ told_between true c word ∙ by (is_entry uf old c word) refl
+    leaf true k e word = cc (same_Some c k e, told_between true c word, by (is_entry uf old c word) refl)
       where
         by : (x : Bool) → is_entry uf old c word ≡ x → cond x (Some c) (entry_at merge.upper.tree c word) ≡ None
         by true x =
-            absurd (true≢false (sym (Rattle.vt_spec.proofs.Nodes.directory_used merge.upper.tree uf uf_directory)
-            ∙ ap (λ n. is_some (merge.upper.tree.node n)) (sym (is_that_entry uf old c word x).0) ∙ ap is_some vacant))
-        by false x = ap (λ n. entry_named word (entries_in n)) vacant
+            absurd (true≢false (sym (directory_used merge.upper.tree uf uf_directory)
+            ∙ ap (λ n. is_some (merge.upper.tree.node n)) (sym (is_that_entry uf old c word x).0)
+            ∙ ap is_some it.vacant))
+        by false x = ap (λ n. entry_named word (entries_in n)) it.vacant
 
     between_led : (path : List (List ℕ)) (start : ℕ) → led between.tree start path
-        ≡ cond (names_entry (view_in merge.upper start) uf old path) (value left)
+        ≡ cond (names_entry (view_in merge.upper start) uf old path) (when left c)
         (cond (goes_through (view_in merge.upper start) uf old path) None (led merge.upper.tree start path))
-    between_led path start = entry_over merge.upper.tree between.tree uf old (value left) (told_between left)
+    between_led path start = entry_over merge.upper.tree between.tree uf old (when left c) (told_between left)
         (λ k e names. no_way_up merge.upper top_tree uf old k e names) (leaf left) path start
-        ∙ sym (λ i. cond (names_it merge.upper.tree uf old path start i) (value left)
+        ∙ sym (λ i. cond (names_it merge.upper.tree uf old path start i) (when left c)
         (cond (goes_through_it merge.upper.tree uf old path start i) None (led merge.upper.tree start path)))
 
     -- what leads to the new directory then did so before
@@ -244,7 +249,7 @@ module _ (fresh : Fresh ℕ) {stack : Stack ℕ} {merge : Merge ℕ} (whole : Is
     to_before path start e = by left (names_entry (view_in merge.upper start) uf old path)
         (goes_through (view_in merge.upper start) uf old path) (sym (between_led path start) ∙ e)
       where
-        by : (l a b : Bool) → cond a (value l) (cond b None (led merge.upper.tree start path)) ≡ Some ut
+        by : (l a b : Bool) → cond a (when l c) (cond b None (led merge.upper.tree start path)) ≡ Some ut
             → led merge.upper.tree start path ≡ Some ut
         by true true b e = grind (arith, common_steps, true≢false, ut_directory, same_Some)
         by false true b e = none_is_some ut e
@@ -259,15 +264,15 @@ module _ (fresh : Fresh ℕ) {stack : Stack ℕ} {merge : Merge ℕ} (whole : Is
         at : (to rest : List (List ℕ)) × (to ++ new ∷ rest ≡ path) × (led between.tree start to ≡ Some ut) → ⊥
         at parts = true≢false (sym (prefix_passes (names_entry (view_in merge.upper start) ut new) path
             (parts.0 ++ new ∷ []) parts.1
-            (Rattle.vt_laws_trees.proofs.layers.layers.ShownDirectories.append_assoc parts.0 (new ∷ []) parts.1
+            (append_assoc parts.0 (new ∷ []) parts.1
             ∙ parts.2)
-            (Rattle.vt_laws_trees.proofs.layers.layers.ShownDirectories.longer_is_not_empty parts.0 new)
-            (Rattle.vt_laws_trees.proofs.overlays.steps.WholeNames.entry_named_so merge.upper start ut new parts.0
+            (longer_is_not_empty parts.0 new)
+            (entry_named_so merge.upper start ut new parts.0
             (to_before parts.0 start parts.3))) ∙ none)
 
     pub moved_elsewhere : (path : List (List ℕ)) (start : ℕ)
         → goes_through (view_in merge.upper start) ut new path ≡ false → led moved.tree start path
-        ≡ cond (names_entry (view_in merge.upper start) uf old path) (value left)
+        ≡ cond (names_entry (view_in merge.upper start) uf old path) (when left c)
         (cond (goes_through (view_in merge.upper start) uf old path) None (led merge.upper.tree start path))
     moved_elsewhere path start none = beside_led between.tree moved.tree ut new (Some uo) told_moved path start
         (sym (goes_through_it between.tree ut new path start) ∙ through_before path start none) ∙ between_led path start
@@ -286,7 +291,7 @@ module _ (fresh : Fresh ℕ) {stack : Stack ℕ} {merge : Merge ℕ} (whole : Is
         (λ e. let named = is_named merge.upper start d name path e in never named.0 named.2)
 
     object_led : (rest : List (List ℕ)) → led moved.tree uo rest ≡ led merge.upper.tree uo rest
-    object_led rest = moved_elsewhere rest uo (not_through ut new uo not_under rest) ∙ ap (λ b. cond b (value left)
+    object_led rest = moved_elsewhere rest uo (not_through ut new uo not_under rest) ∙ ap (λ b. cond b (when left c)
         (cond (goes_through (view_in merge.upper uo) uf old rest) None (led merge.upper.tree uo rest)))
         (not_named uf old uo not_up rest)
         ∙ ap (λ b. cond b None (led merge.upper.tree uo rest)) (not_through uf old uo not_up rest)
@@ -299,14 +304,10 @@ module _ (fresh : Fresh ℕ) {stack : Stack ℕ} {merge : Merge ℕ} (whole : Is
       where
         at : (first rest : List (List ℕ)) × (first ++ new ∷ rest ≡ to)
             × (led merge.upper.tree stack.directory first ≡ Some ut) → ⊥
-        at parts = by (entry_at merge.upper.tree ut new) refl
-            (sym (led_parts merge.upper.tree parts.0 (new ∷ parts.1) stack.directory ut parts.3)
-            ∙ ap (led merge.upper.tree stack.directory) parts.2 ∙ e)
-          where
-            by : (x : Option ℕ) → entry_at merge.upper.tree ut new ≡ x
-                → option_and_then (λ n. led merge.upper.tree n parts.1) x ≡ Some ut → ⊥
-            by None g h = none_is_some ut h
-            by (Some k) g h = no_way_up merge.upper top_tree ut new k g parts.1 h
+        at parts =
+            let next = found (λ n. led merge.upper.tree n parts.1) (entry_at merge.upper.tree ut new) ut
+            (cc (led_parts merge.upper.tree parts.0 (new ∷ parts.1) stack.directory ut parts.3, parts.2, e)) in
+            no_way_up merge.upper top_tree ut new next.0 next.1 parts.1 next.2
 
     pub way_not_old : (to : List (List ℕ)) → led merge.upper.tree stack.directory to ≡ Some ut
         → goes_through before uf old to ≡ false
@@ -315,18 +316,17 @@ module _ (fresh : Fresh ℕ) {stack : Stack ℕ} {merge : Merge ℕ} (whole : Is
       where
         at : (first rest : List (List ℕ)) × (first ++ old ∷ rest ≡ to)
             × (led merge.upper.tree stack.directory first ≡ Some uf) → ⊥
-        at parts = not_under parts.1 (sym (ap (option_and_then (λ n. led merge.upper.tree n parts.1)) named_up)
-            ∙ sym (led_parts merge.upper.tree parts.0 (old ∷ parts.1) stack.directory uf parts.3)
-            ∙ ap (led merge.upper.tree stack.directory) parts.2 ∙ e)
+        at parts = not_under parts.1
+            (cc (named_up, led_parts merge.upper.tree parts.0 (old ∷ parts.1) stack.directory uf parts.3, parts.2, e))
 
     named_not : (d : ℕ) (name : List ℕ) (path : List (List ℕ)) → goes_through before d name path ≡ false
         → names_entry before d name path ≡ false
-    named_not d name path none = Rattle.vt_laws_trees.proofs.layers.views.After.itself_fails
+    named_not d name path none = itself_fails
         (names_entry before d name) path refl none
 
     way_led : (to : List (List ℕ)) → led merge.upper.tree stack.directory to ≡ Some ut
         → led moved.tree stack.directory to ≡ Some ut
-    way_led to e = moved_elsewhere to stack.directory (way_not_new to e) ∙ ap (λ b. cond b (value left)
+    way_led to e = moved_elsewhere to stack.directory (way_not_new to e) ∙ ap (λ b. cond b (when left c)
         (cond (goes_through before uf old to) None (led merge.upper.tree stack.directory to)))
         (named_not uf old to (way_not_old to e))
         ∙ ap (λ b. cond b None (led merge.upper.tree stack.directory to)) (way_not_old to e) ∙ e
@@ -338,8 +338,7 @@ module _ (fresh : Fresh ℕ) {stack : Stack ℕ} {merge : Merge ℕ} (whole : Is
         (told_moved ut new ∙ ap (λ b. cond b (Some uo) (entry_at between.tree ut new)) itself) ∙ object_led rest
       where
         itself : is_entry ut new ut new ≡ true
-        itself = ap (λ b. b && Rattle.std.specs.Str.bytes_eq new new) (eq-eqb ut ut refl)
-            ∙ Rattle.vt_spec.proofs.Truths.bytes_eq_itself new
+        itself = ap (λ b. b && bytes_eq new new) (eq-eqb ut ut refl) ∙ bytes_eq_itself new
 
     -- A replaced directory is not reached
     unreached : (r : ℕ) → upper_directory_named merge t new ≡ Some r → (path : List (List ℕ))
@@ -355,27 +354,27 @@ module _ (fresh : Fresh ℕ) {stack : Stack ℕ} {merge : Merge ℕ} (whole : Is
 
         named_so : (p : List (List ℕ)) → led merge.upper.tree stack.directory p ≡ Some r
             → names_entry before ut new p ≡ true
-        named_so p l = one_named whole t ut new r own.1 real_t own.2 own.3 p l
+        named_so p l = one_named it.whole t ut new r own.1 real_t own.2 own.3 p l
 
         -- behind the object
         behind : (rest : List (List ℕ)) → led merge.upper.tree uo rest ≡ Some r → ⊥
-        behind [] l = may.replaced_other (own.1 ∙ ap Some (fine_before.one own.0 o (ap is_some own.2)
+        behind [] l = it.may.replaced_other (own.1 ∙ ap Some (fine_before.one own.0 o (ap is_some own.2)
             (own.2 ∙ ap (λ n. Some (Upper n)) (sym (same_Some uo r l)) ∙ sym real_o)))
         behind (word ∷ rest) l =
             let named = is_named merge.upper stack.directory ut new (from_way ++ old ∷ word ∷ rest)
             (named_so (from_way ++ old ∷ word ∷ rest) (led_behind (word ∷ rest) ∙ l)) in
-            let last = Rattle.vt_laws_trees.proofs.layers.layers.ShownDirectories.last_of (word ∷ rest)
-            (Rattle.vt_laws_trees.proofs.layers.layers.ShownPaths.not_empty word rest) in
+            let last = last_of (word ∷ rest)
+            (not_empty word rest) in
             not_under last.0 (sym (led_behind last.0) ∙ ap (led merge.upper.tree stack.directory)
-            (sym (Rattle.vt_laws_trees.proofs.layers.layers.UpperShown.without_last_of_longer (from_way ++ old
-            ∷ last.0) last.1) ∙ ap Rattle.vt_spec.specs.Lists.without_last
-            (Rattle.vt_laws_trees.proofs.layers.layers.ShownDirectories.append_assoc from_way (old ∷ last.0)
+            (sym (without_last_of_longer (from_way ++ old
+            ∷ last.0) last.1) ∙ ap without_last
+            (append_assoc from_way (old ∷ last.0)
             (last.1 ∷ [])
             ∙ ap (λ q. from_way ++ old ∷ q) last.2 ∙ sym named.1)
-            ∙ Rattle.vt_laws_trees.proofs.layers.layers.UpperShown.without_last_of_longer named.0 new) ∙ named.2)
+            ∙ without_last_of_longer named.0 new) ∙ named.2)
 
         at : (l a b : Bool) → names_entry before uf old path ≡ a → goes_through before ut new path ≡ false
-            → cond a (value l) (cond b None (led merge.upper.tree stack.directory path)) ≡ Some r → ⊥
+            → cond a (when l c) (cond b None (led merge.upper.tree stack.directory path)) ≡ Some r → ⊥
         at true true b n g e = grind (arith, common_steps, true≢false, there, same_Some)
         at false true b n g e = none_is_some r e
         at l false true n g e = none_is_some r e
@@ -384,8 +383,7 @@ module _ (fresh : Fresh ℕ) {stack : Stack ℕ} {merge : Merge ℕ} (whole : Is
         by : (b : Bool) → goes_through before ut new path ≡ b → ⊥
         by true g =
             let parts = through_is_split merge.upper stack.directory ut new path g in
-            behind parts.1 (sym (moved_through parts.0 parts.1 parts.3) ∙ ap (led moved.tree stack.directory) parts.2
-            ∙ e)
+            behind parts.1 (cc (moved_through parts.0 parts.1 parts.3, parts.2, e))
         by false g = at left (names_entry before uf old path) (goes_through before uf old path) refl g
             (sym (moved_elsewhere path stack.directory g) ∙ e)
 
@@ -399,7 +397,7 @@ module _ (fresh : Fresh ℕ) {stack : Stack ℕ} {merge : Merge ℕ} (whole : Is
     led_emptied path = led_where moved.tree whole_moved.tree path stack.directory (λ to inode l word.
         told (without_contents nat_eq merge.upper (upper_directory_named merge t new))
         (emptied_alike merge.upper (upper_directory_named merge t new)) left marks inode word
-        ∙ ap (λ x. cond (is_entry ut new inode word) (Some uo) (cond (is_entry uf old inode word) (value left) x))
+        ∙ ap (λ x. cond (is_entry ut new inode word) (Some uo) (cond (is_entry uf old inode word) (when left c) x))
         (by (upper_directory_named merge t new) refl to inode l word)
         ∙ sym (told merge.upper untouched left marks inode word))
       where

@@ -1,6 +1,6 @@
 -- Where names lead in the tree of an overlay and in its upper layer.
 use Rattle.std.proofs.Common.{arith, ◌≡◌, refl, sym, ap, subst, ◌∙◌, eqb-true, eq-eqb, ℕ, zero, suc, nat_eq, Bool, true, false, not, ◌&&◌, List, [], ◌∷◌, ◌++◌, map, Option, Some, None, is_some, option_and_then, slice_get, bytes_eq}
-use Rattle.vt_spec.proofs.Common.{FileTree, IsDirectory, IsReached, IsTree, ListsNumbers, Merge, OpenLayer, SameObject, Shown, Stack, Upper, View, at_path, bytes_eq_itself, common_steps, cuts, directory_no_whiteout, entry_at, is_directory_node, is_empty_list, is_kind_in, last_or, led, none_is_some, number_at_path, real_object, same_Some, same_option, shown, shown_from, then_some, upper_object, view_of, without_last}
+use Rattle.vt_spec.proofs.Common.{FileTree, IsDirectory, IsReached, IsTree, ListsNumbers, Merge, OpenLayer, SameObject, Shown, Stack, Upper, View, at_path, bytes_eq_itself, common_steps, cuts, directory_no_whiteout, entry_at, is_directory_node, is_empty_list, is_kind_in, last_or, led, none_is_some, number_at_path, real_object, same_Some, same_option, shown, shown_from, then_some, upper_object, view_of}
 use Rattle.vt_spec.specs.declared.attributes.Kind.TheVariants.{White}
 use Rattle.vt_laws_trees.specs.Layers.Layers.Shown.{IsShown}
 use Rattle.vt_laws_trees.specs.Layers.Layers.Views.{goes_through, names_entry, view_in}
@@ -132,15 +132,13 @@ module _ (stack : Stack ℕ) (merge : Merge ℕ) (whole : IsWhole stack merge) w
 
   pub directory_stands : (number u : ℕ) → merge.real number ≡ Some (Upper u)
       → is_directory_node (merge.upper.tree.node u) ≡ is_directory_node (merge.files.tree.node number)
-  directory_stands number u r = same_directory (merge.files.tree.node number) (merge.upper.tree.node u)
-      (object_above number u r)
+  directory_stands number u r = same_directory _ (merge.upper.tree.node u) (object_above number u r)
 
   module _ (d ud : ℕ) (r : merge.real d ≡ Some (Upper ud))
       (is_directory : is_directory_node (merge.upper.tree.node ud) ≡ true) where
     pub same_place : (path : List (List ℕ)) → same_option nat_eq (number_at_path merge.files path) (Some d)
         ≡ same_option nat_eq (led merge.upper.tree stack.directory path) (Some ud)
-    same_place path = by (same_option nat_eq (number_at_path merge.files path) (Some d)) refl
-        (same_option nat_eq (led merge.upper.tree stack.directory path) (Some ud)) refl
+    same_place path = by (same_option nat_eq (number_at_path merge.files path) (Some d)) refl _ refl
       where
         back : led merge.upper.tree stack.directory path ≡ Some ud → number_at_path merge.files path ≡ Some d
         back e =
@@ -157,14 +155,12 @@ module _ (stack : Stack ℕ) (merge : Merge ℕ) (whole : IsWhole stack merge) w
     pub same_entry : (name : List ℕ) (path : List (List ℕ))
         → names_entry (view_in merge.files merge.files.tree.root) d name path
         ≡ names_entry (view_in merge.upper stack.directory) ud name path
-    same_entry name path = ap (λ b. not (is_empty_list path) && (b && bytes_eq (last_or [] path) name))
-        (same_place (without_last path))
+    same_entry name path = ap (λ b. not (is_empty_list path) && (b && bytes_eq (last_or [] path) name)) (same_place _)
 
     pub same_through : (name : List ℕ) (path : List (List ℕ))
         → goes_through (view_in merge.files merge.files.tree.root) d name path
         ≡ goes_through (view_in merge.upper stack.directory) ud name path
-    same_through name path = prefixes_agree (names_entry (view_in merge.upper stack.directory) ud name)
-        (names_entry (view_in merge.files merge.files.tree.root) d name) path (λ front is. same_entry name front)
+    same_through name path = prefixes_agree _ _ path (λ front is. same_entry name front)
 
 -- an overlay that is fine is whole, where its trees are
 pub whole_again : (stack : Stack ℕ) (merge later : Merge ℕ) → IsWhole stack merge → IsTree later.files.tree

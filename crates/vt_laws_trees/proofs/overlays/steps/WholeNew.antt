@@ -38,13 +38,11 @@ module _ (upper : FileTree ℕ) (top : ℕ) (top_tree : IsTree upper.tree) (top_
       by : (b : Bool) → IsAlike (cond b (Some new) (node_led before front)) (node_led after front)
           → hides (node_led after front) ≡ cond b (hides (Some new)) (hides (node_led before front))
       by true alike = hiding_alike (Some new) (node_led after front) (hides_so (Some new) (node_led after front) alike)
-      by false alike = hiding_alike (node_led before front) (node_led after front)
-          (hides_so (node_led before front) (node_led after front) alike)
+      by false alike = hiding_alike _ (node_led after front) (hides_so _ (node_led after front) alike)
 
   -- where it hides, it cuts all below it
   pub cuts_through : hides (Some new) ≡ true → (path : List (List ℕ)) → goes_through before ud w path ≡ true
       → cuts after path ≡ true
   cuts_through h path through =
       let found = prefix_found (names_entry before ud w) path through in
-      prefix_passes (λ front. hides (node_led after front)) path found.0 found.1.0 found.1.1 found.1.2
-      (hides_at found.0 true found.2 ∙ h)
+      prefix_passes _ path found.0 found.1.0 found.1.1 found.1.2 (hides_at found.0 true found.2 ∙ h)

@@ -1,11 +1,10 @@
 -- The path of a directory, as it is found from below, and what lower layers show at a name and under it.
-use Rattle.std.proofs.Common.{arith, ◌≡◌, ◌≤◌, refl, sym, ap, ◌∙◌, true≢false, ℕ, zero, suc, ◌+◌, nat_eq, eq-eqb, ne_eqb, Bool, true, false, not, cond, ◌||◌, List, [], ◌∷◌, ◌++◌, map, reverse, length, Option, Some, None, is_some, option_and_then, slice_get, unwrap_or, find, option_map}
-use Rattle.vt_spec.proofs.Common.{FileTree, IsDirectory, IsTree, ListsNumbers, Merge, OpenLayer, Shown, Tree, ancestors, before_first, chain, entries_in, entry_at, entry_to, found_is_named, holds_of, is_among, is_directory_node, is_directory_shown, led, led-append, list_any, name_in, named_parent, none_is_some, or_right, own_name, path_down, path_to, same_Some, take_while-cons, when}
+use Rattle.std.proofs.Common.{arith, ◌≡◌, ◌≤◌, refl, sym, ap, ◌∙◌, true≢false, ℕ, zero, suc, ◌+◌, nat_eq, eq-eqb, ne_eqb, Bool, true, false, not, cond, ◌||◌, List, [], ◌∷◌, ◌++◌, map, reverse, Option, Some, None, is_some, slice_get, unwrap_or, find, option_map}
+use Rattle.vt_spec.proofs.Common.{FileTree, IsDirectory, IsTree, ListsNumbers, Merge, OpenLayer, Shown, Tree, ancestors, before_first, chain, entries_in, entry_at, entry_to, found_is_named, holds_of, is_among, is_directory_node, is_directory_shown, led, led-append, list_any, name_in, named_parent, or_right, own_name, path_down, path_to, same_Some, take_while-cons, when}
 use mathlib.Core.List.{reverse-cons}
 use Rattle.vt_spec.proofs.Layers.{shown_from}
-use Rattle.vt_laws_trees.proofs.layers.layers.ShownDirectories.{AreOpen, ShowsDirectory, append_assoc, last_of, shown_in_directory}
-use Rattle.vt_laws_trees.proofs.layers.layers.ShownNames.{last_name}
-use Rattle.vt_laws_trees.proofs.layers.layers.ShownPaths.{not_empty, one_path}
+use Rattle.vt_laws_trees.proofs.layers.layers.ShownDirectories.{AreOpen, ShowsDirectory, append_assoc, shown_in_directory}
+use Rattle.vt_laws_trees.proofs.layers.layers.ShownPaths.{not_empty, one_path, last_step}
 use Rattle.vt_laws_trees.proofs.layers.layers.UpperChain.{depth_bound, up_at_root, up_from}
 use Rattle.vt_laws_trees.proofs.layers.layers.UpperLine.{ReachedIn, is_reached_in}
 
@@ -17,8 +16,7 @@ names_to tree (suc steps) directory r = names_to tree steps r.0 r.2 ++ r.1 ∷ [
 names_lead : (tree : Tree ℕ) (steps directory : ℕ) (r : ReachedIn tree steps directory)
     → led tree tree.root (names_to tree steps directory r) ≡ Some directory
 names_lead tree zero directory r = ap Some (sym r)
-names_lead tree (suc steps) directory r =
-    led-append tree tree.root (names_to tree steps r.0 r.2) r.1 r.0 directory (names_lead tree steps r.0 r.2) r.3
+names_lead tree (suc steps) directory r = led-append tree tree.root _ r.1 r.0 _ (names_lead tree steps r.0 r.2) r.3
 
 module _ (files : FileTree ℕ) (tree : IsTree files.tree) (numbers : ListsNumbers nat_eq files) where
   -- the name of a directory in its parent
@@ -26,9 +24,7 @@ module _ (files : FileTree ℕ) (tree : IsTree files.tree) (numbers : ListsNumbe
       → IsDirectory files.tree directory → own_name nat_eq files directory ≡ name
   own_is parent name directory e d =
       ap (λ p. unwrap_or (option_map (λ (n : ℕ × List ℕ). n.1) (name_in nat_eq files directory p)) [])
-      (tree.one_parent parent name directory e d)
-      ∙ by (find (λ entry. nat_eq directory entry.1) (entries_in (files.tree.node parent))) refl
-      (found (entries_in (files.tree.node parent)) (entry_to files.tree parent name directory e))
+      (tree.one_parent parent name directory e d) ∙ by _ refl (found _ (entry_to files.tree parent name directory e))
     where
       found : (entries : List (List ℕ × ℕ)) → list_any (nat_eq directory) (map (λ entry. entry.1) entries) ≡ true
           → is_some (find (λ entry. nat_eq directory entry.1) entries) ≡ true
@@ -90,29 +86,19 @@ module _ (files : FileTree ℕ) (tree : IsTree files.tree) (numbers : ListsNumbe
       → IsDirectory files.tree directory → (steps : ℕ) × ReachedIn files.tree steps directory
   reached_of [] directory e d = (zero, sym (same_Some files.tree.root directory e))
   reached_of (word ∷ path) directory e d =
-      let last = last_of (word ∷ path) (not_empty word path) in
-      by last.1 (led files.tree files.tree.root last.0) refl
-      (sym (last_name files.tree files.tree.root last.0 last.1) ∙ ap (led files.tree files.tree.root) last.2 ∙ e)
-    where
-      by : (name : List ℕ) (o : Option ℕ) → o ≡ o → option_and_then (λ p. entry_at files.tree p name) o ≡ Some directory
-          → (steps : ℕ) × ReachedIn files.tree steps directory
-      by name None s e = none_is_some directory e
-      by name (Some parent) s e =
-          let reached = is_reached_in files tree parent name directory e in
-          (suc reached.0, (parent, name, reached.1, e, d))
+      let last = last_step files.tree files.tree.root (word ∷ path) directory (not_empty word path) e in
+      let reached = is_reached_in files tree last.directory last.name directory last.entry in
+      (suc reached.0, (last.directory, last.name, reached.1, last.entry, d))
 
   -- the path of a directory is found
   pub path_down_is : (path : List (List ℕ)) (directory : ℕ) → led files.tree files.tree.root path ≡ Some directory
       → IsDirectory files.tree directory → path_down nat_eq files files.tree.root directory ≡ Some path
   path_down_is path directory e d =
       let reached = reached_of path directory e d in
-      let names = up_names (length files.numbers) reached.0 directory reached.1
-      (depth_bound files tree numbers reached.0 directory reached.1) in
-      ap (λ b. when b (reverse (map (own_name nat_eq files)
-      (before_first (nat_eq files.tree.root) (ancestors nat_eq files directory))))) names.0
-      ∙ ap Some (names.1 ∙ one_path files.tree tree files.tree.root
-      (names_to files.tree reached.0 directory reached.1) path directory
-      (names_lead files.tree reached.0 directory reached.1) e d)
+      let names = up_names _ reached.0 directory reached.1 (depth_bound files tree numbers reached.0 _ reached.1) in
+      ap (λ b. when b (reverse
+      (map (own_name nat_eq files) (before_first (nat_eq files.tree.root) (ancestors nat_eq files directory))))) names.0
+      ∙ ap Some (names.1 ∙ one_path _ tree _ _ path directory (names_lead files.tree reached.0 directory reached.1) e d)
 
 -- so the path of a name in a directory
 pub path_to_is : (merge : Merge ℕ) → IsTree merge.files.tree → ListsNumbers nat_eq merge.files

@@ -1,6 +1,6 @@
 -- A name is taken away, with a whiteout or without one: the tree is still what the layers show.
 use Rattle.std.proofs.Common.{arith, ◌≡◌, ◌≢◌, refl, sym, ap, subst, ◌∙◌, true≢false, ne_eqb, ◌⊎◌, ⊎_elim, inl, inr, ℕ, suc, nat_eq, Bool, true, false, cond, List, [], ◌∷◌, ◌++◌, map, Option, Some, None, is_some, option_and_then, append-nil}
-use Rattle.vt_spec.proofs.Common.{FileTree, IsDirectory, IsTree, Lower, Make, Merge, Node, Real, Remove, Shown, Stack, Upper, View, changed, changed_node, common_steps, cuts, directory_no_whiteout, entries_in, entry_at, entry_named, hides, is_directory_node, is_kind_in, led, led-append, merge_without_name, name_left_by, node_led, node_with_parent, node_without_entries, node_without_entry, none_is_some, number_at_path, same_Some, shown_from, shown_in_lowers_at, then_some, upper_directory_named, upper_object, upper_of, view_of, whiteout_of, without_contents, without_name}
+use Rattle.vt_spec.proofs.Common.{FileTree, IsDirectory, IsTree, Lower, Make, Merge, Node, Real, Remove, Shown, Stack, Upper, View, changed, changed_node, common_steps, cuts, directory_no_whiteout, entries_in, entry_at, entry_named, hides, is_directory_node, is_kind_in, led, led-append, name_left_by, node_led, node_with_parent, node_without_entries, node_without_entry, none_is_some, number_at_path, same_Some, shown_from, shown_in_lowers_at, then_some, upper_directory_named, upper_object, upper_of, view_of, whiteout_of, without_contents, without_name}
 use Rattle.vt_spec.specs.declared.attributes.Kind.TheVariants.{White}
 use Rattle.vt_laws_trees.specs.Trees.{MayRemove}
 use Rattle.vt_laws_trees.specs.Layers.Layers.ChangesUpper.{StandsInUpper}
@@ -11,10 +11,10 @@ use Rattle.vt_laws_trees.specs.Overlays.WhatIsShown.{IsWhole, RemoveKeepsShown, 
 use Rattle.vt_laws_trees.proofs.layers.layers.CopyingParts.{without_entry_keeps}
 use Rattle.vt_laws_trees.proofs.layers.layers.LowersKept.{kept_elsewhere}
 use Rattle.vt_laws_trees.proofs.layers.layers.ShownAlike.{white_alike}
-use Rattle.vt_laws_trees.proofs.layers.layers.ShownDirectories.{append_assoc, last_of, led_is_there}
+use Rattle.vt_laws_trees.proofs.layers.layers.ShownDirectories.{append_assoc, led_is_there}
 use Rattle.vt_laws_trees.proofs.layers.layers.ShownFronts.{prefix_found, prefix_passes}
 use Rattle.vt_laws_trees.proofs.layers.layers.ShownNames.{last_name}
-use Rattle.vt_laws_trees.proofs.layers.layers.ShownPaths.{not_empty}
+use Rattle.vt_laws_trees.proofs.layers.layers.ShownPaths.{not_empty, last_step}
 use Rattle.vt_laws_trees.proofs.layers.layers.UpperLine.{has_entries, is_reached_in}
 use Rattle.vt_laws_trees.proofs.layers.layers.UpperShown.{way_to}
 use Rattle.vt_laws_trees.proofs.layers.views.After.{fails, prefixes_fail, itself_fails, on_top}
@@ -110,8 +110,7 @@ module _ {stack : Stack ℕ} {merge : Merge ℕ} (whole : IsWhole stack merge) {
 
     is_there : (path : List (List ℕ)) (k : ℕ) → led merge.upper.tree stack.directory path ≡ Some k
         → is_some (merge.upper.tree.node k) ≡ true
-    is_there path k l = led_is_there
-        (record { tree = merge.upper.tree; directory = stack.directory }) top_tree top_directory path k l
+    is_there path k l = led_is_there _ top_tree top_directory path k l
 
     hides_old : (front : List (List ℕ)) → goes_through before ud w front ≡ false
         → hides (node_led after front) ≡ hides (node_led before front)
@@ -120,27 +119,23 @@ module _ {stack : Stack ℕ} {merge : Merge ℕ} (whole : IsWhole stack merge) {
         by : (o : Option ℕ) → led merge.upper.tree stack.directory front ≡ o
             → hides (then_some o upper.tree.node) ≡ hides (then_some o merge.upper.tree.node)
         by None l = refl
-        by (Some k) l = hiding_alike (merge.upper.tree.node k) (upper.tree.node k)
-            (hides_so (merge.upper.tree.node k) (upper.tree.node k) (alike k (is_there front k l)))
+        by (Some k) l = hiding_alike _ (upper.tree.node k) (hides_so _ _ (alike k (is_there front k l)))
 
     shown_old : (path : List (List ℕ)) → goes_through before ud w path ≡ false
         → shown_from 0 (after ∷ lowers) path ≡ shown_from 0 (before ∷ lowers) path
     shown_old path none = over_same before after lowers path (leads_old path none)
-        (λ k l. white_alike (merge.upper.tree.node k) (upper.tree.node k) (alike k (is_there path k l)))
-        (prefixes_agree (λ front. hides (node_led before front)) (λ front. hides (node_led after front)) path
-        (λ front f. hides_old front (prefixes_fail (names_entry before ud w) path front f none)))
+        (λ k l. white_alike (merge.upper.tree.node k) (upper.tree.node k) (alike k (is_there path k l))) (prefixes_agree
+        _ _ path (λ front f. hides_old front (prefixes_fail (names_entry before ud w) path front f none)))
 
     -- where the upper layer does not cut a path below, it cuts no path to the directory
     uncut_to : (to rest path : List (List ℕ)) → to ++ w ∷ rest ≡ path → number_at_path merge.files to ≡ Some d
         → cuts after path ≡ false → cuts before to ≡ false
-    uncut_to to rest path is there uncut =
-        fails (cuts before to) (λ cut. found (prefix_found (λ front. hides (node_led before front)) to cut))
+    uncut_to to rest path is there uncut = fails (cuts before to) (λ cut. found (prefix_found _ to cut))
       where
         found : (front : List (List ℕ)) × IsFrontOf front to × (hides (node_led before front) ≡ true) → ⊥
-        found f = true≢false (sym (prefix_passes (λ front. hides (node_led after front)) path f.0 (f.1.0 ++ w ∷ rest)
-            (sym (append_assoc f.0 f.1.0 (w ∷ rest)) ∙ ap (λ p. p ++ w ∷ rest) f.1.1 ∙ is) f.1.2
-            (hides_old f.0 (prefixes_fail (names_entry before ud w) to f.0 f.1 (way_elsewhere to there)) ∙ f.2))
-            ∙ uncut)
+        found f = true≢false (sym (prefix_passes (λ front. hides (node_led after front))
+            path f.0 (f.1.0 ++ w ∷ rest) (sym (append_assoc f.0 f.1.0 (w ∷ rest)) ∙ ap (λ p. p ++ w ∷ rest) f.1.1 ∙ is)
+            f.1.2 (hides_old f.0 (prefixes_fail _ to f.0 f.1 (way_elsewhere to there)) ∙ f.2)) ∙ uncut)
 
     -- through the name nothing is shown
     none_after : (path : List (List ℕ)) → goes_through before ud w path ≡ true
@@ -194,9 +189,8 @@ module _ {stack : Stack ℕ} {merge : Merge ℕ} (whole : IsWhole stack merge) {
             by true e = on_top after lowers path p.0 true (leads_here path e ∙ p.1) p.2
             by false e =
                 let found = prefix_found (names_entry before ud w) path through in
-                cut_shows_none after lowers path (leads_none path through e)
-                (prefix_passes (λ front. hides (node_led after front)) path found.0 found.1.0 found.1.1 found.1.2
-                (cc (leads_here found.0 found.2, p.1, white_hides (upper.tree.node p.0) p.2)))
+                cut_shows_none after lowers path (leads_none path through e) (prefix_passes _ path found.0 found.1.0
+                found.1.1 found.1.2 (cc (leads_here found.0 found.2, p.1, white_hides (upper.tree.node p.0) p.2)))
 
     number_after : (path : List (List ℕ)) (b : Bool) → names_entry before ud w path ≡ b
         → number_at_path files path ≡ cond b None (number_at_path merge.files path)
@@ -241,9 +235,8 @@ module _ {stack : Stack ℕ} {merge : Merge ℕ} (whole : IsWhole stack merge) {
 
         named_in_upper : entry_at merge.upper.tree ud w ≡ Some uo
         named_in_upper = sym (last_name merge.upper.tree stack.directory way.0 w
-            ∙ ap (option_and_then (λ n. entry_at merge.upper.tree n w)) up_way)
-            ∙ named_above stack merge whole (way.0 ++ w ∷ []) object uo
-            (led-append merge.files.tree merge.files.tree.root way.0 w d object way.1 may.named) r
+            ∙ ap (option_and_then (λ n. entry_at merge.upper.tree n w)) up_way) ∙ named_above stack
+            merge whole (way.0 ++ w ∷ []) object uo (led-append merge.files.tree _ way.0 w d object way.1 may.named) r
 
         there : is_some (merge.upper.tree.node uo) ≡ true
         there = fine_before.upper object uo r
@@ -251,28 +244,17 @@ module _ {stack : Stack ℕ} {merge : Merge ℕ} (whole : IsWhole stack merge) {
         old : (path : List (List ℕ)) → led merge.upper.tree stack.directory path ≡ Some uo
             → names_entry before ud w path ≡ true
         old [] l =
-            let root = above_named stack merge whole [] stack.directory refl
-            (directory_no_whiteout (merge.upper.tree.node stack.directory) top_directory) in
-            absurd (whole.tree.root_unnamed d w (may.named ∙ ap Some
-            (fine_before.one object merge.files.tree.root (ap is_some r)
+            let root = above_named stack merge whole [] stack.directory refl (directory_no_whiteout _ top_directory) in
+            absurd (whole.tree.root_unnamed d w (may.named ∙ ap Some (fine_before.one object _ (ap is_some r)
             (cc (r, same_Some stack.directory uo l, root.2, same_Some merge.files.tree.root root.0 root.1)))))
         old (word ∷ rest) l =
-            let last = last_of (word ∷ rest) (not_empty word rest) in
-            subst (λ p. names_entry before ud w p ≡ true) last.2
-            (at last.0 last.1 (led merge.upper.tree stack.directory last.0) refl
-            (cc (last_name merge.upper.tree stack.directory last.0 last.1, last.2)))
-          where
-            at : (front : List (List ℕ)) (name : List ℕ) (o : Option ℕ) → led merge.upper.tree stack.directory front ≡ o
-                → option_and_then (λ n. entry_at merge.upper.tree n name) o ≡ Some uo
-                → names_entry before ud w (front ++ name ∷ []) ≡ true
-            at front name None f e = none_is_some uo e
-            at front name (Some parent) f e =
-                let same = sym (top_tree.one_parent parent name uo e uo_directory)
-                ∙ top_tree.one_parent ud w uo named_in_upper uo_directory in
-                let one = top_tree.one_name ud name w uo
-                (cc (same)) named_in_upper uo_directory in
-                ap (λ n. names_entry before ud w (front ++ n ∷ [])) one
-                ∙ entry_named_so merge.upper stack.directory ud w front (f ∙ ap Some same)
+            let last = last_step merge.upper.tree stack.directory (word ∷ rest) uo (not_empty word rest) l in
+            let same = sym (top_tree.one_parent last.directory last.name uo last.entry uo_directory)
+            ∙ top_tree.one_parent ud w uo named_in_upper uo_directory in
+            let one = top_tree.one_name ud last.name w uo
+            (ap (λ n. entry_at merge.upper.tree n last.name) (sym same) ∙ last.entry) named_in_upper uo_directory in
+            subst (λ p. names_entry before ud w p ≡ true) (ap (λ n. last.front ++ n ∷ []) (sym one) ∙ last.split)
+            (entry_named_so merge.upper stack.directory ud w last.front (last.leads ∙ ap Some same))
 
         by : (a : Bool) → names_entry before ud w path ≡ a → (b : Bool) → goes_through before ud w path ≡ b → ⊥
         by true n b g = true≢false (sym there ∙ ap is_some (new uo (sym (led_first path ∙ ap (λ y.
@@ -341,11 +323,9 @@ module _ {stack : Stack ℕ} {merge : Merge ℕ} (whole : IsWhole stack merge) {
       let first = without_name nat_eq merge.upper ud w in
       let o = upper_directory_named merge d w in
       let no_new : (k : ℕ) → None ≡ Some k → merge.upper.tree.node k ≡ None = λ k e. none_is_some k e in
-      later_is_fine (without_contents nat_eq first o) None
-      (λ path. emptied_led first None no_new plain_led o is_own path ∙ plain_led path) (λ u there.
-      alike_both (merge.upper.tree.node u) (first.tree.node u) _
-      (alike_after merge.upper ud (node_without_entry w) (without_entry_keeps w) u) (emptied_alike first o u))
-      (inl (refl, none))
+      later_is_fine _ None (λ path. emptied_led first None no_new plain_led o is_own path ∙ plain_led path) (λ u there.
+      alike_both _ (first.tree.node u) _ (alike_after merge.upper ud (node_without_entry w) (without_entry_keeps w) u)
+      (emptied_alike first o u)) (inl (refl, none))
 
   -- with one
   module _ (c : ℕ) (vacant : merge.upper.tree.node c ≡ None) where
@@ -375,9 +355,7 @@ module _ {stack : Stack ℕ} {merge : Merge ℕ} (whole : IsWhole stack merge) {
         (inr (c, refl, cc (white_alike (whited.tree.node c) _ (emptied_alike whited o c), inodes.0)))
 
 pub remove_keeps_shown : RemoveKeepsShown
-remove_keeps_shown fresh stack merge d w object whole stands vacant may =
-    what_is_shown stack (merge_without_name nat_eq fresh stack merge d w object) (by
-    (shown_in_lowers_at nat_eq stack merge d w) refl)
+remove_keeps_shown fresh stack merge d w object whole stands vacant may = what_is_shown stack _ (by _ refl)
   where
     by : (o : Option (Shown ℕ)) → shown_in_lowers_at nat_eq stack merge d w ≡ o → IsFine stack (record merge {
       files = changed nat_eq merge.files (Remove d w object);

@@ -17,14 +17,9 @@ module _ (stack : Stack ℕ) (merge : Merge ℕ) (is_fine : IsFine stack merge) 
   object_same : (n : ℕ) (o : Option (Real ℕ)) → merge.real n ≡ o
       → SameObject (merge.files.tree.node n) (then_some o (inode_behind stack merge))
       → SameObject (files.tree.node n) (then_some o (inode_behind stack rearranged))
-  object_same n None r same = alike_objects (merge.files.tree.node n) None (files.tree.node n) None same (others n)
-      (make_seen None)
-  object_same n (Some (Upper u)) r same =
-      alike_objects (merge.files.tree.node n) (merge.upper.tree.node u) (files.tree.node n) (upper.tree.node u) same
-      (others n) (above n u r)
-  object_same n (Some (Lower layer path)) r same =
-      alike_objects (merge.files.tree.node n) (inode_behind stack merge (Lower layer path)) (files.tree.node n)
-      (inode_behind stack merge (Lower layer path)) same (others n) (make_seen _)
+  object_same n None r same = alike_objects _ None (files.tree.node n) None same (others n) (make_seen None)
+  object_same n (Some (Upper u)) r same = alike_objects _ _ (files.tree.node n) _ same (others n) (above n u r)
+  object_same n (Some (Lower layer path)) r same = alike_objects _ _ (files.tree.node n) _ same (others n) (make_seen _)
 
   pub rearranged_is_fine : ((path : List (List ℕ))
       → then_some (number_at_path files path) merge.real ≡ real_seen stack rearranged path) → IsFine stack rearranged

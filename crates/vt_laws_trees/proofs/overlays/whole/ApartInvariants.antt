@@ -56,8 +56,7 @@ module _ {fresh : Fresh ℕ} {world : World ℕ} {location : Location ℕ} {chan
   -- the filesystems afterwards
   pub filesystem_then : (f : Filesystem ℕ) → Among f later.filesystems
       → (f ≡ changed) ⊎ ((f ≡ changed_upper) ⊎ Among f world.filesystems)
-  filesystem_then f m = from (among-from_map (replaced_if_numbered nat_eq changed_upper)
-      (map (replaced_if_numbered nat_eq changed) world.filesystems) f (subst (λ w. Among f w.filesystems) later_is m))
+  filesystem_then f m = from (among-from_map _ _ f (subst (λ w. Among f w.filesystems) later_is m))
     where
       at : (old : Filesystem ℕ) → Among old world.filesystems → (p q : Bool)
           → f ≡ cond q changed_upper (cond p changed old)
@@ -76,14 +75,12 @@ module _ {fresh : Fresh ℕ} {world : World ℕ} {location : Location ℕ} {chan
       from : (one : Filesystem ℕ) × Among one (map (replaced_if_numbered nat_eq changed) world.filesystems)
           × (f ≡ replaced_if_numbered nat_eq changed_upper one)
           → (f ≡ changed) ⊎ ((f ≡ changed_upper) ⊎ Among f world.filesystems)
-      from (one, o, same) = again one same
-          (among-from_map (replaced_if_numbered nat_eq changed) world.filesystems one o)
+      from (one, o, same) = again one same (among-from_map _ world.filesystems one o)
 
   -- overlays are what their layers show
   merges : (n : ℕ) (other : Overlay ℕ) → (filesystem_numbered nat_eq later n).overlay ≡ Some other
       → IsMerged nat_eq later (filesystem_numbered nat_eq later n) other
-  merges n other e = ⊎_elim here (λ t. ⊎_elim (at_upper t.1) (elsewhere t.1) (eqb_tells n upper.filesystem))
-      (eqb_tells n number)
+  merges n other e = ⊎_elim here (λ t. ⊎_elim (at_upper t.1) (elsewhere t.1) (eqb_tells n _)) (eqb_tells n number)
     where
       here : (nat_eq n number ≡ true) × (n ≡ number) → IsMerged nat_eq later (filesystem_numbered nat_eq later n) other
       here t = subst (λ k. IsMerged nat_eq later (filesystem_numbered nat_eq later k) other) (sym t.1)
@@ -109,8 +106,7 @@ module _ {fresh : Fresh ℕ} {world : World ℕ} {location : Location ℕ} {chan
   -- layers are directories of plain trees
   still_plain : (layer : Layer ℕ)
       → (layer ≡ upper) ⊎ ApartLater.IsOther it layer → is_plain_layer nat_eq later layer ≡ true
-  still_plain layer live = and_from (not (is_overlay (filesystem_numbered nat_eq later layer.filesystem))) _
-      (no_overlay (eqb_tells layer.filesystem upper.filesystem)) (directory live)
+  still_plain layer live = and_from _ _ (no_overlay (eqb_tells layer.filesystem upper.filesystem)) (directory live)
     where
       was_plain : is_plain_layer nat_eq world layer ≡ true
       was_plain = ⊎_elim (λ same. cc (ApartLater.upper_plain it)) (λ other. ApartLater.other_plain it layer other) live
@@ -120,8 +116,7 @@ module _ {fresh : Fresh ℕ} {world : World ℕ} {location : Location ℕ} {chan
           → not (is_overlay (filesystem_numbered nat_eq later layer.filesystem)) ≡ true
       no_overlay (inl t) = cc (t.1, upper_later, upper_none)
       no_overlay (inr t) = ap (λ f. not (is_overlay f))
-          (ApartLater.stays it layer.filesystem (ApartLater.plain_elsewhere it layer was_plain) t.1)
-          ∙ and_true_left (not (is_overlay (filesystem_numbered nat_eq world layer.filesystem))) _ was_plain
+          (ApartLater.stays it _ (ApartLater.plain_elsewhere it layer was_plain) t.1) ∙ and_true_left _ _ was_plain
 
       directory : (layer ≡ upper)
           ⊎ ApartLater.IsOther it layer
@@ -137,8 +132,7 @@ module _ {fresh : Fresh ℕ} {world : World ℕ} {location : Location ℕ} {chan
 
   live : (n : ℕ) (v : Overlay ℕ) → (filesystem_numbered nat_eq world n).overlay ≡ Some v → (layer : Layer ℕ)
       → Among layer (layers_of v) → (layer ≡ upper) ⊎ ApartLater.IsOther it layer
-  live n v e layer m = ⊎_elim
-      (λ up. ⊎_elim inl (λ differ. inr (inl (layer_among world upper_and_work n v e layer up, differ)))
+  live n v e layer m = ⊎_elim (λ up. ⊎_elim inl (λ differ. inr (inl (layer_among world _ n v e layer up, differ)))
       (ApartLater.same_layer it layer upper)) (λ low. inr (inr (layer_among world (λ o. o.lowers) n v e layer low)))
       (among-append (upper_and_work v) v.lowers layer m)
 
@@ -168,8 +162,7 @@ module _ {fresh : Fresh ℕ} {world : World ℕ} {location : Location ℕ} {chan
 
   uppers_later : (n : ℕ) (v : Overlay ℕ) (u : Layer ℕ) → (filesystem_numbered nat_eq later n).overlay ≡ Some v
       → v.upper ≡ Some u → IsReached (filesystem_numbered nat_eq later u.filesystem).files.tree u.directory
-  uppers_later n v u e f = ⊎_elim here (λ t. ⊎_elim (at_upper t.1) (elsewhere t.1) (eqb_tells n upper.filesystem))
-      (eqb_tells n number)
+  uppers_later n v u e f = ⊎_elim here (λ t. ⊎_elim (at_upper t.1) (elsewhere t.1) (eqb_tells n _)) (eqb_tells n number)
     where
       as_upper : u ≡ upper → IsReached (filesystem_numbered nat_eq later u.filesystem).files.tree u.directory
       as_upper same =
@@ -200,8 +193,7 @@ module _ {fresh : Fresh ℕ} {world : World ℕ} {location : Location ℕ} {chan
       → test (record v { real = real }) ≡ test v)
       → ((n : ℕ) (v : Overlay ℕ) → (filesystem_numbered nat_eq world n).overlay ≡ Some v → test v ≡ true)
       → list_all (of_overlay true test) later.filesystems ≡ true
-  each_overlay test ignores holds =
-      list_all_from_among (of_overlay true test) later.filesystems (λ f m. by f (filesystem_then f m))
+  each_overlay test ignores holds = list_all_from_among _ later.filesystems (λ f m. by f (filesystem_then f m))
     where
       old : (f : Filesystem ℕ) → Among f world.filesystems → (o : Option (Overlay ℕ)) → f.overlay ≡ o
           → overlay_or true test o ≡ true
@@ -221,9 +213,8 @@ module _ {fresh : Fresh ℕ} {world : World ℕ} {location : Location ℕ} {chan
       record {
         overlays_merge = merges;
         fit_layers = each_overlay has_fit_layers (λ v real. refl) (λ n v e. fit n v e);
-        plain_layers = each_overlay (λ v. list_all (is_plain_layer nat_eq later) (layers_of v)) (λ v real. refl)
-            (λ n v e. list_all_from_among (is_plain_layer nat_eq later) (layers_of v)
-            (λ layer m. still_plain layer (live n v e layer m)));
+        plain_layers = each_overlay _ (λ v real. refl) (λ n v e. list_all_from_among
+            (is_plain_layer nat_eq later) (layers_of v) (λ layer m. still_plain layer (live n v e layer m)));
         changed_apart = stand.changed;
         lowers_apart = stand.lowers;
         uppers_reached = uppers_later;
@@ -232,10 +223,8 @@ module _ {fresh : Fresh ℕ} {world : World ℕ} {location : Location ℕ} {chan
       fit : (n : ℕ) (v : Overlay ℕ) → (filesystem_numbered nat_eq world n).overlay ≡ Some v → has_fit_layers v ≡ true
       fit n v e = sym (ap (overlay_or true has_fit_layers) e)
           ∙ among_from_list_all (of_overlay true has_fit_layers) world.filesystems it.conditions.overlays.fit_layers
-          (filesystem_numbered nat_eq world n)
-          (Rattle.vt_spec.proofs.Lists.among-from_filter is_overlay world.filesystems
-          (filesystem_numbered nat_eq world n)
-          (Rattle.vt_laws_trees.proofs.layers.locked.Apart.merged_among world n v e)).0
+          (filesystem_numbered nat_eq world n) (Rattle.vt_spec.proofs.Lists.among-from_filter is_overlay
+          world.filesystems _ (Rattle.vt_laws_trees.proofs.layers.locked.Apart.merged_among world n v e)).0
 
   -- trees
   was_tree : (f : Filesystem ℕ) → Among f world.filesystems → IsFileTree f.files
@@ -264,13 +253,10 @@ module _ {fresh : Fresh ℕ} {world : World ℕ} {location : Location ℕ} {chan
       let stack = stack_of nat_eq world overlay upper in
       let before = merge_of nat_eq world (filesystem_at nat_eq world location) overlay upper in
       record {
-        trees = all_from_among (λ (f : Filesystem ℕ). IsFileTree f.files) later.filesystems (λ f m.
-            ⊎_elim (λ same. subst (λ x. IsFileTree x.files) (sym same)
-            (merged_trees_stay fresh stack before change whole new it.asked
-            (found number before.files.tree.root whole.tree.root_directory))) (⊎_elim
-            (λ same. subst (λ x. IsFileTree x.files) (sym same)
-            (upper_trees_stay fresh stack before change whole new it.asked (found upper.filesystem upper.directory
-            (whole.layers 0 (record { tree = before.upper.tree; directory = upper.directory }) refl).1)))
+        trees = all_from_among _ later.filesystems (λ f m. ⊎_elim (λ same. subst (λ x. IsFileTree x.files) (sym same)
+            (merged_trees_stay fresh stack before change whole new it.asked (found number _ whole.tree.root_directory)))
+            (⊎_elim (λ same. subst (λ x. IsFileTree x.files) (sym same) (upper_trees_stay fresh
+            stack before change whole new it.asked (found upper.filesystem upper.directory (whole.layers 0 _ refl).1)))
             (λ old. was_tree f old)) (filesystem_then f m));
         one_filesystem = ap (λ w. any_pair (λ (a b : Filesystem ℕ). nat_eq a.number b.number) w.filesystems) later_is
             ∙ pair_same (replaced_if_numbered nat_eq changed_upper)
@@ -311,15 +297,13 @@ tree_invariants_stay fresh world location change overlay upper conditions is has
 
     fit_numbered : (n : ℕ) → is_fit_tree (filesystem_numbered nat_eq world n).files ≡ true
     fit_numbered n = numbered_anyhow (λ (f : Filesystem ℕ). is_fit_filesystem f ≡ true) n world.filesystems
-        (all_from_among (λ (f : Filesystem ℕ). is_fit_filesystem f ≡ true) world.filesystems
-        (λ f m. among_from_list_all is_fit_filesystem world.filesystems conditions.files.fit_filesystems f m)) refl
+        (all_from_among _ world.filesystems (λ f m. among_from_list_all _ _ conditions.files.fit_filesystems f m)) refl
 
     sizes : (is_fit_tree
         (ApartLater.merge it).files ≡ true) × (is_fit_tree (ApartLater.merge it).upper ≡ true)
     sizes = sizes_stay fresh (stack_of nat_eq world overlay upper)
-        (merge_of nat_eq world (filesystem_at nat_eq world location) overlay upper) change (ApartLater.whole it)
-        (ApartLater.new it) asked fit
-        (fit_numbered (mount_at nat_eq world location).filesystem) (fit_numbered upper.filesystem)
+        (merge_of nat_eq world (filesystem_at nat_eq world location) overlay upper)
+        change (ApartLater.whole it) (ApartLater.new it) asked fit (fit_numbered _) (fit_numbered upper.filesystem)
 
     by : (f : Filesystem ℕ)
         → (f ≡ ApartLater.changed it)

@@ -108,14 +108,12 @@ module _ {fresh : Fresh ℕ} {world : World ℕ} {location : Location ℕ} {chan
 
   pub other_plain : (layer : Layer ℕ) → IsOther layer → is_plain_layer nat_eq world layer ≡ true
   other_plain layer (inl m) = changed_plain layer m.0
-  other_plain layer (inr m) =
-      plain_of (λ o. o.lowers) (λ o l a. among-append_right (upper_and_work o) o.lowers l a) layer m
+  other_plain layer (inr m) = plain_of (λ o. o.lowers) (λ o l a. among-append_right _ o.lowers l a) layer m
 
   -- what lies under two of them
   listed : (n object : ℕ) → is_some (inode_in world n object) ≡ true
       → Among object (filesystem_numbered nat_eq world n).files.numbers
-  listed n object there =
-      among_numbers (filesystem_numbered nat_eq world n).files.numbers object (numbers_in n object ∙ there)
+  listed n object there = among_numbers _ object (numbers_in n object ∙ there)
 
   abbrev pub Lies : Layer ℕ → ℕ → ℕ → Type 0
   Lies layer n object = lies_or_counts_under nat_eq world n object layer ≡ true
@@ -142,14 +140,11 @@ module _ {fresh : Fresh ℕ} {world : World ℕ} {location : Location ℕ} {chan
 
   -- paths from the others lead where they led
   pub other_leads : (layer : Layer ℕ) → IsOther layer → LeadsAsBefore world later layer
-  other_leads layer other =
-      leads_as_before world it.conditions layer (other_plain layer other) later (λ inode lies there.
-      inode_kept fresh world location change overlay upper it.conditions it.is it.has it.none
-      (WholeLater.spoken stack before change whole.tree it.asked) layer (other_plain layer other) inode there
-      (λ same object.
-      clash layer other upper.filesystem inode (subst (λ n. is_some (inode_in world n inode) ≡ true) (sym same) there)
-      (object_counts world it.conditions number overlay it.is upper it.has inode object)
-      (subst (λ n. Lies layer n inode) (sym same) lies)))
+  other_leads layer other = leads_as_before world it.conditions layer (other_plain layer other)
+      later (λ inode lies there. inode_kept fresh world location change overlay upper it.conditions it.is it.has
+      it.none (WholeLater.spoken stack before change whole.tree it.asked) layer (other_plain layer other) inode there
+      (λ same object. clash layer other _ inode (subst (λ n. is_some (inode_in world n inode) ≡ true) (sym same) there)
+      (object_counts world it.conditions number overlay it.is upper it.has inode object) (cc (same, lies))))
 
   -- The trees afterwards
   pub plain_elsewhere : (layer : Layer ℕ) → is_plain_layer nat_eq world layer ≡ true → layer.filesystem ≢ number
@@ -200,8 +195,7 @@ module _ {fresh : Fresh ℕ} {world : World ℕ} {location : Location ℕ} {chan
   led_lies layer plain n object same way = and_from _ _ (eq-eqb n layer.filesystem same)
       (subst (λ k. is_under nat_eq (filesystem_numbered nat_eq world k).files layer.directory object ≡ true) (sym same)
       (led_under (filesystem_numbered nat_eq world layer.filesystem).files (layer_tree world it.conditions layer plain)
-      layer.directory (numbers_in layer.filesystem)
-      (and_true_right (not (is_overlay (filesystem_numbered nat_eq world layer.filesystem))) _ plain) object way))
+      layer.directory (numbers_in layer.filesystem) (and_true_right _ _ plain) object way))
 
   pub lies_first : (layer : Layer ℕ) (n object : ℕ) → lies_in_layer nat_eq world n object layer ≡ true
       → Lies layer n object
@@ -231,10 +225,9 @@ module _ {fresh : Fresh ℕ} {world : World ℕ} {location : Location ℕ} {chan
   placed_on object name next placed e = ⊎_elim (λ old. ⊎_elim (λ way. inl (
     way.0 ++ name ∷ [],
     Rattle.vt_spec.proofs.Trees.led-append before.upper.tree upper.directory way.0 name object next way.1 old,
-  )) (λ leaf. absurd (⊎_elim (λ own. has_no_entry object name next own.1 old)
-      (λ fresh_one. has_no_entry object name next (ap (λ n. is_directory_node (before.upper.tree.node n)) fresh_one.1
-      ∙ ap is_directory_node (it.none upper.filesystem fresh_one.0)) old) leaf)) placed) (⊎_elim
-      (λ own. ⊎_elim (λ file. inr (inl ((own.0, own.1), file))) (λ way. inl way) own.2)
+  )) (λ leaf. absurd (⊎_elim (λ own. has_no_entry object name next own.1 old) (λ fresh_one. has_no_entry object name
+      next (ap (λ n. is_directory_node (before.upper.tree.node n)) fresh_one.1 ∙ ap is_directory_node (it.none _ _))
+      old) leaf)) placed) (⊎_elim (λ own. ⊎_elim (λ file. inr (inl ((own.0, own.1), file))) (λ way. inl way) own.2)
       (λ fresh_one. inr (inr fresh_one)))
       (UpperOwn.told fresh stack before whole new change it.asked object name next e)
 
@@ -242,8 +235,7 @@ module _ {fresh : Fresh ℕ} {world : World ℕ} {location : Location ℕ} {chan
       → IsPlaced object
   placed_along [] from object placed e = subst IsPlaced (same_Some from object e) placed
   placed_along (name ∷ path) from object placed e =
-      let step = Rattle.vt_spec.proofs.Trees.found (λ next. led merge.upper.tree next path)
-      (entry_at merge.upper.tree from name) object e in
+      let step = Rattle.vt_spec.proofs.Trees.found _ (entry_at merge.upper.tree from name) object e in
       placed_along path step.0 object (placed_on from name step.0 placed step.1) step.2
 
   upper_counts : (object : ℕ) → IsUpperObject overlay object → Lies upper upper.filesystem object
@@ -255,22 +247,17 @@ module _ {fresh : Fresh ℕ} {world : World ℕ} {location : Location ℕ} {chan
   upper_lies n object e =
       let found = lies_later upper upper_plain n object e in
       ⊎_elim (λ way. inl (lies_first upper n object (led_lies upper upper_plain n object found.0 way)))
-      (⊎_elim (λ own. inl (subst (λ k. Lies upper k object) (sym found.0) (upper_counts object own.0)))
-      (λ fresh_one. inr fresh_one)) (placed_along found.1.0 upper.directory object (inl ([], refl))
-      (sym (ap (λ f. led f.files.tree upper.directory found.1.0) upper_later) ∙ found.1.1))
+      (⊎_elim (λ own. inl (cc (found.0, upper_counts object own.0))) (λ fresh_one. inr fresh_one))
+      (placed_along found.1.0 upper.directory object (inl ([], refl)) (cc (upper_later, found.1.1)))
 
   -- The overlays afterwards
   overlay_then : (f : Filesystem ℕ) → Among f (overlays later)
       → (f ≡ changed) ⊎ (Among f (overlays world) × (f.number ≢ number))
   overlay_then f m =
-      let kept = among-from_filter is_overlay
-      (WholeLater.later it).filesystems f (subst (λ w. Among f (overlays w)) later_is m) in
-      let one = among-from_map (replaced_if_numbered nat_eq changed_upper)
-      (map (replaced_if_numbered nat_eq changed) world.filesystems) f kept.0 in
+      let kept = among-from_filter is_overlay _ f (subst (λ w. Among f (overlays w)) later_is m) in
+      let one = among-from_map (replaced_if_numbered nat_eq changed_upper) _ f kept.0 in
       let two = among-from_map (replaced_if_numbered nat_eq changed) world.filesystems one.0 one.1 in
-      by two.0 two.1 kept.1 (nat_eq changed.number two.0.number) refl
-      (nat_eq changed_upper.number (replaced_if_numbered nat_eq changed two.0).number) refl
-      (one.2 ∙ ap (replaced_if_numbered nat_eq changed_upper) two.2)
+      by two.0 two.1 kept.1 _ refl _ refl (one.2 ∙ ap (replaced_if_numbered nat_eq changed_upper) two.2)
     where
       by : (old : Filesystem ℕ) → Among old world.filesystems → is_overlay f ≡ true
           → (p : Bool) → nat_eq changed.number old.number ≡ p → (q : Bool)
@@ -282,8 +269,7 @@ module _ {fresh : Fresh ℕ} {world : World ℕ} {location : Location ℕ} {chan
       by old o over false e true g same = absurd (true≢false
           (sym over ∙ ap (λ x. is_overlay x) same ∙ ap is_some (no_overlay_in world it.conditions upper upper_plain)))
       by old o over false e false g same = inr (
-        subst (λ x. Among x (overlays world)) (sym same)
-            (among-filter is_overlay world.filesystems old o (ap is_overlay (sym same) ∙ over)),
+        subst (λ x. Among x (overlays world)) (sym same) (among-filter _ _ old o (ap is_overlay (sym same) ∙ over)),
         λ at. true≢false (sym (eq-eqb changed.number old.number
             (number_of_filesystem world number ∙ sym at ∙ ap (λ x. x.number) same)) ∙ e),
       )
@@ -379,8 +365,7 @@ module _ {fresh : Fresh ℕ} {world : World ℕ} {location : Location ℕ} {chan
       ((n ≡ upper.filesystem) × ((k : ℕ) × (merge.real k ≡ Some (Upper object))))
   changed_parts w layer n object parts =
       let same = same_Some _ parts.overlay_of parts.is_of in
-      let one : upper ≡ parts.upper_of_it = same_Some upper parts.upper_of_it (sym it.has ∙ ap (λ v. v.upper) same
-      ∙ parts.has_it) in
+      let one : upper ≡ parts.upper_of_it = same_Some upper parts.upper_of_it (cc (it.has, same, parts.has_it)) in
       let real = real_of_object changed parts.overlay_of parts.upper_of_it parts.has_it n object parts.object_of in (
         subst (λ u. lies_in_layer nat_eq w u.filesystem u.directory layer ≡ true) (sym one) parts.lies,
         (real.0 ∙ ap (λ u. u.filesystem) (sym one), (real.1.0, ap (λ v. v.real real.1.0) same ∙ real.1.1)),
@@ -392,9 +377,7 @@ module _ {fresh : Fresh ℕ} {world : World ℕ} {location : Location ℕ} {chan
   counted_other layer other n object g parts (inl same) =
       let own = changed_parts later layer n object (subst (λ x. Counts later layer n object x) same parts) in
       absurd (clash layer other upper.filesystem upper.directory (directory_there upper upper_plain)
-      (lies_first upper upper.filesystem upper.directory upper_itself)
-      (lies_first layer upper.filesystem upper.directory
-      (other_lies layer other upper.filesystem upper.directory own.0)))
+      (lies_first upper _ upper.directory upper_itself) (lies_first layer _ _ (other_lies layer other _ _ own.0)))
   counted_other layer other n object g parts (inr old) = counts_again layer n object g old.0 (record {
     overlay_of = parts.overlay_of;
     is_of = parts.is_of;
@@ -524,8 +507,7 @@ module _ {fresh : Fresh ℕ} {world : World ℕ} {location : Location ℕ} {chan
       → ((f : Filesystem ℕ) → Among f fs → of_overlay [] layers (r f) ≡ of_overlay [] layers f)
       → flat_map (of_overlay [] layers) (map r fs) ≡ flat_map (of_overlay [] layers) fs
   mapped_same layers r [] h = refl
-  mapped_same layers r (f ∷ fs) h = ap (λ l. l ++ flat_map (of_overlay [] layers) (map r fs)) (h f (inl refl))
-      ∙ ap (λ l. of_overlay [] layers f ++ l) (mapped_same layers r fs (λ g m. h g (inr m)))
+  mapped_same layers r (f ∷ fs) h = cc (h f (inl refl), mapped_same layers r fs (λ g m. h g (inr m)))
 
   first_same : (layers : Overlay ℕ → List (Layer ℕ)) → IgnoresReal layers → (f : Filesystem ℕ)
       → Among f world.filesystems
@@ -544,17 +526,14 @@ module _ {fresh : Fresh ℕ} {world : World ℕ} {location : Location ℕ} {chan
 
       from : (old : Filesystem ℕ) × Among old world.filesystems × (f ≡ replaced_if_numbered nat_eq changed old)
           → of_overlay [] layers (replaced_if_numbered nat_eq changed_upper f) ≡ of_overlay [] layers f
-      from (old, o, same) =
-          at old o (nat_eq changed.number old.number) refl same (nat_eq changed_upper.number f.number) refl
+      from (old, o, same) = at old o (nat_eq changed.number old.number) refl same _ refl
 
   layers_same : (layers : Overlay ℕ → List (Layer ℕ)) → IgnoresReal layers
       → flat_map (of_overlay [] layers) (overlays later) ≡ flat_map (of_overlay [] layers) (overlays world)
   layers_same layers ignores = ap (λ w. flat_map (of_overlay [] layers) (overlays w)) later_is ∙ layers_of_all layers
       (map (replaced_if_numbered nat_eq changed_upper) (map (replaced_if_numbered nat_eq changed) world.filesystems))
-      ∙ mapped_same layers (replaced_if_numbered nat_eq changed_upper)
-      (map (replaced_if_numbered nat_eq changed) world.filesystems) (second_same layers)
-      ∙ mapped_same layers (replaced_if_numbered nat_eq changed) world.filesystems (first_same layers ignores)
-      ∙ sym (layers_of_all layers world.filesystems)
+      ∙ mapped_same layers (replaced_if_numbered nat_eq changed_upper) _ (second_same layers) ∙ mapped_same layers _
+      world.filesystems (first_same layers ignores) ∙ sym (layers_of_all layers world.filesystems)
 
   live_of : (layer : Layer ℕ) → Among layer (live_upper_and_work world) → IsLive layer
   unfolding IsLive
@@ -571,55 +550,37 @@ module _ {fresh : Fresh ℕ} {world : World ℕ} {location : Location ℕ} {chan
       grind (arith, common_steps, any_among, overlap_before, and_true_left, or_false_alone, and_true_right)
 
   changed_stay : any_pair (overlap nat_eq later) (live_upper_and_work later) ≡ false
-  changed_stay = ap (any_pair (overlap nat_eq later)) (layers_same upper_and_work (λ o real. refl))
-      ∙ no_pair_later (overlap nat_eq world) (overlap nat_eq later) (live_upper_and_work world)
-      (λ a b m n e. overlap_then a b (live_of a m) (live_of b n) e) it.conditions.overlays.changed_apart
+  changed_stay = ap (any_pair (overlap nat_eq later)) (layers_same upper_and_work (λ o real. refl)) ∙ no_pair_later _
+      _ _ (λ a b m n e. overlap_then a b (live_of a m) (live_of b n) e) it.conditions.overlays.changed_apart
 
   lowers_stay : list_any (overlaps_one_of nat_eq later (live_lowers nat_eq later)) (live_upper_and_work later) ≡ false
-  lowers_stay = ap (list_any (overlaps_one_of nat_eq later (live_lowers nat_eq later)))
-      (layers_same upper_and_work (λ o real. refl))
+  lowers_stay = ap (list_any (overlaps_one_of nat_eq later (live_lowers nat_eq later))) (layers_same _ (λ o real. refl))
       ∙ ap (λ l. list_any (overlaps_one_of nat_eq later l) (live_upper_and_work world))
-      (layers_same (λ o. o.lowers) (λ o real. refl))
-      ∙ none_from_among (overlaps_one_of nat_eq later (live_lowers nat_eq world)) (live_upper_and_work world)
-      (λ a m. by a m (overlaps_one_of nat_eq later (live_lowers nat_eq world) a) refl)
+      (layers_same (λ o. o.lowers) (λ o real. refl)) ∙ none_from_among _ _ (λ a m. by a m _ refl)
     where
       inner : (a : Layer ℕ) → Among a (live_upper_and_work world) → (o : ℕ)
           → lies_or_counts_under nat_eq later a.filesystem o a ≡ true
           → (b : Layer ℕ) × Among b (live_lowers nat_eq world) ×
           (lies_or_counts_under nat_eq later a.filesystem o b ≡ true) → ⊥
-      inner a m o p (b, n, q) = found (any_among (λ (x : ℕ). lies_or_counts_under nat_eq world a.filesystem x a
-          && list_any (lies_or_counts_under nat_eq world a.filesystem x) (b ∷ []))
-          (filesystem_numbered nat_eq world a.filesystem).files.numbers
-          (overlap_before a b (live_of a m) (low_of b n) a.filesystem o refl p q))
+      inner a m o p (b, n, q) = found (any_among _ _ (overlap_before a b (live_of a m) (low_of b n) _ o refl p q))
         where
           found : (x : ℕ) × Among x (filesystem_numbered nat_eq world a.filesystem).files.numbers
               × ((lies_or_counts_under nat_eq world a.filesystem x a
               && (lies_or_counts_under nat_eq world a.filesystem x b || false)) ≡ true) → ⊥
-          found (x, l, f) = never_both _ _ (none_among (λ (y : ℕ). lies_or_counts_under nat_eq world a.filesystem y a
-              && list_any (lies_or_counts_under nat_eq world a.filesystem y) (live_lowers nat_eq world))
-              (filesystem_numbered nat_eq world a.filesystem).files.numbers
-              (none_among (overlaps_one_of nat_eq world (live_lowers nat_eq world)) (live_upper_and_work world)
-              it.conditions.overlays.lowers_apart a m) x l)
-              (and_true_left (lies_or_counts_under nat_eq world a.filesystem x a) _ f)
-              (any_from_among (lies_or_counts_under nat_eq world a.filesystem x) (live_lowers nat_eq world) b n
-              (or_false_alone (lies_or_counts_under nat_eq world a.filesystem x b)
-              (and_true_right (lies_or_counts_under nat_eq world a.filesystem x a) _ f)))
+          found (x, l, f) = never_both _ _ (none_among _ _ (none_among _ _ it.conditions.overlays.lowers_apart a m) x l)
+              (and_true_left _ _ f) (any_from_among _ _ b n (or_false_alone _ (and_true_right _ _ f)))
 
       from : (a : Layer ℕ) → Among a (live_upper_and_work world)
           → (o : ℕ) × Among o (filesystem_numbered nat_eq later a.filesystem).files.numbers
           × ((lies_or_counts_under nat_eq later a.filesystem o a
           && list_any (lies_or_counts_under nat_eq later a.filesystem o) (live_lowers nat_eq world)) ≡ true) → ⊥
-      from a m (o, l, f) = inner a m o (and_true_left (lies_or_counts_under nat_eq later a.filesystem o a) _ f)
-          (any_among (lies_or_counts_under nat_eq later a.filesystem o) (live_lowers nat_eq world)
-          (and_true_right (lies_or_counts_under nat_eq later a.filesystem o a) _ f))
+      from a m (o, l, f) = inner a m o (and_true_left _ _ f) (any_among _ _ (and_true_right _ _ f))
 
       by : (a : Layer ℕ) → Among a (live_upper_and_work world) → (b : Bool)
           → overlaps_one_of nat_eq later (live_lowers nat_eq world) a ≡ b
           → overlaps_one_of nat_eq later (live_lowers nat_eq world) a ≡ false
       by a m false e = e
-      by a m true e = absurd (from a m (any_among (λ (o : ℕ). lies_or_counts_under nat_eq later a.filesystem o a
-          && list_any (lies_or_counts_under nat_eq later a.filesystem o) (live_lowers nat_eq world))
-          (filesystem_numbered nat_eq later a.filesystem).files.numbers e))
+      by a m true e = absurd (from a m (any_among _ (filesystem_numbered nat_eq later a.filesystem).files.numbers e))
 
   pub stand_apart : StandApart later
   stand_apart = record { changed = changed_stay; lowers = lowers_stay }

@@ -6,11 +6,10 @@ use Rattle.vt_spec.proofs.Common.{Among, any_among, any_from_among, any_pair, co
 pub two_apart : {A : Type 0} (test : A → A → Bool) (xs : List A) → any_pair test xs ≡ false → (a b : A) → Among a xs
     → Among b xs → a ≢ b → (test a b ≡ false) ⊎ (test b a ≡ false)
 two_apart test [] e a b m n differ = absurd m
-two_apart test (x ∷ xs) e a b m n differ = ⊎_elim
-    (λ (ax : a ≡ x). ⊎_elim (λ (bx : b ≡ x). absurd (differ (ax ∙ sym bx))) (λ l. inl (ap (λ y. test y b) ax
-    ∙ none_among (test x) xs (or_false_left (list_any (test x) xs) (any_pair test xs) e) b l)) n)
-    (λ k. ⊎_elim (λ (bx : b ≡ x). inr (ap (λ y. test y a) bx
-    ∙ none_among (test x) xs (or_false_left (list_any (test x) xs) (any_pair test xs) e) a k))
+two_apart test (x ∷ xs) e a b m n differ =
+    ⊎_elim (λ (ax : a ≡ x). ⊎_elim (λ (bx : b ≡ x). absurd (differ (ax ∙ sym bx))) (λ l. inl
+    (ap (λ y. test y b) ax ∙ none_among (test x) xs (or_false_left (list_any (test x) xs) (any_pair test xs) e) b l)) n)
+    (λ k. ⊎_elim (λ (bx : b ≡ x). inr (ap (λ y. test y a) bx ∙ none_among (test x) xs (or_false_left _ _ e) a k))
     (λ l. two_apart test xs (or_false_right (list_any (test x) xs) (any_pair test xs) e) a b k l differ) n) m
 
 -- no pair passes where each that does passed another test of which none does

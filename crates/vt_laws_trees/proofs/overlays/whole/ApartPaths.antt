@@ -11,13 +11,11 @@ module _ (files : FileTree ℕ) (tree : IsTree files.tree) (top : ℕ) where
   -- one name further
   pub led_on : (directory : ℕ) (name : List ℕ) (object : ℕ) → Led directory
       → entry_at files.tree directory name ≡ Some object → Led object
-  led_on directory name object way e =
-      (way.0 ++ name ∷ [], led-append files.tree top way.0 name directory object way.1 e)
+  led_on directory name object way e = (way.0 ++ name ∷ [], led-append files.tree top way.0 name _ object way.1 e)
 
   -- the parent that a directory has by its name
   parent_entry : (d b : ℕ) → named_parent nat_eq files.tree d ≡ Some b → has_entry_to nat_eq files.tree b d ≡ true
-  parent_entry d b e = by (nat_eq d files.tree.root)
-      (has_entry_to nat_eq files.tree (parent_in d (files.tree.node d)) d) refl e
+  parent_entry d b e = by (nat_eq d files.tree.root) _ refl e
     where
       by : (p q : Bool) → has_entry_to nat_eq files.tree (parent_in d (files.tree.node d)) d ≡ q
           → cond p None (when q (parent_in d (files.tree.node d))) ≡ Some b → has_entry_to nat_eq files.tree b d ≡ true
@@ -50,10 +48,8 @@ module _ (files : FileTree ℕ) (tree : IsTree files.tree) (top : ℕ) where
       by false e =
           let found = any_among (λ directory. has_entry_to nat_eq files.tree directory object
           && is_directory_under nat_eq files top directory) files.numbers e in
-          let name = entry_from files.tree tree found.0 object
-          (and_true_left (has_entry_to nat_eq files.tree found.0 object) _ found.2) in
-          led_on found.0 name.0 object (by_chain (length files.numbers) found.0
-          (and_true_right (has_entry_to nat_eq files.tree found.0 object) _ found.2)) name.1
+          let name = entry_from files.tree tree found.0 object (and_true_left _ _ found.2) in
+          led_on found.0 name.0 object (by_chain (length files.numbers) found.0 (and_true_right _ _ found.2)) name.1
 
   -- and what is led to lies under it
   pub led_under : ListsNumbers nat_eq files → IsDirectory files.tree top → (object : ℕ) → Led object

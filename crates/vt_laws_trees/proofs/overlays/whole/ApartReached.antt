@@ -23,8 +23,7 @@ stays_named : (before after : FileTree ℕ) → IsTree before.tree → IsTree af
     → (number : ℕ)
     → IsDirectory before.tree number → after.tree.node number ≡ before.tree.node number → HasName before.tree number
     → IsReached after.tree number
-stays_named before after was conditions own number directory same named =
-    by (has_entry_to nat_eq after.tree above number) refl
+stays_named before after was conditions own number directory same named = by _ refl
   where
     above : ℕ
     above = parent_in number (after.tree.node number)
@@ -124,16 +123,14 @@ module _ {fresh : Fresh ℕ} {world : World ℕ} {location : Location ℕ} {chan
             → led two.upper.tree from path ≡ Some object → IsPlaced object
         placed_along [] from object placed e = subst IsPlaced (same_Some from object e) placed
         placed_along (name ∷ path) from object placed e =
-            let step = Rattle.vt_spec.proofs.Trees.found (λ next. led two.upper.tree next path)
-            (entry_at two.upper.tree from name) object e in
+            let step = Rattle.vt_spec.proofs.Trees.found _ (entry_at two.upper.tree from name) object e in
             placed_along path step.0 object (placed_on from name step.0 placed step.1) step.2
 
       -- not in its place
       not_there : entry_at two.upper.tree (upper_of two t) to ≢ Some inode
       unfolding IsPlaced
       not_there e =
-          let ready = twice fresh stack before
-          (ApartLater.whole it) it.distinct (it.none upper.filesystem) f old t to o is_asked.0 in
+          let ready = twice fresh stack before (ApartLater.whole it) it.distinct (it.none _) f old t to o is_asked.0 in
           let way = ready.may.reached in
           ⊎_elim not_led (λ fresh_one. new fresh_one.0 fresh_one.1)
           (placed_along ready.names (way.0 ++ to ∷ []) upper.directory inode (inl ([], refl))
@@ -175,21 +172,15 @@ module _ {fresh : Fresh ℕ} {world : World ℕ} {location : Location ℕ} {chan
 
       -- it lies under itself
       lies_itself : ApartLater.Lies it layer upper.filesystem layer.directory
-      lies_itself =
-          ApartLater.lies_first it layer upper.filesystem layer.directory (ApartLater.led_lies it layer
-          plain upper.filesystem layer.directory (sym same) ([], refl))
+      lies_itself = ApartLater.lies_first it layer _ _ (ApartLater.led_lies it layer plain _ _ (sym same) ([], refl))
 
       -- the upper layer's directory does not lie under it, so it is not the root
       no_root : before.upper.tree.root ≢ layer.directory
-      no_root root =
-          ApartLater.clash it layer other upper.filesystem upper.directory (ApartLater.directory_there it
-          upper upper_plain) (ApartLater.lies_first it upper upper.filesystem upper.directory
-          (ApartLater.upper_itself it)) (ApartLater.lies_first it layer upper.filesystem upper.directory
-          (ApartLater.led_lies it layer plain upper.filesystem upper.directory (sym same) (
+      no_root root = ApartLater.clash it layer other _ upper.directory (ApartLater.directory_there it upper upper_plain)
+          (ApartLater.lies_first it upper _ upper.directory (ApartLater.upper_itself it)) (ApartLater.lies_first it
+          layer upper.filesystem upper.directory (ApartLater.led_lies it layer plain _ upper.directory (sym same) (
             upper_reached.0,
-            subst (λ n. led (filesystem_numbered nat_eq world n).files.tree layer.directory upper_reached.0
-                ≡ Some upper.directory) (sym same)
-                (subst (λ d. led before.upper.tree d upper_reached.0 ≡ Some upper.directory) root upper_reached.1),
+            cc (same, root, upper_reached.1),
           )))
         where
           upper_reached : IsReached before.upper.tree upper.directory
@@ -205,5 +196,4 @@ module _ {fresh : Fresh ℕ} {world : World ℕ} {location : Location ℕ} {chan
           own : HasOwnParents before.upper.tree
           own = ⊎_elim (λ parents. parents) (λ missing. absurd (true≢false
               (sym there_itself ∙ ap (λ (x : Filesystem ℕ). is_some (x.files.tree.node layer.directory)) missing.0)))
-              (numbered_all (λ (x : Filesystem ℕ). HasOwnParents x.files.tree) upper.filesystem world.filesystems
-              it.conditions.files.own_parents)
+              (numbered_all (λ (x : Filesystem ℕ). HasOwnParents x.files.tree) _ _ it.conditions.files.own_parents)

@@ -1,7 +1,7 @@
 -- A plain tree after a change that its call's rules let pass: it is a tree, and the directory of a layer in it is still
 -- reached.
 use Rattle.std.proofs.Common.{arith, ◌≡◌, ◌≢◌, refl, sym, ap, subst, ◌∙◌, ℕ, nat_eq, false, List, [], ⊎_elim, inl, inr, Option, Some, is_some}
-use Rattle.vt_spec.proofs.Common.{AddName, Change, CopyUp, FileTree, HasName, HasOwnParents, IsDirectory, IsReached, IsTree, ListsNumbers, Make, Move, Node, Remove, SetAttr, SetBytes, SetMark, Tree, changed, changed_node, common_steps, directory_used, entries-node_without_entries, entries_in, entry_at, eqb_tells, is_directory_node, node_with_attr, node_with_bytes, node_with_mark, node_without_entries, none_is_some, parent_in, reached_named, root-without_parent, ⊤}
+use Rattle.vt_spec.proofs.Common.{AddName, Change, CopyUp, FileTree, HasName, HasOwnParents, IsDirectory, IsReached, IsTree, ListsNumbers, Make, Move, Node, Remove, SetAttr, SetBytes, SetMark, Tree, changed, changed_node, common_steps, directory_used, entries-node_without_entries, entries_in, entry_at, eqb_tells, is_directory_node, node_with_bytes, node_with_mark, node_without_entries, none_is_some, parent_in, reached_named, root-without_parent, ⊤}
 use Rattle.vt_spec.proofs.Trees.{directory_kept, entry_kept, used_differs}
 use Rattle.vt_laws_trees.specs.Trees.{IsProper, MayMake}
 use Rattle.vt_laws_trees.proofs.trees.ChangesKeepTrees.{bytes_keep_place, changes_keep_numbers, changes_keep_own_parents, changes_keep_trees, made_alike, numbers_stay}
@@ -92,8 +92,7 @@ still_reached : (files : FileTree ℕ) (object : ℕ) (change : Option (Node ℕ
 still_reached files object change keeps conditions later number is reached =
     let moves = still_rearranged files object change keeps conditions in (
       moves.directories number ∙ is,
-      rearranged_reached files.tree
-          (changed_node nat_eq files object change).tree Nobody Nowhere moves later refl number (λ no. no) is reached,
+      rearranged_reached files.tree _ Nobody Nowhere moves later refl number (λ no. no) is reached,
     )
 
 -- each directory that is reached is so after a change that spares it
@@ -117,16 +116,14 @@ change_reaches files (Remove d w object) conditions may number spares is reached
 change_reaches files (Move from old to new object) conditions may number spares is reached =
     let moves = moved_rearranged files conditions may in (
       moves.directories number ∙ is,
-      rearranged_reached files.tree (changed nat_eq files (Move from old to new object)).tree _ _ moves
-          (changes_keep_trees files (Move from old to new object) conditions may)
+      rearranged_reached files.tree _ _ _ moves (changes_keep_trees files (Move from old to new object) conditions may)
           (root-without_parent files (entry_at files.tree to new)) number (⊎_elim spares.0 spares.1) is reached,
     )
 change_reaches files (SetBytes file bytes) conditions may number spares is reached =
     still_reached files file (node_with_bytes bytes) (bytes_keep_place bytes) conditions
     (changes_keep_trees files (SetBytes file bytes) conditions may) number is reached
-change_reaches files (SetAttr object attr) conditions may number spares is reached =
-    still_reached files object (node_with_attr attr) (attr_keeps_place attr) conditions
-    (changes_keep_trees files (SetAttr object attr) conditions may) number is reached
+change_reaches files (SetAttr object attr) conditions may number spares is reached = still_reached files object _
+    (attr_keeps_place attr) conditions (changes_keep_trees files (SetAttr object attr) conditions may) number is reached
 change_reaches files (SetMark directory opaque) conditions may number spares is reached =
     still_reached files directory (node_with_mark opaque) (mark_keeps_place opaque) conditions
     (changes_keep_trees files (SetMark directory opaque) conditions may) number is reached

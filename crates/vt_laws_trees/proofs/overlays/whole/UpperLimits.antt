@@ -37,11 +37,10 @@ module _ (fresh : Fresh ℕ) (stack : Stack ℕ) (merge : Merge ℕ) (h : is_fit
   move_sized f old t to object name new =
       let base = without_contents nat_eq merge.upper (upper_directory_named merge t to) in
       let gone = with_moved nat_eq base (upper_of merge f) old (upper_of merge t) to (upper_of merge object) in
-      marked_sized (name_left_by nat_eq (is_some (shown_in_lowers_at nat_eq stack merge f old)) fresh stack gone
-      (upper_of merge f) old) (hides_directory nat_eq stack merge t to) (upper_of merge object)
-      (left_sized fresh stack gone (upper_of merge f) old (is_some (shown_in_lowers_at nat_eq stack merge f old)) name
-      (moved_sized base (upper_of merge f) old (upper_of merge t) to (upper_of merge object) new
-      (emptied_sized merge.upper (upper_directory_named merge t to) h)))
+      marked_sized (name_left_by nat_eq (is_some (shown_in_lowers_at nat_eq stack merge f old)) fresh stack
+      gone (upper_of merge f) old) (hides_directory nat_eq stack merge t to) (upper_of merge object) (left_sized fresh
+      stack gone (upper_of merge f) old (is_some (shown_in_lowers_at nat_eq stack merge f old)) name (moved_sized base
+      (upper_of merge f) old _ to _ new (emptied_sized merge.upper (upper_directory_named merge t to) h)))
 
 -- A whole change
 module _ (fresh : Fresh ℕ) (stack : Stack ℕ) (merge : Merge ℕ) (whole : IsWhole stack merge) (new : AreNew fresh merge)

@@ -1,6 +1,6 @@
 -- A new name in the upper layer: its tree goes on to be one.
 use Rattle.std.proofs.Common.{arith, ◌≡◌, ◌≢◌, refl, sym, subst, ◌∙◌, true≢false, ℕ, nat_eq, Bool, true, false, List, [], ◌∷◌, ◌++◌, Some, None}
-use Rattle.vt_spec.proofs.Common.{AddName, FileTree, Fresh, IsDirectory, IsNewIn, IsReached, Make, Merge, Node, SetMark, Stack, Upper, changed, common_steps, content_with_parent, directory_no_whiteout, directory_used, entry_at, hides_directory, is_directory_node, is_kind_in, led, led-append, merge_with_link, merge_with_new, none_from_not_some, none_is_some, number_at_path, upper_of, with_mark}
+use Rattle.vt_spec.proofs.Common.{AddName, FileTree, Fresh, IsDirectory, IsNewIn, IsReached, Make, Merge, Node, SetMark, Stack, Upper, changed, common_steps, content_with_parent, directory_no_whiteout, directory_used, entry_at, is_directory_node, is_kind_in, led, led-append, merge_with_link, merge_with_new, none_from_not_some, none_is_some, number_at_path, upper_of, with_mark}
 use Rattle.vt_spec.specs.declared.attributes.Kind.TheVariants.{White}
 use Rattle.vt_laws_trees.specs.Trees.{MayAddName, MayMake}
 use Rattle.vt_laws_trees.specs.Layers.Layers.ChangesUpper.{StandsInUpper}
@@ -100,9 +100,7 @@ made_goes fresh stack merge d w number node whole stands vacant may =
     (up_reached whole d ud real_d reached.0 reached.1)
     (plain_below whole d ud real_d reached.0 reached.1 w may.name_is_free.free) vacant
     (fits_above d ud node may.fits) in
-    goes_both stack.directory merge.upper (changed nat_eq merge.upper (Make ud w (fresh 0) new)) _ first
-    (mark_goes stack.directory (changed nat_eq merge.upper (Make ud w (fresh 0) new))
-    (hides_directory nat_eq stack merge d w) (fresh 0) first.good)
+    goes_both stack.directory merge.upper _ _ first (mark_goes stack.directory _ _ (fresh 0) first.good)
 
 pub linked_goes : (stack : Stack ℕ) (merge : Merge ℕ) (d : ℕ) (w : List ℕ) (object : ℕ)
     → IsWhole stack merge → StandsInUpper merge d → StandsInUpper merge object → MayAddName merge.files.tree d w object

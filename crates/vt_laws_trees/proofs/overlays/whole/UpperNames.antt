@@ -20,11 +20,8 @@ with_over_without w k es h = same_entries name_cmp nat_list_cmp_total same_name-
     by : (q : List ℕ) (b : Bool) → eq_by_cmp name_cmp q w ≡ b
         → cond b (Some k) (entry_named q (without_entry w es)) ≡ cond b (Some k) (entry_named q es)
     by q true e = refl
-    by q false e = cc (entry_named-without_entry q w es, other (bytes_eq q w) refl)
-      where
-        other : (b : Bool) → bytes_eq q w ≡ b → bytes_eq q w ≡ false
-        other true f = cc ((bytes_decides q w).0 f, tied_itself nat_list_cmp_total w)
-        other false f = f
+    by q false e =
+        grind (arith, common_steps, entry_named-without_entry, bytes_eq, bytes_decides, tied_itself, nat_list_cmp_total)
 
 -- a name that is not there is not taken away
 pub without_none : (w : List ℕ) (es : Entries ℕ) → is_sorted name_cmp es ≡ true → entry_named w es ≡ None
@@ -55,9 +52,8 @@ same_tree one other root numbers nodes =
 -- a change that leaves an inode as it is changes nothing
 pub unchanged_node : (files : FileTree ℕ) (number : ℕ) (change : Option (Node ℕ) → Option (Node ℕ))
     → change (files.tree.node number) ≡ files.tree.node number → changed_node nat_eq files number change ≡ files
-unchanged_node files number change same = same_tree (changed_node nat_eq files number change) files refl refl
-    (λ k. ⊎_elim (λ t. cc (t.0, t.1)) (λ t. ap (λ b. cond b (change (files.tree.node number)) (files.tree.node k)) t.0)
-    (eqb_tells k number))
+unchanged_node files number change same = same_tree _ files refl refl (λ k. ⊎_elim (λ t. cc (t.0, t.1))
+    (λ t. ap (λ b. cond b (change (files.tree.node number)) (files.tree.node k)) t.0) (eqb_tells k number))
 
 -- A name given is the name given in exchange
 module _ (files : FileTree ℕ) (d : ℕ) (w : List ℕ)
@@ -77,9 +73,7 @@ module _ (files : FileTree ℕ) (d : ℕ) (w : List ℕ)
   -- so it is with a new inode
   pub freed_made : (c : ℕ) (node : Node ℕ) → d ≢ c
       → with_name nat_eq (with_inode nat_eq free c node) d w c ≡ with_name nat_eq (with_inode nat_eq files c node) d w c
-  freed_made c node differ = same_tree (with_name nat_eq (with_inode nat_eq free c node) d w c)
-      (with_name nat_eq (with_inode nat_eq files c node) d w c) refl refl
-      (λ j. by j (nat_eq j d) refl (nat_eq j c) refl)
+  freed_made c node differ = same_tree _ _ refl refl (λ j. by j (nat_eq j d) refl (nat_eq j c) refl)
     where
       at_d : (o : Option (Node ℕ)) → cond (nat_eq d c) (Some node) o ≡ o
       at_d o = ap (λ b. cond b (Some node) o) (ne_eqb d c differ)
@@ -98,9 +92,8 @@ pub without_name_free : (files : FileTree ℕ) (d : ℕ) (w : List ℕ)
     → entry_at (without_name nat_eq files d w).tree d w ≡ None
 without_name_free files d w = ap (entry_named w)
     (ap entries_in (Rattle.vt_laws_trees.proofs.trees.ChangesNodes.changed_node_there files d (node_without_entry w))
-    ∙ Rattle.vt_spec.proofs.NodeChanges.entries-node_without_entry w (files.tree.node d))
-    ∙ entry_named-without_entry w w (entries_in (files.tree.node d))
-    ∙ ap (λ b. cond (not b) (entry_named w (entries_in (files.tree.node d))) None) ((bytes_decides w w).1 refl)
+    ∙ Rattle.vt_spec.proofs.NodeChanges.entries-node_without_entry w (files.tree.node d)) ∙ entry_named-without_entry w
+    w _ ∙ ap (λ b. cond (not b) (entry_named w (entries_in (files.tree.node d))) None) ((bytes_decides w w).1 refl)
 
 -- changes of two inodes in one order and in the other
 pub two_changed : (files : FileTree ℕ) (a b : ℕ) (f g : Option (Node ℕ) → Option (Node ℕ)) → a ≢ b

@@ -42,8 +42,7 @@ module _ (P : ℕ → Type 0) (fresh : Fresh ℕ) (stack : Stack ℕ) (merge : M
       let last = (merge_without_name nat_eq fresh stack merge d w object).upper in
       let left = name_left_by nat_eq (is_some (shown_in_lowers_at nat_eq stack merge d w)) fresh stack merge.upper
       (upper_of merge d) w in
-      told_both P merge.upper left last (told_left P fresh stack merge.upper (upper_of merge d) w (is_some
-      (shown_in_lowers_at nat_eq stack merge d w)) new) (told_emptied P left (upper_directory_named merge d w))
+      told_both P merge.upper left last (told_left P fresh stack merge.upper _ w _ new) (told_emptied P left _)
 
   moved_told : (f : ℕ) (old : List ℕ) (t : ℕ) (to : List ℕ) (object : ℕ) → P (upper_of merge object)
       → Told P merge.upper (merge_with_moved nat_eq fresh stack merge f old t to object).upper
@@ -53,11 +52,9 @@ module _ (P : ℕ → Type 0) (fresh : Fresh ℕ) (stack : Stack ℕ) (merge : M
       let gone = changed nat_eq base (Move (upper_of merge f) old (upper_of merge t) to (upper_of merge object)) in
       let left = name_left_by nat_eq (is_some (shown_in_lowers_at nat_eq stack merge f old)) fresh stack gone
       (upper_of merge f) old in
-      told_both P merge.upper base last (told_emptied P merge.upper (upper_directory_named merge t to))
-      (told_both P base gone last (told_moved P base (upper_of merge f) old (upper_of merge t) to
-      (upper_of merge object) own) (told_both P gone left last (told_left P fresh stack gone (upper_of merge f) old
-      (is_some (shown_in_lowers_at nat_eq stack merge f old)) new)
-      (told_marked P left (hides_directory nat_eq stack merge t to) (upper_of merge object))))
+      told_both P merge.upper base last (told_emptied P merge.upper (upper_directory_named merge t to)) (told_both P
+      base gone last (told_moved P base (upper_of merge f) old (upper_of merge t) to _ own) (told_both P gone left
+      last (told_left P fresh stack gone (upper_of merge f) old _ new) (told_marked P left _ (upper_of merge object))))
 
 -- A whole change
 module _ (fresh : Fresh ℕ) (stack : Stack ℕ) (merge : Merge ℕ) (whole : IsWhole stack merge)
@@ -73,8 +70,7 @@ module _ (fresh : Fresh ℕ) (stack : Stack ℕ) (merge : Merge ℕ) (whole : Is
 
   new_own : (supply : Fresh ℕ) → ((y : ℕ) → IsNewBy supply y → IsNewBy fresh y) → (one two : Merge ℕ)
       → Told (IsNewBy supply) one.upper two.upper → Told Own one.upper two.upper
-  new_own supply wider one two names =
-      told_wider (IsNewBy supply) Own one.upper two.upper (λ y n. inr (wider y n)) names
+  new_own supply wider one two names = told_wider _ Own one.upper two.upper (λ y n. inr (wider y n)) names
 
   -- what stands in the upper layer after the copies, and is placed
   placed : (one : Merge ℕ) (n : ℕ) → ((n object : ℕ) → one.real n ≡ Some (Upper object)
@@ -103,10 +99,9 @@ module _ (fresh : Fresh ℕ) (stack : Stack ℕ) (merge : Merge ℕ) (whole : Is
       let second = object_copied stack (odds fresh) (odds-distinct fresh distinct) one d first.whole
       (still_unused fresh whole distinct unused object may.is_there) there in
       let two = copied_up nat_eq (odds fresh) one d in
-      told_both Own merge.upper one.upper last (new_own (evens fresh) (new_of_evens fresh) merge one first.names)
-      (told_both Own one.upper two.upper last (new_own (odds fresh) (new_of_odds fresh) one two second.copied.names)
-      (told_name Own two.upper (upper_of two d) w (upper_of two object)
-      (placed two object (λ n o e. objects_of_two one two first.objects second.copied.objects n o e)
+      told_both Own merge.upper one.upper last (new_own _ (new_of_evens fresh) merge one first.names) (told_both Own
+      one.upper two.upper last (new_own (odds fresh) (new_of_odds fresh) one two second.copied.names) (told_name Own
+      two.upper _ w _ (placed two object (λ n o e. objects_of_two one two first.objects second.copied.objects n o e)
       (λ o e. inl (directory_stands stack merge whole object o e ∙ may.no_directory))
       (second.copied.grows object (stands_now fresh whole distinct unused object may.is_there)))))
     where

@@ -1,6 +1,6 @@
 -- A name is taken away in the upper layer, or exchanged: its tree goes on to be one.
 use Rattle.std.proofs.Common.{arith, ◌≡◌, ◌≢◌, refl, sym, ap, subst, ◌∙◌, inr, ℕ, nat_eq, Bool, true, false, List, [], ◌∷◌, ◌++◌, Option, Some, None, is_some}
-use Rattle.vt_spec.proofs.Common.{FileTree, Fresh, IsDirectory, IsReached, Make, Merge, Node, Remove, Stack, Upper, changed, changed_node, common_steps, directory_no_whiteout, directory_used, entries_in, entry_at, entry_named, is_directory_node, led-append, merge_without_name, name_left_by, node_with_entry, node_with_parent, node_without_entries, node_without_entry, none_from_not_some, none_is_some, number_at_path, same_Some, shown_in_lowers_at, upper_directory_named, upper_of, whiteout_of, with_inode, with_name, without_contents, without_name, without_parent}
+use Rattle.vt_spec.proofs.Common.{FileTree, Fresh, IsDirectory, IsReached, Make, Merge, Node, Remove, Stack, Upper, changed, changed_node, common_steps, directory_no_whiteout, directory_used, entries_in, entry_at, entry_named, is_directory_node, led-append, merge_without_name, name_left_by, node_with_entry, node_with_parent, node_without_entries, node_without_entry, none_from_not_some, none_is_some, number_at_path, same_Some, upper_directory_named, upper_of, whiteout_of, with_inode, with_name, without_contents, without_name, without_parent}
 use Rattle.vt_laws_trees.specs.Trees.{MayRemove}
 use Rattle.vt_laws_trees.specs.Layers.Layers.ChangesUpper.{StandsInUpper}
 use Rattle.vt_laws_trees.proofs.layers.layers.UpperLine.{has_entries, is_reached_in}
@@ -20,12 +20,9 @@ pub named_no_top : (stack : Stack ℕ) (merge : Merge ℕ) → IsWhole stack mer
     → entry_at merge.files.tree d w ≡ Some object → merge.real object ≡ Some (Upper uo) → stack.directory ≢ uo
 named_no_top stack merge whole d w object uo named real same =
     let top_directory = (top_open stack merge whole).1 in
-    let root = above_named stack merge whole [] stack.directory refl
-    (directory_no_whiteout (merge.upper.tree.node stack.directory) top_directory) in
-    whole.tree.root_unnamed d w (named ∙ ap Some
-    ((is_fine stack merge whole).one object merge.files.tree.root (ap is_some real)
-    (real ∙ ap (λ n. Some (Upper n)) (sym same) ∙ sym root.2
-    ∙ ap merge.real (sym (same_Some merge.files.tree.root root.0 root.1)))))
+    let root = above_named stack merge whole [] stack.directory refl (directory_no_whiteout _ top_directory) in
+    whole.tree.root_unnamed d w (named ∙ ap Some ((is_fine stack merge whole).one object
+    merge.files.tree.root (ap is_some real) (cc (real, same, root.2, same_Some merge.files.tree.root root.0 root.1))))
 
 -- A name in a directory of the overlay that names lead to
 module _ {stack : Stack ℕ} {merge : Merge ℕ} (whole : IsWhole stack merge) (d ud : ℕ)
@@ -67,8 +64,7 @@ module _ {stack : Stack ℕ} {merge : Merge ℕ} (whole : IsWhole stack merge) (
             → is_directory_node (merge.upper.tree.node k) ≡ false
         by true dir =
             let found = named_below whole own.0 r own.2 (way ++ w ∷ [])
-            (led-append merge.files.tree merge.files.tree.root way w d own.0 there own.1) word k e
-            (directory_no_whiteout (merge.upper.tree.node k) dir) in
+            (led-append merge.files.tree _ way w d own.0 there own.1) word k e (directory_no_whiteout _ dir) in
             none_is_some found.0 (sym (no_entries merge.files.tree own.0 (empty own.0 own.1) word) ∙ found.1)
         by false dir = dir
 
@@ -106,8 +102,7 @@ module _ {top : ℕ} {files : FileTree ℕ} (good : IsGood top files) {d : ℕ} 
   without f = without_parent nat_eq (changed_node nat_eq f r node_without_entries) (Some r)
 
   gone_goes : Goes top files gone
-  gone_goes = goes_both top files emptied_first gone first
-      (goes_by top emptied_first (Remove d w r) first.good may no_top)
+  gone_goes = goes_both top files emptied_first gone first (goes_by top _ (Remove d w r) first.good may no_top)
 
   gone_is : gone ≡ without (without_name nat_eq files d w)
   gone_is = ap (λ f. without_parent nat_eq f (Some r))
@@ -170,8 +165,7 @@ pub removed_goes : (fresh : Fresh ℕ) (stack : Stack ℕ) (merge : Merge ℕ) (
     → IsWhole stack merge → StandsInUpper merge d → merge.upper.tree.node (fresh 0) ≡ None
     → MayRemove merge.files.tree d w object
     → Goes stack.directory merge.upper (merge_without_name nat_eq fresh stack merge d w object).upper
-removed_goes fresh stack merge d w object whole stands vacant may =
-    by (upper_directory_named merge d w) refl (is_some (shown_in_lowers_at nat_eq stack merge d w))
+removed_goes fresh stack merge d w object whole stands vacant may = by (upper_directory_named merge d w) refl _
   where
     ud : ℕ
     ud = upper_of merge d
@@ -190,27 +184,20 @@ removed_goes fresh stack merge d w object whole stands vacant may =
     reached = up_reached whole d (upper_of merge d) real_d way.0 way.1
 
     is : IsDirectory merge.upper.tree (upper_of merge d)
-    is = directory_stands stack merge whole d (upper_of merge d) real_d
-        ∙ has_entries merge.files.tree d w object may.named
+    is = directory_stands stack merge whole d _ real_d ∙ has_entries merge.files.tree d w object may.named
 
     empty : (n : ℕ) → entry_at merge.files.tree d w ≡ Some n → entries_in (merge.files.tree.node n) ≡ []
     empty n e = cc (same_Some n object (sym e ∙ may.named), may.empty)
 
     by : (o : Option ℕ) → upper_directory_named merge d w ≡ o → (b : Bool) → Goes stack.directory merge.upper
         (without_contents nat_eq (name_left_by nat_eq b fresh stack merge.upper (upper_of merge d) w) o)
-    by None e false = freed_goes stack.directory merge.upper good (upper_of merge d) w
-        (none_named whole d (upper_of merge d) real_d way.0 way.1 w e)
+    by None e false = freed_goes stack.directory merge.upper good _ w (none_named whole d _ real_d way.0 way.1 w e)
     by None e true =
         make_over stack.directory merge.upper (upper_of merge d) w (fresh 0) (whiteout_of stack.mounter) good is reached
         (none_named whole d (upper_of merge d) real_d way.0 way.1 w e) vacant (inr refl)
-    by (Some r) e false = left_bare good w
-        (own_entry whole d (upper_of merge d) real_d way.0 way.1 w r e empty)
-        (own_leaves whole d (upper_of merge d) real_d way.0 way.1 w r e empty)
-        (own_apart whole d (upper_of merge d) real_d way.0 way.1 w r e empty)
+    by (Some r) e false = left_bare good w (own_entry whole d (upper_of merge d) real_d way.0 way.1 w r e empty)
+        (own_leaves whole d _ real_d way.0 way.1 w r e empty) (own_apart whole d _ real_d way.0 way.1 w r e empty)
         (own_no_top whole d (upper_of merge d) real_d way.0 way.1 w r e empty) reached
-    by (Some r) e true = left_white good w
-        (own_entry whole d (upper_of merge d) real_d way.0 way.1 w r e empty)
-        (own_leaves whole d (upper_of merge d) real_d way.0 way.1 w r e empty)
-        (own_apart whole d (upper_of merge d) real_d way.0 way.1 w r e empty)
-        (own_no_top whole d (upper_of merge d) real_d way.0 way.1 w r e empty) reached (fresh 0) vacant
-        (whiteout_of stack.mounter) (inr refl)
+    by (Some r) e true = left_white good w (own_entry whole d (upper_of merge d) real_d way.0 way.1 w r e empty)
+        (own_leaves whole d _ real_d way.0 way.1 w r e empty) (own_apart whole d _ real_d way.0 way.1 w r e empty)
+        (own_no_top whole d (upper_of merge d) real_d way.0 way.1 w r e empty) reached (fresh 0) vacant _ (inr refl)

@@ -1,5 +1,5 @@
 -- Names, texts and files of a plain tree stay within their limits in each part of a change.
-use Rattle.std.proofs.Common.{arith, ◌≡◌, refl, ◌∙◌, ℕ, nat_eq, Bool, true, false, cond, ◌&&◌, List, [], ◌∷◌, map, Option, Some, None, is_some}
+use Rattle.std.proofs.Common.{arith, ◌≡◌, refl, ◌∙◌, ℕ, nat_eq, Bool, true, false, cond, List, [], ◌∷◌, map, Option, Some, None, is_some}
 use Rattle.vt_spec.proofs.Common.{AddName, Entries, FileTree, Fresh, ListsNumbers, Move, Node, SetMark, Stack, among_from_list_all, among_numbers, and_true_left, and_true_right, changed_node, common_steps, content_with_parent, copied_content, directory_used, entries_in, entry_at, entry_named, eq_by_cmp, has_fit_names, has_fit_text, is_no_larger, list_all, name_cmp, name_left_by, node_with_parent, node_without_entries, node_without_entry, none_is_some, whiteout_of, with_inode, with_mark, with_moved, with_name, without_contents, without_name}
 use Rattle.vt_spec.proofs.Nodes.{same_name}
 use Rattle.vt_laws_trees.specs.Trees.Sizes.{is_fit_name, is_fit_node, is_fit_tree}
@@ -9,8 +9,7 @@ use Rattle.vt_laws_trees.proofs.layers.layers.UpperLine.{has_entries}
 -- one that is there
 pub fits_here : (files : FileTree ℕ) → ListsNumbers nat_eq files → is_fit_tree files ≡ true → (n : ℕ)
     → is_some (files.tree.node n) ≡ true → fits (files.tree.node n) ≡ true
-fits_here files numbers h n there = among_from_list_all (λ m. fits (files.tree.node m)) files.numbers h n
-    (among_numbers files.numbers n (numbers n ∙ there))
+fits_here files numbers h n there = among_from_list_all _ files.numbers h n (among_numbers _ n (numbers n ∙ there))
 
 -- each name of a directory
 pub name_fits : (files : FileTree ℕ) → ListsNumbers nat_eq files → is_fit_tree files ≡ true
@@ -22,14 +21,12 @@ name_fits files numbers h d w object e = by (entries_in (files.tree.node d))
     of_node : (o : Option (Node ℕ)) → fits o ≡ true → list_all is_fit_name (map (λ x. x.0) (entries_in o)) ≡ true
     of_node o k =
         let files : FileTree ℕ = record { tree = record { root = 0; node = λ n. o }; numbers = [] } in
-        and_true_right (is_no_larger files 0) (has_fit_names files 0)
-        (and_true_left (is_no_larger files 0 && has_fit_names files 0) (has_fit_text files 0) k)
+        and_true_right (is_no_larger files 0) (has_fit_names files 0) (and_true_left _ (has_fit_text files 0) k)
 
     by : (entries : Entries ℕ) → list_all is_fit_name (map (λ x. x.0) entries) ≡ true
         → entry_named w entries ≡ Some object → is_fit_name w ≡ true
     by [] k e = none_is_some object e
-    by (entry ∷ entries) k e = at (eq_by_cmp name_cmp w entry.0) refl e
-        (by entries (and_true_right (is_fit_name entry.0) _ k))
+    by (entry ∷ entries) k e = at _ refl e (by entries (and_true_right (is_fit_name entry.0) _ k))
       where
         at : (b : Bool) → eq_by_cmp name_cmp w entry.0 ≡ b → cond b (Some entry.1) (entry_named w entries) ≡ Some object
             → (entry_named w entries ≡ Some object → is_fit_name w ≡ true) → is_fit_name w ≡ true

@@ -89,8 +89,7 @@ told_moved P files from old to new object p =
     let first = without_parent nat_eq files (entry_named new (entries_in (files.tree.node to))) in
     let second = without_name nat_eq first from old in
     let third = with_name nat_eq second to new object in
-    told_both P files first (with_moved nat_eq files from old to new object)
-    (told_unparented P files (entry_named new (entries_in (files.tree.node to))))
+    told_both P files first (with_moved nat_eq files from old to new object) (told_unparented P files _)
     (told_both P first second (with_moved nat_eq files from old to new object) (told_without P first from old)
     (told_both P second third (with_moved nat_eq files from old to new object) (told_name P second to new object p)
     (told_stay P third object (node_with_parent to) (entries-node_with_parent to))))

@@ -17,7 +17,7 @@ use Rattle.vt_laws_trees.proofs.overlays.steps.WholeLinked.{link_keeps_shown}
 use Rattle.vt_laws_trees.proofs.overlays.steps.WholeMade.{make_keeps_shown}
 use Rattle.vt_laws_trees.proofs.overlays.steps.WholeMoved.{move_keeps_shown}
 use Rattle.vt_laws_trees.proofs.overlays.steps.WholeRemoved.{remove_keeps_shown}
-use Rattle.vt_laws_trees.proofs.overlays.changes.WholeTogether.{both_copied, changes_keep_shown, copied, is_copied, stands_now, still_unused, twice}
+use Rattle.vt_laws_trees.proofs.overlays.changes.WholeTogether.{both_copied, changes_keep_shown, copied, is_copied, ready_above, stands_now, still_unused, twice}
 
 -- it is whole after a change of its tree, if the upper layer is good and it is what the layers show
 whole_by : (stack : Stack ℕ) (merge later : Merge ℕ) (change : Change ℕ) → IsWhole stack merge
@@ -59,7 +59,7 @@ remove_keeps_whole fresh stack merge d w object whole stands vacant may =
 pub move_keeps_whole : MoveKeepsWhole
 move_keeps_whole fresh stack merge f old t new o whole from to own vacant may alone =
     whole_by stack merge (merge_with_moved nat_eq fresh stack merge f old t new o) (Move f old t new o) whole refl may
-    (moved_goes fresh whole from to own may vacant).good
+    (moved_goes (record { whole = whole; from = from; to = to; object = own; may = may; vacant = vacant })).good
     (move_keeps_shown fresh stack merge f old t new o whole from to own vacant may alone)
 
 -- what a change asks of its own tree
@@ -113,8 +113,7 @@ module _ (fresh : Fresh ℕ) (stack : Stack ℕ) (merge : Merge ℕ) (whole : Is
   change_goes (Move f old t new o) asked =
       let m = twice fresh stack merge whole distinct unused f old t new o asked.0 in
       let two = both_copied fresh stack merge f old t new o in
-      goes_both stack.directory merge.upper two.upper _ m.upper
-      (moved_goes (odds (odds fresh)) m.whole m.from m.to m.object m.may m.vacant)
+      goes_both stack.directory merge.upper two.upper _ m.upper (moved_goes (ready_above m))
   change_goes (SetBytes file bytes) there =
       let is = (object_copied stack fresh distinct merge file whole unused there).copied in
       let one = copied_up nat_eq fresh merge file in

@@ -40,8 +40,7 @@ module _ (one other : World ℕ) (same : Alike one (with_mounts_of one other)) w
   under_same : (source : Location ℕ) (mount : Mount ℕ) → stands_under nat_eq one source mount
       ≡ stands_under nat_eq (with_mounts_of one other) source mount
   under_same source mount = λ i. holds_of (λ (place : Location ℕ). directory_under_same _ _
-      (found_alike one (with_mounts_of one other) same (mount_at nat_eq one source).filesystem).files
-      source.node place.node i) mount.mount_point
+      (found_alike one _ same (mount_at nat_eq one source).filesystem).files source.node place.node i) mount.mount_point
 
   tree_same : (source : Location ℕ) (recursive : Bool)
       → bind_tree nat_eq one source recursive ≡ bind_tree nat_eq (with_mounts_of one other) source recursive
@@ -67,13 +66,11 @@ bind_alike fresh source place recursive =
 pub mounted_alike : (fresh : Fresh ℕ) (place : Location ℕ) (filesystem : Filesystem ℕ) (flags : MountFlags)
     (one other : World ℕ) → Alike one other
     → Alike (mounted nat_eq fresh one place filesystem flags) (mounted nat_eq fresh other place filesystem flags)
-mounted_alike fresh place filesystem flags one other same =
-    attach_alike fresh place false (new_mount filesystem.number filesystem.files.tree.root flags ∷ [])
-    (with_new_filesystem one filesystem) (with_new_filesystem other filesystem) (record {
+mounted_alike fresh place filesystem flags one other same = attach_alike fresh place false
+    (new_mount filesystem.number filesystem.files.tree.root flags ∷ []) (with_new_filesystem one filesystem) _ (record {
       mounts = same.mounts;
       master = same.master;
-      filesystems = each_append SameFilesystem one.filesystems other.filesystems (filesystem ∷ []) (filesystem ∷ [])
-          same.filesystems (same_filesystem_itself filesystem, tt);
+      filesystems = each_append SameFilesystem _ _ _ _ same.filesystems (same_filesystem_itself filesystem, tt);
       namespaces = same.namespaces;
       tasks = same.tasks;
     })

@@ -1,6 +1,6 @@
 -- What is found in two worlds that are alike, and changes of their filesystems and tasks.
 use Rattle.std.proofs.Common.{arith, ◌≡◌, refl, sym, ap, subst, ℕ, nat_eq, List, Option, Some, None, map}
-use Rattle.vt_spec.proofs.Common.{Change, Filesystem, Fresh, Layer, Location, Merge, Overlay, SameFiles, SameFilesystem, Task, TaskName, World, all_locations, changed, common_steps, filesystem_at, filesystem_changed, filesystem_numbered, locations_of, merge_changed, merge_of, mount_at, mount_in, no_filesystem, node_at, open_layer, overlay_changed, replaced_if_called, replaced_if_numbered, same_name, stack_of, task_called, with_change, with_files, with_filesystem, with_merge, with_task}
+use Rattle.vt_spec.proofs.Common.{Change, Filesystem, Fresh, Layer, Location, Merge, Overlay, SameFiles, SameFilesystem, Task, TaskName, World, all_locations, changed, common_steps, filesystem_at, filesystem_changed, filesystem_numbered, locations_of, merge_changed, merge_of, mount_at, mount_in, no_filesystem, node_at, open_layer, overlay_changed, replaced_if_called, same_name, stack_of, task_called, with_change, with_files, with_filesystem, with_merge, with_task}
 use Rattle.vt_laws_trees.proofs.runs.answered.AlikeCopies.{LinesAlike, MergesAlike, merge_changed_alike}
 use Rattle.vt_laws_trees.proofs.runs.answered.AlikeWorlds.{Alike, SameTask}
 use Rattle.vt_laws_rules.proofs.same.SameMany.{same_filesystem_itself}
@@ -10,10 +10,8 @@ use Rattle.vt_laws_trees.proofs.runs.Each.{Each, IfAny, chosen, each_find, each_
 module _ (one other : World ℕ) (same : Alike one other) where
   pub found_alike : (number : ℕ)
       → SameFilesystem (filesystem_numbered nat_eq one number) (filesystem_numbered nat_eq other number)
-  found_alike number = each_found SameFilesystem (λ filesystem. nat_eq number filesystem.number)
-      (λ filesystem. nat_eq number filesystem.number) (λ a b alike. ap (nat_eq number) alike.number)
-      (no_filesystem number) (no_filesystem number) (same_filesystem_itself (no_filesystem number)) one.filesystems
-      other.filesystems same.filesystems
+  found_alike number = each_found SameFilesystem _ _ (λ a b alike. ap (nat_eq number) alike.number)
+      (no_filesystem number) _ (same_filesystem_itself _) one.filesystems other.filesystems same.filesystems
 
   pub mount_same : (location : Location ℕ) → mount_at nat_eq one location ≡ mount_at nat_eq other location
   mount_same location = λ i. mount_in nat_eq (same.mounts i) location.mount
@@ -21,8 +19,7 @@ module _ (one other : World ℕ) (same : Alike one other) where
   pub here_alike : (location : Location ℕ)
       → SameFilesystem (filesystem_at nat_eq one location) (filesystem_at nat_eq other location)
   here_alike location = subst (λ mount. SameFilesystem (filesystem_at nat_eq one location)
-      (filesystem_numbered nat_eq other mount.filesystem))
-      (mount_same location) (found_alike (mount_at nat_eq one location).filesystem)
+      (filesystem_numbered nat_eq other mount.filesystem)) (mount_same location) (found_alike _)
 
   pub node_same : (location : Location ℕ) → node_at nat_eq one location ≡ node_at nat_eq other location
   node_same location = λ i. ((here_alike location).files.tree i).node location.node
@@ -31,23 +28,19 @@ module _ (one other : World ℕ) (same : Alike one other) where
   opened_same layer = λ i. record { tree = (found_alike layer.filesystem).files.tree i; directory = layer.directory }
 
   pub task_alike : (name : TaskName) → IfAny SameTask (task_called one name) (task_called other name)
-  task_alike name = each_find SameTask (λ task. same_name name task.name) (λ task. same_name name task.name)
-      (λ a b alike. ap (λ task. same_name name task.name) alike) one.tasks other.tasks same.tasks
+  task_alike name = each_find SameTask _ _ (λ a b alike. ap (λ task. same_name name task.name) alike) _ _ same.tasks
 
   pub locations_same : all_locations one ≡ all_locations other
-  locations_same =
-      each_flat SameTask locations_of locations_of (λ a b alike. ap locations_of alike) one.tasks other.tasks same.tasks
+  locations_same = each_flat SameTask locations_of locations_of (λ a b alike. ap locations_of alike) _ _ same.tasks
 
 pub with_filesystem_alike : (one other : World ℕ) → Alike one other → (new again : Filesystem ℕ)
     → SameFilesystem new again → Alike (with_filesystem nat_eq one new) (with_filesystem nat_eq other again)
 with_filesystem_alike one other same new again alike = record {
   mounts = same.mounts;
   master = same.master;
-  filesystems =
-      each_map SameFilesystem SameFilesystem (replaced_if_numbered nat_eq new) (replaced_if_numbered nat_eq again)
-      (λ a b old. chosen SameFilesystem (nat_eq new.number a.number) (nat_eq again.number b.number)
-      (λ i. nat_eq (alike.number i) (old.number i)) new a again b alike old)
-      one.filesystems other.filesystems same.filesystems;
+  filesystems = each_map SameFilesystem SameFilesystem _ _ (λ a b old. chosen SameFilesystem
+      (nat_eq new.number a.number) (nat_eq again.number b.number) (λ i. nat_eq (alike.number i) (old.number i))
+      new a again b alike old) one.filesystems other.filesystems same.filesystems;
   namespaces = same.namespaces;
   tasks = same.tasks;
 }
@@ -86,8 +79,7 @@ module _ {one other : World ℕ} (same : Alike one other) (fresh : Fresh ℕ) {f
       files = here.files;
       real = λ i. (is i).real;
       upper = subst (λ layer. SameFiles (filesystem_numbered nat_eq one upper.filesystem).files
-          (filesystem_numbered nat_eq other layer.filesystem).files) top
-          (found_alike one other same upper.filesystem).files;
+          (filesystem_numbered nat_eq other layer.filesystem).files) top (found_alike one other same _).files;
     }
 
     with_merge_alike : (upper next : Layer ℕ) → upper ≡ next → (merge later : Merge ℕ) → MergesAlike merge later
@@ -139,12 +131,10 @@ pub change_alike : (one other : World ℕ) → Alike one other → CopiesAlike o
     → (fresh : Fresh ℕ) (location : Location ℕ) (change : Change ℕ)
     → Alike (with_change nat_eq fresh one location change) (with_change nat_eq fresh other location change)
 change_alike one other same copies fresh location change =
-    subst (λ mount. Alike (with_change nat_eq fresh one location change)
-    (filesystem_changed nat_eq fresh other (filesystem_numbered nat_eq other mount.filesystem)
-    (filesystem_numbered nat_eq other mount.filesystem).overlay change)) (mount_same one other same location)
-    (filesystem_alike same fresh (found_alike one other same (mount_at nat_eq one location).filesystem) change _ _
-    (found_alike one other same (mount_at nat_eq one location).filesystem).overlay
-    (copies (mount_at nat_eq one location).filesystem))
+    subst (λ mount. Alike (with_change nat_eq fresh one location change) (filesystem_changed nat_eq fresh other
+    (filesystem_numbered nat_eq other mount.filesystem) (filesystem_numbered nat_eq other mount.filesystem).overlay
+    change)) (mount_same one other same location) (filesystem_alike same fresh (found_alike one other same _)
+    change _ _ (found_alike one other same (mount_at nat_eq one location).filesystem).overlay (copies _))
 
 -- Tasks
 pub with_tasks_alike : (one other : World ℕ) → Alike one other → (tasks again : List (Task ℕ))
@@ -153,10 +143,8 @@ with_tasks_alike one other same tasks again alike = grind (arith, common_steps)
 
 pub replaced_alike : (ones others : List (Task ℕ)) → Each SameTask ones others → (task again : Task ℕ)
     → SameTask task again → Each SameTask (map (replaced_if_called task) ones) (map (replaced_if_called again) others)
-replaced_alike ones others each task again alike =
-    each_map SameTask SameTask (replaced_if_called task) (replaced_if_called again)
-    (λ a b old. chosen SameTask (same_name task.name a.name) (same_name again.name b.name)
-    (λ i. same_name (alike i).name (old i).name) task a again b alike old) ones others each
+replaced_alike ones others each task again alike = each_map _ _ _ _ (λ a b old. chosen SameTask (same_name _ a.name)
+    (same_name _ b.name) (λ i. same_name (alike i).name (old i).name) task a again b alike old) ones others each
 
 pub with_task_alike : (one other : World ℕ) → Alike one other → (task again : Task ℕ) → SameTask task again
     → Alike (with_task one task) (with_task other again)

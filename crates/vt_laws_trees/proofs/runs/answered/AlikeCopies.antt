@@ -68,8 +68,7 @@ all_grow one other grows (object ∷ rest) all = (grows object all.0, all_grow o
 line_ends : (files : FileTree ℕ) (merge : Merge ℕ) (object : ℕ) (named : Option (ℕ × List ℕ))
     → AllUpper merge (line_by nat_eq files object named) → is_in_upper merge object ≡ true
 line_ends files merge object None all = all.0
-line_ends files merge object (Some name) all =
-    last (Rattle.vt_spec.specs.Machine.CopyUp.directories_to nat_eq files name.0) all
+line_ends files merge object (Some name) all = last _ all
   where
     last : (list : List ℕ) → AllUpper merge (list ++ object ∷ []) → is_in_upper merge object ≡ true
     last [] all = all.0
@@ -88,9 +87,7 @@ module _ (one other : Merge ℕ) (same : MergesAlike one other) (object copy : �
   made_alike : (name : Option (ℕ × List ℕ)) (files again : FileTree ℕ) → SameFiles files again
       → SameFiles (copy_named nat_eq one copy name files) (copy_named nat_eq other copy name again)
   made_alike None files again alike = alike
-  made_alike (Some name) files again alike =
-      name_added files again alike (upper_of one name.0) (upper_of other name.0) copy copy name.1 (upper_same name.0)
-      refl
+  made_alike (Some name) files again alike = name_added files again alike _ _ copy copy name.1 (upper_same name.0) refl
 
   -- the upper layer with the copy, by the name that it gets
   abbrev with_copy : Merge ℕ → Node ℕ → Option (ℕ × List ℕ) → FileTree ℕ
@@ -152,15 +149,12 @@ line_same one other same object (Some name) = λ i. reverse (ancestors_same one 
 
 pub copied_up_alike : (fresh : Fresh ℕ) (one other : Merge ℕ) → CopyAlike one other → (object : ℕ)
     → CopyAlike (copied_up nat_eq fresh one object) (copied_up nat_eq fresh other object)
-copied_up_alike fresh one other alike object = ⊎_elim (λ named.
-    subst (λ line. CopyAlike (copied_up nat_eq fresh one object) (copied_each nat_eq fresh 0 other line))
-    (line_same one.files other.files alike.same.files object (a_name nat_eq one.files object)
-    ∙ (λ i. line_by nat_eq other.files object (named i)))
+copied_up_alike fresh one other alike object = ⊎_elim
+    (λ named. subst (λ line. CopyAlike (copied_up nat_eq fresh one object) (copied_each nat_eq fresh 0 other line))
+    (line_same one.files other.files alike.same.files object _ ∙ (λ i. line_by nat_eq other.files object (named i)))
     (each_alike fresh 0 one other alike (line_to nat_eq one.files object)))
-    (λ all. subst (λ m. CopyAlike m (copied_up nat_eq fresh other object))
-    (sym (all_stay fresh 0 one (line_to nat_eq one.files object) all.0))
-    (subst (CopyAlike one) (sym (all_stay fresh 0 other (line_to nat_eq other.files object) all.1)) alike))
-    (alike.lines object)
+    (λ all. subst (λ m. CopyAlike m (copied_up nat_eq fresh other object)) (sym (all_stay fresh 0 one _ all.0))
+    (subst (CopyAlike one) (sym (all_stay fresh 0 other _ all.1)) alike)) (alike.lines object)
 
 -- What is done after the copies
 module _ (fresh : Fresh ℕ) (stack : Stack ℕ) (one other : Merge ℕ) (same : MergesAlike one other) where
@@ -187,8 +181,7 @@ module _ (fresh : Fresh ℕ) (stack : Stack ℕ) (one other : Merge ℕ) (same :
     where
       by : (b : Bool) → SameFiles (name_left_by nat_eq b fresh stack files (upper_of one directory) name)
           (name_left_by nat_eq b fresh stack again (upper_of other directory) name)
-      by true = name_added _ _ (inode_added files again alike (fresh 0) _ _ refl) (upper_of one directory)
-          (upper_of other directory) (fresh 0) (fresh 0) name (upper_is directory) refl
+      by true = name_added _ _ (inode_added files again alike (fresh 0) _ _ refl) _ _ (fresh 0) _ name (upper_is _) refl
       by false = subst (λ d. SameFiles (name_left_by nat_eq false fresh stack files (upper_of one directory) name)
           (name_left_by nat_eq false fresh stack again d name)) (upper_is directory)
           (node_changed files again alike (upper_of one directory) (node_without_entry name))
@@ -212,11 +205,9 @@ module _ (fresh : Fresh ℕ) (stack : Stack ℕ) (one other : Merge ℕ) (same :
   new_alike directory name number node = record {
     files = changed_alike one.files other.files same.files (Make directory name number node);
     real = λ i. with_real nat_eq (same.real i) number (Upper (fresh 0));
-    upper = mark_alike _ _ (hides_same directory name) _ _ (name_added _ _
-        (inode_added one.upper other.upper same.upper (fresh 0) _ _
-        (λ i. record { attr = node.attr; content = content_with_parent (upper_is directory i) node.content }))
-        (upper_of one directory) (upper_of other directory) (fresh 0) (fresh 0) name (upper_is directory) refl)
-        (fresh 0) (fresh 0) refl;
+    upper = mark_alike _ _ (hides_same directory name) _ _ (name_added _ _ (inode_added one.upper _ same.upper (fresh 0)
+        _ _ (λ i. record { attr = node.attr; content = content_with_parent (upper_is directory i) node.content }))
+        (upper_of one directory) _ (fresh 0) (fresh 0) name (upper_is directory) refl) (fresh 0) (fresh 0) refl;
   }
 
   link_alike : (directory : ℕ) (name : List ℕ) (object : ℕ)
@@ -230,8 +221,7 @@ module _ (fresh : Fresh ℕ) (stack : Stack ℕ) (one other : Merge ℕ) (same :
   removed_alike directory name object = record {
     files = changed_alike one.files other.files same.files (Remove directory name object);
     real = same.real;
-    upper = emptied_alike _ _ (left_alike one.upper other.upper same.upper directory name) _ _
-        (named_same directory name);
+    upper = emptied_alike _ _ (left_alike one.upper _ same.upper directory name) _ _ (named_same directory name);
   }
 
   moved_in_upper : (files again : FileTree ℕ) → SameFiles files again → (from to object : ℕ) (old new : List ℕ)
@@ -277,12 +267,9 @@ merge_changed_alike fresh stack one other same lines change = by change
 
     by : (change : Change ℕ)
         → MergesAlike (merge_changed nat_eq fresh stack one change) (merge_changed nat_eq fresh stack other change)
-    by (Make directory name number node) =
-        new_alike (odds fresh) stack _ _ (up (evens fresh) directory) directory name number node
-    by (AddName directory name object) =
-        link_alike fresh stack _ _ (twice (evens fresh) (odds fresh) object directory) directory name object
-    by (Remove directory name object) =
-        removed_alike (odds fresh) stack _ _ (up (evens fresh) directory) directory name object
+    by (Make directory name number node) = new_alike (odds fresh) stack _ _ (up _ directory) directory name number node
+    by (AddName directory name object) = link_alike fresh stack _ _ (twice _ _ object directory) directory name object
+    by (Remove directory name object) = removed_alike (odds fresh) stack _ _ (up _ directory) directory name object
     by (Move from old to new object) =
         moved_alike (odds (odds fresh)) stack _ _ (twice (evens fresh) (evens (odds fresh)) object to) from old to new
         object

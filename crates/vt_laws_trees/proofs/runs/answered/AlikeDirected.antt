@@ -50,22 +50,16 @@ peers_alike one other same =
 -- the overlays of both
 pub overlays_alike : (ones others : List (Filesystem ℕ)) → Each SameFilesystem ones others
     → Each SameFilesystem (filter is_overlay ones) (filter is_overlay others)
-overlays_alike ones others same =
-    each_filter SameFilesystem is_overlay is_overlay (λ a b alike. ap is_some alike.overlay) ones others same
+overlays_alike ones others same = each_filter _ is_overlay _ (λ a b alike. ap is_some alike.overlay) ones others same
 
 -- whether each inode but the root has a name
 all_named_alike : (one other : FileTree ℕ) → SameFiles one other → all_named nat_eq one ≡ all_named nat_eq other
-all_named_alike one other same =
-    list_all-IsPermutation (λ number. nat_eq number one.tree.root || is_among nat_eq number (named_in one)) one.numbers
-    other.numbers same.numbers
+all_named_alike one other same = list_all-IsPermutation _ one.numbers other.numbers same.numbers
     ∙ (λ i. list_all (λ number. nat_eq number (same.tree i).root || named number i) other.numbers)
   where
     named : (number : ℕ) → is_among nat_eq number (named_in one) ≡ is_among nat_eq number (named_in other)
-    named number = list_any-IsPermutation (nat_eq number) (named_in one)
-        (flat_map (λ directory. targets_in (one.tree.node directory)) other.numbers)
-        (IsPermutation-flat_map (λ directory. targets_in (one.tree.node directory)) one.numbers other.numbers
-        same.numbers) ∙ (λ i. is_among nat_eq number
-        (flat_map (λ directory. targets_in ((same.tree i).node directory)) other.numbers))
+    named number = list_any-IsPermutation _ _ _ (IsPermutation-flat_map _ one.numbers _ same.numbers) ∙ (λ i. is_among
+        nat_eq number (flat_map (λ directory. targets_in ((same.tree i).node directory)) other.numbers))
 
 -- the overlay has this root directory of the filesystem as a lower layer
 abbrev lower_root_by : ℕ → ℕ → Overlay ℕ → Bool
@@ -78,13 +72,10 @@ module _ (one other : World ℕ) (same : Alike one (with_mounts_of one other)) (
   second = with_mounts_of one other
 
   pub members_alike : Each SameTask (members one names) (members second names)
-  members_alike = each_filter SameTask (is_member_task names) (is_member_task names)
-      (λ a b alike. ap (is_member_task names) alike) one.tasks other.tasks same.tasks
+  members_alike = each_filter SameTask _ _ (λ a b alike. ap (is_member_task names) alike) one.tasks _ same.tasks
 
   outsiders_alike : Each SameTask (outsiders one names) (outsiders second names)
-  outsiders_alike =
-      each_filter SameTask (λ task. not (is_member_task names task)) (λ task. not (is_member_task names task))
-      (λ a b alike. ap (λ task. not (is_member_task names task)) alike) one.tasks other.tasks same.tasks
+  outsiders_alike = each_filter _ _ _ (λ a b alike. ap (λ task. not (is_member_task names task)) alike) _ _ same.tasks
 
   pub own_same : is_own_namespace nat_eq one names ≡ is_own_namespace nat_eq second names
   own_same = λ i namespace.
@@ -133,8 +124,7 @@ module _ (one other : World ℕ) (same : Alike one (with_mounts_of one other)) (
 
   pub directly_same : used_directly nat_eq one names ≡ used_directly nat_eq second names
   directly_same = λ i. map (λ (mount : Mount ℕ). mount.filesystem) (own_by (own_same i))
-      ++ map (λ (location : Location ℕ). (mount_at nat_eq one location).filesystem)
-      (places_same (members one names) (members second names) members_alike i)
+      ++ map (λ (location : Location ℕ). (mount_at nat_eq one location).filesystem) (places_same _ _ members_alike i)
 
   layers_at : (number : ℕ)
       → change_layers (filesystem_numbered nat_eq one number) ≡ change_layers (filesystem_numbered nat_eq second number)
@@ -160,16 +150,13 @@ module _ (one other : World ℕ) (same : Alike one (with_mounts_of one other)) (
 
   locked_same : (filesystem : ℕ)
       → wholly_locked nat_eq one names filesystem ≡ wholly_locked nat_eq second names filesystem
-  locked_same filesystem = λ i. each_any SameFilesystem
-      (λ merged. is_lower_root nat_eq filesystem (filesystem_numbered nat_eq one filesystem).files.tree.root merged
-      && used_alone nat_eq one names merged.number)
+  locked_same filesystem = λ i. each_any SameFilesystem (λ merged. is_lower_root nat_eq filesystem
+      (filesystem_numbered nat_eq one filesystem).files.tree.root merged && used_alone nat_eq one names merged.number)
       (λ merged. is_lower_root nat_eq filesystem (filesystem_numbered nat_eq second filesystem).files.tree.root merged
-      && used_alone nat_eq second names merged.number) (λ a b alike. λ j.
-      overlay_or false (λ overlay. lower_root_by filesystem
-      ((found_alike one second same filesystem).files.tree j).root overlay) (alike.overlay j)
-      && (alone_same a.number ∙ (λ k. used_alone nat_eq second names (alike.number k))) j)
-      (overlays one) (overlays second) (overlays_alike one.filesystems other.filesystems same.filesystems) i
-      && named_same filesystem i
+      && used_alone nat_eq second names merged.number) (λ a b alike. λ j. overlay_or
+      false (λ overlay. lower_root_by filesystem ((found_alike one second same filesystem).files.tree j).root overlay)
+      (alike.overlay j) && (alone_same a.number ∙ (λ k. used_alone nat_eq second names (alike.number k))) j)
+      (overlays one) (overlays second) (overlays_alike one.filesystems _ same.filesystems) i && named_same filesystem i
 
   sealed_same : sealed nat_eq one names ≡ sealed nat_eq second names
   unfolding sealed

@@ -1,6 +1,6 @@
 -- A change of files in two trees that are the same but for the order of the numbers beside them.
 use Rattle.std.proofs.Common.{subst, ℕ, nat_eq, List, Option, Some, None}
-use Rattle.vt_spec.proofs.Common.{AddName, Change, CopyUp, FileTree, IsPermutation-cons, Make, Move, Node, Remove, SameFiles, SetAttr, SetBytes, SetMark, changed, changed_node, entries_in, entry_named, node_with_attr, node_with_bytes, node_with_entry, node_with_mark, node_with_parent, node_without_entry, with_inode, without_parent}
+use Rattle.vt_spec.proofs.Common.{AddName, Change, CopyUp, FileTree, IsPermutation-cons, Make, Move, Node, Remove, SameFiles, SetAttr, SetBytes, SetMark, changed, changed_node, entries_in, entry_named, node_with_attr, node_with_bytes, node_with_entry, node_with_mark, node_with_parent, node_without_entry, without_parent}
 use Rattle.vt_spec.specs.Tree.{with_node}
 
 pub node_changed : (one other : FileTree ℕ) → SameFiles one other → (number : ℕ)
@@ -22,11 +22,10 @@ named_at files directory name = entry_named name (entries_in (files.tree.node di
 
 pub changed_alike : (one other : FileTree ℕ) → SameFiles one other → (change : Change ℕ)
     → SameFiles (changed nat_eq one change) (changed nat_eq other change)
-changed_alike one other same (Make directory name number node) =
-    node_changed (with_inode nat_eq one number node) (with_inode nat_eq other number node) (record {
-      tree = λ i. with_node nat_eq (same.tree i) number (Some node);
-      numbers = IsPermutation-cons number one.numbers other.numbers same.numbers;
-    }) directory (node_with_entry name number)
+changed_alike one other same (Make directory name number node) = node_changed _ _ (record {
+  tree = λ i. with_node nat_eq (same.tree i) number (Some node);
+  numbers = IsPermutation-cons number one.numbers other.numbers same.numbers;
+}) directory (node_with_entry name number)
 changed_alike one other same (AddName directory name object) =
     node_changed one other same directory (node_with_entry name object)
 changed_alike one other same (Remove directory name object) =

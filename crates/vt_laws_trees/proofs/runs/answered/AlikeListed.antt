@@ -13,10 +13,8 @@ module _ (one other : World ℕ) (same : Alike one (with_mounts_of one other)) w
       λ i. record {
         mount_point = option_map (λ (place : Location ℕ). (
           number_among nat_eq (map (λ (one : Mount ℕ). one.number) mounts) place.mount,
-          spot_of (option_and_then (λ (parent : Mount ℕ).
-              path_same _ _ (found_alike one (with_mounts_of one other) same parent.filesystem).files parent.root
-              place.node i)
-              (find (λ (parent : Mount ℕ). nat_eq place.mount parent.number) one.mounts)),
+          spot_of (option_and_then (λ (parent : Mount ℕ). path_same _ _ (found_alike one _ same parent.filesystem).files
+              parent.root place.node i) (find (λ (parent : Mount ℕ). nat_eq place.mount parent.number) one.mounts)),
         )) mount.mount_point;
         overlay = is_some (shown.overlay i);
         filesystem = number_among nat_eq (filesystems_seen nat_eq mounts) mount.filesystem;

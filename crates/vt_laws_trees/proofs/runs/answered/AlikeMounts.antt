@@ -1,6 +1,6 @@
 -- Calls on mounts and namespaces in two worlds that are alike.
-use Rattle.std.proofs.Common.{arith, ◌≡◌, refl, subst, ℕ, nat_eq, Bool, List, [], ◌∷◌, map, filter, flat_map, Option, Some, None, is_some}
-use Rattle.vt_spec.proofs.Common.{Fresh, Location, Mount, MountFlags, TypeWord, World, after_going, common_steps, deepest_first, filesystem_at, folded, going, is_point, lazily_unmounted, list_any, lost_a_group, mount_numbered, mount_tree, named_mounts, numbers_by, overlay_or, points_of, regrouped, regrouped_by, retyped_mount, taken_away, unmounted, unmounted_if_there, upper_points, with_mount, with_mounts, with_new_groups, with_type, without_mounts_on, without_replaced}
+use Rattle.std.proofs.Common.{arith, ◌≡◌, refl, subst, ℕ, nat_eq, Bool, List, [], ◌∷◌, map, filter, flat_map, Option, Some, None}
+use Rattle.vt_spec.proofs.Common.{Fresh, Location, Mount, MountFlags, TypeWord, World, after_going, common_steps, deepest_first, filesystem_at, folded, is_point, lazily_unmounted, list_any, mount_numbered, mount_tree, numbers_by, overlay_or, points_of, regrouped, regrouped_by, retyped_mount, taken_away, unmounted, unmounted_if_there, upper_points, with_mount, with_mounts, with_new_groups, with_type, without_mounts_on, without_replaced}
 use Rattle.vt_laws_trees.proofs.runs.answered.AlikeChanges.{here_alike}
 use Rattle.vt_laws_trees.proofs.runs.answered.AlikeWorlds.{Alike, mounts_of_one, with_mounts_of}
 use Rattle.vt_laws_trees.proofs.runs.Each.{chosen}
@@ -21,8 +21,7 @@ of_one step keeps one other same =
     mounts_of_one (λ world. Alike one world → Alike (step one) (step world)) one other same (keeps one other) same
 
 pub regrouped_alike : (one other : World ℕ) → Alike one other → Alike (regrouped nat_eq one) (regrouped nat_eq other)
-regrouped_alike = of_one (regrouped nat_eq)
-    (λ one other same. by one other same (list_any (lost_a_group nat_eq one) one.mounts))
+regrouped_alike = of_one (regrouped nat_eq) (λ one other same. by one other same _)
   where
     by : (one other : World ℕ) → Alike one (with_mounts_of one other) → (b : Bool)
         → Alike (regrouped_by nat_eq b one) (regrouped_by nat_eq b (with_mounts_of one other))
@@ -32,24 +31,16 @@ pub taken_alike : (one other : World ℕ) → Alike one other → (gone again : 
     → Alike (taken_away nat_eq one gone) (taken_away nat_eq other again)
 taken_alike one other same gone again alike =
     subst (λ list. Alike (taken_away nat_eq one gone) (taken_away nat_eq other list)) alike
-    (of_one (λ world. taken_away nat_eq world gone) (λ first second same.
-    regrouped_alike _ _
-    (with_mounts_alike first (with_mounts_of first second) same (map (after_going nat_eq first gone) first.mounts)
-    (map (after_going nat_eq first gone) first.mounts) refl)) one other same)
+    (of_one (λ world. taken_away nat_eq world gone) (λ first second same. regrouped_alike _ _ (with_mounts_alike first
+    (with_mounts_of first second) same (map (after_going nat_eq first gone) first.mounts) _ refl)) one other same)
 
 pub unmounted_alike : (number : ℕ) (one other : World ℕ) → Alike one other
     → Alike (unmounted nat_eq one number) (unmounted nat_eq other number)
-unmounted_alike number = of_one (λ world. unmounted nat_eq world number) (λ one other same.
-    taken_alike one (with_mounts_of one other) same (going nat_eq one (mount_numbered nat_eq one number))
-    (going nat_eq one (mount_numbered nat_eq one number)) refl)
+unmounted_alike number = of_one _ (λ one other same. taken_alike one (with_mounts_of one other) same _ _ refl)
 
 if_there_alike : (mount : Mount ℕ) (one other : World ℕ) → Alike one other
     → Alike (unmounted_if_there nat_eq one mount) (unmounted_if_there nat_eq other mount)
-if_there_alike mount = of_one (λ world. unmounted_if_there nat_eq world mount) (λ one other same.
-    chosen Alike (is_some (mount_numbered nat_eq one mount.number).namespace)
-    (is_some (mount_numbered nat_eq one mount.number).namespace) refl
-    (unmounted nat_eq one mount.number) one (unmounted nat_eq (with_mounts_of one other) mount.number)
-    (with_mounts_of one other) (unmounted_alike mount.number one (with_mounts_of one other) same) same)
+if_there_alike mount = of_one _ (λ one other same. chosen Alike _ _ refl _ one _ _ (unmounted_alike _ one _ same) same)
 
 each_unmounted : (mounts : List (Mount ℕ)) (one other : World ℕ) → Alike one other
     → Alike (folded (unmounted_if_there nat_eq) one mounts) (folded (unmounted_if_there nat_eq) other mounts)
@@ -58,9 +49,8 @@ each_unmounted (mount ∷ rest) one other same = each_unmounted rest _ _ (if_the
 
 pub lazily_alike : (number : ℕ) (one other : World ℕ) → Alike one other
     → Alike (lazily_unmounted nat_eq one number) (lazily_unmounted nat_eq other number)
-lazily_alike number = of_one (λ world. lazily_unmounted nat_eq world number) (λ one other same.
-    each_unmounted (deepest_first nat_eq one (mount_tree nat_eq one.mounts (mount_numbered nat_eq one number))) one
-    (with_mounts_of one other) same)
+lazily_alike number = of_one (λ world. lazily_unmounted nat_eq world number) (λ one other same. each_unmounted
+    (deepest_first nat_eq one (mount_tree nat_eq one.mounts (mount_numbered nat_eq one number))) one _ same)
 
 -- the world with these mounts retyped, before groups without members go
 abbrev retyped_first : Fresh ℕ → TypeWord → List (Mount ℕ) → World ℕ → World ℕ
@@ -77,16 +67,12 @@ retyped_alike fresh word named one other same = grind (arith, common_steps, regr
 pub type_alike : (fresh : Fresh ℕ) (number : ℕ) (word : TypeWord) (recursive : Bool) (one other : World ℕ)
     → Alike one other
     → Alike (with_type nat_eq fresh one number word recursive) (with_type nat_eq fresh other number word recursive)
-type_alike fresh number word recursive =
-    of_one (λ world. with_type nat_eq fresh world number word recursive) (λ one other same.
-    retyped_alike fresh word (named_mounts nat_eq one number recursive) one other same)
+type_alike fresh number word recursive = of_one _ (λ one other same. retyped_alike fresh word _ one other same)
 
 pub flags_alike : (number : ℕ) (flags : MountFlags) (one other : World ℕ) → Alike one other → Alike
     (with_mounts one (with_mount nat_eq one.mounts (record (mount_numbered nat_eq one number) { flags = flags })))
     (with_mounts other (with_mount nat_eq other.mounts (record (mount_numbered nat_eq other number) { flags = flags })))
-flags_alike number flags = of_one (λ world. with_mounts world
-    (with_mount nat_eq world.mounts (record (mount_numbered nat_eq world number) { flags = flags })))
-    (λ one other same. with_mounts_alike one (with_mounts_of one other) same _ _ refl)
+flags_alike number flags = of_one _ (λ one other same. with_mounts_alike one (with_mounts_of one other) same _ _ refl)
 
 -- mounts on a directory
 points_same : (location : Location ℕ) (one other : World ℕ) → Alike one other

@@ -1,6 +1,6 @@
 -- Calls on namespaces and tasks in two worlds that are alike.
 use Rattle.std.proofs.Common.{arith, ◌≡◌, refl, ap, ℕ, nat_eq, not, ◌&&◌, [], ◌∷◌, ◌++◌, ◌+◌, map, filter}
-use Rattle.vt_spec.proofs.Common.{Fresh, Location, Mount, Namespace, Task, TaskName, World, common_steps, copied_mount, evens, has_tasks, holds_of, is_in_ended, list_any, mounts_of, namespace_entered, namespaces_ended, numbers_by, odds, pivoted, same_name, unshared, unshared_task, without_task}
+use Rattle.vt_spec.proofs.Common.{Fresh, Location, Mount, Namespace, Task, TaskName, World, common_steps, copied_mount, evens, has_tasks, holds_of, list_any, mounts_of, namespace_entered, namespaces_ended, numbers_by, odds, pivoted, same_name, unshared, unshared_task, without_task}
 use Rattle.vt_laws_trees.proofs.runs.answered.AlikeChanges.{replaced_alike, with_task_alike, with_tasks_alike}
 use Rattle.vt_laws_trees.proofs.runs.answered.AlikeMounts.{of_one, taken_alike}
 use Rattle.vt_laws_trees.proofs.runs.answered.AlikeWorlds.{Alike, SameNamespace, SameTask, mounts_of_one, with_mounts_of}
@@ -10,22 +10,18 @@ use Rattle.vt_spec.specs.Machine.Tasks.{with_child}
 -- Tasks
 pub without_task_alike : (name : TaskName) (one other : World ℕ) → Alike one other
     → Alike (without_task one name) (without_task other name)
-without_task_alike name one other same = with_tasks_alike one other same _ _
-    (each_filter SameTask (λ task. not (same_name name task.name)) (λ task. not (same_name name task.name))
+without_task_alike name one other same = with_tasks_alike one other same _ _ (each_filter SameTask _ _
     (λ a b alike. ap (λ task. not (same_name name task.name)) alike) one.tasks other.tasks same.tasks)
 
 pub with_child_alike : (one other : World ℕ) → Alike one other → (task again child : Task ℕ) (newborn : Task ℕ)
     → SameTask task again → SameTask child newborn → Alike (with_child one task child) (with_child other again newborn)
-with_child_alike one other same task again child newborn alike born = with_tasks_alike one other same _ _
-    (each_append SameTask _ _ (child ∷ []) (newborn ∷ [])
-    (replaced_alike one.tasks other.tasks same.tasks _ _ (λ i. record (alike i) { forks = (alike i).forks + 1 }))
-    (born, tt))
+with_child_alike one other same task again child newborn alike born = with_tasks_alike one other same _ _ (each_append _
+    _ _ _ _ (replaced_alike _ _ same.tasks _ _ (λ i. record (alike i) { forks = (alike i).forks + 1 })) (born, tt))
 
 -- Namespaces
 module _ (one other : World ℕ) (same : Alike one other) where
   has_tasks_same : (a b : Namespace ℕ) → SameNamespace a b → has_tasks nat_eq one a ≡ has_tasks nat_eq other b
-  has_tasks_same a b alike =
-      each_any SameTask (λ task. nat_eq a.number task.namespace) (λ task. nat_eq b.number task.namespace)
+  has_tasks_same a b alike = each_any SameTask (λ task. nat_eq a.number task.namespace) _
       (λ task again known. λ i. nat_eq (alike i).number (known i).namespace) one.tasks other.tasks same.tasks
 
   lives_same : (number : ℕ)
@@ -38,18 +34,13 @@ module _ (one other : World ℕ) (same : Alike one other) where
 pub ended_alike : (one other : World ℕ) → Alike one other
     → Alike (namespaces_ended nat_eq one) (namespaces_ended nat_eq other)
 ended_alike = of_one (namespaces_ended nat_eq) (λ one other same.
-    let taken = taken_alike one (with_mounts_of one other) same
-    (map (λ (mount : Mount ℕ). mount.number) (filter (is_in_ended nat_eq one) one.mounts))
-    (map (λ (mount : Mount ℕ). mount.number) (filter (is_in_ended nat_eq (with_mounts_of one other)) one.mounts))
-    (λ i. map (λ (mount : Mount ℕ). mount.number)
-    (filter (λ (mount : Mount ℕ). holds_of (λ number. not (lives_same one (with_mounts_of one other) same number i))
-    mount.namespace) one.mounts)) in
+    let taken = taken_alike one _ same _ _ (λ i. map (λ (mount : Mount ℕ). mount.number) (filter
+    (λ (mount : Mount ℕ). holds_of (λ number. not (lives_same one _ same number i)) mount.namespace) one.mounts)) in
     record {
       mounts = taken.mounts;
       master = taken.master;
       filesystems = taken.filesystems;
-      namespaces = each_filter SameNamespace (has_tasks nat_eq one) (has_tasks nat_eq (with_mounts_of one other))
-          (has_tasks_same one (with_mounts_of one other) same) one.namespaces other.namespaces same.namespaces;
+      namespaces = each_filter SameNamespace _ _ (has_tasks_same one _ same) one.namespaces _ same.namespaces;
       tasks = taken.tasks;
     })
 

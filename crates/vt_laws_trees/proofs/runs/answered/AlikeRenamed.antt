@@ -35,14 +35,8 @@ module _ (renaming : Renaming ℕ ℕ) where
     mounts = ap (map (renamed_mount renaming.there renaming.back)) same.mounts;
     master = λ i group. option_map renaming.there (same.master i (renaming.back group));
     filesystems = filesystems_renamed one.filesystems other.filesystems same.filesystems;
-    namespaces = each_to_one SameNamespace bare_namespace bare_namespace (λ a b e. e) _ _
-        (each_map SameNamespace SameNamespace (renamed_namespace renaming.there renaming.back)
-        (renamed_namespace renaming.there renaming.back)
-        (λ a b e. ap (renamed_namespace renaming.there renaming.back) e) one.namespaces other.namespaces
-        (each_told bare_namespace bare_namespace one.namespaces other.namespaces same.namespaces));
-    tasks = each_to_one SameTask bare_task bare_task (λ a b e. e) _ _
-        (each_map SameTask SameTask (renamed_task renaming.there renaming.back)
-        (renamed_task renaming.there renaming.back)
-        (λ a b e. ap (renamed_task renaming.there renaming.back) e) one.tasks other.tasks
-        (each_told bare_task bare_task one.tasks other.tasks same.tasks));
+    namespaces = each_to_one SameNamespace bare_namespace _ (λ a b e. e) _ _ (each_map SameNamespace SameNamespace _ _
+        (λ a b e. ap (renamed_namespace renaming.there renaming.back) e) _ _ (each_told _ _ _ _ same.namespaces));
+    tasks = each_to_one SameTask bare_task bare_task (λ a b e. e) _ _ (each_map SameTask SameTask _ _
+        (λ a b e. ap (renamed_task _ renaming.back) e) one.tasks _ (each_told bare_task bare_task _ _ same.tasks));
   }

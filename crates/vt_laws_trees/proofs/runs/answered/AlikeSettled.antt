@@ -1,6 +1,6 @@
 -- What nothing uses goes alike in two worlds that are alike.
 use Rattle.std.proofs.Common.{arith, ◌≡◌, refl, ap, subst, ◌∙◌, ℕ, nat_eq, Bool, true, false, cond, not, ◌||◌, List, [], ◌∷◌, ◌++◌, map, filter, filter_map, flat_map, Option, Some, None, is_some, option_to_list, if◌then◌else◌, IsPermutation}
-use Rattle.vt_spec.proofs.Common.{FileTree, Filesystem, IsPermutation-append_left, IsPermutation-append_right, IsPermutation-cons, IsPermutation-refl, IsPermutation-trans, Location, Mount, Namespace, Overlay, SameFiles, SameFilesystem, Task, TaskName, World, common_steps, filesystem_lives, holds_of, is_among, is_overlay, layers_in, layers_of, list_all, list_any, list_any-IsPermutation, located_in, mount_in, numbers_raised, objects_of_overlay, of_overlay, only_among, only_used, only_used_by, only_used_of, overlay_or, raised, raised_if_changed, raised_namespace, raised_task, root_of, settled, targets_in, upper_object, used_in, without_dead_filesystems, without_dead_groups, without_dead_in, without_dead_inodes, without_dead_mounts}
+use Rattle.vt_spec.proofs.Common.{FileTree, Filesystem, IsPermutation-append_left, IsPermutation-append_right, IsPermutation-cons, IsPermutation-refl, IsPermutation-trans, Location, Mount, Namespace, Overlay, SameFiles, SameFilesystem, Task, TaskName, World, common_steps, filesystem_lives, holds_of, is_among, is_overlay, layers_in, layers_of, list_all, list_any, list_any-IsPermutation, located_in, mount_in, numbers_raised, objects_of_overlay, of_overlay, only_among, only_used, only_used_by, only_used_of, overlay_or, root_of, settled, targets_in, upper_object, used_in, without_dead_filesystems, without_dead_groups, without_dead_in, without_dead_inodes, without_dead_mounts}
 use Rattle.vt_laws_trees.proofs.runs.answered.AlikeChanges.{locations_same}
 use Rattle.vt_laws_trees.proofs.runs.answered.AlikeMounts.{with_mounts_alike}
 use Rattle.vt_laws_trees.proofs.runs.answered.AlikeWorlds.{Alike, SameNamespace, SameTask}
@@ -45,15 +45,13 @@ among_alike one other same used again among = record {
     node = λ number. cond (among number i) ((same.tree i).node number) None;
   };
   numbers = subst (IsPermutation (filter (λ number. is_among nat_eq number used) one.numbers))
-      (λ i. filter (λ number. among number i) other.numbers)
-      (IsPermutation-filter (λ number. is_among nat_eq number used) one.numbers other.numbers same.numbers);
+      (λ i. filter (λ number. among number i) other.numbers) (IsPermutation-filter _ one.numbers _ same.numbers);
 }
 
 used_alike : (one other : Filesystem ℕ) → SameFilesystem one other → (used again : List ℕ) → SameAmong used again
     → SameFilesystem (only_used_of nat_eq used one) (only_used_of nat_eq again other)
 used_alike one other same used again among =
-    subst (λ b. SameFilesystem (only_used_of nat_eq used one) (only_used_by nat_eq b again other)) all_alike
-    (by (list_all (λ number. is_among nat_eq number used) one.files.numbers))
+    subst (λ b. SameFilesystem (only_used_of nat_eq used one) (only_used_by nat_eq b again other)) all_alike (by _)
   where
     all_alike : list_all (λ number. is_among nat_eq number used) one.files.numbers
         ≡ list_all (λ number. is_among nat_eq number again) other.files.numbers
@@ -73,23 +71,19 @@ module _ (one other : World ℕ) (same : Alike one other) where
   objects_permuted : (a b : ℕ) → a ≡ b → IsPermutation (flat_map (objects_of_overlay nat_eq a) one.filesystems)
       (flat_map (objects_of_overlay nat_eq b) other.filesystems)
   objects_permuted a b alike = subst (λ n. IsPermutation (flat_map (objects_of_overlay nat_eq a) one.filesystems)
-      (flat_map (objects_of_overlay nat_eq n) other.filesystems)) alike
-      (each_permuted SameFilesystem (objects_of_overlay nat_eq a) (objects_of_overlay nat_eq a) of_one
-      one.filesystems other.filesystems same.filesystems)
+      (flat_map (objects_of_overlay nat_eq n) other.filesystems)) alike (each_permuted SameFilesystem
+      (objects_of_overlay nat_eq a) _ of_one one.filesystems other.filesystems same.filesystems)
     where
       by : (b : Bool) (overlay : Overlay ℕ) (first second : List ℕ) → IsPermutation first second
           → IsPermutation (cond b (filter_map (λ number. upper_object (overlay.real number)) first) [])
           (cond b (filter_map (λ number. upper_object (overlay.real number)) second) [])
-      by true overlay first second permuted =
-          filter_map_permuted (λ number. upper_object (overlay.real number)) first second permuted
+      by true overlay first second permuted = filter_map_permuted _ first second permuted
       by false overlay first second permuted = IsPermutation-refl []
 
       over : (first second : Filesystem ℕ) → SameFilesystem first second → (overlay : Option (Overlay ℕ))
           → IsPermutation (overlay_or [] (objects_by a first) overlay) (overlay_or [] (objects_by a second) overlay)
       over first second known None = IsPermutation-refl []
-      over first second known (Some overlay) =
-          by (holds_of (λ layer. nat_eq a layer.filesystem) overlay.upper) overlay first.files.numbers
-          second.files.numbers known.files.numbers
+      over first second known (Some overlay) = by _ overlay first.files.numbers second.files.numbers known.files.numbers
 
       of_one : (first second : Filesystem ℕ) → SameFilesystem first second
           → IsPermutation (objects_of_overlay nat_eq a first) (objects_of_overlay nat_eq a second)
@@ -104,19 +98,15 @@ module _ (one other : World ℕ) (same : Alike one other) where
 
   pub used_permuted : (a b : Filesystem ℕ) → SameFilesystem a b
       → IsPermutation (used_in nat_eq one a) (used_in nat_eq other b)
-  used_permuted a b alike = subst (IsPermutation (used_in nat_eq one a)) (λ i. (alike.files.tree i).root
-      ∷ (flat_map (λ directory. targets_in ((alike.files.tree i).node directory)) b.files.numbers
-      ++ located_same a.number b.number alike.number i ++ layers_same a.number b.number alike.number i
-      ++ flat_map (objects_of_overlay nat_eq b.number) other.filesystems)) (IsPermutation-cons a.files.tree.root _ _
-      (IsPermutation-trans _ _ _
+  used_permuted a b alike = subst (IsPermutation (used_in nat_eq one a)) (λ i. (alike.files.tree i).root ∷ (flat_map
+      (λ directory. targets_in ((alike.files.tree i).node directory)) b.files.numbers ++ located_same a.number b.number
+      alike.number i ++ layers_same a.number b.number alike.number i ++ flat_map (objects_of_overlay nat_eq b.number)
+      other.filesystems)) (IsPermutation-cons a.files.tree.root _ _ (IsPermutation-trans _ _ _
       (IsPermutation-append_left (flat_map (objects_of_overlay nat_eq a.number) one.filesystems) _ _
-      (IsPermutation-append_left (layers_in nat_eq one a.number) _ _
-      (IsPermutation-append_left (located_in nat_eq one a.number) _ _
-      (IsPermutation-flat_map (λ directory. targets_in (a.files.tree.node directory)) a.files.numbers
-      b.files.numbers alike.files.numbers)))) (IsPermutation-append_right
-      (flat_map (λ directory. targets_in (a.files.tree.node directory)) b.files.numbers
-      ++ located_in nat_eq one a.number ++ layers_in nat_eq one a.number) _ _
-      (objects_permuted a.number b.number alike.number))))
+      (IsPermutation-append_left (layers_in nat_eq one a.number) _ _ (IsPermutation-append_left
+      (located_in nat_eq one a.number) _ _ (IsPermutation-flat_map _ a.files.numbers _ alike.files.numbers))))
+      (IsPermutation-append_right (flat_map (λ directory. targets_in (a.files.tree.node directory)) b.files.numbers
+      ++ located_in nat_eq one a.number ++ layers_in nat_eq one a.number) _ _ (objects_permuted _ _ alike.number))))
 
   only_used_alike : (b : Bool) (first second : Filesystem ℕ) → SameFilesystem first second
       → SameFilesystem (only_used nat_eq one b first) (only_used nat_eq other b second)
@@ -132,12 +122,9 @@ module _ (one other : World ℕ) (same : Alike one other) where
   without_dead_in_alike chosen by_one = record {
     mounts = same.mounts;
     master = same.master;
-    filesystems =
-        each_map SameFilesystem SameFilesystem (λ filesystem. only_used nat_eq one (chosen filesystem) filesystem)
-        (λ filesystem. only_used nat_eq other (chosen filesystem) filesystem) (λ first second alike.
-        subst (λ b. SameFilesystem (only_used nat_eq one (chosen first) first) (only_used nat_eq other b second))
-        (by_one first second alike) (only_used_alike (chosen first) first second alike))
-        one.filesystems other.filesystems same.filesystems;
+    filesystems = each_map SameFilesystem SameFilesystem _ _ (λ first second alike. subst
+        (λ b. SameFilesystem (only_used nat_eq one (chosen first) first) (only_used nat_eq other b second))
+        (by_one first second alike) (only_used_alike (chosen first) first second alike)) _ _ same.filesystems;
     namespaces = same.namespaces;
     tasks = same.tasks;
   }
@@ -159,8 +146,7 @@ module _ (one other : World ℕ) (same : Alike one other) where
   without_dead_filesystems_alike = record {
     mounts = same.mounts;
     master = same.master;
-    filesystems = each_filter SameFilesystem (filesystem_lives nat_eq one) (filesystem_lives nat_eq other) lives_same
-        one.filesystems other.filesystems same.filesystems;
+    filesystems = each_filter SameFilesystem _ _ lives_same one.filesystems other.filesystems same.filesystems;
     namespaces = same.namespaces;
     tasks = same.tasks;
   }
@@ -170,10 +156,8 @@ module _ (one other : World ℕ) (same : Alike one other) where
 
 without_dead_inodes_alike : (one other : World ℕ) → Alike one other
     → Alike (without_dead_inodes nat_eq one) (without_dead_inodes nat_eq other)
-without_dead_inodes_alike one other same =
-    without_dead_in_alike (without_dead_in nat_eq is_overlay one) (without_dead_in nat_eq is_overlay other)
-    (without_dead_in_alike one other same is_overlay (λ first second alike. ap is_some alike.overlay))
-    (λ filesystem. not (is_overlay filesystem))
+without_dead_inodes_alike one other same = without_dead_in_alike (without_dead_in nat_eq is_overlay one) _
+    (without_dead_in_alike one other same is_overlay (λ first second alike. ap is_some alike.overlay)) _
     (λ first second alike. ap (λ overlay. not (is_some overlay)) alike.overlay)
 
 pub settled_alike : (one other : World ℕ) → Alike one other → Alike (settled nat_eq one) (settled nat_eq other)
@@ -205,14 +189,7 @@ pub raised_alike : (before again : World ℕ) (name : TaskName) (changed others 
 raised_alike before again name changed others one other same = record {
   mounts = same.mounts;
   master = same.master;
-  filesystems =
-      each_map SameFilesystem SameFilesystem (raised_if_changed nat_eq changed) (raised_if_changed nat_eq others)
-      (λ a b alike. filesystem_raised a b alike _ _ (raised a.change) (raised b.change))
-      one.filesystems other.filesystems same.filesystems;
-  namespaces =
-      each_map SameNamespace SameNamespace (raised_namespace nat_eq before one) (raised_namespace nat_eq again other)
-      (λ a b alike. namespace_raised a b alike _ _ (raised a.change) (raised b.change))
-      one.namespaces other.namespaces same.namespaces;
-  tasks = each_map SameTask SameTask (raised_task name) (raised_task name)
-      (λ a b alike. task_raised a b alike _ _ (raised a.change) (raised b.change)) one.tasks other.tasks same.tasks;
+  filesystems = each_map SameFilesystem _ _ _ (λ a b alike. filesystem_raised a b alike _ _ _ _) _ _ same.filesystems;
+  namespaces = each_map SameNamespace _ _ _ (λ a b alike. namespace_raised a b alike _ _ _ _) _ _ same.namespaces;
+  tasks = each_map SameTask SameTask _ _ (λ a b alike. task_raised a b alike _ _ _ _) one.tasks other.tasks same.tasks;
 }

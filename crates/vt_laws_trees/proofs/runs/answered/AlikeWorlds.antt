@@ -81,8 +81,7 @@ alike_onward one other last same next = record {
     files = files_onward a.files b.files c.files first.files second.files;
     overlay = first.overlay ∙ second.overlay;
   }) one.filesystems other.filesystems last.filesystems same.filesystems next.filesystems;
-  namespaces = each_onward SameNamespace (λ a b c first second. cc) one.namespaces other.namespaces
-      last.namespaces same.namespaces next.namespaces;
+  namespaces = each_onward SameNamespace (λ a b c first second. cc) one.namespaces _ _ same.namespaces next.namespaces;
   tasks = each_onward SameTask (λ a b c first second. cc) one.tasks other.tasks last.tasks same.tasks
       next.tasks;
 }

@@ -1,6 +1,6 @@
 -- Calls that mount no overlay leave plain filesystems.
 use Rattle.std.proofs.Common.{◌≡◌, refl, sym, ap, subst, true≢false, inl, ℕ, nat_eq, Bool, true, false, List, [], ◌∷◌, Some, None, All}
-use Rattle.vt_spec.proofs.Common.{Change, CopyUp, Fresh, Location, Outcome, Permit, Task, TaskName, ToChange, ToMake, ToMountOverlay, ToMountPlain, ToOpen, ToOpenNew, ToRemoveDirectory, ToRename, ToWritePart, World, apply, changed, evens, filesystem_at, filesystem_changed, filesystem_numbered, filesystems-taken_away, filesystems-without_replaced, finished_by, is_copied_up, is_overlay, mount_at, new_plain, none_from_not_some, odds, pwritten, settled, with_change, with_copy, with_files, without_mounts_on, without_replaced}
+use Rattle.vt_spec.proofs.Common.{Change, CopyUp, Fresh, Location, Outcome, Permit, Task, TaskName, ToChange, ToMake, ToMountOverlay, ToMountPlain, ToOpen, ToOpenNew, ToRemoveDirectory, ToRename, ToWritePart, World, apply, changed, filesystem_at, filesystem_changed, filesystem_numbered, filesystems-taken_away, filesystems-without_replaced, finished_by, is_copied_up, is_overlay, mount_at, none_from_not_some, odds, pwritten, settled, with_change, with_copy, with_files, without_mounts_on, without_replaced}
 use Rattle.vt_laws_rules.specs.Plain.{IsPlain}
 use Rattle.vt_laws_trees.proofs.trees.ChangesByCalls.{new_is_plain, settled_plain}
 use Rattle.vt_laws_trees.proofs.trees.ChangesByOthers.{files_stay}
@@ -37,8 +37,7 @@ pub permit_plain : (fresh : Fresh ℕ) (world : World ℕ) (task : Task ℕ) (pe
 permit_plain fresh world task (ToChange location change) plain other = change_plain fresh world plain location change
 permit_plain fresh world task (ToMake directory name node) plain other =
     change_plain (odds fresh) world plain directory _
-permit_plain fresh world task (ToRemoveDirectory parent name directory) plain other =
-    change_plain fresh (without_mounts_on nat_eq world directory)
+permit_plain fresh world task (ToRemoveDirectory parent name directory) plain other = change_plain fresh _
     (same_plain world (without_mounts_on nat_eq world directory) (filesystems-taken_away world _) plain) parent _
 permit_plain fresh world task (ToRename from old to new object replaced) plain other =
     change_plain fresh (without_replaced nat_eq world replaced)
@@ -56,8 +55,7 @@ permit_plain fresh world task (ToWritePart file offset bytes) plain other = by b
     by : (bytes : List ℕ) → IsPlain (pwritten nat_eq fresh world file offset bytes)
     by [] = plain
     by (byte ∷ bytes) = change_plain fresh world plain file _
-permit_plain fresh world task (ToMountPlain place flags) plain other =
-    new_is_plain world (new_plain nat_eq (evens fresh 0) (evens fresh 1)) refl plain
+permit_plain fresh world task (ToMountPlain place flags) plain other = new_is_plain world _ refl plain
 permit_plain fresh world task (ToMountOverlay place overlay flags) plain other = absurd (true≢false other)
 permit_plain fresh world task permit plain other =
     same_plain world (apply nat_eq fresh world task permit).world (files_stay fresh world task permit refl) plain

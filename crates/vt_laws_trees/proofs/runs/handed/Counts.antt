@@ -2,7 +2,7 @@
 use Rattle.std.proofs.Common.{◌≡◌, refl, ap, true≢false, ℕ, nat_le, nat_lt, ◌==◌, ◌+◌, ◌-◌, ◌*◌, ◌/◌, ◌%◌, ◌<◌, ◌≤◌, Bool, true, false, cond, not, ◌&&◌, ◌||◌, arith, ◌⊎◌, inl, eq-eqb, ne_eqb, eqb-true, ltb-true, le-leb, leb-true}
 use Rattle.vt_spec.proofs.Common.{and_parts, common_steps, not-false}
 use Rattle.vt_laws_rules.proofs.numbers.NamedWorlds.{named_is_kept}
-use Rattle.vt_laws_rules.specs.Numbers.{Allotment, Lot, is_in_hand, is_kept, is_kept_lot}
+use Rattle.vt_laws_rules.specs.Numbers.{Allotment, Lot, is_in_hand, is_kept}
 use Rattle.vt_laws_rules.specs.Numbers.Lot.{Kept, LeftOver, New}
 use Rattle.vt_laws_trees.proofs.runs.runs.RunsTold.{runs_have_one_text}
 use Rattle.vt_laws_trees.specs.Runs.Handed.{CountsAreAllotted, CountsServe, CountsServeNamed, ProgramsHaveOneText, counts_from, is_counted_before, is_counted_from, lot_of_counts, may_be_given, never_given}
@@ -58,11 +58,7 @@ module _ (next : ℕ) where
   }
 
   pub counts_from_hand : (number : ℕ) → is_kept counts number ≡ true → may_be_given number ≡ true
-  counts_from_hand number = by (number % 4 == 3) (is_counted_from next number)
-    where
-      by : (left counted : Bool) → is_kept_lot (choose left counted number) ≡ true → not left ≡ true
-      by true counted kept = cc
-      by false counted kept = refl
+  counts_from_hand number = grind (arith, common_steps, is_counted_from)
 
   pub counts_stay : (number : ℕ) → may_be_given number ≡ true → is_in_hand counts number ≡ true
   counts_stay number = grind (arith, common_steps, counted, true≢false)
@@ -77,11 +73,7 @@ module _ (next : ℕ) where
   before_is number false false below first second third e = cc
 
   not_counted : (number : ℕ) → (number % 4 ≡ 1 → next ≤ number / 4 → ⊥) → is_counted_from next number ≡ false
-  not_counted number before = by (is_counted_from next number) refl
-    where
-      by : (b : Bool) → is_counted_from next number ≡ b → is_counted_from next number ≡ false
-      by false e = e
-      by true e = absurd (before (counted number e).0 (counted number e).1)
+  not_counted number before = grind (arith, common_steps, is_counted_from, counted)
 
   pub counts_keep : (number : ℕ) → is_counted_before next number ≡ true → is_kept counts number ≡ true
   counts_keep number named = grind (arith, common_steps, lot_at, ne_eqb, not_counted, before_is)

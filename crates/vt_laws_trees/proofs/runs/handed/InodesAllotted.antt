@@ -37,11 +37,9 @@ module _ (allotment : Allotment) (place number : ℕ) (kept : allotment.lot numb
   new_lot_with k = grind (arith, common_steps, eq-eqb, eqb-true, apart_lots, new_is_kept, eqb-false, same_new)
 
   pub left_lot_with : (k : ℕ) → lot_with (allotment.left_over k) ≡ LeftOver k
-  left_lot_with k = (λ i. choose
-      (apart_lots (allotment.left_over k) number (LeftOver k) Kept (allotment.left_over_lot k) kept (left_is_kept k) i)
-      (apart_lots (allotment.left_over k) (allotment.new place) (LeftOver k) (New place) (allotment.left_over_lot k)
-      (allotment.new_lot place) (left_is_new k place) i) (allotment.lot (allotment.left_over k)))
-      ∙ allotment.left_over_lot k
+  left_lot_with k = (λ i. choose (apart_lots _ number _ Kept (allotment.left_over_lot k) kept (left_is_kept k) i)
+      (apart_lots _ (allotment.new place) (LeftOver k) (New place) (allotment.left_over_lot k) (allotment.new_lot place)
+      (left_is_new k place) i) (allotment.lot (allotment.left_over k))) ∙ allotment.left_over_lot k
 
   pub lot_new_with : (other k : ℕ) → lot_with other ≡ New k → new_with k ≡ other
   lot_new_with other k = grind (arith, common_steps, eq-eqb, same_new, eqb-true, new_is_kept, ne_eqb, eqb-false)

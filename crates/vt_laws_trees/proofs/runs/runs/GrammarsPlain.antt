@@ -1,5 +1,5 @@
 -- A grammar without the mount of an overlay asks for none.
-use Rattle.std.proofs.Common.{◌≡◌, ◌∙◌, refl, ℕ, Bool, true, false, cond, List, [], ◌∷◌, Option, Some, None, option_map, arith}
+use Rattle.std.proofs.Common.{◌≡◌, refl, ℕ, Bool, true, false, cond, List, [], ◌∷◌, Option, Some, None, option_map, arith}
 use Rattle.vt_spec.proofs.Common.{All-cons, Call, Calling, Grammar, MountOverlay, Nobody, OverlayWords, Someone, TaskName, Who, asked_by, call_read, call_words, common_steps, each_of, raw_tokens, request_of, request_of_texts, then_some, token_text, when}
 use Rattle.vt_laws_trees.specs.Runs.Runs.{GrammarsKeepOverlaysOut}
 use Rattle.vt_spec.specs.Language.Script.{call_asked, directive_asked, who_of}
@@ -14,12 +14,7 @@ module _ (grammar : Grammar) (out : (call : Call) → grammar.has call ≡ true 
   call_plain : (task : TaskName) (words : Option Call) → asks_for_overlay (option_map (Calling task) (then_some words
       (λ call. when (grammar.has call) (call_read grammar.options call)))) ≡ false
   call_plain task None = refl
-  call_plain task (Some call) = by (grammar.has call) refl
-    where
-      by : (there : Bool) → grammar.has call ≡ there
-          → asks_for_overlay (option_map (Calling task) (when there (call_read grammar.options call))) ≡ false
-      by true is = read_plain grammar.options call ∙ out call is
-      by false is = refl
+  call_plain task (Some call) = grind (arith, common_steps, read_plain)
 
   calls_plain : (task : TaskName) (words : List (List ℕ)) → asks_for_overlay (call_asked grammar task words) ≡ false
   calls_plain task [] = refl

@@ -1,6 +1,6 @@
 -- A run that goes on from worlds that are the same writes a text that may be written, and so the one text.
-use Rattle.std.proofs.Common.{◌≡◌, refl, sym, ◌∙◌, subst, ℕ, suc, nat_eq, nat_lt, ◌+◌, ◌≤◌, Bool, true, false, List, [], ◌∷◌, length, Option, Some, None, arith, All}
-use Rattle.vt_spec.proofs.Common.{All-cons, All-head, All-tail, Asking, Calling, Filesystem, Fresh, Grammar, LowerObjectsHaveOneName, Request, SameWorlds, Serves, World, first_world, is_overlay, is_silent, line_step, line_step_by, lines_of, longest_line, new_plain, opening, renamed, request_of, requested, step_world}
+use Rattle.std.proofs.Common.{◌≡◌, refl, sym, ◌∙◌, subst, ℕ, suc, nat_eq, ◌+◌, ◌≤◌, Bool, true, false, List, [], ◌∷◌, Option, Some, None, arith, All}
+use Rattle.vt_spec.proofs.Common.{All-cons, All-head, All-tail, Asking, Calling, Filesystem, Fresh, Grammar, LowerObjectsHaveOneName, Request, SameWorlds, Serves, World, first_world, is_overlay, is_silent, line_step, line_step_by, lines_of, new_plain, opening, renamed, request_of, requested, step_world}
 use Rattle.vt_laws_rules.proofs.denials.Unchanged.{directive_changes_nothing, refused_memory_changes_nothing}
 use Rattle.vt_laws_rules.proofs.numbers.Commuting.{commutes_nat}
 use Rattle.vt_laws_rules.proofs.numbers.Renamings.{named_world}
@@ -26,11 +26,9 @@ use Rattle.vt_spec.specs.Machine.Run.{text_of}
 goes_on_alike : (renaming : Renaming ℕ ℕ) (left next reached there : World ℕ) → SameWorlds left next
     → renamed renaming.there renaming.back left ≡ reached → Alike there reached
     → Alike there (renamed renaming.there renaming.back next)
-goes_on_alike renaming left next reached there same leads alike =
-    alike_onward there reached (renamed renaming.there renaming.back next) alike
-    (alike_from_same reached (renamed renaming.there renaming.back next)
-    (subst (λ world. SameWorlds world (renamed renaming.there renaming.back next)) leads
-    (same_renamed renaming left next same)))
+goes_on_alike renaming left next reached there same leads alike = alike_onward there reached _
+    alike (alike_from_same reached _ (subst (λ world. SameWorlds world (renamed renaming.there renaming.back next))
+    leads (same_renamed renaming left next same)))
 
 -- the opening world
 opening_renamed : (renaming : Renaming ℕ ℕ) (fresh : Fresh ℕ)
@@ -39,7 +37,8 @@ unfolding named_supply
 opening_renamed renaming fresh =
     commutes_nat Fresh World named_supply named_world (λ A eq supply. opening eq supply) renaming fresh
 
--- what of the policy's worlds is left by each line that is asked, and has what is copied up alike in worlds that are alike
+-- what of the policy's worlds is left by each line that is asked, and has what is copied up alike in worlds that are
+-- alike
 pub record StaysOverLines (grammar : Grammar) (Asks : List ℕ → Type 0) (Is : World ℕ → Type 0) : Type 0 where
   pub first : Is first_world
   pub named : (world : World ℕ) → Is world → LowerObjectsHaveOneName nat_eq world
@@ -99,14 +98,12 @@ module _ (grammar : Grammar) (in_hand : ℕ → Bool) (Asks : List ℕ → Type 
         serves,
         tells.4,
         cc (tells.5, written),
-        told_alike lines refused (suc m) (number + 1) joint tells.2 _ (is_in_hand (stage m mine mine_early))
-            (goes_on_alike joint _ tells.2 _ _ tells.3
-            (line_leads joint grammar world here refl line allotment.new (spread (suc m)) supplied) steps.worlds)
-            (over.stays other line (spread (suc m)) (All-head Asks line lines asks) is
-            (room_serves mine other (stage m mine mine_early) serves))
-            (λ k is. joined-early grammar m renaming in_hand world (renamed renaming.there renaming.back world) refl
-            early allotment tells.1.serves k (tells.1.stays k is))
-            (worlds_keep_to_hand grammar mine other (stage m mine mine_early) line serves)
+        told_alike lines refused (suc m) (number + 1) joint tells.2 _ (is_in_hand (stage m mine _)) (goes_on_alike joint
+            _ tells.2 _ _ tells.3 (line_leads joint grammar world here refl line allotment.new (spread _) supplied)
+            steps.worlds) (over.stays other line (spread (suc m)) (All-head Asks line lines asks)
+            is (room_serves mine other (stage m mine mine_early) serves)) (λ k is. joined-early grammar
+            m renaming in_hand world (renamed renaming.there renaming.back world) refl early allotment tells.1.serves
+            k (tells.1.stays k is)) (worlds_keep_to_hand grammar mine other (stage m mine mine_early) line serves)
             (stage_rows m mine mine_early) (All-tail Asks line lines asks) tells.4 tells.6,
       )
 
@@ -142,8 +139,7 @@ line_plain : (long silent : Bool) (grammar : Grammar) (world : World ℕ) (line 
     → IsPlain (step_world world (line_step_by nat_eq long silent grammar world line (Some fresh)))
 line_plain true silent grammar world line fresh other plain = plain
 line_plain false true grammar world line fresh other plain = plain
-line_plain false false grammar world line fresh other plain =
-    request_plain world fresh plain (request_of grammar line) other
+line_plain false false grammar world line fresh other plain = request_plain world fresh plain _ other
 
 pub runs_have_one_text : RunsHaveOneText
 runs_have_one_text grammar refused script text in_hand fresh leaves opens asks tells =
@@ -153,6 +149,5 @@ runs_have_one_text grammar refused script text in_hand fresh leaves opens asks t
           (λ k d below. absurd (omega arith));
       named = plain_has_one_name;
       copies = λ one other alike. plain_copies one other;
-      stays = λ world line fresh other plain serves.
-          line_plain (nat_lt longest_line (length line)) (is_silent line) grammar world line fresh other plain;
+      stays = λ world line fresh other plain serves. line_plain _ (is_silent line) grammar world line fresh other plain;
     }) refused script text fresh leaves opens asks tells

@@ -1,6 +1,6 @@
 -- What has a name, and what a task is at, stays where what nothing uses goes.
-use Rattle.std.proofs.Common.{arith, eqb-true, ◌≡◌, refl, sym, ap, subst, ◌∙◌, true≢false, ℕ, nat_eq, eq-eqb, Bool, true, false, not, cond, List, [], ◌∷◌, ◌++◌, map, ◌&&◌, ◌||◌, ⊎_elim, Some, None, is_some, filter_map, unwrap_or, filter, find}
-use Rattle.vt_spec.proofs.Common.{All-filter, Filesystem, HasName, Location, Mount, World, all_locations, and_parts, common_steps, entry_at, filesystem_lives, filesystem_numbered, has_layer_on, is_among, is_located, is_mounted, is_overlay, list_any, list_any-append, located_in, mount_at, mount_in, mount_lives, no_filesystem, no_mount, node_at, none_is_not, number-only_used, only_used, or_right, root_of, same_location, same_location_is, settled, used_in, without_dead_filesystems, without_dead_in, without_dead_mounts}
+use Rattle.std.proofs.Common.{arith, eqb-true, ◌≡◌, refl, sym, ap, subst, ◌∙◌, true≢false, ℕ, nat_eq, eq-eqb, Bool, true, false, cond, List, [], ◌∷◌, ◌++◌, map, ◌&&◌, ◌||◌, ⊎_elim, Some, None, is_some, filter_map, unwrap_or, filter, find}
+use Rattle.vt_spec.proofs.Common.{All-filter, Filesystem, HasName, Location, Mount, World, all_locations, and_parts, common_steps, entry_at, filesystem_numbered, has_layer_on, is_among, is_located, is_mounted, is_overlay, list_any, list_any-append, located_in, mount_at, mount_in, mount_lives, no_filesystem, no_mount, node_at, none_is_not, number-only_used, only_used, or_right, root_of, same_location, same_location_is, settled, used_in, without_dead_filesystems, without_dead_in, without_dead_mounts}
 use Rattle.vt_laws_trees.specs.Trees.{IsFileTree}
 use Rattle.vt_laws_trees.specs.Trees.Settling.{HasFileTrees, HoldsTree, LocatedStays, NamedStays}
 use Rattle.vt_laws_trees.proofs.trees.TreesForgotten.{among_located, entry_used, named_is_used, used_stays, without_dead_in_is}
@@ -48,9 +48,7 @@ module _ (chosen : Filesystem ℕ → Bool) (world : World ℕ) (number object :
   round_keeps : is_among nat_eq object (used_in nat_eq world (filesystem_numbered nat_eq world number)) ≡ true
       → (filesystem_numbered nat_eq (without_dead_in nat_eq chosen world) number).files.tree.node object ≡
       (filesystem_numbered nat_eq world number).files.tree.node object
-  round_keeps used = mapped_node (λ f. only_used nat_eq world (chosen f) f)
-      (λ f. number-only_used world (chosen f) f) number object world.filesystems
-      (by (chosen (numbered number world.filesystems)))
+  round_keeps used = mapped_node _ (λ f. number-only_used world (chosen f) f) number object world.filesystems (by _)
     where
       by : (b : Bool) → (only_used nat_eq world b (numbered number world.filesystems)).files.tree.node object ≡
           (numbered number world.filesystems).files.tree.node object
@@ -85,10 +83,8 @@ module _ (world : World ℕ) where
       → is_among nat_eq object (used_in nat_eq first_round (filesystem_numbered nat_eq first_round number)) ≡ true
       → (filesystem_numbered nat_eq (settled nat_eq world) number).files.tree.node object ≡
       (filesystem_numbered nat_eq world number).files.tree.node object
-  both_rounds number object mounted first second =
-      round_keeps (λ f. not (is_overlay f)) first_round number object second
-      ∙ round_keeps is_overlay living number object first
-      ∙ ap (λ (f : Filesystem ℕ). f.files.tree.node object) (living_numbered number mounted)
+  both_rounds number object mounted first second = round_keeps _ first_round number object second ∙ round_keeps _
+      living number object first ∙ ap (λ (f : Filesystem ℕ). f.files.tree.node object) (living_numbered number mounted)
 
   -- Names
   named_stays_there : HasFileTrees living → (number object : ℕ) → is_mounted nat_eq mounted_world number ≡ true
@@ -115,12 +111,10 @@ module _ (world : World ℕ) where
 
       used_second : is_among nat_eq object (used_in nat_eq first_round (filesystem_numbered nat_eq first_round number))
           ≡ true
-      used_second = ⊎_elim (λ is. (named_is_used first_round
-          (filesystem_numbered nat_eq first_round number) is).named object named_second)
-          (λ missing. none_is_not None object refl
-          (ap (λ (f : Filesystem ℕ). entry_at f.files.tree named_second.0 named_second.1) (sym missing.0)
-          ∙ named_second.2)) (numbered_all (λ f. IsFileTree f.files) number first_round.filesystems
-          (without_dead_in_is is_overlay living trees))
+      used_second = ⊎_elim (λ is. (named_is_used first_round (filesystem_numbered nat_eq first_round number) is).named
+          object named_second) (λ missing. none_is_not None object refl (ap
+          (λ (f : Filesystem ℕ). entry_at f.files.tree named_second.0 named_second.1) (sym missing.0) ∙ named_second.2))
+          (numbered_all (λ f. IsFileTree f.files) number _ (without_dead_in_is is_overlay living trees))
 
 pub named_stays : NamedStays
 named_stays world number object trees mounted named = ⊎_elim
@@ -136,16 +130,14 @@ named_stays world number object trees mounted named = ⊎_elim
     named_living = subst (λ (f : Filesystem ℕ). HasName f.files.tree object) (sym same) named
 
     living_trees : HasFileTrees (living world)
-    living_trees = All-filter (filesystem_lives nat_eq (mounted_world world))
-        (λ f. IsFileTree f.files) world.filesystems trees
+    living_trees = All-filter _ (λ f. IsFileTree f.files) world.filesystems trees
 
 -- Locations
 listed_node : (test : Location ℕ → Bool) (list : List (Location ℕ)) (location : Location ℕ)
     → list_any (same_location nat_eq location) list ≡ true → test location ≡ true
     → is_among nat_eq location.node (map (λ l. l.node) (filter test list)) ≡ true
 listed_node test [] location h t = cc
-listed_node test (first ∷ list) location h t =
-    by (same_location nat_eq location first) refl (test first) refl h (λ g. listed_node test list location g t)
+listed_node test (first ∷ list) location h t = by _ refl (test first) refl h (λ g. listed_node test list location g t)
   where
     by : (b : Bool) → same_location nat_eq location first ≡ b → (c : Bool) → test first ≡ c
         → (b || list_any (same_location nat_eq location) list) ≡ true
@@ -159,8 +151,7 @@ listed_node test (first ∷ list) location h t =
 located_mount : (list : List (Location ℕ)) (location : Location ℕ)
     → list_any (same_location nat_eq location) list ≡ true → list_any (λ l. nat_eq location.mount l.mount) list ≡ true
 located_mount [] location h = cc
-located_mount (first ∷ list) location h =
-    by (same_location nat_eq location first) refl h (λ g. located_mount list location g)
+located_mount (first ∷ list) location h = by _ refl h (λ g. located_mount list location g)
   where
     by : (b : Bool) → same_location nat_eq location first ≡ b
         → (b || list_any (same_location nat_eq location) list) ≡ true
@@ -169,8 +160,7 @@ located_mount (first ∷ list) location h =
         → (nat_eq location.mount first.mount || list_any (λ l. nat_eq location.mount l.mount) list) ≡ true
     by true e g rest = ap (λ b. b || list_any (λ l. nat_eq location.mount l.mount) list)
         ((and_parts (nat_eq location.mount first.mount) (nat_eq location.node first.node) e).0)
-    by false e g rest = or_right (nat_eq location.mount first.mount)
-        (list_any (λ l. nat_eq location.mount l.mount) list) (rest g)
+    by false e g rest = or_right (nat_eq location.mount first.mount) _ (rest g)
 
 -- a listed mount's filesystem is mounted
 listed_mounts : (list : List (Mount ℕ)) (number : ℕ) → is_among nat_eq number (map (λ m. m.number) list) ≡ true
@@ -187,16 +177,14 @@ listed_mounts (mount ∷ list) number h = by (nat_eq number mount.number) h (λ 
         (no_mount number)).filesystem m.filesystem) list) ≡ true
     by true g rest = ap (λ b. b || list_any (λ m. nat_eq mount.filesystem m.filesystem) list)
         (eq-eqb mount.filesystem mount.filesystem refl)
-    by false g rest = or_right (nat_eq (mount_in nat_eq list number).filesystem mount.filesystem)
-        (list_any (λ m. nat_eq (mount_in nat_eq list number).filesystem m.filesystem) list) (rest g)
+    by false g rest = or_right (nat_eq (mount_in nat_eq list number).filesystem mount.filesystem) _ (rest g)
 
 still_listed : (stays : Mount ℕ → Bool) (list : List (Mount ℕ)) (number : ℕ)
     → ((mount : Mount ℕ) → mount.number ≡ number → stays mount ≡ true)
     → is_among nat_eq number (map (λ m. m.number) list) ≡ true
     → is_among nat_eq number (map (λ m. m.number) (filter stays list)) ≡ true
 still_listed stays [] number h g = g
-still_listed stays (mount ∷ list) number h g =
-    by (nat_eq number mount.number) refl (stays mount) refl g (λ k. still_listed stays list number h k)
+still_listed stays (mount ∷ list) number h g = by _ refl (stays mount) refl g (λ k. still_listed stays list number h k)
   where
     by : (b : Bool) → nat_eq number mount.number ≡ b → (c : Bool) → stays mount ≡ c
         → (b || is_among nat_eq number (map (λ m. m.number) list)) ≡ true
@@ -216,8 +204,7 @@ module _ (world : World ℕ) (location : Location ℕ)
   shown_filesystem = (mount_at nat_eq (mounted_world world) location).filesystem
 
   same_shown : shown_filesystem ≡ (mount_at nat_eq world location).filesystem
-  same_shown = ap (λ (m : Mount ℕ). m.filesystem)
-      (filtered_mount (mount_lives nat_eq world) location.mount world.mounts mount_stays)
+  same_shown = ap (λ (m : Mount ℕ). m.filesystem) (filtered_mount _ location.mount world.mounts mount_stays)
 
   shown_mounted : is_mounted nat_eq (mounted_world world) shown_filesystem ≡ true
   shown_mounted = listed_mounts (filter (mount_lives nat_eq world) world.mounts) location.mount
@@ -243,9 +230,7 @@ module _ (world : World ℕ) (location : Location ℕ)
       (eq-eqb shown_filesystem shown_filesystem refl))
 
   located_stays_there : node_at nat_eq (settled nat_eq world) location ≡ node_at nat_eq world location
-  located_stays_there =
-      both_rounds world shown_filesystem location.node shown_mounted (located_used (living world).filesystems)
-      (located_used (first_round world).filesystems)
+  located_stays_there = both_rounds world shown_filesystem location.node shown_mounted (located_used _) (located_used _)
       ∙ ap (λ n. (filesystem_numbered nat_eq world n).files.tree.node location.node) same_shown
 
 pub located_stays : LocatedStays

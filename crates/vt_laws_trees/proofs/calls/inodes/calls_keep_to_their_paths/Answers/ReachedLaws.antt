@@ -9,8 +9,7 @@ use Rattle.vt_laws_rules.proofs.given.Inversion.{calls_are_granted}
 use Rattle.vt_laws_trees.specs.Trees.Settling.{inode_in}
 
 pub calls_keep_to_their_paths : CallsKeepToTheirPaths
-calls_keep_to_their_paths fresh world name call task filesystem number plain no_overlay is apart root =
-    by (judge_in nat_eq fresh world task call) refl
+calls_keep_to_their_paths fresh world name call task filesystem number plain no_overlay is apart root = by _ refl
   where
     Kept : Option (Node ℕ) → Type 0
     Kept now = (now ≡ inode_in world filesystem number) ⊎ (now ≡ None)

@@ -1,6 +1,6 @@
 -- What a permit names lies where the walks of its call lead, or its descriptors are.
 use Rattle.std.proofs.Common.{arith, Result, ap, eqb-true, is_some, map, nat_eq, option_map, refl, subst, sym, true≢false, ◌&&◌, ◌∙◌, Bool, List, None, Ok, Option, Some, [], false, option_to_list, true, unwrap_or, ℕ, ◌++◌, ◌||◌, ◌∷◌, ◌≡◌}
-use Rattle.vt_spec.proofs.Common.{Call, Descriptor, Fresh, Location, Looks, Permit, Place, Rules, Stop, Task, ToRename, ToWritePart, World, and-false, common_steps, descriptor_found, entries_in, entry_named, evens, is_among, is_special, looks_of, mount_at, mount_numbered, name_of, node_at, object_there, or_false_left, or_parts, overfills, rename_new_walk, special_word, walk_unless, ⊤}
+use Rattle.vt_spec.proofs.Common.{Call, Descriptor, Fresh, Location, Looks, Permit, Place, Rules, Stop, Task, ToRename, ToWritePart, World, and-false, common_steps, descriptor_found, evens, is_among, is_special, looks_of, mount_at, mount_numbered, name_of, object_there, or_false_left, or_parts, overfills, rename_new_walk, special_word, walk_unless, ⊤}
 use Rattle.vt_laws_trees.specs.Calls.Inodes.{is_own}
 use Rattle.vt_laws_trees.specs.Calls.Reached.{directory_and_new, directory_and_new_at, directory_and_object_at, directory_at, file_or_new, file_or_new_at, is_at_one_of, is_new_root, nothing_or_new, nothing_or_new_at, object_at, reached_by}
 use Rattle.vt_laws_rules.specs.Granted.{IsGranted}
@@ -70,8 +70,7 @@ module _ (fresh : Fresh ℕ) (world : World ℕ) (task : Task ℕ) (filesystem n
   object_beside : (place : Place ℕ) → IsPlace world place → is_special place.last ≡ false
       → AllIn (In place.parent) (option_to_list place.object)
   object_beside place is plain = subst (λ o. AllIn (In place.parent) (option_to_list o))
-      (sym (place_named world place.parent place.last place.object plain is).1)
-      (beside place.parent (entry_named (name_of place.last) (entries_in (node_at nat_eq world place.parent))))
+      (sym (place_named world place.parent place.last place.object plain is).1) (beside place.parent _)
 
   spared_removed : (place : Place ℕ) → IsOldPlace world task place → is_special place.last ≡ false
       → Apart (place.parent ∷ option_to_list place.object) → (nat_eq filesystem (In place.parent)
@@ -114,9 +113,8 @@ module _ (fresh : Fresh ℕ) (world : World ℕ) (task : Task ℕ) (filesystem n
   pub granted_spares : (call : Call) (permit : Permit ℕ)
       → IsGranted nat_eq looks (overfills nat_eq fresh world task) task call permit
       → Apart (reached_by fresh world task call) → is_new_root fresh call filesystem number ≡ false → IsSpared permit
-  granted_spares call permit (overwrites_file path bytes place file end named there passed) apart root =
-      spared_one file (subst (λ o. Apart (file_or_new fresh place.parent o)) there
-      (apart_at (file_walk nat_eq world task path) place (file_or_new_at fresh) end apart))
+  granted_spares call permit (overwrites_file path bytes place file end named there passed) apart root = spared_one file
+      (subst (λ o. Apart (file_or_new fresh place.parent o)) there (apart_at _ place (file_or_new_at fresh) end apart))
   granted_spares call permit (writes_new_file path bytes place end named missing fits passed) apart root =
       spared_new place.parent (subst (λ o. Apart (file_or_new fresh place.parent o)) missing
       (apart_at (file_walk nat_eq world task path) place (file_or_new_at fresh) end apart))
@@ -135,26 +133,20 @@ module _ (fresh : Fresh ℕ) (world : World ℕ) (task : Task ℕ) (filesystem n
           tt,
         ),
       ) (apart_at (symlink_walk nat_eq world task old) from (λ walk. place.parent ∷ object_at walk) from_end
-      (apart_at (new_leaf_walk nat_eq world task new) place
-      (λ walk. directory_at walk ++ object_at (symlink_walk nat_eq world task old)) end apart))
+      (apart_at _ place (λ walk. directory_at walk ++ object_at (symlink_walk nat_eq world task old)) end apart))
   granted_spares call permit (unlinks path place end named passed) apart root = spared_removed place
       (at_end (IsOldPlace world task) (old_leaf_walk nat_eq world task path) place (ends_old_leaf_walk world task path)
       end) named.0 (apart_at (old_leaf_walk nat_eq world task path) place directory_and_object_at end apart)
   granted_spares call permit (removes_directory path place end word passed) apart root = spared_removed place
       (at_end (IsOldPlace world task) (old_walk nat_eq world task path) place (ends_old_walk world task path) end)
-      (special_word place.last word.0 word.1.0 word.1.1.0)
-      (apart_at (old_walk nat_eq world task path) place directory_and_object_at end apart)
+      (special_word place.last word.0 word.1.0 word.1.1.0) (apart_at _ place directory_and_object_at end apart)
   granted_spares call permit (renames old new from to names two passed) apart root =
       let to_end = renamed_walk world task new (is_directory_there nat_eq world from) to names.to_end in
-      moved_spares from to
-      (at_end (IsOldPlace world task) (old_leaf_walk nat_eq world task old) from (ends_old_leaf_walk world task old)
-      names.from_end) names.from_named.0
-      (at_end (IsNewPlace world task) (new_walk nat_eq world task new) to (ends_new_walk world task new) to_end).0
-      names.to_named.0 (eqb-true from.parent.mount to.parent.mount (not-false _ passed.1.1.1.1.1.1.1.1.0))
-      (apart_at (new_walk nat_eq world task new) to
-      (λ walk. (from.parent ∷ option_to_list from.object) ++ directory_and_object_at walk) to_end
-      (apart_at (old_leaf_walk nat_eq world task old) from
-      (λ walk. directory_and_object_at walk ++ directory_and_object_at (new_walk nat_eq world task new))
+      moved_spares from to (at_end (IsOldPlace world task) _ from (ends_old_leaf_walk world task old) names.from_end)
+      names.from_named.0 (at_end (IsNewPlace world task) _ to (ends_new_walk world task new) to_end).0
+      names.to_named.0 (eqb-true from.parent.mount to.parent.mount (not-false _ passed.1.1.1.1.1.1.1.1.0)) (apart_at _
+      to (λ walk. (from.parent ∷ option_to_list from.object) ++ directory_and_object_at walk) to_end (apart_at _
+      from (λ walk. directory_and_object_at walk ++ directory_and_object_at (new_walk nat_eq world task new))
       names.from_end apart))
   granted_spares call permit (changes_mode path mode here end passed) apart root =
       spared_one here.location (apart_at (object_walk nat_eq world task path) here object_at end apart)
@@ -167,10 +159,8 @@ module _ (fresh : Fresh ℕ) (world : World ℕ) (task : Task ℕ) (filesystem n
       (apart_at (file_walk nat_eq world task path) place (nothing_or_new_at fresh) end apart))
   granted_spares call permit (creates_exclusively path access mode place room end named passed) apart root =
       spared_new place.parent (apart_at (new_walk nat_eq world task path) place (directory_and_new_at fresh) end apart)
-  granted_spares call permit (writes_part which offset bytes descriptor found passed) apart root =
-      pwritten_spares descriptor.location offset bytes
-      (subst (λ o. Apart (option_to_list (option_map (λ (d : Descriptor ℕ). d.location) o)))
+  granted_spares call permit (writes_part which offset bytes descriptor found passed) apart root = pwritten_spares _
+      offset bytes (subst (λ o. Apart (option_to_list (option_map (λ (d : Descriptor ℕ). d.location) o)))
       (descriptor_found task which (λ d. d.writes) descriptor found).0 apart)
-  granted_spares call permit (mounts_tmpfs path flags here admin end passed) apart root =
-      joined (nat_eq filesystem (evens fresh 0)) (nat_eq number (evens fresh 1)) root
+  granted_spares call permit (mounts_tmpfs path flags here admin end passed) apart root = joined _ _ root
   granted_spares call permit granted apart root = refl

@@ -1,6 +1,6 @@
 -- The root of a filesystem stays its root, as long as the filesystem is there.
-use Rattle.std.proofs.Common.{arith, ◌≡◌, refl, sym, subst, ◌∙◌, inl, inr, ◌⊎◌, true≢false, ℕ, ◌+◌, nat_eq, eqb-true, eq-eqb, Bool, true, false, not, cond, ◌||◌, List, [], ◌∷◌, ◌++◌, map, filter, find, Option, Some, None, is_some, option_map, Ok, Err, ok_or}
-use Rattle.vt_spec.proofs.Common.{AddName, Change, CopyUp, FileTree, Filesystem, Fresh, Judgement, Layer, Location, Make, Merge, Move, Node, Outcome, Overlay, Permit, Remove, SetAttr, SetBytes, SetMark, Stack, Task, ToChange, ToEnterNamespace, ToExit, ToMake, ToMountOverlay, ToMountPlain, ToOpen, ToOpenNew, ToRemoveDirectory, ToRename, ToSetType, ToUnmount, ToUnmountLazily, ToUnshare, ToWritePart, World, after, apply, changed, common_steps, copied_each, copied_up, copy_of, denial, denied, evens, filesystem_at, filesystem_changed, filesystem_lives, filesystem_numbered, filesystems-taken_away, filesystems-without_replaced, filesystems_changed_by, finished, finished_by, hides_directory, is_copied_up, is_in_upper, is_overlay, judge_in, line_to, merge_changed, merge_of, merge_with_link, merge_with_moved, merge_with_new, merge_without_name, mount_at, name_left, no_filesystem, odds, only_looks, only_used, overlay_changed, plain_filesystem, pwritten, raised_if_changed, replaced_if_numbered, same_Some, settled, shown_in_lowers_at, stack_of, task_called, unshared, upper_directory_named, upper_of, with_change, with_copy, with_files, with_moved, without_contents, without_dead_filesystems, without_dead_in, without_dead_mounts, without_replaced, without_task}
+use Rattle.std.proofs.Common.{arith, ◌≡◌, refl, sym, subst, ◌∙◌, inl, inr, ◌⊎◌, true≢false, ℕ, ◌+◌, nat_eq, eqb-true, eq-eqb, Bool, true, false, cond, ◌||◌, List, [], ◌∷◌, ◌++◌, map, filter, find, Option, Some, None, option_map, Ok, Err, ok_or}
+use Rattle.vt_spec.proofs.Common.{AddName, Change, CopyUp, FileTree, Filesystem, Fresh, Judgement, Layer, Location, Make, Merge, Move, Node, Outcome, Overlay, Permit, Remove, SetAttr, SetBytes, SetMark, Stack, Task, ToChange, ToEnterNamespace, ToExit, ToMake, ToMountOverlay, ToMountPlain, ToOpen, ToOpenNew, ToRemoveDirectory, ToRename, ToSetType, ToUnmount, ToUnmountLazily, ToUnshare, ToWritePart, World, after, apply, changed, common_steps, copied_each, copied_up, copy_of, denial, denied, evens, filesystem_at, filesystem_changed, filesystem_lives, filesystem_numbered, filesystems-taken_away, filesystems-without_replaced, filesystems_changed_by, finished, finished_by, is_copied_up, is_in_upper, is_overlay, judge_in, line_to, merge_changed, merge_of, merge_with_link, merge_with_moved, merge_with_new, merge_without_name, mount_at, no_filesystem, odds, only_looks, only_used, overlay_changed, plain_filesystem, pwritten, raised_if_changed, replaced_if_numbered, same_Some, settled, stack_of, task_called, unshared, upper_directory_named, upper_of, with_change, with_copy, with_moved, without_contents, without_dead_filesystems, without_dead_in, without_dead_mounts, without_replaced, without_task}
 use Rattle.vt_laws_trees.specs.Calls.Reached.{RootsStay, root_in}
 use Rattle.vt_laws_rules.proofs.judged.CallsJudged.{policy_judges_then_applies}
 use Rattle.vt_spec.specs.declared.errors.Rule.TheVariants.{S2}
@@ -27,8 +27,7 @@ copied_roots : (fresh : Fresh ℕ) (k : ℕ) (merge : Merge ℕ) (list : List �
     → SameRoots merge (copied_each nat_eq fresh k merge list)
 copied_roots fresh k merge [] = (refl, refl)
 copied_roots fresh k merge (object ∷ rest) = and_roots merge copied (copied_each nat_eq fresh (k + 1) copied rest)
-    (copy_roots merge object (fresh k) (merge.files.tree.node object) (is_in_upper merge object))
-    (copied_roots fresh (k + 1) copied rest)
+    (copy_roots merge object (fresh k) _ (is_in_upper merge object)) (copied_roots fresh (k + 1) copied rest)
   where
     copied : Merge ℕ
     copied = copy_of nat_eq merge object (fresh k) (merge.files.tree.node object) (is_in_upper merge object)
@@ -40,12 +39,8 @@ moved_roots : (fresh : Fresh ℕ) (stack : Stack ℕ) (merge : Merge ℕ) (from 
     (object : ℕ) → SameRoots merge (merge_with_moved nat_eq fresh stack merge from old to new object)
 moved_roots fresh stack merge from old to new object = (
   changed_root merge.files (Move from old to new object),
-  root-marked (hides_directory nat_eq stack merge to new)
-      (name_left nat_eq fresh stack merge renamed from old) (upper_of merge object)
-      ∙ root-name_left_by (is_some (shown_in_lowers_at nat_eq stack merge from old)) fresh stack renamed
-      (upper_of merge from) old
-      ∙ changed_root upper (Move (upper_of merge from) old (upper_of merge to) new (upper_of merge object))
-      ∙ root-emptied merge.upper (upper_directory_named merge to new),
+  root-marked _ _ _ ∙ root-name_left_by _ fresh stack renamed (upper_of merge from) old ∙ changed_root upper
+      (Move (upper_of merge from) old (upper_of merge to) new (upper_of merge object)) ∙ root-emptied merge.upper _,
 )
   where
     upper : FileTree ℕ
@@ -58,8 +53,7 @@ merged_roots : (fresh : Fresh ℕ) (stack : Stack ℕ) (merge : Merge ℕ) (chan
     → SameRoots merge (merge_changed nat_eq fresh stack merge change)
 merged_roots fresh stack merge (Make directory name number node) =
     and_roots merge copied (merge_with_new nat_eq (odds fresh) stack copied directory name number node)
-    (up_roots (evens fresh) merge directory)
-    (refl, root-marked (hides_directory nat_eq stack copied directory name) _ (odds fresh 0))
+    (up_roots (evens fresh) merge directory) (refl, root-marked _ _ (odds fresh 0))
   where
     copied : Merge ℕ
     copied = copied_up nat_eq (evens fresh) merge directory
@@ -69,14 +63,10 @@ merged_roots fresh stack merge (AddName directory name object) =
   where
     first : Merge ℕ
     first = copied_up nat_eq (evens fresh) merge object
-merged_roots fresh stack merge (Remove directory name object) =
-    and_roots merge copied (merge_without_name nat_eq (odds fresh) stack copied directory name object)
-    (up_roots (evens fresh) merge directory) (
+merged_roots fresh stack merge (Remove directory name object) = and_roots merge
+    copied (merge_without_name nat_eq (odds fresh) stack copied directory name object) (up_roots _ merge directory) (
       refl,
-      root-emptied (name_left nat_eq (odds fresh) stack copied copied.upper directory name)
-          (upper_directory_named copied directory name)
-          ∙ root-name_left_by (is_some (shown_in_lowers_at nat_eq stack copied directory name))
-          (odds fresh) stack copied.upper (upper_of copied directory) name,
+      root-emptied _ _ ∙ root-name_left_by _ (odds fresh) stack copied.upper (upper_of copied directory) name,
     )
   where
     copied : Merge ℕ
@@ -155,9 +145,7 @@ module _ (number : ℕ) where
         merged_in : (overlay : Overlay ℕ) (upper : Option (Layer ℕ))
             → Is (overlay_changed nat_eq fresh world at overlay upper change).filesystems
         merged_in overlay None = h
-        merged_in overlay (Some upper) = replaced_root (with_files below merge.upper)
-            (λ same. roots.1 ∙ its_root world upper.filesystem h same)
-            (map (replaced_if_numbered nat_eq new) world.filesystems)
+        merged_in overlay (Some upper) = replaced_root _ (λ same. roots.1 ∙ its_root world upper.filesystem h same) _
             (replaced_root new (λ same. roots.0 ∙ its_root world shown h same) world.filesystems h)
           where
             below : Filesystem ℕ
@@ -176,8 +164,7 @@ module _ (number : ℕ) where
             roots = merged_roots fresh (stack_of nat_eq world overlay upper) was change
 
         by : (o : Option (Overlay ℕ)) → Is (filesystem_changed nat_eq fresh world at o change).filesystems
-        by None = replaced_root (with_files at (changed nat_eq at.files change))
-            (λ same. changed_root at.files change ∙ its_root world shown h same) world.filesystems h
+        by None = replaced_root _ (λ same. changed_root at.files change ∙ its_root world shown h same) _ h
         by (Some overlay) = merged_in overlay overlay.upper
 
     module _ (fresh : Fresh ℕ) (world : World ℕ) (h : Is world.filesystems) where
@@ -186,9 +173,8 @@ module _ (number : ℕ) where
 
       replaced_left : (replaced : Option (Location ℕ)) (location : Location ℕ) (change : Change ℕ)
           → Is (with_change nat_eq fresh (without_replaced nat_eq world replaced) location change).filesystems
-      replaced_left replaced location change =
-          change_root fresh (without_replaced nat_eq world replaced) location change
-          (same_list (without_replaced nat_eq world replaced).filesystems (filesystems-without_replaced world replaced))
+      replaced_left replaced location change = change_root fresh (without_replaced nat_eq world replaced)
+          location change (same_list _ (filesystems-without_replaced world replaced))
 
       copied_left : (copies : Bool) (file : Location ℕ) → Is (with_copy nat_eq copies fresh world file).filesystems
       copied_left true file = change_root fresh world file (CopyUp file.node) h
@@ -262,8 +248,7 @@ module _ (number : ℕ) where
       merged = without_dead_in nat_eq is_overlay living
 
       used : root_of (settled nat_eq world).filesystems ≡ root_of living.filesystems
-      used = mapped _ (only_used_keeps merged (λ filesystem. not (is_overlay filesystem))) merged.filesystems
-          ∙ mapped _ (only_used_keeps living is_overlay) living.filesystems
+      used = mapped _ (only_used_keeps merged _) merged.filesystems ∙ mapped _ (only_used_keeps living is_overlay) _
 
 pub roots_stay : RootsStay
 roots_stay fresh world name call filesystem root is =
@@ -281,13 +266,11 @@ roots_stay fresh world name call filesystem root is =
 
     by_permit : (changes : List ℕ) (task : Task ℕ) (judgement : Judgement ℕ)
         → Stays (finished nat_eq world name call changes (after world judgement (apply nat_eq fresh world task))).world
-    by_permit changes task (Ok permit) = finished_stays _ changes (apply nat_eq fresh world task permit)
-        (root_left filesystem root fresh world is task permit)
+    by_permit changes task (Ok permit) = finished_stays _ changes _ (root_left _ root fresh world is task permit)
     by_permit changes task (Err deny) = finished_stays (only_looks call || true) changes (denied world deny) is
 
     by_task : (o : Option (Task ℕ)) → Stays (after world (ok_or o (denial S2)) (λ task.
         finished nat_eq world name call (filesystems_changed_by nat_eq world (judge_in nat_eq fresh world task call))
         (after world (judge_in nat_eq fresh world task call) (apply nat_eq fresh world task)))).world
     by_task None = inl is
-    by_task (Some task) = by_permit (filesystems_changed_by nat_eq world (judge_in nat_eq fresh world task call)) task
-        (judge_in nat_eq fresh world task call)
+    by_task (Some task) = by_permit _ task (judge_in nat_eq fresh world task call)
