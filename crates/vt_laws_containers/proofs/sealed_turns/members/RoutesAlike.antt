@@ -1,6 +1,6 @@
 -- The paths of a call of theirs are walked alike in the world and in the part.
-use Rattle.std.proofs.Common.{arith, ◌≡◌, refl, ap, ℕ, nat_eq, List, [], ◌∷◌, ◌++◌, Option, Some, None, Ok, Err, Result, IfOk, option_to_list}
-use Rattle.vt_spec.proofs.Common.{Bind, Call, Chdir, Chmod, Chown, Chroot, Creation, Exclusive, Exec, Here, Lazy, LinkTo, Location, Looks, Ls, Lstat, MakeWhiteout, Mkdir, MountOverlay, MountPlain, MoveMount, NoCreation, Opaque, OpenFile, OrCreate, OverlayWords, PivotRoot, Place, Read, Readlink, Remount, Rename, Rmdir, SetType, Stat, Stop, SymlinkAt, Task, Umount, Unlink, Write, common_steps, destination_walk, directory_walk, file_walk, map_alike, new_leaf_walk, new_walk, object_walk, old_leaf_walk, old_walk, routes, source_walk, symlink_walk, work_walked}
+use Rattle.std.proofs.Common.{arith, ◌≡◌, refl, ap, ℕ, nat_eq, List, [], ◌∷◌, Option, Some, None, Ok, Err, Result, IfOk}
+use Rattle.vt_spec.proofs.Common.{Bind, Call, Chdir, Chmod, Chown, Chroot, Creation, Exclusive, Exec, Here, Lazy, LinkTo, Location, Looks, Ls, Lstat, MakeWhiteout, Mkdir, MountOverlay, MountPlain, MoveMount, NoCreation, Opaque, OpenFile, OrCreate, OverlayWords, PivotRoot, Place, Read, Readlink, Remount, Rename, Rmdir, SetType, Stat, Stop, SymlinkAt, Task, Umount, Unlink, Write, common_steps, destination_walk, directory_walk, file_walk, map_alike, new_leaf_walk, new_walk, object_walk, old_leaf_walk, old_walk, routes, source_walk, symlink_walk}
 use Rattle.vt_laws_containers.proofs.Common.{here_route, layer_routes, open_route, place_route, rename_from_directory}
 use Rattle.vt_laws_sealed.proofs.part.walks.WalksAgree.{Alike}
 use Rattle.vt_laws_members.proofs.judging.WalksLead.{PlaceAt, destination_agrees, directory_agrees, file_agrees, new_agrees, new_leaf_agrees, object_agrees, old_agrees, old_leaf_agrees, rename_new_agrees, same_directory_there, source_agrees, symlink_agrees}
@@ -56,8 +56,7 @@ module _ {one other : Looks ℕ} {task : Task ℕ} {Own : ℕ → Type 0} (alike
   -- the old object of a rename is a directory in both
   from_directory : (path : List ℕ) → rename_from_directory nat_eq one (old_leaf_walk nat_eq one task path)
       ≡ rename_from_directory nat_eq other (old_leaf_walk nat_eq other task path)
-  from_directory path =
-      cc (by (old_leaf_walk nat_eq one task path) (old_leaf_agrees alike directory removed path).1, old_leaf path)
+  from_directory path = cc (by _ (old_leaf_agrees alike directory removed path).1, old_leaf path)
     where
       by : (a : Result (Place ℕ) (Stop ℕ)) → IfOk a (PlaceAt alike directory removed)
           → rename_from_directory nat_eq one a ≡ rename_from_directory nat_eq other a
@@ -68,17 +67,14 @@ module _ {one other : Looks ℕ} {task : Task ℕ} {Own : ℕ → Type 0} (alike
   renamed old new = cc (
     old_leaf old,
     from_directory old,
-    (rename_new_agrees alike directory removed new
-        (rename_from_directory nat_eq other (old_leaf_walk nat_eq other task old))).0,
+    (rename_new_agrees alike directory removed new _).0,
   )
 
   layers : (options : Option OverlayWords)
       → layer_routes nat_eq one task options ≡ layer_routes nat_eq other task options
   layers None = refl
   layers (Some words) = map_alike (λ path. here_route (source_walk nat_eq one task path))
-      (λ path. here_route (source_walk nat_eq other task path))
-      (words.lowers ++ option_to_list words.upper ++ option_to_list (work_walked words))
-      (λ path m. ap (λ w. here_route w) (source path))
+      (λ path. here_route (source_walk nat_eq other task path)) _ (λ path m. ap (λ w. here_route w) (source path))
 
   opened_alike : (path : List ℕ) (how : Creation)
       → (open_route nat_eq one task path how ∷ []) ≡ (open_route nat_eq other task path how ∷ [])
