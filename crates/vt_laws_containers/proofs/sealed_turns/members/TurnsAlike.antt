@@ -47,11 +47,13 @@ module _ (sched : Sched ℕ) (names : List TaskName) (has : HasCallsUnderWay sch
         }
 
     same_ways : ways ≡ routes nat_eq (looks_of nat_eq part.world) task call
-    same_ways = routes_alike
-        walks_alike
-        (theirs_test world names has.is.mounts task.directory.mount (directory_theirs world names has.is task member))
-        (λ here own. ap (λ (f : Filesystem ℕ). is_removed nat_eq f.files.tree here.node)
-        (filesystem_alike world names has.is here (theirs_from world names has.is.mounts here.mount own))) call
+    same_ways = routes_alike (record {
+      walks = walks_alike;
+      directory = theirs_test world names has.is.mounts task.directory.mount
+          (directory_theirs world names has.is task member);
+      removed = λ here own. ap (λ (f : Filesystem ℕ). is_removed nat_eq f.files.tree here.node)
+          (filesystem_alike world names has.is here (theirs_from world names has.is.mounts here.mount own));
+    }) call
 
     held_same : (met : List ℕ) (list : List (ℕ × ℕ))
         → ((f : ℕ) → Among f met → is_among nat_eq f (used_filesystems nat_eq world names) ≡ true)

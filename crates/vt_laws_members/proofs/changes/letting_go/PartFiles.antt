@@ -21,7 +21,8 @@ module _ (world : World ℕ) (names : List TaskName) (is : IsWorld nat_eq world)
 
   pub plain_in_part : (y merged : Filesystem ℕ) → Among y part.filesystems → Among merged part.filesystems
       → has_layer_on nat_eq y.number merged ≡ true → y.overlay ≡ None
-  plain_in_part y merged m n has = grind (arith, common_steps, among-from_filter_map, shown_number, shown_overlay, plain_in)
+  plain_in_part y merged m n has =
+      grind (arith, common_steps, among-from_filter_map, shown_number, shown_overlay, plain_in)
 
   module _ (set : List TaskName) (next next_part : World ℕ) (less : AreLess world names set next next_part) where
     abbrev now : World ℕ

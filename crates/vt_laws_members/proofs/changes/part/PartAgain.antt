@@ -72,7 +72,8 @@ module _ (world : World ℕ) (names : List TaskName) (is : IsWorld nat_eq world)
             (filter_map shown rest)))
             (ap shown (itself z (all z (inl refl)) h) ∙ e)
             ∙ ap (λ b. cond b (Some y) (find (λ (f : Filesystem ℕ). nat_eq x.number f.number)
-            (filter_map shown rest))) (ap (nat_eq x.number) (shown_number world names x y e) ∙ eq-eqb x.number x.number refl)
+            (filter_map shown rest)))
+            (ap (nat_eq x.number) (shown_number world names x y e) ∙ eq-eqb x.number x.number refl)
         | inr h ↦ cc (
           skip (shown z) refl h,
           (search rest (λ w n. all w (inr n))) (⊎_elim (λ same. absurd (true≢false (sym (eq-eqb x.number z.number
