@@ -50,7 +50,7 @@ pub use Rattle.vt_laws_sealed.proofs.part.locks.LockedTrees.{all_locked, named_u
 pub use Rattle.vt_laws_sealed.proofs.part.part.DeadMounts.{dead_mounts_are_in_no_part, mounts_kept}
 pub use Rattle.vt_laws_sealed.proofs.part.part.MountsOver.{IsWhole, nowhere_stands, numbered, same_child, same_over}
 pub use Rattle.vt_laws_sealed.proofs.part.part.Observed.{lowers_same, part_same, used_same}
-pub use Rattle.vt_laws_sealed.proofs.part.part.PartOfPart.{found, is_own, keep, kept_how, kept_whole, located, same_directly, same_lowers, same_members, same_own, same_used, shown_how, used_directly_used}
+pub use Rattle.vt_laws_sealed.proofs.part.part.PartOfPart.{found, is_own, keep, kept_how, kept_whole, located, same_directly, same_lowers, same_members, same_own, same_used, shown_how, shown_number, used_directly_used}
 pub use Rattle.vt_laws_sealed.proofs.part.seals.ByPart.{IsSealed, apart_if_sealed, layer_directory, layer_plain, lower_plain, overlay_without_others, sealed_by, their_overlays_are_in_the_part, used_are_free}
 pub use Rattle.vt_laws_sealed.proofs.part.walks.WalksAgree.{Agree, Alike, Each, FollowsAgree, both_each, each_from, none_each, one_each, own_topmost, same_entry, same_filesystems, same_met, same_search, same_topmost, stepped_agrees, texts_agree, then_agree, unless_agree, word_agrees, words_agree}
 pub use Rattle.vt_laws_sealed.specs.Part.Parts.{SeesTheSame, shown_of}

@@ -68,13 +68,11 @@ module _ {world : World ℕ} {names : List TaskName} (sealing : IsSealed world n
       (copies_as_before serves (λ a b. (_, refl)) sources shows)
 
 pub binds_give_no_foothold : BindsGiveNoFoothold
-binds_give_no_foothold world names name source path recursive it fresh serves = elim (cases_Option
-    (task_called world name)) [
-      | inl e ↦ refused_out it fresh (ap (λ o. is_ok (ran name (Bind source path recursive) world fresh o).answer) e)
-      | inr its ↦ let member = caller_in it its.1 in
-          judged_by its.0 member its.1 (judge_in nat_eq fresh world its.0 (Bind source path recursive)) refl
-          (binds_there member recursive fresh source path)
-    ]
+binds_give_no_foothold world names name source path recursive it fresh serves = elim (cases_Option _) [
+  | inl e ↦ refused_out it fresh (ap (λ o. is_ok (ran name (Bind source path recursive) world fresh o).answer) e)
+  | inr its ↦ let member = caller_in it its.1 in
+      judged_by its.0 member its.1 _ refl (binds_there member recursive fresh source path)
+]
   where
     judged_by : (task : Task ℕ) (member : IsMember world names task) → task_called world name ≡ Some task
         → (j : Judgement ℕ) → judge_in nat_eq fresh world task (Bind source path recursive) ≡ j
@@ -84,5 +82,4 @@ binds_give_no_foothold world names name source path recursive it fresh serves = 
         permit_out (record { it = it; few = refl; serves = serves; called = e }) (ToBind its.0 its.1 recursive)
         (cc (its.2)) (λ ends. bound_as_before (sealing_of it) serves its.0 its.1 recursive its.3 its.4
         its.5 its.6)
-    judged_by task member e (Err deny) judged its = refused_out it fresh
-        (cc)
+    judged_by task member e (Err deny) judged its = refused_out it fresh cc

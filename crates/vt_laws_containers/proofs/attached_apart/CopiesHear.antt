@@ -33,8 +33,7 @@ module _ (base : World ℕ) (new : Copies ℕ) (place : Location ℕ) (moves : B
   found_ours : (o : Mount ℕ) → Among o origins → (found : Option ℕ) (g : ℕ)
       → option_map (image nat_eq new destination (twig o)) found ≡ Some g → Ours g
   found_ours o m None g e = none_is_some g e
-  found_ours o m (Some group) g e =
-      subst Ours (same_Some (image nat_eq new destination (twig o) group) g e) (image_ours o m group)
+  found_ours o m (Some group) g e = subst Ours (same_Some _ g e) (image_ours o m group)
 
   nearest_ours : (o : Mount ℕ) → Among o origins → (above : Option ℕ) (g : ℕ)
       → nearest_image nat_eq base new parts destination (twig o) above ≡ Some g → Ours g

@@ -126,27 +126,19 @@ module _ {world : World ℕ} {names : List TaskName} (sealing : IsSealed world n
 
     own_receives : (y other : Mount ℕ) → Among y (own_mounts nat_eq left names)
         → Among other (other_mounts nat_eq world names) → receives_events_of nat_eq left y other ≡ true → ⊥
-    own_receives y other m n h = ⊎_elim (λ e. let found = in_group (group_of y.propagation) other e in
-        unheard other n found.0 (own_hears y m found.0 (inl found.1)) (inl found.2))
-        (λ e. let found = in_group (master_of left y.propagation) other e in
-        unheard other n found.0 (own_hears y m found.0 (inr found.1)) (inl found.2))
-        (or_cases (holds_of (λ group. is_member_of nat_eq group other) (group_of y.propagation))
-        (holds_of (λ group. is_member_of nat_eq group other) (master_of left y.propagation)) h)
+    own_receives y other m n h = ⊎_elim (λ e. let found = in_group _ other e in
+        unheard other n _ (own_hears y m _ (inl found.1)) (inl found.2)) (λ e. let found = in_group _ other e in
+        unheard other n _ (own_hears y m _ (inr found.1)) (inl found.2)) (or_cases _ _ h)
 
     other_receives : (y other : Mount ℕ) → Among y (own_mounts nat_eq left names)
         → Among other (other_mounts nat_eq world names) → receives_events_of nat_eq left other y ≡ true → ⊥
-    other_receives y other m n h = ⊎_elim (λ e. let found = in_group (group_of other.propagation) y e in
-        unheard other n found.0 (own_hears y m found.0 (inl found.2)) (inl found.1))
-        (λ e. let found = in_group (master_of left other.propagation) y e in
-        unheard other n found.0 (own_hears y m found.0 (inl found.2)) (other_hears other n found.0 (inr found.1)))
-        (or_cases (holds_of (λ group. is_member_of nat_eq group y) (group_of other.propagation))
-        (holds_of (λ group. is_member_of nat_eq group y) (master_of left other.propagation)) h)
+    other_receives y other m n h = ⊎_elim (λ e. let found = in_group _ y e in
+        unheard other n _ (own_hears y m _ (inl found.2)) (inl found.1)) (λ e. let found = in_group _ y e in
+        unheard other n _ (own_hears y m _ (inl found.2)) (other_hears other n _ (inr found.1))) (or_cases _ _ h)
 
     pub groups_apart : shares_no_events nat_eq left names ≡ true
     groups_apart = ap (λ others. list_all (λ y. list_all (λ other. not (share_events nat_eq left y other)) others)
         (own_mounts nat_eq left names)) (others_stay sealing grows) ∙ list_all_from_among
-        (λ y. list_all (λ other. not (share_events nat_eq left y other)) (other_mounts nat_eq world names))
-        (own_mounts nat_eq left names) (λ y m. list_all_from_among (λ other. not (share_events nat_eq left y other))
-        (other_mounts nat_eq world names) (λ other n. ap not (false_from_ne_true (share_events nat_eq left y other)
-        (λ h. ⊎_elim (own_receives y other m n) (other_receives y other m n)
-        (or_cases (receives_events_of nat_eq left y other) (receives_events_of nat_eq left other y) h)))))
+        (λ y. list_all (λ other. not (share_events nat_eq left y other)) (other_mounts nat_eq world names)) _
+        (λ y m. list_all_from_among (λ other. not (share_events nat_eq left y other)) _ (λ other n. ap not
+        (false_from_ne_true _ (λ h. ⊎_elim (own_receives y other m n) (other_receives y other m n) (or_cases _ _ h)))))

@@ -95,10 +95,9 @@ module _ {world : World ℕ} {names : List TaskName} (sealing : IsSealed world n
 
   none_on_own : (l : Location ℕ) → Among l (locations (outsiders world names))
       → not (owns (mount_at nat_eq left l)) ≡ true
-  none_on_own l m =
-      ap not (sides_still l.mount (numbered_there l (placed (λ (t : Task ℕ). not (is_member_task names t)) l m)))
-      ∙ among_from_list_all (λ k. not (owns (mount_at nat_eq world k))) (locations (outsiders world names))
-      apart.locations l m
+  none_on_own l m = ap not
+      (sides_still _ (numbered_there l (placed (λ (t : Task ℕ). not (is_member_task names t)) l m)))
+      ∙ among_from_list_all (λ k. not (owns (mount_at nat_eq world k))) _ apart.locations l m
 
   -- Filesystems
   new_is_not_there : (number : ℕ) → is_new world names change added new_ones master number ≡ true
@@ -108,11 +107,10 @@ module _ {world : World ℕ} {names : List TaskName} (sealing : IsSealed world n
 
   goes_on : (f : Filesystem ℕ) → Among f left.filesystems → GoesOn world names f
   goes_on f m = ⊎_elim (λ old. inl (f, old, refl, refl)) (λ new. inr (
-    new_is_not_there f.number (any_from_among (λ (g : Filesystem ℕ). nat_eq f.number g.number) new_ones f new
-        (eq-eqb f.number f.number refl)),
-    λ number n. let layer = written_layer f number n in
-        cc (layer.2, used_directly_used world names layer.0.filesystem (grows.layers f new layer.0 layer.1)),
-  )) (among-append world.filesystems new_ones f m)
+    new_is_not_there _ (any_from_among (λ (g : Filesystem ℕ). nat_eq f.number g.number) _ f new (eq-eqb _ _ refl)),
+    λ number n. let layer = written_layer f _ n in
+        cc (layer.2, used_directly_used world names _ (grows.layers f new layer.0 layer.1)),
+  )) (among-append _ _ f m)
 
   abbrev mounted : List ℕ
   mounted = map (λ (x : Mount ℕ). x.filesystem) (own_mounts nat_eq world names)
@@ -122,27 +120,21 @@ module _ {world : World ℕ} {names : List TaskName} (sealing : IsSealed world n
 
   shown_was : (y : Mount ℕ) → Among y left.mounts → owns y ≡ true
       → Among y.filesystem (used_directly nat_eq world names) ⊎ (IsThere world y.filesystem → ⊥)
-  shown_was y m own = ⊎_elim (λ old. inl (among-append_left mounted located_at y.filesystem
-      (subst (λ n. Among n mounted) (sym (cc (old.3, (as_before grows old.0 old.1).1)))
-      (among-map (λ (x : Mount ℕ). x.filesystem) (own_mounts nat_eq world names) old.0
-      (among-filter owns world.mounts old.0 old.1 old.2)))))
-      (λ more. ⊎_elim inl (λ new. inr (new_is_not_there y.filesystem new)) (grows.shown y more))
-      (own_how grows y m own)
+  shown_was y m own = ⊎_elim (λ old. inl
+      (among-append_left _ _ _ (subst (λ n. Among n mounted) (sym (cc (old.3, (as_before grows old.0 old.1).1)))
+      (among-map (λ (x : Mount ℕ). x.filesystem) _ old.0 (among-filter owns _ old.0 old.1 old.2)))))
+      (λ more. ⊎_elim inl (λ new. inr (new_is_not_there _ new)) (grows.shown y more)) (own_how grows y m own)
 
   direct_was : (number : ℕ) → Among number (used_directly nat_eq left names)
       → Among number (used_directly nat_eq world names) ⊎ (IsThere world number → ⊥)
-  direct_was number m = ⊎_elim
-      (λ shown. let at = among-from_map (λ (x : Mount ℕ). x.filesystem) (own_mounts nat_eq left names) number shown in
-      let from = among-from_filter owns left.mounts at.0 at.1 in
+  direct_was number m = ⊎_elim (λ shown. let at = among-from_map (λ (x : Mount ℕ). x.filesystem) _ _ shown in
+      let from = among-from_filter owns _ at.0 at.1 in
       subst (λ n. Among n (used_directly nat_eq world names) ⊎ (IsThere world n → ⊥)) (sym at.2)
       (shown_was at.0 from.0 from.1))
-      (λ there. let at = among-from_map (λ (l : Location ℕ). (mount_at nat_eq left l).filesystem)
-      (locations (members world names)) number there in
-      inl (among-append_right mounted located_at number
-      (subst (λ n. Among n located_at) (sym (at.2 ∙ shown_still at.0 (placed (is_member_task names) at.0 at.1)))
-      (among-map (λ (l : Location ℕ). (mount_at nat_eq world l).filesystem) (locations (members world names)) at.0
-      at.1)))) (among-append (map (λ (x : Mount ℕ). x.filesystem) (own_mounts nat_eq left names))
-      (map (λ (l : Location ℕ). (mount_at nat_eq left l).filesystem) (locations (members world names))) number m)
+      (λ there. let at = among-from_map (λ (l : Location ℕ). (mount_at nat_eq left l).filesystem) _ _ there in
+      inl
+      (among-append_right _ _ _ (subst (λ n. Among n located_at) (sym (at.2 ∙ shown_still at.0 (placed _ at.0 at.1)))
+      (among-map (λ (l : Location ℕ). (mount_at nat_eq world l).filesystem) _ at.0 at.1)))) (among-append _ _ _ m)
 
   pub grown_as_before : shares_no_events nat_eq left names ≡ true → OthersAsBefore world left names names
   grown_as_before events = record {
@@ -151,8 +143,7 @@ module _ {world : World ℕ} {names : List TaskName} (sealing : IsSealed world n
     shown = λ l m. shown_still l (placed (λ (t : Task ℕ). not (is_member_task names t)) l m);
     tasks = apart.tasks;
     events = events;
-    places = list_all_from_among (λ l. not (owns (mount_at nat_eq left l))) (locations (outsiders world names))
-        none_on_own;
+    places = list_all_from_among (λ l. not (owns (mount_at nat_eq left l))) _ none_on_own;
     filesystems = goes_on;
     direct = direct_was;
   }

@@ -1,6 +1,6 @@
 -- No mount(2) of a new plain filesystem by a task of a sealed set gives others a foothold.
 use Rattle.std.proofs.Common.{inl, inr, ◌≡◌, refl, ap, ⊎_elim, ℕ, nat_eq, true, List, [], Some, Ok, Err, ◌&&◌, eq-eqb, IfOk, is_ok}
-use Rattle.vt_spec.proofs.Common.{Among, Filesystem, Fresh, Judgement, Layer, Location, Mount, MountFlags, MountPlain, Serves, Task, TaskName, ToMountPlain, World, evens, is_among, judge_in, layers_of, members, mount_at, mounted, named_in, none_is_some, odds, of_overlay, or_left, plain_filesystem, source_of, task_called, used_directly}
+use Rattle.vt_spec.proofs.Common.{Among, Filesystem, Fresh, Judgement, Layer, Location, Mount, MountFlags, MountPlain, Serves, Task, TaskName, ToMountPlain, World, evens, judge_in, layers_of, members, mount_at, mounted, none_is_some, odds, of_overlay, or_left, plain_filesystem, source_of, task_called, used_directly}
 use Rattle.vt_laws_containers.proofs.Common.{cases_Option, IsMember, IsSealed, caller_in, is_own, is_theirs, ran, sealing_of}
 use Rattle.vt_laws_mounts.specs.LettingGo.Keeping.{has_only_named}
 use Rattle.vt_laws_members.proofs.attached.PlainMounting.{Mounts, mounts_there}
@@ -35,23 +35,18 @@ module _ {world : World ℕ} {names : List TaskName} (sealing : IsSealed world n
 
 -- A plain one
 pub plain_mounts_give_no_foothold : PlainMountsGiveNoFoothold
-plain_mounts_give_no_foothold world names name path flags it fresh serves = elim (cases_Option
-    (task_called world name)) [
-      | inl e ↦ refused_out it fresh (ap (λ o. is_ok (ran name (MountPlain path flags) world fresh o).answer) e)
-      | inr its ↦ let member = caller_in it its.1 in
-          judged_by its.0 member its.1 (judge_in nat_eq fresh world its.0 (MountPlain path flags)) refl
-          (mounts_there member flags fresh path)
-    ]
+plain_mounts_give_no_foothold world names name path flags it fresh serves = elim (cases_Option _) [
+  | inl e ↦ refused_out it fresh (ap (λ o. is_ok (ran name (MountPlain path flags) world fresh o).answer) e)
+  | inr its ↦ let member = caller_in it its.1 in
+      judged_by its.0 member its.1 _ refl (mounts_there member flags fresh path)
+]
   where
     judged_by : (task : Task ℕ) (member : IsMember world names task) → task_called world name ≡ Some task
         → (j : Judgement ℕ) → judge_in nat_eq fresh world task (MountPlain path flags) ≡ j
         → IfOk j (Mounts member flags)
         → GivesNoFoothold world names name (MountPlain path flags) fresh
-    judged_by task member e (Ok permit) judged its =
-        permit_out (record { it = it; few = refl; serves = serves; called = e }) (ToMountPlain its.0 flags)
-        (cc (its.1)) (λ ends. mounted_as_before (sealing_of it) serves its.0 its.2 its.3
-        (plain_filesystem nat_eq fresh) refl (λ layer m. absurd m) (ap (λ b. b && true)
-        (or_left (nat_eq (evens fresh 1) (evens fresh 1)) (is_among nat_eq (evens fresh 1)
-        (named_in (plain_filesystem nat_eq fresh).files)) (eq-eqb (evens fresh 1) (evens fresh 1) refl))) flags)
-    judged_by task member e (Err deny) judged its = refused_out it fresh
-        (cc)
+    judged_by task member e (Ok permit) judged its = permit_out
+        (record { it = it; few = refl; serves = serves; called = e }) (ToMountPlain its.0 flags) (cc (its.1))
+        (λ ends. mounted_as_before (sealing_of it) serves its.0 its.2 its.3 (plain_filesystem nat_eq fresh) refl
+        (λ layer m. absurd m) (ap (λ b. b && true) (or_left _ _ (eq-eqb (evens fresh 1) _ refl))) flags)
+    judged_by task member e (Err deny) judged its = refused_out it fresh cc

@@ -80,8 +80,7 @@ module _ {world : World ℕ} {names : List TaskName} (sealing : IsSealed world n
   sources : (o : Mount ℕ) → Among o origins → (g : ℕ) → source_of o.propagation ≡ Some g → IsOurs g
   sources o m g e =
       let its = origin_mine moving o m
-      in source_ours sealing fresh serves o
-      (among-filter (is_own_mount nat_eq world names) world.mounts o its.0 its.1) g e
+      in source_ours sealing fresh serves o (among-filter _ _ o its.0 its.1) g e
 
   new_groups : (a b : ℕ) → IsOurs (new.image a b)
   new_groups a b = inr (_, refl)
@@ -89,11 +88,10 @@ module _ {world : World ℕ} {names : List TaskName} (sealing : IsSealed world n
   -- a mount that stayed or moved is in groups of theirs
   old_sourced : (x : Mount ℕ) → Among x world.mounts → is_own_mount nat_eq world names x ≡ true → (g : ℕ)
       → source_of (change x).propagation ≡ Some g → IsOurs g
-  old_sourced x n mine g e = ⊎_elim (λ same. source_ours sealing fresh serves x
-      (among-filter (is_own_mount nat_eq world names) world.mounts x n mine) g
+  old_sourced x n mine g e = ⊎_elim (λ same. source_ours sealing fresh serves x (among-filter _ _ x n mine) g
       (ap (λ (z : Mount ℕ). source_of z.propagation) (sym same) ∙ pushed))
-      (λ moves. copy_ours base_here new here true origins IsOurs new_groups sources (mount_at nat_eq world here) x
-      moves.0 g (ap (λ (z : Mount ℕ). source_of z.propagation) (sym moves.1) ∙ pushed)) (went_how moving x x n refl)
+      (λ moves. copy_ours base_here new here true _ _ new_groups sources (mount_at nat_eq world here) x moves.0 g
+      (ap (λ (z : Mount ℕ). source_of z.propagation) (sym moves.1) ∙ pushed)) (went_how moving x x n refl)
     where
       pushed : source_of (before x).propagation ≡ Some g
       pushed =
@@ -114,16 +112,14 @@ module _ {world : World ℕ} {names : List TaskName} (sealing : IsSealed world n
   as_grown = ap (λ w. attach nat_eq w fresh here true origins) (no_new_ones world) ∙ moved_as moving world
 
   pub moved_as_before : OthersAsBefore world (moved_to nat_eq fresh world from.mount here) names names
-  moved_as_before = subst (λ w. OthersAsBefore world w names names) (sym as_grown)
-      (grown_as_before sealing grows (groups_apart sealing fresh serves formed
-      grows sourced (made_ours base_here new here true origins IsOurs new_groups sources)))
+  moved_as_before = subst (λ w. OthersAsBefore world w names names) (sym as_grown) (grown_as_before sealing grows
+      (groups_apart sealing fresh serves _ grows sourced (made_ours base_here new here true _ _ new_groups sources)))
 
 pub moves_give_no_foothold : MovesGiveNoFoothold
-moves_give_no_foothold world names name source path it fresh serves = elim (cases_Option (task_called world name)) [
+moves_give_no_foothold world names name source path it fresh serves = elim (cases_Option _) [
   | inl e ↦ refused_out it fresh (ap (λ o. is_ok (ran name (MoveMount source path) world fresh o).answer) e)
   | inr its ↦ let member = caller_in it its.1 in
-      judged_by its.0 member its.1 (judge_in nat_eq fresh world its.0 (MoveMount source path)) refl
-      (moves_there member fresh source path)
+      judged_by its.0 member its.1 _ refl (moves_there member fresh source path)
 ]
   where
     judged_by : (task : Task ℕ) (member : IsMember world names task) → task_called world name ≡ Some task

@@ -1,6 +1,6 @@
 -- No mount(2) of a new overlay by a task of a sealed set gives others a foothold.
 use Rattle.std.proofs.Common.{inl, inr, ◌≡◌, refl, ap, ℕ, nat_eq, Some, Ok, Err, is_ok}
-use Rattle.vt_spec.proofs.Common.{Among, Judgement, MountOverlay, Overlay, Permit, Task, ToMountOverlay, evens, evens-distinct, judge_in, looks_of, members, overfills, overlay_at, overlay_filesystem, served-distinct, task_called}
+use Rattle.vt_spec.proofs.Common.{Among, Judgement, MountOverlay, Overlay, Permit, Task, ToMountOverlay, evens, evens-distinct, judge_in, looks_of, members, overlay_at, overlay_filesystem, served-distinct, task_called}
 use Rattle.vt_laws_containers.proofs.Common.{cases_Option, a_member, caller_in, calls_are_granted, ran, sealing_of}
 use Rattle.vt_laws_worlds.proofs.overlays_let_go.mounting.NewOverlays.{new_overlays_are_named}
 use Rattle.vt_laws_members.proofs.new_overlays.LayersTheirs.{MountsOverlay, all_used, mounts_overlay}
@@ -11,13 +11,12 @@ use Rattle.vt_laws_containers.specs.AttachedApart.AttachFootholds.{OverlayMounts
 use Rattle.vt_laws_containers.proofs.attached_apart.Mounting.{mounted_as_before}
 
 pub overlay_mounts_give_no_foothold : OverlayMountsGiveNoFoothold
-overlay_mounts_give_no_foothold world names name path options flags it fresh serves = elim (cases_Option
-    (task_called world name)) [
-      | inl e ↦ refused_out it fresh (ap (λ o. is_ok (ran name (MountOverlay path options flags) world fresh o).answer)
-          e)
-      | inr its ↦ judged_by its.0 (caller_in it its.1).among its.1
-          (judge_in nat_eq fresh world its.0 (MountOverlay path options flags)) refl
-    ]
+overlay_mounts_give_no_foothold world names name path options flags it fresh serves = elim (cases_Option _) [
+  | inl e ↦ refused_out it fresh (ap (λ o. is_ok (ran name (MountOverlay path options flags) world fresh o).answer)
+      e)
+  | inr its ↦ judged_by its.0 (caller_in it its.1).among its.1
+      (judge_in nat_eq fresh world its.0 (MountOverlay path options flags)) refl
+]
   where
     granted_out : (task : Task ℕ) (member : Among task (members world names)) → task_called world name ≡ Some task
         → (permit : Permit ℕ) → judge_in nat_eq fresh world task (MountOverlay path options flags) ≡ Ok permit
@@ -34,9 +33,6 @@ overlay_mounts_give_no_foothold world names name path options flags it fresh ser
     judged_by : (task : Task ℕ) → Among task (members world names) → task_called world name ≡ Some task
         → (j : Judgement ℕ) → judge_in nat_eq fresh world task (MountOverlay path options flags) ≡ j
         → GivesNoFoothold world names name (MountOverlay path options flags) fresh
-    judged_by task member e (Ok permit) judged = granted_out task member e permit judged
-        (mounts_overlay (a_member (sealing_of it) member) fresh path options flags permit
-        (calls_are_granted nat_eq (looks_of nat_eq world) (overfills nat_eq fresh world task) task
-        (MountOverlay path options flags) permit judged))
-    judged_by task member e (Err deny) judged = refused_out it fresh
-        (cc)
+    judged_by task member e (Ok permit) judged = granted_out task _ e _ judged (mounts_overlay
+        (a_member (sealing_of it) member) fresh path _ flags _ (calls_are_granted nat_eq _ _ task _ _ judged))
+    judged_by task member e (Err deny) judged = refused_out it fresh cc

@@ -1,5 +1,5 @@
 -- A world in which others are as they were beside a set: they have the footholds that they had.
-use Rattle.std.proofs.Common.{arith, ◌≡◌, refl, sym, ap, subst, ◌∙◌, ◌⊎◌, inl, inr, ⊎_elim, ℕ, nat_eq, Bool, true, false, true≢false, List, [], ◌++◌, Option, Some, None, find, flat_map, not, ◌&&◌, ◌||◌, eqb-true, option_map, unwrap_or}
+use Rattle.std.proofs.Common.{arith, ◌≡◌, refl, sym, ap, subst, ◌∙◌, ◌⊎◌, inl, inr, ⊎_elim, ℕ, nat_eq, Bool, true, false, true≢false, List, [], Option, Some, None, find, not, ◌&&◌, ◌||◌, eqb-true, option_map, unwrap_or}
 use Rattle.vt_spec.proofs.Common.{Among, Filesystem, IsWorld, Layer, Location, Mount, Overlay, Task, TaskName, World, among-append, among-append_right, among-filter, among-flat_map, among-from_filter, among-from_flat_map, among_from_contains, among_from_list_all, and_from, and_parts, any_among, change_layers, common_steps, directory_is_there, false_from_ne_true, filesystem_numbered, found_among, found_passes, has_layer_on, holds_all_tasks, holds_of, is_among, is_among_numbers, is_member_task, is_overlay, is_own_namespace, layers_of, list_all, list_all_from_among, list_any, locations, locations_of, mount_at, no_filesystem, no_outsider_on, no_outsider_on_mounts, or_left, or_right, other_mounts, outsiders, overlay_or, overlays, same_truth, shares_no_events, used_alone, used_directly, used_filesystems}
 use Rattle.vt_laws_later_calls.proofs.last_use.OverlaysUnmounted.{any_alike}
 use Rattle.vt_laws_containers.proofs.Common.{among-each_once, among-from_each_once, found_filesystem, layer_directory, used_directly_used}
@@ -58,20 +58,15 @@ layer_is_there world names is merged there number h = by merged.overlay refl h
         ≡ true → IsThere world number
     by None e k = cc
     by (Some overlay) e k =
-        let at = any_among (λ (layer : Layer ℕ). nat_eq number layer.filesystem) (layers_of overlay) k in
-        subst (IsThere world) (sym (eqb-true number at.0.filesystem at.2))
-        (there_with_inode world at.0.filesystem at.0.directory
-        (directory_is_there ((filesystem_numbered nat_eq world at.0.filesystem).files.tree.node at.0.directory)
-        (layer_directory world names is merged there at.0
-        (subst (Among at.0) (sym (ap (overlay_or [] layers_of) e)) at.1))))
+        let at = any_among (λ (layer : Layer ℕ). nat_eq number layer.filesystem) _ k in
+        subst (IsThere world) (sym (eqb-true _ _ at.2)) (there_with_inode world _ _ (directory_is_there _
+        (layer_directory world names is _ there at.0 (subst (Among at.0) (sym (ap (overlay_or [] layers_of) e)) at.1))))
 
 -- a filesystem on which others are is there
 others_there : (world : World ℕ) (names : List TaskName) → IsWorld nat_eq world → (number : ℕ)
     → no_outsider_on nat_eq world names number ≡ false → IsThere world number
-others_there world names is number h =
-    by (list_any (λ (mount : Mount ℕ). nat_eq number mount.filesystem) (other_mounts nat_eq world names)) refl
-    (list_any (λ (l : Location ℕ). nat_eq number (mount_at nat_eq world l).filesystem)
-    (locations (outsiders world names))) refl h
+others_there world names is number h = by _ refl
+    (list_any (λ (l : Location ℕ). nat_eq number (mount_at nat_eq world l).filesystem) (locations _)) refl h
   where
     by : (a : Bool)
         → list_any (λ (mount : Mount ℕ). nat_eq number mount.filesystem) (other_mounts nat_eq world names) ≡ a
@@ -81,17 +76,15 @@ others_there world names is number h =
         && not (list_any (λ (l : Location ℕ). nat_eq number (mount_at nat_eq world l).filesystem)
         (locations (outsiders world names)))) ≡ false → IsThere world number
     by true e b f k =
-        let at = any_among (λ (mount : Mount ℕ). nat_eq number mount.filesystem) (other_mounts nat_eq world names) e in
-        subst (IsThere world) (sym (eqb-true number at.0.filesystem at.2)) (mounted_is_there world names is at.0
-        (among-from_filter (λ (mount : Mount ℕ). holds_of
-        (λ n. not (is_own_namespace nat_eq world names n)) mount.namespace) world.mounts at.0 at.1).0)
+        let at = any_among (λ (mount : Mount ℕ). nat_eq number mount.filesystem) _ e in
+        subst (IsThere world) (sym (eqb-true _ _ at.2)) (mounted_is_there world names is at.0 (among-from_filter (λ
+        (mount : Mount ℕ). holds_of (λ n. not (is_own_namespace nat_eq world names n)) mount.namespace) _ at.0 at.1).0)
     by false e true f k =
-        let at = any_among (λ (l : Location ℕ). nat_eq number (mount_at nat_eq world l).filesystem)
-        (locations (outsiders world names)) f in
-        let of = among-from_flat_map locations_of (outsiders world names) at.0 at.1 in
-        subst (IsThere world) (sym (eqb-true number (mount_at nat_eq world at.0).filesystem at.2))
+        let at = any_among (λ (l : Location ℕ). nat_eq number (mount_at nat_eq world l).filesystem) _ f in
+        let of = among-from_flat_map locations_of _ at.0 at.1 in
+        subst (IsThere world) (sym (eqb-true _ (mount_at nat_eq world at.0).filesystem at.2))
         (located_is_there world names is at.0 (among-flat_map locations_of world.tasks of.0 at.0
-        (among-from_filter (λ (t : Task ℕ). not (is_member_task names t)) world.tasks of.0 of.1).0 of.2))
+        (among-from_filter (λ (t : Task ℕ). not (is_member_task names t)) _ of.0 of.1).0 of.2))
     by false e false f k = cc
 
 module _ {world left : World ℕ} {names set : List TaskName} (is : IsWorld nat_eq world)
@@ -116,40 +109,32 @@ module _ {world left : World ℕ} {names set : List TaskName} (is : IsWorld nat_
   still_free number alone =
       let parts = and_parts (no_outsider_on nat_eq world names number)
       (list_all (free_in world names number) (overlays world)) alone in
-      and_from (no_outsider_on nat_eq left set number) (list_all (free_in left set number) (overlays left))
-      (no_outsider_same number ∙ parts.0) (list_all_from_among (free_in left set number) (overlays left) (λ merged m.
-      let from = among-from_filter is_overlay left.filesystems merged m in
-      ⊎_elim (λ old.
-      ap (λ b. not b || no_outsider_on nat_eq left set merged.number) (layers_alike number merged old.0 old.3)
+      and_from _ _ (no_outsider_same _ ∙ parts.0) (list_all_from_among _ (overlays left) (λ merged m.
+      let from = among-from_filter is_overlay _ _ m in
+      ⊎_elim (λ old. ap (λ b. not b || no_outsider_on nat_eq left set merged.number) (layers_alike _ merged old.0 old.3)
       ∙ ap (λ b. not (has_layer_on nat_eq number old.0) || b)
-      (no_outsider_same merged.number ∙ ap (no_outsider_on nat_eq world names) (sym old.2))
-      ∙ among_from_list_all (free_in world names number) (overlays world) parts.1 old.0
-      (among-filter is_overlay world.filesystems old.0 old.1 (sym (overlays_alike merged old.0 old.3) ∙ from.1)))
-      (λ new. or_right (not (has_layer_on nat_eq number merged)) (no_outsider_on nat_eq left set merged.number)
-      (none_on_unknown merged.number new.0)) (others.filesystems merged from.0)))
+      (no_outsider_same _ ∙ ap (no_outsider_on nat_eq world names) (sym old.2)) ∙ among_from_list_all _ _ parts.1 old.0
+      (among-filter _ _ old.0 old.1 (sym (overlays_alike merged old.0 old.3) ∙ from.1)))
+      (λ new. or_right _ _ (none_on_unknown _ new.0)) (others.filesystems merged from.0)))
 
   -- an overlay on which others are is left, with its layers
   was_free : (number : ℕ) → used_alone nat_eq left set number ≡ true → used_alone nat_eq world names number ≡ true
   was_free number alone =
       let parts = and_parts (no_outsider_on nat_eq left set number)
       (list_all (free_in left set number) (overlays left)) alone in
-      and_from (no_outsider_on nat_eq world names number) (list_all (free_in world names number) (overlays world))
-      (sym (no_outsider_same number) ∙ parts.0)
-      (list_all_from_among (free_in world names number) (overlays world) (λ merged m.
-      which parts.1 merged (among-from_filter is_overlay world.filesystems merged m).0
+      and_from _ _ (sym (no_outsider_same _) ∙ parts.0)
+      (list_all_from_among _ (overlays world) (λ merged m. which parts.1 merged (among-from_filter is_overlay _ _ m).0
       (has_layer_on nat_eq number merged) refl (no_outsider_on nat_eq world names merged.number) refl))
     where
       clash : list_all (free_in left set number) (overlays left) ≡ true → (merged : Filesystem ℕ)
           → Among merged world.filesystems → has_layer_on nat_eq number merged ≡ true
           → no_outsider_on nat_eq world names merged.number ≡ false → ⊥
       clash all merged there layered used =
-          let now = others_there left set left_is merged.number (no_outsider_same merged.number ∙ used) in
+          let now = others_there left set left_is _ (no_outsider_same _ ∙ used) in
           ⊎_elim (λ old.
-          let same : old.0 ≡ merged = sym (found_filesystem world.filesystems is.files.one_filesystem old.0 old.1)
-          ∙ ap (filesystem_numbered nat_eq world) (old.2 ∙ now.2)
-          ∙ found_filesystem world.filesystems is.files.one_filesystem merged there in
-          let has : has_layer_on nat_eq number now.0 ≡ true =
-          cc (layers_alike number now.0 old.0 old.3, same, layered) in
+          let same : old.0 ≡ merged = sym (found_filesystem _ is.files.one_filesystem old.0 old.1) ∙ ap
+          (filesystem_numbered nat_eq world) (old.2 ∙ now.2) ∙ found_filesystem _ is.files.one_filesystem _ there in
+          let has : has_layer_on nat_eq number now.0 ≡ true = cc (layers_alike _ now.0 old.0 old.3, same, layered) in
           true≢false (sym (ap (λ b. not b || no_outsider_on nat_eq left set now.0.number) (sym has)
           ∙ among_from_list_all (free_in left set number) (overlays left) all now.0
           (among-filter is_overlay left.filesystems now.0 now.1 (layered_overlay number now.0 has)))
@@ -162,22 +147,17 @@ module _ {world left : World ℕ} {names set : List TaskName} (is : IsWorld nat_
       which all merged there a e b f = grind (arith, common_steps, or_left, or_right, clash)
 
   same_footholds : (number : ℕ) → used_alone nat_eq left set number ≡ used_alone nat_eq world names number
-  same_footholds number =
-      same_truth (used_alone nat_eq left set number) (used_alone nat_eq world names number) (was_free number)
-      (still_free number)
+  same_footholds number = same_truth _ _ (was_free number) (still_free _)
 
   -- on what is new others have no foothold
   free_if_new : (number : ℕ) → (IsThere world number → ⊥) → used_alone nat_eq left set number ≡ true
-  free_if_new number new =
-      and_from (no_outsider_on nat_eq left set number) (list_all (free_in left set number) (overlays left))
-      (none_on_unknown number new) (list_all_from_among (free_in left set number) (overlays left) (λ merged m.
-      let from = among-from_filter is_overlay left.filesystems merged m in
-      ⊎_elim (λ old. or_left (not (has_layer_on nat_eq number merged)) (no_outsider_on nat_eq left set merged.number)
-      (ap not (false_from_ne_true (has_layer_on nat_eq number merged) (λ layered.
-      new (layer_is_there world names is old.0 old.1 number
-      (cc (layers_alike number merged old.0 old.3)))))))
-      (λ fresh. or_right (not (has_layer_on nat_eq number merged)) (no_outsider_on nat_eq left set merged.number)
-      (none_on_unknown merged.number fresh.0)) (others.filesystems merged from.0)))
+  free_if_new number new = and_from _ _ (none_on_unknown _ new)
+      (list_all_from_among (free_in left set number) (overlays left) (λ merged m.
+      let from = among-from_filter is_overlay _ _ m in
+      ⊎_elim (λ old. or_left _ (no_outsider_on nat_eq left set merged.number) (ap not (false_from_ne_true _ (λ layered.
+      new (layer_is_there world names is old.0 old.1 number (cc (layers_alike number merged old.0 old.3)))))))
+      (λ fresh. or_right (not (has_layer_on nat_eq number merged)) _ (none_on_unknown _ fresh.0))
+      (others.filesystems merged from.0)))
 
   -- what the set uses, and did not use, is new
   abbrev used : List ℕ
@@ -188,22 +168,16 @@ module _ {world left : World ℕ} {names set : List TaskName} (is : IsWorld nat_
 
   changed_used : (number k : ℕ) → Among k (used_directly nat_eq world names) → Among number (changed_in world k)
       → is_among nat_eq number used ≡ true
-  changed_used number k direct m = is_among_numbers used number (among-each_once (used_directly nat_eq world names
-      ++ flat_map (changed_in world) (used_directly nat_eq world names)) number
-      (among-append_right (used_directly nat_eq world names)
-      (flat_map (changed_in world) (used_directly nat_eq world names)) number
-      (among-flat_map (changed_in world) (used_directly nat_eq world names) k number direct m)))
+  changed_used number k direct m = is_among_numbers used _
+      (among-each_once _ _ (among-append_right _ _ _ (among-flat_map _ _ k _ direct m)))
 
   used_or_new : (number : ℕ) → Among number (used_filesystems nat_eq left set)
       → (is_among nat_eq number used ≡ true) ⊎ (IsThere world number → ⊥)
   used_or_new number m = ⊎_elim
-      (λ direct. ⊎_elim (λ was. inl (used_directly_used world names number was)) inr (others.direct number direct))
+      (λ direct. ⊎_elim (λ was. inl (used_directly_used world names _ was)) inr (others.direct number direct))
       (λ layered.
-      let from = among-from_flat_map (changed_in left) (used_directly nat_eq left set) number layered in
-      inl (over from.0 from.1 (find (λ (f : Filesystem ℕ). nat_eq from.0 f.number) left.filesystems) refl from.2))
-      (among-append (used_directly nat_eq left set) (flat_map (changed_in left) (used_directly nat_eq left set)) number
-      (among-from_each_once (used_directly nat_eq left set
-      ++ flat_map (changed_in left) (used_directly nat_eq left set)) number m))
+      let from = among-from_flat_map _ _ _ layered in
+      inl (over _ from.1 _ refl from.2)) (among-append _ _ _ (among-from_each_once _ _ m))
     where
       over : (k : ℕ) → Among k (used_directly nat_eq left set) → (o : Option (Filesystem ℕ))
           → find (λ (f : Filesystem ℕ). nat_eq k f.number) left.filesystems ≡ o → Among number (change_layers (unwrap_or

@@ -1,6 +1,6 @@
 -- After the sweep, and with change numbers raised, others are as they were before these.
 use Rattle.std.proofs.Common.{◌≡◌, refl, sym, ap, subst, ◌∙◌, inl, inr, ⊎_elim, ℕ, nat_eq, Bool, true, false, cond, true≢false, List, [], ◌∷◌, ◌++◌, filter, find, flat_map, map, not, arith, unwrap_or}
-use Rattle.vt_spec.proofs.Common.{Among, Filesystem, Location, Mount, Task, TaskName, World, all_locations, among-append, among-append_left, among-append_right, among-from_filter, among-from_map, among-map, any_from_among, common_steps, holds_of, is_among, is_member_task, is_own_namespace, list_all, list_any, locations, locations_of, members, mount_at, mount_lives, no_mount, not-true, number-only_used, numbers_raised, only_used, or_right, other_mounts, outsiders, own_mounts, raised, raised_if_changed, raised_task, same_name, same_task_name, settled, share_events, used_directly}
+use Rattle.vt_spec.proofs.Common.{Among, Filesystem, Location, Mount, Task, TaskName, World, all_locations, among-append, among-append_left, among-append_right, among-from_filter, among-from_map, among-map, any_from_among, common_steps, holds_of, is_among, is_member_task, is_own_namespace, list_all, list_any, locations, locations_of, members, mount_at, mount_lives, no_mount, not-true, number-only_used, numbers_raised, only_used, or_right, other_mounts, outsiders, own_mounts, raised, raised_task, same_name, same_task_name, settled, share_events, used_directly}
 use Rattle.vt_laws_containers.proofs.Common.{OthersStayOut, among-flat_map_filter, any_mapped, filter-map, filter_less, raised_is}
 use Rattle.vt_laws_sealed.proofs.outsiders.OthersSwept.{others_swept}
 use Rattle.vt_laws_members.proofs.changes.letting_go.Ends.{raised_members}
@@ -59,15 +59,11 @@ module _ (world left : World ℕ) (names set : List TaskName) (others : OthersAs
 
   direct_was : (number : ℕ) → Among number (used_directly nat_eq last set)
       → Among number (used_directly nat_eq left set)
-  direct_was number m = ⊎_elim (λ shown. among-append_left mounted located number
+  direct_was number m = ⊎_elim (λ shown. among-append_left _ _ _
       (subst (λ list. Among number (map (λ (x : Mount ℕ). x.filesystem) list)) owns_stay shown))
-      (λ at. let l = among-from_map (λ (l : Location ℕ). (mount_at nat_eq last l).filesystem)
-      (locations (members left set)) number at in
-      among-append_right mounted located number (subst (λ n. Among n located)
-      (sym (cc (l.2, found_living l.0 (placed (is_member_task set) l.0 l.1))))
-      (among-map (λ (l : Location ℕ). (mount_at nat_eq left l).filesystem) (locations (members left set)) l.0 l.1)))
-      (among-append (map (λ (x : Mount ℕ). x.filesystem) (own_mounts nat_eq last set))
-      (map (λ (l : Location ℕ). (mount_at nat_eq last l).filesystem) (locations (members left set))) number m)
+      (λ at. let l = among-from_map (λ (l : Location ℕ). (mount_at nat_eq last l).filesystem) _ _ at in
+      among-append_right _ _ _ (subst (λ n. Among n located) (sym (cc (l.2, found_living l.0 (placed _ l.0 l.1))))
+      (among-map (λ (l : Location ℕ). (mount_at nat_eq left l).filesystem) _ l.0 l.1))) (among-append _ _ _ m)
     where
       mounted : List ℕ
       mounted = map (λ (x : Mount ℕ). x.filesystem) (own_mounts nat_eq left set)
@@ -153,9 +149,8 @@ module _ {world left : World ℕ} {names set : List TaskName} (others : OthersAs
     places = (λ i. list_all (λ location. not (holds_of (λ n. own_same n i) (mount_at nat_eq left location).namespace))
         (locations (outsiders_same i))) ∙ others.places;
     filesystems = λ f m.
-        let was = among-from_map (raised_if_changed nat_eq changed) left.filesystems f m in
-        going_on world names was.0 f (ap (λ (x : Filesystem ℕ). x.number) was.2
-        ∙ by_number was.0 (list_any (λ number. nat_eq number was.0.number) changed))
+        let was = among-from_map _ _ f m in
+        going_on world names was.0 f (ap (λ (x : Filesystem ℕ). x.number) was.2 ∙ by_number was.0 _)
         (cc (was.2, by_layers was.0 (list_any (λ number. nat_eq number was.0.number) changed)))
         (others.filesystems was.0 was.1);
     direct = λ number m. others.direct number (subst (Among number) direct_same m);

@@ -1,6 +1,6 @@
 -- A change of a filesystem leaves each filesystem its number and its layers.
 use Rattle.std.proofs.Common.{◌≡◌, refl, sym, ap, subst, ◌∙◌, ℕ, nat_eq, Bool, true, false, cond, List, [], ◌∷◌, Option, Some, None, map, eqb-true, option_map}
-use Rattle.vt_spec.proofs.Common.{Among, Change, CopyUp, Filesystem, Fresh, Layer, Location, Overlay, World, among-from_map, any_pair, changed, filesystem_at, filesystem_changed, filesystem_numbered, merge_changed, merge_of, mount_at, overlay_changed, pwritten, replaced_if_numbered, stack_of, with_change, with_copy, with_files}
+use Rattle.vt_spec.proofs.Common.{Among, Change, CopyUp, Filesystem, Fresh, Layer, Location, Overlay, World, among-from_map, any_pair, filesystem_at, filesystem_changed, filesystem_numbered, merge_changed, merge_of, mount_at, overlay_changed, pwritten, replaced_if_numbered, stack_of, with_change, with_copy}
 use Rattle.vt_laws_trees.proofs.layers.layers.LowersWorld.{number_of_filesystem}
 use Rattle.vt_laws_containers.proofs.Common.{found_filesystem}
 use Rattle.vt_laws_containers.proofs.footholds.AsBefore.{layered_as, without_real}
@@ -56,12 +56,8 @@ module _ (world : World ℕ)
     over overlay e None = nothing_changes world
     over overlay e (Some upper) = record {
       same = refl;
-      placed = replaced_placed (with_files (filesystem_numbered nat_eq world upper.filesystem)
-          (merge_changed nat_eq fresh (stack_of nat_eq world overlay upper) (merge_of nat_eq world its overlay upper)
-          change).upper) upper.filesystem (number_of_filesystem world upper.filesystem) refl
-          (map (replaced_if_numbered nat_eq merged) world.filesystems)
-          (replaced_placed merged number its_number (sym (ap (option_map without_real) e)) world.filesystems
-          (λ f m. (f, m, refl, refl)));
+      placed = replaced_placed _ _ (number_of_filesystem world _) refl _
+          (replaced_placed _ _ its_number (sym (ap (option_map without_real) e)) _ (λ f m. (f, m, refl, refl)));
     }
       where
         merged : Filesystem ℕ
@@ -78,9 +74,7 @@ module _ (world : World ℕ)
         → ChangesFiles world (filesystem_changed nat_eq fresh world its o change)
     by None e = record {
       same = refl;
-      placed =
-          replaced_placed (with_files its (changed nat_eq its.files change)) number its_number refl world.filesystems
-          (λ f m. (f, m, refl, refl));
+      placed = replaced_placed _ _ its_number refl _ (λ f m. (f, m, refl, refl));
     }
     by (Some overlay) e = over overlay e overlay.upper
 

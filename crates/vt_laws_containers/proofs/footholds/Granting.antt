@@ -1,6 +1,6 @@
 -- A call of theirs gives others no foothold, if what it is permitted leaves others as they were.
-use Rattle.std.proofs.Common.{arith, ◌≡◌, refl, sym, ap, subst, ◌∙◌, inl, ℕ, nat_eq, true, false, true≢false, List, Option, Some, None, Result, Ok, Err, is_ok, not, ◌||◌, IfOk}
-use Rattle.vt_spec.proofs.Common.{Answer, Call, Fresh, IsWorld, Judgement, Outcome, Permit, Serves, Task, TaskName, World, after, answer-finished_by, apply, common_steps, filesystems_changed, filesystems_changed_by, judge_in, locations, members, numbers_raised, only_looks, overfills, policy, same_Some, settled, task_called}
+use Rattle.std.proofs.Common.{arith, ◌≡◌, refl, sym, ap, subst, ◌∙◌, inl, ℕ, nat_eq, true, false, true≢false, List, Option, Some, None, Result, Ok, Err, is_ok, IfOk}
+use Rattle.vt_spec.proofs.Common.{Answer, Call, Fresh, IsWorld, Judgement, Outcome, Permit, Serves, Task, TaskName, World, after, answer-finished_by, apply, common_steps, filesystems_changed, judge_in, locations, members, numbers_raised, only_looks, overfills, policy, same_Some, settled, task_called}
 use Rattle.vt_laws_containers.proofs.Common.{Deny, IsCallOfTheirs, IsSealed, caller_in, every_call_keeps_worlds, grown, is_theirs, left, names_few_groups, ran, sealing_of}
 use Rattle.vt_laws_rules.proofs.denials.Unchanged.{look_changes_nothing}
 use Rattle.vt_laws_rules.proofs.rules.OwnRules.{denial_changes_nothing}
@@ -14,8 +14,7 @@ use Rattle.vt_laws_containers.proofs.footholds.TasksAsBefore.{tasks_as_before, t
 -- the world itself
 module _ {world : World ℕ} {names : List TaskName} (sealing : IsSealed world names) where
   pub as_itself : OthersAsBefore world world names names
-  as_itself = tasks_as_before names sealing world.tasks world.filesystems
-      (tasks_beside world names sealing.is world.filesystems (λ f m. inl (f, m, refl, refl)))
+  as_itself = tasks_as_before names sealing _ _ (tasks_beside world names sealing.is _ (λ f m. inl (f, m, refl, refl)))
 
 module _ {world : World ℕ} {names : List TaskName} {name : TaskName} {call : Call}
     (it : IsCallOfTheirs world names name call) (fresh : Fresh ℕ) where
@@ -62,10 +61,8 @@ module _ {world : World ℕ} {names : List TaskName} {name : TaskName} {call : C
       by (Some task) e =
           let judgement : Judgement ℕ = judge_in nat_eq fresh world task call in
           let outcome : Outcome ℕ = after world judgement (apply nat_eq fresh world task) in
-          let its = looked (caller_in it e) (overfills nat_eq fresh world task)
-          names name call looks in
-          ap (grown names name call) (answer-finished_by (only_looks call || not (is_ok outcome.answer)) world name
-          (filesystems_changed_by nat_eq world judgement) outcome) ∙ after_stays task its.1 judgement its.0
+          let its = looked (caller_in it e) (overfills nat_eq fresh world task) names name call looks in
+          ap (grown names name call) (answer-finished_by _ world name _ _) ∙ after_stays task its.1 _ its.0
 
       stays : grown names name call answer_given ≡ names
       stays = by (task_called world name) refl

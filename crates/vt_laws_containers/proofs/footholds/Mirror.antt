@@ -1,7 +1,7 @@
 -- Others beside a sealed set, as a set of their own in the world without its tasks: they have their namespaces and
 -- mounts for themselves, too.
 use Rattle.std.proofs.Common.{◌≡◌, refl, sym, ap, subst, ◌∙◌, ◌⊎◌, inl, inr, ⊎_elim, ℕ, nat_eq, Bool, true, false, true≢false, List, [], ◌∷◌, Option, Some, None, filter, map, not, ◌||◌, eq-eqb, eqb-true, arith}
-use Rattle.vt_spec.proofs.Common.{Among, Location, Mount, MountInvariants, Namespace, Stands, Task, TaskName, World, all_from_among, among-filter, among-flat_map, among-from_filter, among-from_flat_map, among-from_map, among-map, among_from_all, among_from_list_all, any_among, any_from_among, at_root, common_steps, false_from_ne_true, filter_alike, filter_all, group_of, has_tasks, holds_of, is_at, is_listed, is_member_task, is_own_mount, is_own_namespace, list_all, list_all_from_among, list_any, locations, locations_of, members, mount_at, not-true, on_parent, other_mounts, outsiders, own_mounts, roots_and_directories, same_name, same_name_itself, share_events}
+use Rattle.vt_spec.proofs.Common.{Among, Location, Mount, MountInvariants, Namespace, Stands, Task, TaskName, World, all_from_among, among-filter, among-flat_map, among-from_filter, among-from_flat_map, among-from_map, among-map, among_from_all, among_from_list_all, any_among, any_from_among, at_root, common_steps, false_from_ne_true, filter_alike, filter_all, group_of, has_tasks, holds_of, is_at, is_listed, is_member_task, is_own_mount, is_own_namespace, list_all, list_all_from_among, list_any, locations, locations_of, members, mount_at, not-true, on_parent, other_mounts, outsiders, own_mounts, roots_and_directories, same_name_itself, share_events}
 use Rattle.vt_laws_containers.proofs.Common.{IsApart, StandsApart, found_itself, namespace_outside, nothing_passes, standing_apart_of}
 
 -- Two mounts share events, whichever is first.
@@ -37,8 +37,7 @@ module _ {world : World ℕ} {names : List TaskName} (apart : IsApart world name
 
   -- all tasks there are of that set
   all_named : (t : Task ℕ) → Among t out → is_member_task their_names t ≡ true
-  all_named t m = any_from_among (same_name t.name) their_names t.name (among-map (λ (x : Task ℕ). x.name) out t m)
-      (same_name_itself t.name)
+  all_named t m = any_from_among _ _ _ (among-map (λ (x : Task ℕ). x.name) out t m) (same_name_itself t.name)
 
   pub all_there : filter (is_member_task their_names) out ≡ out
   all_there = filter_all (is_member_task their_names) out all_named
@@ -79,9 +78,8 @@ module _ {world : World ℕ} {names : List TaskName} (apart : IsApart world name
   placed_listed mount m n e = grind (arith, common_steps, among_from_list_all)
 
   own_is_other : own_mounts nat_eq mirror their_names ≡ other_mounts nat_eq world names
-  own_is_other = filter_alike (is_own_mount nat_eq mirror their_names)
-      (λ (x : Mount ℕ). holds_of (λ n. not (is_ours n)) x.namespace) world.mounts
-      (λ mount m. by mount m mount.namespace refl)
+  own_is_other = filter_alike _ (λ (x : Mount ℕ). holds_of (λ n. not (is_ours n)) x.namespace) _
+      (λ mount m. by mount m _ refl)
     where
       by : (mount : Mount ℕ) → Among mount world.mounts → (o : Option ℕ) → mount.namespace ≡ o
           → holds_of (is_own_namespace nat_eq mirror their_names) o ≡ holds_of (λ n. not (is_ours n)) o
@@ -110,18 +108,15 @@ module _ {world : World ℕ} {names : List TaskName} (apart : IsApart world name
   not_on_ours : (n : ℕ) → is_own_namespace nat_eq mirror their_names n ≡ false → (mount : Mount ℕ)
       → Among mount world.mounts → mount.namespace ≡ Some n
       → is_at nat_eq (roots_and_directories (members mirror their_names)) mount ≡ false
-  not_on_ours n other mount m e =
-      false_from_ne_true (is_at nat_eq (roots_and_directories (members mirror their_names)) mount) (λ h.
-      let at = any_among (λ (l : Location ℕ). nat_eq l.mount mount.number)
-      (roots_and_directories (members mirror their_names)) h in
+  not_on_ours n other mount m e = false_from_ne_true _ (λ h.
+      let at = any_among (λ (l : Location ℕ). nat_eq l.mount mount.number) _ h in
       let of = among-from_flat_map (λ (t : Task ℕ). t.root ∷ t.directory ∷ []) out at.0
       (subst (λ tasks. Among at.0 (roots_and_directories tasks)) all_there at.1) in
       let used : Among at.0 (locations out) = among-flat_map locations_of out of.0 at.0 of.1
       (⊎_elim inl (λ rest. inr (⊎_elim inl (λ none. absurd none) rest)) of.2) in
-      let ours : is_ours n ≡ true =
-      cc (ours_if_not_out n (placed_listed mount m n e), own_out n, other) in
+      let ours : is_ours n ≡ true = cc (ours_if_not_out n (placed_listed mount m n e), own_out n, other) in
       let it : mount_at nat_eq world at.0 ≡ mount =
-      cc (eqb-true at.0.mount mount.number at.2, found_itself world.mounts apart.is.mounts.one_number mount m) in
+      cc (eqb-true _ _ at.2, found_itself _ apart.is.mounts.one_number mount m) in
       true≢false (sym (ap (λ (x : Mount ℕ). holds_of is_ours x.namespace) it ∙ ap (holds_of is_ours) e ∙ ours)
       ∙ not-true (is_own_mount nat_eq world names (mount_at nat_eq world at.0))
       (among_from_list_all (λ location. not (is_own_mount nat_eq world names (mount_at nat_eq world location)))

@@ -136,9 +136,8 @@ module _ {world : World ℕ} {names : List TaskName} {name : TaskName} {call : C
         judged).names.0
 
     is_there : Among (mount_numbered nat_eq world number) world.mounts
-    is_there = ⊎_elim (λ m. m)
-        (λ none. none_is_some task.namespace (sym (ap (λ (m : Mount ℕ). m.namespace) none) ∙ in_callers))
-        (found_or_none world.mounts number)
+    is_there = ⊎_elim (λ m. m) (λ none. none_is_some _ (sym (ap (λ (m : Mount ℕ). m.namespace) none) ∙ in_callers))
+        (found_or_none _ _)
 
     is_its : is_own world names (members world names) (mount_numbered nat_eq world number) ≡ true
     is_its = in_own world names it.is task member.among (mount_numbered nat_eq world number)
@@ -146,20 +145,17 @@ module _ {world : World ℕ} {names : List TaskName} {name : TaskName} {call : C
 
     all_gone : (gone : List ℕ) × TheirsGo world names gone × TookAway world detached_ones gone
         × TookAway part (folded (unmounted_if_there nat_eq) part (taken_in_turn world number)) gone
-    all_gone = events_alike (sealing_of it.it) number (taken_in_turn world number) world part []
-        (begun world it.is.mounts number) (subst (IsUnderWay part in_part number part)
-        (same_turns (sealing_of it.it) number is_there is_its) (begun part in_part number)) (record {
+    all_gone = events_alike _ _ _ world part [] (begun world _ _) (subst (IsUnderWay part in_part number part)
+        (same_turns (sealing_of it.it) _ is_there is_its) (begun part _ _)) (record {
           sealing = sealing_of it.it;
           own_go = λ m n none. absurd (true≢false (sym none));
-        }) (took_none world it.is.mounts) (took_none part in_part)
-        (turns_own (sealing_of it.it) number is_there is_its)
+        }) (took_none world it.is.mounts) (took_none part in_part) (turns_own (sealing_of it.it) _ is_there is_its)
 
     same : SameButGroups detached_ones (taken_away nat_eq world all_gone.0)
     same = took world detached_ones all_gone.0 all_gone.2
 
     same_swept : settled nat_eq (taken_away nat_eq world all_gone.0) ≡ settled nat_eq detached_ones
-    same_swept =
-        cc (settled_without_groups (taken_away nat_eq world all_gone.0), same, settled_without_groups detached_ones)
+    same_swept = cc (settled_without_groups _, same, settled_without_groups _)
 
     taken_before : EndsInAWorld it.it fresh it.serves it.few task (ToUnmountLazily number)
         → OthersAsBefore world (taken_away nat_eq world all_gone.0) names names

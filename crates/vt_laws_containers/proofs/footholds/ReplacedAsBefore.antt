@@ -1,6 +1,6 @@
 -- Where mounts of a sealed set get other flags or mount points, others are as they were.
 use Rattle.std.proofs.Common.{◌≡◌, refl, sym, ap, subst, ◌∙◌, ◌⊎◌, inl, inr, ⊎_elim, ℕ, nat_eq, Bool, true, false, cond, true≢false, List, [], ◌∷◌, Option, Some, None, Ok, filter, map, not, eq-eqb, eqb-true, arith}
-use Rattle.vt_spec.proofs.Common.{Among, Call, Fresh, Location, Mount, MountFlags, Permit, PivotRoot, Propagation, Task, TaskName, ToPivot, ToSetFlags, World, among-append, among-append_left, among-append_right, among-flat_map, among-from_filter, among-from_flat_map, among-from_map, among-map, any_from_among, apply, common_steps, found_or_none, holds_of, is_among, is_member_task, is_own_namespace, judge_in, list_all, list_any, locations, locations_of, map_alike, members, mount_at, mount_in, mount_numbered, no_mount, none_is_some, not-true, number-mount_in, other_mounts, outsiders, own_mounts, pivoted_location, pivoted_mount, pivoted_task, replaced_if_same, root_of, same_Some, same_location, same_name, share_events, used_directly, with_mounts}
+use Rattle.vt_spec.proofs.Common.{Among, Call, Fresh, Location, Mount, MountFlags, Permit, PivotRoot, Propagation, Task, TaskName, ToPivot, ToSetFlags, World, among-append, among-append_left, among-append_right, among-flat_map, among-from_filter, among-from_flat_map, among-from_map, among-map, any_from_among, apply, common_steps, found_or_none, holds_of, is_among, is_member_task, is_own_namespace, judge_in, list_all, list_any, locations, locations_of, map_alike, members, mount_at, mount_in, mount_numbered, no_mount, none_is_some, not-true, number-mount_in, other_mounts, outsiders, own_mounts, pivoted_location, pivoted_mount, pivoted_task, replaced_if_same, root_of, same_Some, same_name, share_events, used_directly, with_mounts}
 use Rattle.vt_laws_containers.proofs.footholds.ServedCalls.{IsServedCall}
 use Rattle.vt_laws_containers.proofs.Common.{IsApart, IsMember, IsSealed, IsTheirs, all_permits_fit, any_mapped, apart_if_sealed, caller_in, filter-map, found_itself, mounts_overlay, name_found, namespace_outside, own_theirs, permits_are_for_their_calls, sealing_of, theirs_directly}
 use Rattle.vt_laws_worlds.specs.Worlds.Permits.{MayPivot}
@@ -106,16 +106,12 @@ module _ {world : World ℕ} {names : List TaskName} (sealing : IsSealed world n
 
   direct_was : (number : ℕ) → Among number (used_directly nat_eq left names)
       → Among number (used_directly nat_eq world names)
-  direct_was number m =
-      ⊎_elim (λ shown. among-append_left mounted located_at number (subst (Among number) mounted_same shown))
-      (λ there. let at = among-from_map (λ (l : Location ℕ). (mount_at nat_eq left l).filesystem)
-      (locations (members left names)) number there in
-      subst (λ k. Among k (used_directly nat_eq world names)) (sym (at.2 ∙ shown_same at.0)) (⊎_elim
-      (λ old. among-append_right mounted located_at (mount_at nat_eq world at.0).filesystem
-      (among-map (λ (l : Location ℕ). (mount_at nat_eq world l).filesystem) (locations (members world names)) at.0 old))
-      (λ theirs. theirs_directly world names sealing.is at.0 theirs) (beside.located at.0 at.1)))
-      (among-append (map (λ (x : Mount ℕ). x.filesystem) (own_mounts nat_eq left names))
-      (map (λ (l : Location ℕ). (mount_at nat_eq left l).filesystem) (locations (members left names))) number m)
+  direct_was number m = ⊎_elim (λ shown. among-append_left _ _ _ (subst (Among number) mounted_same shown))
+      (λ there. let at = among-from_map (λ (l : Location ℕ). (mount_at nat_eq left l).filesystem) _ _ there in
+      subst (λ k. Among k (used_directly nat_eq world names)) (sym (at.2 ∙ shown_same at.0))
+      (⊎_elim (λ old. among-append_right _ _ (mount_at nat_eq world at.0).filesystem
+      (among-map (λ (l : Location ℕ). (mount_at nat_eq world l).filesystem) _ at.0 old))
+      (λ theirs. theirs_directly world names sealing.is at.0 theirs) (beside.located at.0 at.1))) (among-append _ _ _ m)
 
   pub replaced_as_before : OthersAsBefore world (record world { mounts = map change world.mounts; tasks = tasks }) names
       names
@@ -150,8 +146,7 @@ module _ {world : World ℕ} {names : List TaskName} {name : TaskName} {call : C
 
   same_mount : (number : ℕ) (mount : Mount ℕ) → Among mount world.mounts → nat_eq number mount.number ≡ true
       → mount_numbered nat_eq world number ≡ mount
-  same_mount number mount m e =
-      cc (eqb-true number mount.number e, found_itself world.mounts it.is.mounts.one_number mount m)
+  same_mount number mount m e = cc (eqb-true _ _ e, found_itself _ it.is.mounts.one_number mount m)
 
   -- a mount in another namespace is not one of the caller's namespace
   clash : (number : ℕ) → (mount_numbered nat_eq world number).namespace ≡ Some task.namespace → (mount : Mount ℕ)
@@ -168,19 +163,17 @@ module _ {world : World ℕ} {names : List TaskName} {name : TaskName} {call : C
   flags_before number flags judged =
       let for = permits_are_for_their_calls fresh world task call (ToSetFlags number flags) judged in
       let placed = (all_permits_fit world fresh task call (ToSetFlags number flags) it.is it.serves
-      (cc (name_found world name task it.called, it.called)) (ap mounts_overlay for.1)
-      judged).names in
+      (cc (name_found world name task it.called, it.called)) (ap mounts_overlay for.1) judged).names in
       kept it (ToSetFlags number flags) judged refl (apply nat_eq fresh world task (ToSetFlags number flags)).world
       (subst (λ w. OthersAsBefore world w names names) (sym (ap (with_mounts world)
-      (map_alike (replaced_if_same nat_eq (record old { flags = flags })) (set world number flags) world.mounts
-      same_set))) (replaced_as_before (sealing_of it.it) (set world number flags) (record {
-        number = λ mount. by_number mount (nat_eq number mount.number);
-        filesystem = λ mount. by_filesystem mount (nat_eq number mount.number);
-        namespace = λ mount. by_namespace mount (nat_eq number mount.number);
-        kind = λ mount. by_kind mount (nat_eq number mount.number);
-        fixed = λ mount m n e other. by_fixed mount (nat_eq number mount.number) refl
-            (clash number placed mount m n e other);
-      }) world.tasks (tasks_beside world names it.is world.filesystems (λ f m. inl (f, m, refl, refl)))))
+      (map_alike (replaced_if_same nat_eq (record old { flags = flags })) _ _
+      same_set))) (replaced_as_before (sealing_of it.it) _ (record {
+        number = λ mount. by_number mount _;
+        filesystem = λ mount. by_filesystem mount _;
+        namespace = λ mount. by_namespace mount _;
+        kind = λ mount. by_kind mount _;
+        fixed = λ mount m n e other. by_fixed mount _ refl (clash number placed mount m n e other);
+      }) _ (tasks_beside world names it.is _ (λ f m. inl (f, m, refl, refl)))))
     where
       old : Mount ℕ
       old = mount_numbered nat_eq world number
@@ -237,16 +230,13 @@ module _ {world : World ℕ} {names : List TaskName} {name : TaskName} {call : C
 
     pivot_replaces : ReplacesOwn world names change
     pivot_replaces = record {
-      number = λ mount. by_number mount (nat_eq mount.number new_root.number) (nat_eq mount.number old_root.number);
-      filesystem = λ mount. by_filesystem mount (nat_eq mount.number new_root.number)
-          (nat_eq mount.number old_root.number);
-      namespace = λ mount. by_namespace mount (nat_eq mount.number new_root.number)
-          (nat_eq mount.number old_root.number);
-      kind = λ mount. by_kind mount (nat_eq mount.number new_root.number) (nat_eq mount.number old_root.number);
-      fixed = λ mount m n e other.
-          by_fixed mount (nat_eq mount.number new_root.number) refl (nat_eq mount.number old_root.number) refl
+      number = λ mount. by_number mount _ (nat_eq mount.number old_root.number);
+      filesystem = λ mount. by_filesystem mount _ (nat_eq mount.number old_root.number);
+      namespace = λ mount. by_namespace mount _ (nat_eq mount.number old_root.number);
+      kind = λ mount. by_kind mount _ (nat_eq mount.number old_root.number);
+      fixed = λ mount m n e other. by_fixed mount _ refl (nat_eq mount.number old_root.number) refl
           (λ same. clash new fits.own mount m n e other (turn new mount same))
-          (λ same. clash task.root.mount fits.own_root mount m n e other (turn task.root.mount mount same));
+          (λ same. clash _ fits.own_root mount m n e other (turn _ mount same));
     }
       where
         abbrev_of : Mount ℕ → Bool → Bool → Mount ℕ
@@ -315,25 +305,21 @@ module _ {world : World ℕ} {names : List TaskName} {name : TaskName} {call : C
           root = pivoted_location nat_eq old_root new_root t.root;
           directory = pivoted_location nat_eq old_root new_root t.directory;
         }) t)) → Among l (locations_of t) ⊎ IsTheirs world names it.is.mounts l.mount
-        by true m = ⊎_elim (λ root. ⊎_elim (λ same. inl (inl same)) inr
-            (at t.root (same_location nat_eq t.root (root_of old_root)) root)) (λ rest. ⊎_elim
-            (λ directory. ⊎_elim (λ same. inl (inr (inl same))) inr
-            (at t.directory (same_location nat_eq t.directory (root_of old_root)) directory))
+        by true m = ⊎_elim (λ root. ⊎_elim (λ same. inl (inl same)) inr (at _ _ root))
+            (λ rest. ⊎_elim (λ directory. ⊎_elim (λ same. inl (inr (inl same))) inr (at _ _ directory))
             (λ open_file. inl (inr (inr open_file))) rest) m
         by false m = inl m
 
     members_turned : filter (is_member_task names) (map turned world.tasks) ≡ map turned (members world names)
-    members_turned =
-        filter-map (is_member_task names) turned world.tasks (λ t. ap (λ n. is_among same_name n names) (turned_name t))
+    members_turned = filter-map _ _ _ (λ t. ap (λ n. is_among same_name n names) (turned_name t))
 
     turned_beside : StandsBeside world names names it.is (map turned world.tasks) world.filesystems
     turned_beside = record {
       own = λ n. ap (list_any (λ (t : Task ℕ). nat_eq n t.namespace)) members_turned
-          ∙ any_mapped (λ (t : Task ℕ). nat_eq n t.namespace) (λ (t : Task ℕ). nat_eq n t.namespace) turned
-          (members world names) (λ t m. ap (nat_eq n) (turned_space t));
-      others = filter-map (λ (t : Task ℕ). not (is_member_task names t)) turned world.tasks
-          (λ t. ap (λ n. not (is_among same_name n names)) (turned_name t))
-          ∙ tasks_fixed (outsiders world names) turned_other;
+          ∙ any_mapped (λ (t : Task ℕ). nat_eq n t.namespace) (λ (t : Task ℕ). nat_eq n t.namespace) _
+          _ (λ t m. ap (nat_eq n) (turned_space t));
+      others = filter-map (λ (t : Task ℕ). not (is_member_task names t)) _ _
+          (λ t. ap (λ n. not (is_among same_name n names)) (turned_name t)) ∙ tasks_fixed _ turned_other;
       located = λ l m.
           let from = among-from_flat_map locations_of (map turned (members world names)) l
           (subst (λ list. Among l (locations list)) members_turned m) in

@@ -81,8 +81,7 @@ module _ {world : World ℕ} {names : List TaskName} {set : List TaskName} (seal
     members = refl;
     outside = λ t m. absurd (none_out t m);
     located = λ location m.
-        let of = among-from_flat_map locations_of
-        (filter (λ (x : Task ℕ). not (is_member_task others_names x)) (out apart)) location m in
+        let of = among-from_flat_map locations_of _ location m in
         absurd (none_out of.0 of.1);
     listed = (λ i. filter (λ (s : Namespace ℕ). own_out apart s.number i) namespaces) ∙ takes.listed
         ∙ sym (λ i. filter (λ (s : Namespace ℕ). own_out apart s.number i) world.namespaces);
@@ -217,9 +216,8 @@ module _ {world : World ℕ} {names : List TaskName} {set : List TaskName} (seal
           (number_there location (placed (λ (t : Task ℕ). not (is_member_task names t)) location m))).namespace
 
       outside : is_own_mount nat_eq world names (mount_at nat_eq world location) ≡ false
-      outside = not-true (is_own_mount nat_eq world names (mount_at nat_eq world location))
-          (among_from_list_all (λ l. not (is_own_mount nat_eq world names (mount_at nat_eq world l)))
-          (locations (outsiders world names)) apart.locations location m)
+      outside = not-true _ (among_from_list_all (λ l. not (is_own_mount nat_eq world names (mount_at nat_eq world l)))
+          _ apart.locations _ m)
 
       one_in : (n k : ℕ) → list_all (nat_eq k) (n ∷ []) ≡ true → k ≡ n
       one_in n k h = eqb-true k n (and_parts (nat_eq k n) true h).0
@@ -261,34 +259,26 @@ module _ {world : World ℕ} {names : List TaskName} {set : List TaskName} (seal
   own_showed mount m None e h = absurd (true≢false (sym h))
   own_showed mount m (Some n) e h =
       let old = was mount (subst (Among mount) left_mounts m) n e in
-      let there : is_mount world old.0.number ≡ true =
-      is_among_numbers (map (λ (x : Mount ℕ). x.number) world.mounts) old.0.number
-      (among-map (λ (x : Mount ℕ). x.number) world.mounts old.0 old.1) in
-      subst (λ k. Among k mounted) (ap (λ (x : Mount ℕ). x.filesystem) (sym
-      (found_itself world.mounts sealing.is.mounts.one_number old.0 old.1)) ∙ sym
-      (seen.views old.0.number there).filesystem ∙ ap (λ (x : Mount ℕ). x.filesystem)
-      (ap (mount_numbered nat_eq left) old.2 ∙ found_itself left.mounts one_left mount m))
-      (among-map (λ (x : Mount ℕ). x.filesystem) (own_mounts nat_eq world names) old.0
-      (among-filter (is_own_mount nat_eq world names) world.mounts old.0 old.1
-      (ap (holds_of ours) old.3 ∙ takes.own_less n h)))
+      let there : is_mount world old.0.number ≡ true = is_among_numbers _ _
+      (among-map (λ (x : Mount ℕ). x.number) _ old.0 old.1) in
+      subst (λ k. Among k mounted) (ap (λ (x : Mount ℕ). x.filesystem)
+      (sym (found_itself _ sealing.is.mounts.one_number old.0 old.1)) ∙ sym (seen.views old.0.number there).filesystem
+      ∙ ap (λ (x : Mount ℕ). x.filesystem) (ap (mount_numbered nat_eq left) old.2 ∙ found_itself _ one_left mount m))
+      (among-map (λ (x : Mount ℕ). x.filesystem) _ old.0
+      (among-filter _ _ old.0 old.1 (ap (holds_of ours) old.3 ∙ takes.own_less n h)))
 
   direct_was : (number : ℕ) → Among number (used_directly nat_eq left set)
       → Among number (used_directly nat_eq world names)
-  direct_was number m = ⊎_elim
-      (λ shown. let at = among-from_map (λ (x : Mount ℕ). x.filesystem) (own_mounts nat_eq left set) number shown in
-      let from = among-from_filter (is_own_mount nat_eq left set) left.mounts at.0 at.1 in
-      among-append_left mounted located_at number (subst (λ k. Among k mounted) (sym at.2)
-      (own_showed at.0 from.0 at.0.namespace refl
-      (sym (λ i. holds_of (λ n. own_left_is n i) at.0.namespace) ∙ from.1))))
-      (λ there. let at = among-from_map (λ (l : Location ℕ). (mount_at nat_eq left l).filesystem)
-      (locations (members left set)) number there in
+  direct_was number m = ⊎_elim (λ shown. let at = among-from_map (λ (x : Mount ℕ). x.filesystem) _ _ shown in
+      let from = among-from_filter (is_own_mount nat_eq left set) _ at.0 at.1 in
+      among-append_left _ _ _ (subst (λ k. Among k mounted) (sym at.2) (own_showed at.0 from.0 _ refl
+      (sym (λ i. holds_of (λ n. own_left_is n i) at.0.namespace) ∙ from.1)))) (λ there. let at = among-from_map
+      (λ (l : Location ℕ). (mount_at nat_eq left l).filesystem) (locations (members left set)) _ there in
       let its : Among at.0 (locations (filter (is_member_task set) tasks)) =
       subst (λ list. Among at.0 (locations (filter (is_member_task set) list))) (taken_tasks world tasks gone) at.1 in
-      ⊎_elim (λ old. among-append_right mounted located_at number (subst (λ k. Among k located_at)
-      (sym (at.2 ∙ shown_still at.0 (placed (is_member_task names) at.0 old)))
-      (among-map shows (locations (members world names)) at.0 old)))
-      (λ theirs. subst (λ k. Among k (used_directly nat_eq world names))
-      (sym (at.2 ∙ (seen.views at.0.mount (theirs_there at.0 theirs)).filesystem))
+      ⊎_elim (λ old. among-append_right _ _ _ (subst (λ k. Among k located_at)
+      (sym (at.2 ∙ shown_still at.0 (placed _ at.0 old))) (among-map shows _ at.0 old))) (λ theirs. subst (λ k. Among k
+      (used_directly nat_eq world names)) (sym (at.2 ∙ (seen.views at.0.mount (theirs_there at.0 theirs)).filesystem))
       (theirs_directly world names sealing.is at.0 theirs)) (takes.located at.0 its))
       (among-append (map (λ (x : Mount ℕ). x.filesystem) (own_mounts nat_eq left set))
       (map (λ (l : Location ℕ). (mount_at nat_eq left l).filesystem) (locations (members left set))) number m)
@@ -301,9 +291,8 @@ module _ {world : World ℕ} {names : List TaskName} {set : List TaskName} (seal
 
   holds_all : list_all (λ (t : Task ℕ). not (is_own_namespace nat_eq left set t.namespace)) (outsiders left set) ≡ true
   holds_all = (λ i. list_all (λ (t : Task ℕ). not (own_left_is t.namespace i)) (others_are i))
-      ∙ list_all_from_among (λ (t : Task ℕ). not (own_left t.namespace)) (outsiders world names) (λ t m.
-      ap not (false_from_ne_true (own_left t.namespace) (λ h.
-      true≢false (sym (takes.own_less t.namespace h) ∙ namespace_outside world names apart t m))))
+      ∙ list_all_from_among (λ (t : Task ℕ). not (own_left t.namespace)) _ (λ t m. ap not (false_from_ne_true _
+      (λ h. true≢false (sym (takes.own_less t.namespace h) ∙ namespace_outside world names apart t m))))
 
   none_on_own : list_all (λ l. not (is_own_mount nat_eq left set (mount_at nat_eq left l)))
       (locations (outsiders left set)) ≡ true

@@ -1,10 +1,10 @@
 -- Permits that take mounts of a sealed set away leave others as they were: umount(2), _exit(2), setns(2).
 use Rattle.std.proofs.Common.{◌≡◌, refl, sym, ap, subst, ◌∙◌, ◌⊎◌, inl, inr, ⊎_elim, ℕ, nat_eq, Bool, true, false, true≢false, List, [], ◌∷◌, Option, Some, None, Ok, filter, map, not, is_some, ◌&&◌, ◌||◌, eq-eqb, eqb-true, arith, IfOk, option_to_list}
-use Rattle.vt_spec.proofs.Common.{Among, Call, Exit, Fresh, IsWorld, Location, Mount, Namespace, Permit, Setns, Task, TaskName, ToEnterNamespace, ToExit, ToUnmount, World, among-filter, among-flat_map, among-from_filter, among-from_flat_map, among-from_map, among_from_list_all, among_numbers, and_from, and_parts, any_among, any_from_among, apply, common_steps, false_from_ne_true, found_or_none, going, has_tasks, holds_of, is_going, is_in_ended, is_listed, is_located, is_member_task, is_own_namespace, judge_in, list_all, list_any, locations, locations_of, members, mount_lives, mount_numbered, namespaces_ended, none_is_some, not-false, not-true, numbers_raised, outsiders, raised_task, replaced_if_called, same_name, settled, taken_away, task_called, without_task}
+use Rattle.vt_spec.proofs.Common.{Among, Call, Exit, Fresh, IsWorld, Location, Mount, Namespace, Permit, Setns, Task, TaskName, ToEnterNamespace, ToExit, ToUnmount, World, among-filter, among-flat_map, among-from_filter, among-from_flat_map, among-from_map, among_from_list_all, among_numbers, and_from, and_parts, any_among, any_from_among, apply, common_steps, false_from_ne_true, found_or_none, going, has_tasks, holds_of, is_going, is_in_ended, is_listed, is_located, is_member_task, is_own_namespace, judge_in, list_all, list_any, locations, locations_of, members, mount_lives, mount_numbered, namespaces_ended, none_is_some, not-false, not-true, numbers_raised, outsiders, raised_task, settled, taken_away, task_called, without_task}
 use Rattle.vt_laws_containers.proofs.footholds.ServedCalls.{IsServedCall}
 use Rattle.vt_laws_containers.proofs.Common.{IsApart, IsCallOfTheirs, IsMember, IsTheirs, NothingNew, all_permits_fit, apart_if_sealed, caller_in, filter_less, found_itself, left, mounts_overlay, name_found, namespaces_taken_away, of_set, permits_are_for_their_calls, places_left, raised_is, sealing_of}
 use Rattle.vt_laws_sealed.proofs.outsiders.Unmounting.{others_go}
-use Rattle.vt_laws_members.proofs.changes.letting_go.Entering.{Enters, entered_was, enters, mine, stands}
+use Rattle.vt_laws_members.proofs.changes.letting_go.Entering.{Enters, entered_was, enters, stands}
 use Rattle.vt_laws_members.proofs.changes.letting_go.Leaving.{is_task, its, its_name, member, new_old, set_from, set_parts, stays}
 use Rattle.vt_laws_containers.specs.PermitFootholds.{DetachingGivesNoFoothold, is_of_detaching}
 use Rattle.vt_laws_containers.proofs.footholds.AsBefore.{OthersAsBefore}
@@ -22,21 +22,19 @@ pub tasked_later : (before left : World ℕ) (name : TaskName) (changed : List �
 tasked_later before left name changed is mount m n e =
     let later = numbers_raised nat_eq before name changed (settled nat_eq left) in
     let lives : mount_lives nat_eq left mount ≡ true = ap (λ o. is_some o || is_located nat_eq left mount.number) e in
-    let listed : is_listed nat_eq later n ≡ true = (and_parts (is_listed nat_eq later n) true
-    (sym (ap (λ o. list_all (is_listed nat_eq later) (option_to_list o)) e)
+    let listed : is_listed nat_eq later n ≡ true =
+    (and_parts (is_listed nat_eq later n) true (sym (ap (λ o. list_all (is_listed nat_eq later) (option_to_list o)) e)
     ∙ among_from_list_all (λ (x : Mount ℕ). list_all (is_listed nat_eq later) (option_to_list x.namespace))
-    later.mounts is.namespaces.mounts_listed mount
-    (among-filter (mount_lives nat_eq left) left.mounts mount m lives))).0 in
+    _ is.namespaces.mounts_listed mount (among-filter _ _ mount m lives))).0 in
     let at = any_among (nat_eq n) (map (λ (s : Namespace ℕ). s.number) later.namespaces) listed in
     let space = among-from_map (λ (s : Namespace ℕ). s.number) later.namespaces at.0 at.1 in
-    let task = any_among (λ (t : Task ℕ). nat_eq space.0.number t.namespace) later.tasks
+    let task = any_among (λ (t : Task ℕ). nat_eq space.0.number t.namespace) _
     (among_from_list_all (has_tasks nat_eq later) later.namespaces is.namespaces.namespaces_live space.0 space.1) in
-    let was = among-from_map (raised_task name) left.tasks task.0 task.1 in (
+    let was = among-from_map (raised_task name) _ _ task.1 in (
       was.0,
       was.1,
       sym (raised_is name (λ (t : Task ℕ). t.namespace) (λ t. refl) was.0)
-          ∙ sym (ap (λ (t : Task ℕ). t.namespace) was.2)
-          ∙ sym (eqb-true n at.0 at.2 ∙ space.2 ∙ eqb-true space.0.number task.0.namespace task.2),
+          ∙ sym (ap (λ (t : Task ℕ). t.namespace) was.2) ∙ sym (eqb-true n at.0 at.2 ∙ space.2 ∙ eqb-true _ _ task.2),
     )
 
 -- what two filters leave
@@ -56,8 +54,7 @@ module _ {world : World ℕ} {names : List TaskName} {name : TaskName} {call : C
   ours = is_own_namespace nat_eq world names
 
   its_own : (t : Task ℕ) → Among t (members world names) → ours t.namespace ≡ true
-  its_own t m = any_from_among (λ (x : Task ℕ). nat_eq t.namespace x.namespace) (members world names) t m
-      (eq-eqb t.namespace t.namespace refl)
+  its_own t m = any_from_among (λ (x : Task ℕ). nat_eq t.namespace x.namespace) _ t m (eq-eqb _ _ refl)
 
   -- the mount of a number is there, if it is in a namespace
   there_in : (number n : ℕ) → (mount_numbered nat_eq world number).namespace ≡ Some n
@@ -115,26 +112,24 @@ module _ {world : World ℕ} {names : List TaskName} {name : TaskName} {call : C
     ended_takes : TakesOwn world names set it.is tasks (filter (has_tasks nat_eq before) world.namespaces) gone
     ended_takes = record {
       going = λ number h.
-          let from = among-from_map (λ (mount : Mount ℕ). mount.number)
-          (filter (is_in_ended nat_eq before) world.mounts) number (among_numbers gone number h) in
-          let at = among-from_filter (is_in_ended nat_eq before) world.mounts from.0 from.1 in
-          let its_space = ended_ours from.0 at.0 at.1 in (
+          let from = among-from_map (λ (mount : Mount ℕ). mount.number) _ _ (among_numbers gone _ h) in
+          let at = among-from_filter _ _ _ from.1 in
+          let its_space = ended_ours _ at.0 at.1 in (
             its_space.0,
             ap (λ (x : Mount ℕ). x.namespace) (ap (mount_numbered nat_eq world) from.2
-                ∙ found_itself world.mounts it.is.mounts.one_number from.0 at.0) ∙ its_space.1,
+                ∙ found_itself _ it.is.mounts.one_number _ at.0) ∙ its_space.1,
             its_space.2,
           );
       others = others;
       own_less = own_less;
       tasked = λ mount m n e.
-          let of = tasked_later world (namespaces_ended nat_eq before) name changed ends mount
+          let of = tasked_later world (namespaces_ended nat_eq before) name _ ends mount
           (subst (Among mount) (sym (taken_mounts world tasks gone)) m) n e in
           (of.0, subst (Among of.0) (taken_tasks world tasks gone) of.1, of.2);
       located = located;
-      listed = filter_less (λ (s : Namespace ℕ). list_any (λ (t : Task ℕ). nat_eq s.number t.namespace)
-          (outsiders world names)) (has_tasks nat_eq before) world.namespaces (λ s m ended. false_from_ne_true
-          (list_any (λ (t : Task ℕ). nat_eq s.number t.namespace) (outsiders world names)) (λ h.
-          true≢false (sym (out_stays s.number h) ∙ ended)));
+      listed = filter_less
+          (λ (s : Namespace ℕ). list_any (λ (t : Task ℕ). nat_eq s.number t.namespace) (outsiders world names)) _ _
+          (λ s m ended. false_from_ne_true _ (λ h. true≢false (sym (out_stays s.number h) ∙ ended)));
     }
 
     pub ended_as_before : OthersAsBefore world (namespaces_ended nat_eq (record world { tasks = tasks })) names set
@@ -150,11 +145,9 @@ module _ {world : World ℕ} {names : List TaskName} {name : TaskName} (it : IsC
   is_left = its it task called
 
   others_rest : filter (λ (t : Task ℕ). not (is_left t)) rest ≡ outsiders world names
-  others_rest = filter_twice (λ (t : Task ℕ). not (is_left t)) (stays it task called)
-      (λ (t : Task ℕ). not (is_member_task names t)) world.tasks
-      (λ t m stay. ap not (same t stay (is_member_task names t) refl))
-      (λ t m gone. ap not (ap (is_member_task names)
-      (sym (is_task it task called t m (not-false (same_name name t.name) gone)))
+  others_rest = filter_twice (λ (t : Task ℕ). not (is_left t)) _ (λ (t : Task ℕ). not (is_member_task names t)) _
+      (λ t m stay. ap not (same t stay _ refl))
+      (λ t m gone. ap not (ap (is_member_task names) (sym (is_task it task called t m (not-false _ gone)))
       ∙ (among-from_filter (is_member_task names) world.tasks task (member it task called).among).1))
     where
       same : (t : Task ℕ) → stays it task called t ≡ true → (b : Bool) → is_member_task names t ≡ b
@@ -165,13 +158,11 @@ module _ {world : World ℕ} {names : List TaskName} {name : TaskName} (it : IsC
   exit_before : (changed : List ℕ) → IsWorld nat_eq (numbers_raised nat_eq world name changed
       (settled nat_eq (namespaces_ended nat_eq (without_task world name))))
       → OthersAsBefore world (namespaces_ended nat_eq (without_task world name)) names (left names name Exit)
-  exit_before changed ends = ended_as_before it (left names name Exit) rest others_rest
-      (λ n h. let at = any_among (λ (t : Task ℕ). nat_eq n t.namespace) (filter is_left rest) h in
-      any_from_among (λ (t : Task ℕ). nat_eq n t.namespace) (members world names) at.0
-      (new_old it task called at.0 at.1) at.2) (λ l m. let from = among-from_flat_map locations_of (filter is_left rest)
-      l m in
-      inl (among-flat_map locations_of (members world names) from.0 l (new_old it task called from.0 from.1) from.2))
-      changed ends
+  exit_before changed ends = ended_as_before it _ rest others_rest
+      (λ n h. let at = any_among (λ (t : Task ℕ). nat_eq n t.namespace) _ h in
+      any_from_among (λ (t : Task ℕ). nat_eq n t.namespace) _ at.0 (new_old it task called at.0 at.1) at.2)
+      (λ l m. let from = among-from_flat_map locations_of _ l m in
+      inl (among-flat_map locations_of _ _ l (new_old it task called _ from.1) from.2)) _ ends
 
   pub exits_before : (fresh : Fresh ℕ) (changed : List ℕ) → IsWorld nat_eq (numbers_raised nat_eq world name changed
       (settled nat_eq (apply nat_eq fresh world task ToExit).world))
@@ -189,13 +180,10 @@ pub entering_before : (world : World ℕ) (names : List TaskName) (name target_n
     (settled nat_eq (apply nat_eq fresh world task (ToEnterNamespace target.namespace)).world))
     → OthersAsBefore world (apply nat_eq fresh world task (ToEnterNamespace target.namespace)).world names names
 entering_before world names name target_name it task called target target_in fresh changed ends =
-    ended_as_before it names (map (replaced_if_called (mine it task called target target_in)) world.tasks)
-    (others_unmoved world names name (Setns target_name) it task called (mine it task called target target_in) refl)
-    (λ n h. entered_was it task called target target_in n
-    (sym (ap (list_any (λ (t : Task ℕ). nat_eq n t.namespace))
-    (of_set it task called (mine it task called target target_in) (stands it task called target target_in) world.tasks))
-    ∙ h)) (places_left it task called (mine it task called target target_in) (stands it task called target target_in))
-    changed ends
+    ended_as_before it names _ (others_unmoved world names name _ it task called _ refl)
+    (λ n h. entered_was it task called _ target_in n (sym (ap (list_any (λ (t : Task ℕ). nat_eq n t.namespace))
+    (of_set it task called _ (stands it task called target target_in) _)) ∙ h))
+    (places_left it task called _ (stands it task called target target_in)) _ ends
 
 -- umount(2)
 module _ {world : World ℕ} {names : List TaskName} {name : TaskName} {call : Call} {fresh : Fresh ℕ}

@@ -41,14 +41,11 @@ module _ {world : World ℕ} {names : List TaskName} (set : List TaskName) (seal
 
   direct_was : (number : ℕ) → Among number (used_directly nat_eq left set)
       → Among number (used_directly nat_eq world names)
-  direct_was number m = ⊎_elim (λ shown. among-append_left mounted (map shows (locations (members world names))) number
-      (subst (Among number) mounted_same shown))
-      (λ placed. let l = among-from_map shows (locations (members left set)) number placed in
-      subst (λ k. Among k (used_directly nat_eq world names)) (sym l.2) (⊎_elim
-      (λ was. among-append_right mounted (map shows (locations (members world names))) (shows l.0)
-      (among-map shows (locations (members world names)) l.0 was)) (λ theirs. theirs_directly world names sealing.is l.0
-      theirs) (beside.located l.0 l.1))) (among-append (map (λ (mount : Mount ℕ). mount.filesystem)
-      (own_mounts nat_eq left set)) (map shows (locations (members left set))) number m)
+  direct_was number m = ⊎_elim (λ shown. among-append_left _ _ _ (subst (Among number) mounted_same shown))
+      (λ placed. let l = among-from_map shows _ _ placed in
+      subst (λ k. Among k (used_directly nat_eq world names)) (sym l.2)
+      (⊎_elim (λ was. among-append_right _ _ _ (among-map shows _ l.0 was))
+      (λ theirs. theirs_directly world names sealing.is l.0 theirs) (beside.located l.0 l.1))) (among-append _ _ _ m)
 
   pub tasks_as_before : OthersAsBefore world (record world { tasks = tasks; filesystems = filesystems }) names set
   tasks_as_before = record {
@@ -174,13 +171,12 @@ module _ {world : World ℕ} {names : List TaskName} {name : TaskName} {call : C
   replaced_how_here = replaced_how it task called parent refl
 
   others_are : filter (λ (t : Task ℕ). not (is_member_task set t)) tasks ≡ outsiders world names
-  others_are = filter_append (λ (t : Task ℕ). not (is_member_task set t)) (map replaced world.tasks) (child ∷ [])
+  others_are = filter_append (λ (t : Task ℕ). not (is_member_task set t)) _ _
       ∙ ap (λ l. l ++ filter (λ (t : Task ℕ). not (is_member_task set t)) (child ∷ []))
-      (filter_changed (λ (t : Task ℕ). not (is_member_task set t)) (λ (t : Task ℕ). not (is_member_task names t))
-      replaced world.tasks (λ t m. ap not (member_alike t m)))
-      ∙ ap (λ b. map replaced (outsiders world names) ++ cond (not b) (child ∷ []) []) child_member
-      ∙ append_none (map replaced (outsiders world names)) ∙ map_itself replaced (outsiders world names) (λ t m.
-      let from = among-from_filter (λ (x : Task ℕ). not (is_member_task names x)) world.tasks t m in
+      (filter_changed (λ (t : Task ℕ). not (is_member_task set t)) (λ (t : Task ℕ). not (is_member_task names t)) _ _
+      (λ t m. ap not (member_alike t m))) ∙ ap (λ b. map replaced (outsiders world names) ++ cond (not b)
+      (child ∷ []) []) child_member ∙ append_none _ ∙ map_itself _ _ (λ t m.
+      let from = among-from_filter (λ (x : Task ℕ). not (is_member_task names x)) _ t m in
       ⊎_elim (λ its. absurd (true≢false (sym (among-from_filter (is_member_task names) world.tasks task
       its_member.among).1 ∙ ap (is_member_task names) its.1 ∙ not-true (is_member_task names t) from.1))) (λ same. same)
       (replaced_how_here t from.0))
@@ -190,7 +186,7 @@ module _ {world : World ℕ} {names : List TaskName} {name : TaskName} {call : C
       → (old : Task ℕ) × Among old (members world names) × (t.namespace ≡ old.namespace)
       × ((l : Location ℕ) → Among l (locations_of t) → Among l (locations_of old))
   was t m = ⊎_elim (λ mapped.
-      let from = among-from_map replaced (members world names) t mapped in
+      let from = among-from_map replaced _ t mapped in
       ⊎_elim (λ its. (
         task,
         its_member.among,
@@ -201,8 +197,7 @@ module _ {world : World ℕ} {names : List TaskName} {name : TaskName} {call : C
         from.1,
         ap (λ (x : Task ℕ). x.namespace) (from.2 ∙ same),
         λ l k. subst (λ (x : Task ℕ). Among l (locations_of x)) (from.2 ∙ same) k,
-      )) (replaced_how_here from.0 (among-from_filter (is_member_task names) world.tasks from.0 from.1).0))
-      (λ last. ⊎_elim (λ e. (
+      )) (replaced_how_here _ (among-from_filter _ _ _ from.1).0)) (λ last. ⊎_elim (λ e. (
         task,
         its_member.among,
         ap (λ (x : Task ℕ). x.namespace) e,
@@ -217,31 +212,24 @@ module _ {world : World ℕ} {names : List TaskName} {name : TaskName} {call : C
       → (new : Task ℕ) × Among new (map replaced (members world names) ++ child ∷ []) × (t.namespace ≡ new.namespace)
   still t m = (
     replaced t,
-    among-append_left (map replaced (members world names)) (child ∷ []) (replaced t)
-        (among-map replaced (members world names) t m),
+    among-append_left _ _ _ (among-map _ _ t m),
     ⊎_elim (λ its. ap (λ (x : Task ℕ). x.namespace) (sym its.1) ∙ sym (ap (λ (x : Task ℕ). x.namespace) its.0))
-        (λ same. sym (ap (λ (x : Task ℕ). x.namespace) same))
-        (replaced_how_here t (among-from_filter (is_member_task names) world.tasks t m).0),
+        (λ same. sym (ap (λ (x : Task ℕ). x.namespace) same)) (replaced_how_here t (among-from_filter _ _ t m).0),
   )
 
   pub child_beside : StandsBeside world names set it.is tasks world.filesystems
   child_beside = record {
-    own = λ n. ap (list_any (λ (t : Task ℕ). nat_eq n t.namespace)) members_are ∙ same_truth
-        (list_any (λ (t : Task ℕ). nat_eq n t.namespace) (map replaced (members world names) ++ child ∷ []))
-        (list_any (λ (t : Task ℕ). nat_eq n t.namespace) (members world names))
-        (λ h. let at = any_among (λ (t : Task ℕ). nat_eq n t.namespace)
-        (map replaced (members world names) ++ child ∷ []) h in
+    own = λ n. ap (list_any (λ (t : Task ℕ). nat_eq n t.namespace)) members_are
+        ∙ same_truth _ _ (λ h. let at = any_among (λ (t : Task ℕ). nat_eq n t.namespace) _ h in
         let old = was at.0 at.1 in
-        any_from_among (λ (t : Task ℕ). nat_eq n t.namespace) (members world names) old.0 old.1
-        (ap (nat_eq n) (sym old.2) ∙ at.2))
-        (λ h. let at = any_among (λ (t : Task ℕ). nat_eq n t.namespace) (members world names) h in
+        any_from_among (λ (t : Task ℕ). nat_eq n t.namespace) _ old.0 old.1 (ap (nat_eq n) (sym old.2) ∙ at.2))
+        (λ h. let at = any_among (λ (t : Task ℕ). nat_eq n t.namespace) _ h in
         let new = still at.0 at.1 in
-        any_from_among (λ (t : Task ℕ). nat_eq n t.namespace) (map replaced (members world names) ++ child ∷ []) new.0
-        new.1 (ap (nat_eq n) (sym new.2) ∙ at.2));
+        any_from_among (λ (t : Task ℕ). nat_eq n t.namespace) _ new.0 new.1 (ap (nat_eq n) (sym new.2) ∙ at.2));
     others = others_are;
     located = λ l m.
-        let from = among-from_flat_map locations_of (filter (is_member_task set) tasks) l m in
-        let old = was from.0 (subst (Among from.0) members_are from.1) in
-        inl (among-flat_map locations_of (members world names) old.0 l old.1 (old.3 l from.2));
+        let from = among-from_flat_map locations_of _ l m in
+        let old = was _ (subst (Among from.0) members_are from.1) in
+        inl (among-flat_map locations_of _ old.0 l old.1 (old.3 l from.2));
     files = λ f m. inl (f, m, refl, refl);
   }

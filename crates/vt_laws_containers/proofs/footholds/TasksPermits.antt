@@ -1,6 +1,6 @@
 -- Permits to look, to change tasks, and to change files leave others as they were.
-use Rattle.std.proofs.Common.{◌≡◌, refl, sym, ap, subst, ◌∙◌, inl, inr, ⊎_elim, ℕ, nat_eq, Bool, true, false, true≢false, List, Ok, filter, map, not, arith, IfOk, ◌==◌}
-use Rattle.vt_spec.proofs.Common.{cases_Bool, Access, Allowed, Among, Call, Descriptor, Filesystem, Fresh, Location, Make, Permit, Task, TaskName, ToChange, ToClose, ToExit, ToFork, ToList, ToListMounts, ToMake, ToOpen, ToOpenNew, ToRead, ToReadPart, ToSetCredentials, ToSetDirectory, ToSetRoot, ToSetUmask, ToStat, ToWritePart, World, among-from_filter, among-from_map, among-map, apply, common_steps, evens, is_copied_up, judge_in, odds, only_looks, replaced_if_called, settled, with_descriptor, without_descriptor}
+use Rattle.std.proofs.Common.{◌≡◌, refl, sym, ap, subst, ◌∙◌, inl, inr, ⊎_elim, ℕ, nat_eq, Bool, true, false, true≢false, List, Ok, map, not, arith, IfOk, ◌==◌}
+use Rattle.vt_spec.proofs.Common.{cases_Bool, Access, Allowed, Among, Call, Descriptor, Filesystem, Fresh, Location, Make, Permit, Task, TaskName, ToChange, ToClose, ToExit, ToFork, ToList, ToListMounts, ToMake, ToOpen, ToOpenNew, ToRead, ToReadPart, ToSetCredentials, ToSetDirectory, ToSetRoot, ToSetUmask, ToStat, ToWritePart, World, among-from_filter, among-from_map, among-map, apply, common_steps, evens, judge_in, odds, only_looks, replaced_if_called, settled, with_descriptor, without_descriptor}
 use Rattle.vt_laws_containers.proofs.footholds.ServedCalls.{IsServedCall}
 use Rattle.vt_laws_containers.proofs.Common.{IsMember, IsTheirs, StandsOnTheirs, caller_in, directory_theirs, granted_theirs, grown, is_theirs, left, permits_are_for_their_calls, root_theirs, sealing_of, theirs_from}
 use Rattle.vt_laws_sealed.proofs.outsiders.Opening.{inserted_at}
@@ -56,9 +56,8 @@ module _ {world : World ℕ} {names : List TaskName} {name : TaskName} {call : C
         tasks = map (replaced_if_called mine) world.tasks;
         filesystems = filesystems;
       }) names names
-  replaced mine stands spaced filesystems files =
-      tasks_as_before names (sealing_of it.it) (map (replaced_if_called mine) world.tasks) filesystems
-      (caller_beside world names name call it.it task it.called mine stands spaced filesystems files)
+  replaced mine stands spaced filesystems files = tasks_as_before names (sealing_of it.it) _ _
+      (caller_beside world names name call it.it task it.called mine stands spaced _ files)
 
   abbrev OnTheirs : Location ℕ → Type 0
   OnTheirs location = IsTheirs world names it.is.mounts location.mount
@@ -88,11 +87,10 @@ module _ {world : World ℕ} {names : List TaskName} {name : TaskName} {call : C
     root = root_theirs world names it.is task member.among;
     directory = directory_theirs world names it.is task member.among;
     places = λ l m. inl (⊎_elim inl (λ rest. inr (⊎_elim inl (λ open_file.
-        let d = among-from_map (λ (d : Descriptor ℕ). d.location)
-        (filter (λ (d : Descriptor ℕ). not (number == d.number)) task.descriptors) l open_file in
+        let d = among-from_map (λ (d : Descriptor ℕ). d.location) _ l open_file in
         inr (subst (λ (k : Location ℕ). Among k (map (λ (d : Descriptor ℕ). d.location) task.descriptors)) (sym d.2)
-        (among-map (λ (d : Descriptor ℕ). d.location) task.descriptors d.0
-        (among-from_filter (λ (d : Descriptor ℕ). not (number == d.number)) task.descriptors d.0 d.1).0))) rest)) m);
+        (among-map (λ (d : Descriptor ℕ). d.location) _ d.0
+        (among-from_filter (λ (d : Descriptor ℕ). not (number == _)) _ d.0 d.1).0))) rest)) m);
   }
 
   opening : (file : Location ℕ) (access : Access) → OnTheirs file
@@ -138,17 +136,14 @@ module _ {world : World ℕ} {names : List TaskName} {name : TaskName} {call : C
   of_tasks (ToRead file) judged e = itself
   of_tasks (ToReadPart file offset size) judged e = itself
   of_tasks ToListMounts judged e = itself
-  of_tasks (ToClose number) judged e =
-      kept (ToClose number) judged refl (apply nat_eq fresh world task (ToClose number)).world
-      (replaced (without_descriptor task number) (closing number) refl world.filesystems its_files)
+  of_tasks (ToClose number) judged e = kept _ judged refl (apply nat_eq fresh world task (ToClose number)).world
+      (replaced _ (closing _) refl _ its_files)
   of_tasks (ToSetDirectory place) judged e =
       kept (ToSetDirectory place) judged refl (apply nat_eq fresh world task (ToSetDirectory place)).world
       (replaced (record task { directory = place }) (with_directory place (directory_there place judged)) refl
       world.filesystems its_files)
-  of_tasks (ToSetRoot place) judged e =
-      kept (ToSetRoot place) judged refl (apply nat_eq fresh world task (ToSetRoot place)).world
-      (replaced (record task { root = place }) (with_root place (root_there place judged)) refl world.filesystems
-      its_files)
+  of_tasks (ToSetRoot place) judged e = kept _ judged refl (apply nat_eq fresh world task (ToSetRoot place)).world
+      (replaced (record task { root = place }) (with_root place (root_there place judged)) refl _ its_files)
   of_tasks (ToSetUmask umask) judged e =
       kept (ToSetUmask umask) judged refl (apply nat_eq fresh world task (ToSetUmask umask)).world
       (replaced (record task { umask = umask }) (record {
@@ -171,17 +166,15 @@ module _ {world : World ℕ} {names : List TaskName} {name : TaskName} {call : C
 
   -- Files
   pub changed_before : (w : World ℕ) → ChangesFiles world w → OthersAsBefore world w names names
-  changed_before w changes = subst (λ v. OthersAsBefore world v names names) (sym changes.same)
-      (tasks_as_before names (sealing_of it.it) world.tasks w.filesystems
-      (tasks_beside world names it.is w.filesystems (λ f m. inl (changes.placed f m))))
+  changed_before w changes = subst (λ v. OthersAsBefore world v names names) (sym changes.same) (tasks_as_before names
+      (sealing_of it.it) _ _ (tasks_beside world names it.is _ (λ f m. inl (changes.placed f m))))
 
   opened_before : (w : World ℕ) → ChangesFiles world w → (file : Location ℕ) (access : Access) → OnTheirs file
       → OthersAsBefore world
       (record w { tasks = map (replaced_if_called (with_descriptor task file access)) w.tasks }) names names
   opened_before w changes file access on = subst (λ v. OthersAsBefore world
       (record v { tasks = map (replaced_if_called (with_descriptor task file access)) v.tasks }) names names)
-      (sym changes.same) (replaced (with_descriptor task file access) (opening file access on) refl w.filesystems
-      (λ f m. inl (changes.placed f m)))
+      (sym changes.same) (replaced _ (opening file _ on) refl _ (λ f m. inl (changes.placed f m)))
 
   opened_there : (file : Location ℕ) (access : Access) → judge_in nat_eq fresh world task call ≡ Ok (ToOpen file access)
       → OnTheirs file
@@ -192,25 +185,20 @@ module _ {world : World ℕ} {names : List TaskName} {name : TaskName} {call : C
 
   of_files : (permit : Permit ℕ) → judge_in nat_eq fresh world task call ≡ Ok permit → is_of_files permit ≡ true
       → Before permit
-  of_files (ToChange location change) judged e =
-      kept (ToChange location change) judged refl (apply nat_eq fresh world task (ToChange location change)).world
-      (changed_before (apply nat_eq fresh world task (ToChange location change)).world
-      (change_changes_files world it.is.files.one_filesystem fresh location change))
+  of_files (ToChange location change) judged e = kept _ judged refl (apply nat_eq fresh world task
+      (ToChange location change)).world (changed_before (apply nat_eq fresh world task (ToChange location change)).world
+      (change_changes_files world it.is.files.one_filesystem fresh location _))
   of_files (ToMake directory entry node) judged e =
       kept (ToMake directory entry node) judged refl (apply nat_eq fresh world task (ToMake directory entry node)).world
       (changed_before (apply nat_eq fresh world task (ToMake directory entry node)).world
       (change_changes_files world it.is.files.one_filesystem (odds fresh) directory
       (Make directory.node entry (evens fresh 0) node)))
   of_files (ToOpen file access) judged e = opened_before _
-      (copy_changes_files world it.is.files.one_filesystem (is_copied_up nat_eq world file access) fresh file)
-      file access (opened_there file access judged)
-  of_files (ToOpenNew directory entry node access) judged e =
-      opened_before _ (change_changes_files world it.is.files.one_filesystem (odds fresh) directory
-      (Make directory.node entry (evens fresh 0) node))
-      (record { mount = directory.mount; node = evens fresh 0 }) access
-      (theirs_from world names it.is.mounts directory.mount (granted_theirs member fresh call
-      (ToOpenNew directory entry node access) judged directory (Make directory.node entry (evens fresh 0) node) refl
-      tt))
+      (copy_changes_files world it.is.files.one_filesystem _ fresh file) file _ (opened_there file _ judged)
+  of_files (ToOpenNew directory entry node access) judged e = opened_before _
+      (change_changes_files world it.is.files.one_filesystem (odds fresh) directory (Make directory.node entry
+      (evens fresh 0) node)) (record { mount = directory.mount; node = evens fresh 0 }) access
+      (theirs_from world names it.is.mounts _ (granted_theirs member fresh call _ judged _ _ refl tt))
   of_files (ToWritePart file offset bytes) judged e = kept (ToWritePart file offset bytes) judged refl
       (apply nat_eq fresh world task (ToWritePart file offset bytes)).world
       (changed_before (apply nat_eq fresh world task (ToWritePart file offset bytes)).world

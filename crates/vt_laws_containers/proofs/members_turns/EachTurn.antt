@@ -72,14 +72,10 @@ module _ (sched : Sched ℕ) (names : List TaskName) (name : TaskName) (is : IsW
         let world : World ℕ = whole.sched.world in
         let still : IsWorld nat_eq world =
         subst (IsWorld nat_eq) (sym (unanswered_turns_change_nothing sched (Someone name, fresh) none).0) is in
-        as_turned names
-        (cc (stays names name _))
-        (record {
+        as_turned names (cc (stays names name _)) (record {
           reply = cc;
           left = ap (λ (t : Turned ℕ). part_of_sched names t.sched) same
-              ∙ cut world (part_of nat_eq world names) whole.sched.queues whole.sched.under_way
-              (their_calls names whole.sched.under_way) (part_of_the_part world names still)
-              (filter_again own whole.sched.under_way);
+              ∙ cut world (part_of nat_eq world names) _ _ _ (part_of_the_part world names still) (filter_again own _);
         })
 
     -- the turn, by the items of the queue
@@ -134,13 +130,11 @@ module _ (sched : Sched ℕ) (names : List TaskName) (name : TaskName) (is : IsW
       → is_some (turn nat_eq sched (Someone name) fresh).reply ≡ true → (line : ℕ) (item : Item) (rest : List Queued)
       → queue_of sched.queues (Someone name) ≡ record { line = line; item = item } ∷ rest → Alike fresh
   by_item None it answers line (Calls call) rest e =
-      refused None (record { line = line; item = Calls call }) rest e refl
-      (denied_alike line _ (without_progress name sched.under_way) (without_progress name part.under_way) others_again)
+      refused None (record { line = line; item = Calls call }) rest e refl (denied_alike line _ _ _ others_again)
   by_item (Some given) it answers line (Calls call) rest e = called given it answers line call rest e
   by_item fresh it answers line (Asks directive) rest e = absurd (true≢false (it.no_directive _ (ap first_of_list e)))
   by_item fresh it answers line (Refused deny) rest e =
-      refused fresh (record { line = line; item = Refused deny }) rest e refl
-      (denied_alike line deny sched.under_way part.under_way calls_again)
+      refused fresh (record { line = line; item = Refused deny }) rest e refl (denied_alike line deny _ _ calls_again)
 
   by_queue : (fresh : Option (Fresh ℕ)) → IsTurnOfTheirs sched names name fresh
       → is_some (turn nat_eq sched (Someone name) fresh).reply ≡ true

@@ -107,11 +107,10 @@ module _ {kin : List TaskName} {one other : Sched ℕ} {names : List TaskName} (
     there = next_at;
     part = alike.part;
     calls = alike.calls;
-    queues = λ member theirs. queue_after later (Someone round.name) round.fresh member
-        ∙ ap (λ (r : Option Reply). shortened_by r (same_who (Someone member) (Someone round.name))
-        (queue_of later.queues (Someone member))) alike.reply
+    queues = λ member theirs. queue_after later _ _ _ ∙ ap (λ (r : Option Reply). shortened_by r
+        (same_who (Someone member) (Someone round.name)) (queue_of later.queues (Someone member))) alike.reply
         ∙ ap (shortened_by (turn_of_theirs one (alone round)).reply (same_who (Someone member) (Someone round.name)))
-        (kin_queues member theirs) ∙ sym (queue_after one (Someone round.name) round.fresh member);
+        (kin_queues _ theirs) ∙ sym (queue_after one _ _ _);
     within = λ member theirs. is.within member (subst (λ s. is_among same_name member s ≡ true) (sym sets) theirs);
   }
 

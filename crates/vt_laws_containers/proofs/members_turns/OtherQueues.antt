@@ -92,10 +92,9 @@ module _ (world : World ℕ) (under_way : List (Progress ℕ)) (queues others : 
       → queue_of others (Someone name) ≡ queue_of queues (Someone name)
       → SameTurned (turn nat_eq one (Someone name) fresh) (turn nat_eq other (Someone name) fresh)
   unfolding turn
-  same_turned name fresh e = subst (λ (items : List Queued). SameTurned
-      (queue_turn nat_eq one (Someone name) (queue_of queues (Someone name)) fresh)
-      (queue_turn nat_eq other (Someone name) items fresh)) (sym e)
-      (of_items name (queue_of queues (Someone name)) fresh)
+  same_turned name fresh e = subst
+      (λ (items : List Queued). SameTurned (queue_turn nat_eq one (Someone name) (queue_of queues (Someone name)) fresh)
+      (queue_turn nat_eq other (Someone name) items fresh)) (sym e) (of_items name _ fresh)
 
 -- a queue after a turn, by its reply
 abbrev pub shortened_by : Option Reply → Bool → List Queued → List Queued
@@ -106,8 +105,7 @@ pub queue_after : (sched : Sched ℕ) (who : Who) (fresh : Option (Fresh ℕ)) (
     → queue_of (turn nat_eq sched who fresh).sched.queues (Someone member)
     ≡ shortened_by (turn nat_eq sched who fresh).reply (same_who (Someone member) who)
     (queue_of sched.queues (Someone member))
-queue_after sched who fresh member =
-    by (queue_of sched.queues who) (turn nat_eq sched who fresh) (turn_is sched who fresh)
+queue_after sched who fresh member = by _ _ (turn_is sched who fresh)
   where
     items : List Queued
     items = queue_of sched.queues (Someone member)

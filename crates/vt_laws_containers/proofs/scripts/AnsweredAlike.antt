@@ -113,16 +113,14 @@ module _ {number : ℕ} {full lone : World ℕ} {names : List TaskName} (both : 
       used_left = used_by_parts of_full.world of_lone.world left parts_left
 
       no_more_left : HasNoMoreFootholds of_full.world of_lone.world left
-      no_more_left filesystem used alone = elim (cases_Bool (is_among nat_eq filesystem
-          (used_filesystems nat_eq full names))) [
-            | inl was ↦ cc (
-              full_left.as_before filesystem used was,
-              both.no_more filesystem (contains_from_among (used_filesystems nat_eq full names) filesystem
-                  (among_numbers (used_filesystems nat_eq full names) filesystem was)) (sym (lone_out.as_before
-                  filesystem used_too (cc (used_both))) ∙ alone),
-            )
-            | inr new ↦ full_left.none_on_new filesystem used new
-          ]
+      no_more_left filesystem used alone = elim (cases_Bool _) [
+        | inl was ↦ cc (
+          full_left.as_before filesystem used was,
+          both.no_more filesystem (contains_from_among _ _ (among_numbers _ _ was))
+              (sym (lone_out.as_before filesystem used_too (cc (used_both))) ∙ alone),
+        )
+        | inr new ↦ full_left.none_on_new filesystem used new
+      ]
         where
           used_too : Contains (used_filesystems nat_eq of_lone.world left) filesystem
           used_too = subst (λ list. Contains list filesystem) used_left used
@@ -291,7 +289,6 @@ lines_are_few grammar (line ∷ lines) = (line_is_few, lines_are_few grammar lin
     line_is_few = by (nat_lt longest_line (length line) || is_silent line)
 
 pub sets_are_answered_as_alone : SetsAreAnsweredAsAlone
-sets_are_answered_as_alone at grammar lines off stays full_ends lone_ends =
-    alike (map (asked grammar) lines) (lines_are_few grammar lines) at.number at.world at.world at.names
+sets_are_answered_as_alone at grammar lines off stays full_ends lone_ends = alike _ (lines_are_few _ lines) _ _ _ _
     (record { of_full = off; of_lone = off; parts = refl; no_more = λ filesystem used alone. alone })
     (record { alone = stays.alone; sides = stays.sides; full_ends = full_ends; lone_ends = lone_ends })

@@ -28,11 +28,10 @@ applied fresh world task (ToSetDirectory directory) = tt
 applied fresh world task (ToSetRoot root) = tt
 applied fresh world task (ToSetUmask umask) = tt
 applied fresh world task (ToSetCredentials credentials) = tt
-applied fresh world task (ToFork credentials) = found_called (child_name task)
-    (map (replaced_if_called (record task { forks = task.forks + 1 })) world.tasks
-    ++ child_of task credentials ∷ []) (child_of task credentials)
-    (among-append_right (map (replaced_if_called (record task { forks = task.forks + 1 })) world.tasks)
-    (child_of task credentials ∷ []) (child_of task credentials) (inl refl)) (same_name_itself (child_name task))
+applied fresh world task (ToFork credentials) = found_called _
+    (map (replaced_if_called (record task { forks = task.forks + 1 })) world.tasks ++ child_of task credentials ∷ []) _
+    (among-append_right (map (replaced_if_called (record task { forks = task.forks + 1 })) world.tasks) _ _ (inl refl))
+    (same_name_itself (child_name task))
 applied fresh world task ToExit = tt
 applied fresh world task ToUnshare = tt
 applied fresh world task (ToEnterNamespace namespace) = tt
@@ -51,12 +50,9 @@ applied fresh world task ToListMounts = tt
 raised_there : (name : TaskName) (tasks : List (Task ℕ)) (answer : Result Answer Deny) → ChildIsThere tasks answer
     → ChildIsThere (map (raised_task name) tasks) answer
 raised_there name tasks (Ok (Child child)) there =
-    let found = some_from_is_some (find (λ (t : Task ℕ). same_name child t.name) tasks) there in
-    found_called child (map (raised_task name) tasks) (raised_task name found.0)
-    (among-map (raised_task name) tasks found.0
-    (found_among (λ (t : Task ℕ). same_name child t.name) tasks found.0 found.1))
-    (same found.0 (same_name name found.0.name)
-    ∙ found_passes (λ (t : Task ℕ). same_name child t.name) tasks found.0 found.1)
+    let found = some_from_is_some _ there in
+    found_called child _ _ (among-map _ tasks _ (found_among (λ (t : Task ℕ). same_name child _) tasks _ found.1))
+    (same found.0 _ ∙ found_passes (λ (t : Task ℕ). same_name child _) tasks _ found.1)
   where
     same : (t : Task ℕ) (b : Bool)
         → same_name child (cond b (record t { change = raised t.change }) t).name ≡ same_name child t.name

@@ -1,11 +1,11 @@
 -- Calls that end alike in every world, and the scripts of these.
-use Rattle.std.proofs.Common.{inl, inr, arith, ◌≡◌, refl, sym, ap, ◌∙◌, ℕ, nat_eq, Bool, true, false, true≢false, List, [], ◌∷◌, Some, None, Ok, Err, map, ◌||◌, is_ok}
+use Rattle.std.proofs.Common.{inl, inr, arith, ◌≡◌, refl, sym, ap, ◌∙◌, ℕ, nat_eq, Bool, true, false, true≢false, List, [], ◌∷◌, Some, None, Ok, Err, ◌||◌, is_ok}
 use Rattle.vt_spec.proofs.Common.{Allowed, Bind, Call, Fresh, Judgement, MountOverlay, MountPlain, MoveMount, Permit, Serves, SetType, Task, TaskName, ToBind, ToChange, ToClose, ToEnterNamespace, ToExit, ToFork, ToList, ToListMounts, ToMake, ToMountOverlay, ToMountPlain, ToMove, ToOpen, ToOpenNew, ToPivot, ToRead, ToReadPart, ToRemoveDirectory, ToRename, ToSetCredentials, ToSetDirectory, ToSetFlags, ToSetRoot, ToSetType, ToSetUmask, ToStat, ToUnmount, ToUnmountLazily, ToUnshare, ToWritePart, Unshare, World, common_steps, denied, finished_by, is_among, judge_in, only_looks, same_name, task_called}
 use Rattle.vt_laws_containers.proofs.Common.{cases_Option, IsCallOfTheirs, each_call_ends_alike, names_few_groups, permits_are_for_their_calls, ran, run_by}
 use Rattle.vt_laws_containers.specs.Calls.{AlwaysEndsAlike, RunsEndAlike, SetsThatKeepOthersOutAreAnsweredAsAlone}
 use Rattle.vt_laws_containers.specs.Footholds.{GivesNoFoothold}
 use Rattle.vt_laws_containers.specs.PermitFootholds.{is_of_detaching, is_of_files, is_of_removing, is_of_replacing, is_of_tasks}
-use Rattle.vt_laws_containers.specs.Scripts.{Along, Asked, EachEndsAlike, EndsInThePart, Stand, asked, next}
+use Rattle.vt_laws_containers.specs.Scripts.{Along, Asked, EachEndsAlike, EndsInThePart, Stand, next}
 use Rattle.vt_laws_containers.proofs.footholds.RemovingPermits.{removing_gives_no_foothold}
 use Rattle.vt_laws_containers.proofs.footholds.ReplacedAsBefore.{replacing_gives_no_foothold}
 use Rattle.vt_laws_containers.proofs.footholds.TakingPermits.{detaching_gives_no_foothold}
@@ -65,13 +65,10 @@ module _ {world : World ℕ} {names : List TaskName} {name : TaskName} {call : C
     by_permit (ToReadPart file offset size) judged = of_tasks (ToReadPart file offset size) judged refl
     by_permit (ToChange location change) judged = of_files (ToChange location change) judged refl
     by_permit (ToMake directory entry node) judged = of_files (ToMake directory entry node) judged refl
-    by_permit (ToRemoveDirectory parent entry directory) judged =
-        of_removing (ToRemoveDirectory parent entry directory) judged refl
-    by_permit (ToRename from old to new object replaced) judged =
-        of_removing (ToRename from old to new object replaced) judged refl
+    by_permit (ToRemoveDirectory parent entry directory) judged = of_removing _ judged refl
+    by_permit (ToRename from old to new object replaced) judged = of_removing _ judged refl
     by_permit (ToOpen file access) judged = of_files (ToOpen file access) judged refl
-    by_permit (ToOpenNew directory entry node access) judged =
-        of_files (ToOpenNew directory entry node access) judged refl
+    by_permit (ToOpenNew directory entry node access) judged = of_files _ judged refl
     by_permit (ToWritePart file offset bytes) judged = of_files (ToWritePart file offset bytes) judged refl
     by_permit (ToClose descriptor) judged = of_tasks (ToClose descriptor) judged refl
     by_permit (ToSetDirectory directory) judged = of_tasks (ToSetDirectory directory) judged refl
@@ -133,14 +130,11 @@ each_so : (others : Bool) (calls : List Asked) → AreFew calls → (at : Stand)
     → Along (λ here name call. is_among same_name name here.names ≡ true → AlwaysEndsAlike call) others at calls
     → EachEndsAlike others at calls
 each_so others [] few at always = record { in_part = tt; footholds = tt }
-each_so others (None ∷ calls) few at always =
-    grind (arith, common_steps, each_so others calls few.1 (next others at None) always.1)
-each_so others (Some call ∷ calls) few at always =
-    grind (arith, common_steps, each_so others calls few.1 (next others at (Some call)) always.1)
+each_so others (None ∷ calls) few at always = grind (arith, common_steps, each_so _ calls few.1 _ always.1)
+each_so others (Some call ∷ calls) few at always = grind (arith, common_steps, each_so _ calls few.1 _ always.1)
 
 pub runs_end_alike : RunsEndAlike
-runs_end_alike others at grammar lines always =
-    each_so others (map (asked grammar) lines) (lines_are_few grammar lines) at always
+runs_end_alike others at grammar lines always = each_so _ _ (lines_are_few _ lines) at always
 
 -- every call of theirs ends alike, along each run
 all_in_part : (others : Bool) (calls : List Asked) (at : Stand) → Along EndsInThePart others at calls
@@ -151,6 +145,5 @@ all_in_part others (Some call ∷ calls) at =
 
 pub sets_that_keep_others_out_are_answered_as_alone : SetsThatKeepOthersOutAreAnsweredAsAlone
 sets_that_keep_others_out_are_answered_as_alone at grammar lines off stays full lone =
-    sets_are_answered_as_alone at grammar lines off stays
-    (record { in_part = all_in_part true (map (asked grammar) lines) at; footholds = full })
-    (record { in_part = all_in_part false (map (asked grammar) lines) at; footholds = lone })
+    sets_are_answered_as_alone at grammar lines off stays (record { in_part = all_in_part true _ at; footholds = full })
+    (record { in_part = all_in_part false _ at; footholds = lone })

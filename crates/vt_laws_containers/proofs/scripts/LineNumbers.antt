@@ -1,6 +1,6 @@
 -- The numbers that a line is handed are not in use, and after its call the world has no number of a later line.
 use Rattle.std.proofs.Common.{◌≡◌, sym, ap, ◌∙◌, ℕ, zero, suc, nat_eq, Bool, false, true≢false, List, Some, ◌+◌, ◌≤◌, ◌||◌, eq-eqb, eqb-true, ne_eqb, arith}
-use Rattle.vt_spec.proofs.Common.{Call, Grammar, Serves, TaskName, World, common_steps, false_from_ne_true, is_among, line_step, numbers_for, numbers_in_use, or_left, or_right, policy, step_world}
+use Rattle.vt_spec.proofs.Common.{Call, Grammar, Serves, TaskName, World, common_steps, false_from_ne_true, line_step, numbers_for, or_left, or_right, policy, step_world}
 use Rattle.vt_laws_turns.proofs.holds.Scripts.{row_of}
 use Rattle.vt_laws_containers.proofs.Common.{IsSuppliedFrom, KeepsTo, LeavesOutTwo, calls_keep_to_numbers, lines_keep_to_numbers, used_numbers_are_named}
 use Rattle.vt_laws_rules.proofs.numbers.Rows.{col, col-spread, row, spread_for}
@@ -14,8 +14,7 @@ module _ (line : ℕ) (world : World ℕ) (has : HasEarlierNumbers (suc line) wo
   two_left = (
     numbers_for (suc line) 0,
     numbers_for (suc line) 1,
-    λ same. differ (col (numbers_for (suc line) 0)) (col (numbers_for (suc line) 1)) (col_of line 0) (col_of line 1)
-        (ap col same),
+    λ same. differ _ _ (col_of line 0) (col_of line 1) (ap col same),
     has.later (suc line) 0 (omega arith),
     has.later (suc line) 1 (omega arith),
   )
@@ -25,12 +24,10 @@ module _ (line : ℕ) (world : World ℕ) (has : HasEarlierNumbers (suc line) wo
 
   serves_here : Serves nat_eq world (numbers_for (suc line))
   serves_here = record {
-    unused = λ place.
-        false_from_ne_true (is_among nat_eq (numbers_for (suc line) place) (numbers_in_use world)) (λ used.
-        true≢false (sym (used_numbers_are_named has.named world has.keeps two_left (numbers_for (suc line) place) used)
+    unused = λ place. false_from_ne_true _ (λ used. true≢false
+        (sym (used_numbers_are_named has.named world has.keeps two_left (numbers_for (suc line) place) used)
         ∙ has.later (suc line) place (omega arith)));
-    apart = λ j k e.
-        cc (col_of line j, eqb-true (numbers_for (suc line) j) (numbers_for (suc line) k) e, col_of line k);
+    apart = λ j k e. cc (col_of line j, eqb-true _ _ e, col_of line k);
   }
 
   abbrev named_now : ℕ → Bool
@@ -42,12 +39,9 @@ module _ (line : ℕ) (world : World ℕ) (has : HasEarlierNumbers (suc line) wo
       → HasEarlierNumbers (suc line + 1) after
   row_added after keeps = record {
     named = named_now;
-    keeps = keeps named_now (λ renaming leaves.
-        has.keeps renaming (λ number is.
-        leaves number (or_left (has.named number) (nat_eq (row number) (suc line)) is)))
-        (λ place. or_right (has.named (numbers_for (suc line) place))
-        (nat_eq (row (numbers_for (suc line) place)) (suc line))
-        (eq-eqb (row (numbers_for (suc line) place)) (suc line) (row_of line place)));
+    keeps = keeps _ (λ renaming leaves. has.keeps renaming
+        (λ number is. leaves _ (or_left (has.named number) (nat_eq (row number) (suc line)) is)))
+        (λ place. or_right _ _ (eq-eqb _ _ (row_of line place)));
     later = λ other place less. by other place less;
   }
     where
@@ -62,8 +56,7 @@ module _ (line : ℕ) (world : World ℕ) (has : HasEarlierNumbers (suc line) wo
 
   line_numbers_here : (grammar : Grammar) (text : List ℕ) → HasEarlierNumbers (suc line + 1)
       (step_world world (line_step nat_eq grammar world text (Some (numbers_for (suc line)))))
-  line_numbers_here grammar text =
-      row_added (step_world world (line_step nat_eq grammar world text (Some (numbers_for (suc line)))))
+  line_numbers_here grammar text = row_added _
       (λ named keeps supplied. lines_keep_to_numbers named grammar (numbers_for (suc line)) world text keeps supplied)
 
 -- Lines are counted from 1.

@@ -1,6 +1,6 @@
 -- After the lines of a script, the world has all invariants, and no number of a later line.
-use Rattle.std.proofs.Common.{refl, subst, ℕ, nat_eq, List, [], ◌∷◌, Some, length, ◌+◌, ◌≤◌, ◌*◌, ◌/◌, arith, nat_lt, le-ltb}
-use Rattle.vt_spec.proofs.Common.{Grammar, IsWorld, World, first_world, is_silent, line_step, longest_line, numbers_for, step_world}
+use Rattle.std.proofs.Common.{refl, subst, ℕ, nat_eq, List, [], ◌∷◌, Some, length, ◌+◌, ◌≤◌, arith, le-ltb}
+use Rattle.vt_spec.proofs.Common.{Grammar, IsWorld, World, first_world, line_step, numbers_for, step_world}
 use Rattle.vt_spec.specs.Machine.Run.{world_from}
 use Rattle.vt_laws_containers.proofs.Common.{first_four, opening_keeps_to_four}
 use Rattle.vt_laws_worlds.proofs.opening.OpeningWorld.{opening_is_a_world}
@@ -14,10 +14,8 @@ lines_lead : (grammar : Grammar) (number : ℕ) (world : World ℕ) (lines : Lis
 lines_lead grammar number world [] is counted has = (is, subst (λ n. HasEarlierNumbers n world) (omega arith) has)
 lines_lead grammar number world (line ∷ lines) is counted has =
     let after : World ℕ = step_world world (line_step nat_eq grammar world line (Some (numbers_for number))) in
-    let rest = lines_lead grammar (number + 1) after lines
-    (line_keeps (nat_lt longest_line (length line)) (is_silent line) grammar world line (numbers_for number) is
-    (serves_line number world counted has)) (omega (arith, counted))
-    (line_numbers_left number grammar world line counted has) in
+    let rest = lines_lead grammar (number + 1) after lines (line_keeps _ _ _ world line _ is
+    (serves_line _ world counted has)) (omega (arith, counted)) (line_numbers_left _ _ world line counted has) in
     (rest.0, subst (λ n. HasEarlierNumbers n (world_from grammar after (number + 1) lines)) (omega arith) rest.1)
 
 -- The opening world has four numbers, which are handed to no line.
@@ -25,8 +23,7 @@ first_numbers : HasEarlierNumbers 1 first_world
 first_numbers = record {
   named = first_four;
   keeps = opening_keeps_to_four first_four (λ place. place) refl refl refl refl;
-  later = λ line place less.
-      le-ltb (numbers_for line place) 4 (at_least (((line + place) * (line + place + 1)) / 2) line);
+  later = λ line place less. le-ltb _ 4 (at_least _ line);
 }
   where
     at_least : (sum line : ℕ) → 4 ≤ 4 + sum + line

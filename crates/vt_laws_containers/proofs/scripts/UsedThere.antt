@@ -1,6 +1,6 @@
 -- A filesystem that a set uses is there.
-use Rattle.std.proofs.Common.{arith, ◌≡◌, sym, subst, ⊎_elim, ℕ, nat_eq, true, true≢false, List, ◌++◌, flat_map, is_some, map, eqb-true, Contains}
-use Rattle.vt_spec.proofs.Common.{Among, Filesystem, IsWorld, Location, Mount, TaskName, World, all_locations, among-append, among-flat_map, among-from_filter, among-from_flat_map, among-from_map, among_from_contains, among_from_list_all, and_parts, change_layers, common_steps, contains_from_among, directory_is_there, filesystem_numbered, found_among, found_passes, has_its_root, is_among, is_directory_node, is_located_well, is_member_task, is_own_mount, is_there, locations, locations_of, members, mount_at, own_mounts, used_directly, used_filesystems}
+use Rattle.std.proofs.Common.{arith, ◌≡◌, sym, subst, ⊎_elim, ℕ, nat_eq, true, true≢false, List, is_some, map, eqb-true, Contains}
+use Rattle.vt_spec.proofs.Common.{Among, Filesystem, IsWorld, Location, Mount, TaskName, World, all_locations, among-append, among-flat_map, among-from_filter, among-from_flat_map, among-from_map, among_from_contains, among_from_list_all, and_parts, common_steps, contains_from_among, directory_is_there, filesystem_numbered, found_among, found_passes, is_among, is_directory_node, is_located_well, is_member_task, is_own_mount, is_there, locations, locations_of, members, mount_at, own_mounts, used_directly, used_filesystems}
 use Rattle.vt_laws_containers.proofs.Common.{among-from_each_once, layer_directory}
 use Rattle.vt_laws_sealed.proofs.outsiders.SeenLater.{changed_of}
 
@@ -16,10 +16,9 @@ there_with_inode world number inode h = grind (arith, common_steps, true≢false
 module _ (world : World ℕ) (names : List TaskName) (is : IsWorld nat_eq world) where
   -- the filesystem of a mount
   pub mounted_is_there : (mount : Mount ℕ) → Among mount world.mounts → IsThere world mount.filesystem
-  mounted_is_there mount m = there_with_inode world mount.filesystem mount.root
-      (directory_is_there ((filesystem_numbered nat_eq world mount.filesystem).files.tree.node mount.root) (and_parts
-      (is_directory_node ((filesystem_numbered nat_eq world mount.filesystem).files.tree.node mount.root)) _
-      (among_from_list_all (has_its_root nat_eq world) world.mounts is.roots mount m)).0)
+  mounted_is_there mount m = there_with_inode world _ _ (directory_is_there _
+      (and_parts (is_directory_node ((filesystem_numbered nat_eq world mount.filesystem).files.tree.node mount.root)) _
+      (among_from_list_all _ _ is.roots mount m)).0)
 
   -- of a location
   pub located_is_there : (location : Location ℕ) → Among location (all_locations world)
@@ -31,12 +30,11 @@ module _ (world : World ℕ) (names : List TaskName) (is : IsWorld nat_eq world)
 
   -- one that the set uses directly
   pub direct_is_there : (number : ℕ) → Among number (used_directly nat_eq world names) → IsThere world number
-  direct_is_there number m = ⊎_elim
-      (λ shown. let at = among-from_map (λ (x : Mount ℕ). x.filesystem) (own_mounts nat_eq world names) number shown in
+  direct_is_there number m = ⊎_elim (λ shown. let at = among-from_map (λ (x : Mount ℕ). x.filesystem) _ _ shown in
       subst (IsThere world) (sym at.2)
-      (mounted_is_there at.0 (among-from_filter (is_own_mount nat_eq world names) world.mounts at.0 at.1).0))
+      (mounted_is_there at.0 (among-from_filter (is_own_mount nat_eq world names) _ at.0 at.1).0))
       (λ placed. let at = among-from_map (λ (l : Location ℕ). (mount_at nat_eq world l).filesystem)
-      (locations (members world names)) number placed in
+      (locations (members world names)) _ placed in
       let of = among-from_flat_map locations_of (members world names) at.0 at.1 in
       subst (IsThere world) (sym at.2) (located_is_there at.0 (among-flat_map locations_of world.tasks of.0 at.0
       (among-from_filter (is_member_task names) world.tasks of.0 of.1).0 of.2)))
@@ -44,15 +42,9 @@ module _ (world : World ℕ) (names : List TaskName) (is : IsWorld nat_eq world)
       (map (λ (l : Location ℕ). (mount_at nat_eq world l).filesystem) (locations (members world names))) number m)
 
   pub used_among_is_there : (number : ℕ) → Among number (used_filesystems nat_eq world names) → IsThere world number
-  used_among_is_there number m = ⊎_elim (direct_is_there number)
-      (λ layered. let of = changed_of world names number layered in
-      subst (IsThere world) (sym of.5) (there_with_inode world of.3.filesystem of.3.directory
-      (directory_is_there ((filesystem_numbered nat_eq world of.3.filesystem).files.tree.node of.3.directory)
-      (layer_directory world names is of.0 of.1 of.3 of.4)))) (among-append (used_directly nat_eq world names)
-      (flat_map (λ n. change_layers (filesystem_numbered nat_eq world n)) (used_directly nat_eq world names)) number
-      (among-from_each_once (used_directly nat_eq world names
-      ++ flat_map (λ n. change_layers (filesystem_numbered nat_eq world n)) (used_directly nat_eq world names))
-      number m))
+  used_among_is_there number m = ⊎_elim (direct_is_there _) (λ layered. let of = changed_of world names _ layered in
+      subst (IsThere world) (sym of.5) (there_with_inode world _ _ (directory_is_there _
+      (layer_directory world names is of.0 of.1 of.3 of.4)))) (among-append _ _ _ (among-from_each_once _ _ m))
 
 pub used_is_there : (world : World ℕ) (names : List TaskName) → IsWorld nat_eq world → (number : ℕ)
     → Contains (used_filesystems nat_eq world names) number

@@ -178,10 +178,9 @@ module _ {world : World ℕ} {names : List TaskName} (sealing : IsSealed world n
   -- the master of a group with a member is the heir of what it was
   master_so : (m : Mount ℕ) → Among m world.mounts → (g : ℕ) → group_of (kind_after m) ≡ Some g
       → left.master g ≡ heir nat_eq t (masters g)
-  master_so m n g e = master_left_so world kind masters g
-      (any_from_among (is_member_of nat_eq g) t.mounts (record m { propagation = kind m })
-      (among-map (λ (x : Mount ℕ). record x { propagation = kind x }) world.mounts m n)
-      (cc (shared_before t (kind m) g e, eq-eqb g g refl)))
+  master_so m n g e = master_left_so world kind _ g (any_from_among _ _ (record m { propagation = kind m })
+      (among-map (λ (x : Mount ℕ). record x { propagation = kind x }) _ m n)
+      (cc (shared_before t _ g e, eq-eqb g g refl)))
 
   above_left : (g : ℕ) → Ours g → (above : ℕ) → heir nat_eq t (masters g) ≡ Some above → Ours above
   above_left g its above = by (masters g) refl
@@ -194,10 +193,8 @@ module _ {world : World ℕ} {names : List TaskName} (sealing : IsSealed world n
   own_hears m own group how = by (kind_after m) refl how
     where
       by : (k : Propagation ℕ) → kind_after m ≡ k → Hears left k group → Ours group
-      by (Shared g) k h = ⊎_elim (λ e. source_left m own group (cc))
-          (λ e. above_left g (source_left m own g (ap source_of k)) group
-          (sym (master_so m (among-from_filter (is_own_mount nat_eq world names) world.mounts m own).0 g
-          (ap group_of k)) ∙ e)) h
+      by (Shared g) k h = ⊎_elim (λ e. source_left m own group (cc)) (λ e. above_left g (source_left m own g
+          (ap source_of k)) group (sym (master_so m (among-from_filter _ _ m own).0 g (ap group_of k)) ∙ e)) h
       by (Slave g) k h = ⊎_elim (λ e. none_is_some group e) (λ e. source_left m own group (cc)) h
       by Private k h = ⊎_elim (λ e. none_is_some group e) (λ e. none_is_some group e) h
       by Unbindable k h = ⊎_elim (λ e. none_is_some group e) (λ e. none_is_some group e) h
@@ -260,21 +257,15 @@ module _ {world : World ℕ} {names : List TaskName} (sealing : IsSealed world n
 
   own_receives : (m other : Mount ℕ) → Among m owns → Among other others
       → receives_events_of nat_eq left (after m) other ≡ true → ⊥
-  own_receives m other own n h = ⊎_elim (λ e. let found = in_group (group_of (kind_after m)) other e in
-      unheard other n found.0 (own_hears m own found.0 (inl found.1)) (inl found.2))
-      (λ e. let found = in_group (master_of left (kind_after m)) other e in
-      unheard other n found.0 (own_hears m own found.0 (inr found.1)) (inl found.2))
-      (or_cases (holds_of (λ group. is_member_of nat_eq group other) (group_of (kind_after m)))
-      (holds_of (λ group. is_member_of nat_eq group other) (master_of left (kind_after m))) h)
+  own_receives m other own n h = ⊎_elim (λ e. let found = in_group _ other e in
+      unheard other n _ (own_hears m own _ (inl found.1)) (inl found.2)) (λ e. let found = in_group _ other e in
+      unheard other n _ (own_hears m own _ (inr found.1)) (inl found.2)) (or_cases _ _ h)
 
   other_receives : (m other : Mount ℕ) → Among m owns → Among other others
       → receives_events_of nat_eq left other (after m) ≡ true → ⊥
-  other_receives m other own n h = ⊎_elim (λ e. let found = in_group (group_of other.propagation) (after m) e in
-      unheard other n found.0 (own_hears m own found.0 (inl found.2)) (inl found.1))
-      (λ e. let found = in_group (master_of left other.propagation) (after m) e in
-      unheard other n found.0 (own_hears m own found.0 (inl found.2)) (other_hears other n found.0 (inr found.1)))
-      (or_cases (holds_of (λ group. is_member_of nat_eq group (after m)) (group_of other.propagation))
-      (holds_of (λ group. is_member_of nat_eq group (after m)) (master_of left other.propagation)) h)
+  other_receives m other own n h = ⊎_elim (λ e. let found = in_group _ (after m) e in
+      unheard other n _ (own_hears m own _ (inl found.2)) (inl found.1)) (λ e. let found = in_group _ (after m) e in
+      unheard other n _ (own_hears m own _ (inl found.2)) (other_hears other n _ (inr found.1))) (or_cases _ _ h)
 
   pub groups_apart : shares_no_events nat_eq left names ≡ true
   groups_apart = ap (λ outs. list_all (λ y. list_all (λ other. not (share_events nat_eq left y other)) outs)
@@ -289,8 +280,6 @@ module _ {world : World ℕ} {names : List TaskName} (sealing : IsSealed world n
     where
       none_shared : (m : Mount ℕ) → Among m owns
           → list_all (λ other. not (share_events nat_eq left (after m) other)) others ≡ true
-      none_shared m own = list_all_from_among (λ other. not (share_events nat_eq left (after m) other)) others
-          (λ other n. ap not (false_from_ne_true (share_events nat_eq left (after m) other) (λ h.
-          ⊎_elim (own_receives m other own n) (other_receives m other own n)
-          (or_cases (receives_events_of nat_eq left (after m) other) (receives_events_of nat_eq left other (after m))
-          h))))
+      none_shared m own = list_all_from_among (λ other. not (share_events nat_eq left (after m) other)) _
+          (λ other n. ap not (false_from_ne_true _
+          (λ h. ⊎_elim (own_receives m other own n) (other_receives m other own n) (or_cases _ _ h))))

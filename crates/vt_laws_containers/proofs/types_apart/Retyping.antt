@@ -1,8 +1,8 @@
 -- No mount(2) of a task of a sealed set that changes propagation types gives others a foothold.
 use Rattle.std.proofs.Common.{◌≡◌, refl, sym, ap, subst, ◌∙◌, ℕ, nat_eq, Bool, List, Option, Some, None, Ok, Err, IfOk, is_ok}
-use Rattle.vt_spec.proofs.Common.{Fresh, Judgement, Serves, SetType, Task, TaskName, ToSetType, TypeWord, World, judge_in, task_called}
+use Rattle.vt_spec.proofs.Common.{Fresh, Judgement, Serves, SetType, Task, TaskName, TypeWord, World, judge_in, task_called}
 use Rattle.vt_laws_containers.proofs.Common.{IsCallOfTheirs, IsMember, all_in_use, caller_in, ran, sealing_of}
-use Rattle.vt_laws_members.proofs.types.Retyping.{SetsType, all_own, named, sets_type, types_settled}
+use Rattle.vt_laws_members.proofs.types.Retyping.{SetsType, all_own, sets_type, types_settled}
 use Rattle.vt_laws_containers.specs.Footholds.{GivesNoFoothold}
 use Rattle.vt_laws_containers.proofs.footholds.AsBefore.{OthersAsBefore}
 use Rattle.vt_laws_containers.proofs.footholds.Granting.{refused_out}
@@ -21,22 +21,17 @@ module _ {world : World ℕ} {names : List TaskName} {name : TaskName} {path : L
       → IfOk j (SetsType member word recursive) → NoneGiven
   judged_by task member e (Ok permit) judged its =
       let granted = judged ∙ ap Ok its.1 in
-      swept_out (record { it = it; few = refl; serves = serves; called = e }) (ToSetType its.0.mount word recursive)
-      granted (λ ends. subst (λ w. OthersAsBefore world w names names) (sym
-      (types_settled world (all_in_use world it.is) fresh word (named it e fresh fresh its.0 its.2 its.3 granted)))
-      (types_as_before (sealing_of it) serves word (named it e fresh fresh its.0 its.2 its.3 granted)
-      (all_own it e fresh fresh its.0 its.2 its.3 granted)))
-  judged_by task member e (Err deny) judged its = refused_out it fresh
-      (cc)
+      swept_out (record { it = it; few = refl; serves = serves; called = e }) _ granted (λ ends. subst
+      (λ w. OthersAsBefore world w names names) (sym (types_settled world (all_in_use world it.is) fresh word _))
+      (types_as_before (sealing_of it) serves word _ (all_own it e fresh fresh its.0 its.2 its.3 granted)))
+  judged_by task member e (Err deny) judged its = refused_out it fresh cc
 
   by_caller : (o : Option (Task ℕ)) → task_called world name ≡ o → NoneGiven
   by_caller None e = refused_out it fresh (ap (λ o. is_ok (ran name (SetType path word recursive) world fresh o).answer)
       e)
   by_caller (Some task) e =
       let member = caller_in it e in
-      judged_by task member e (judge_in nat_eq fresh world task (SetType path word recursive)) refl
-      (sets_type member word recursive path)
+      judged_by task member e _ refl (sets_type member word _ path)
 
 pub types_give_no_foothold : TypesGiveNoFoothold
-types_give_no_foothold world names name path word recursive it fresh serves =
-    by_caller it fresh serves (task_called world name) refl
+types_give_no_foothold world names name path word recursive it fresh serves = by_caller it fresh serves _ refl

@@ -1,6 +1,6 @@
 -- Where mounts of a sealed set change their types, others are as they were.
 use Rattle.std.proofs.Common.{arith, ◌≡◌, refl, ap, subst, ◌∙◌, inl, ℕ, nat_eq, Bool, List, [], ◌∷◌, map, not}
-use Rattle.vt_spec.proofs.Common.{Among, Fresh, Location, Mount, Propagation, Serves, TaskName, TypeWord, World, among_from_list_all, common_steps, is_own_mount, list_all_from_among, locations, map_alike, map_twice, members, mount_at, mount_in, outsiders, own_mounts, used_directly}
+use Rattle.vt_spec.proofs.Common.{Among, Fresh, Location, Mount, Propagation, Serves, TaskName, TypeWord, World, among_from_list_all, common_steps, is_own_mount, list_all_from_among, map_alike, map_twice, mount_at, mount_in, own_mounts, used_directly}
 use Rattle.vt_laws_containers.proofs.Common.{IsSealed, apart_if_sealed, filter-map}
 use Rattle.vt_laws_containers.proofs.footholds.AsBefore.{OthersAsBefore}
 use Rattle.vt_laws_containers.proofs.types_apart.GroupsApart.{groups_apart, kind_after, left, others_kept}
@@ -39,10 +39,9 @@ module _ {world : World ℕ} {names : List TaskName} (sealing : IsSealed world n
 
   direct_same : used_directly nat_eq now names ≡ used_directly nat_eq world names
   direct_same = cc (
-    filter-map owned {q = owned} typed world.mounts (λ m. refl),
-    map_twice shows typed (own_mounts nat_eq world names),
-    map_alike (λ k. shows (mount_at nat_eq now k)) (λ k. shows (mount_at nat_eq world k))
-        (locations (members world names)) (λ l m. shown_still l),
+    filter-map owned {q = owned} typed _ (λ m. refl),
+    map_twice shows typed _,
+    map_alike (λ k. shows (mount_at nat_eq now k)) (λ k. shows (mount_at nat_eq world k)) _ (λ l m. shown_still l),
   )
 
   pub types_as_before : OthersAsBefore world now names names
@@ -52,10 +51,9 @@ module _ {world : World ℕ} {names : List TaskName} (sealing : IsSealed world n
     shown = λ l m. shown_still l;
     tasks = (apart_if_sealed sealing).tasks;
     events = groups_apart sealing serves word named named_own;
-    places = list_all_from_among (λ l. not (owned (mount_at nat_eq now l))) (locations (outsiders world names))
+    places = list_all_from_among (λ l. not (owned (mount_at nat_eq now l))) _
         (λ l m. ap not (kept_at kind owned (λ x. refl) l.mount world.mounts)
-        ∙ among_from_list_all (λ k. not (owned (mount_at nat_eq world k))) (locations (outsiders world names))
-        (apart_if_sealed sealing).locations l m);
+        ∙ among_from_list_all (λ k. not (owned (mount_at nat_eq world k))) _ (apart_if_sealed sealing).locations l m);
     filesystems = λ f m. inl (f, m, refl, refl);
     direct = λ number m. inl (subst (Among number) direct_same m);
   }

@@ -88,8 +88,7 @@ module _ {world : World ℕ} {names : List TaskName} {name : TaskName} (it : IsC
 
   -- Tasks of the set
   set_is : new ≡ map replaced old
-  set_is = filter-map (is_member_task names) replaced world.tasks
-      (λ t. ap (λ n. is_among same_name n names) (name-replaced_if_called moved t))
+  set_is = filter-map _ _ _ (λ t. ap (λ n. is_among same_name n names) (name-replaced_if_called moved t))
 
   how : (t : Task ℕ) → Among t old → ((replaced t ≡ moved) × (task ≡ t)) ⊎ (replaced t ≡ t)
   how t m = replaced_how it task called moved refl t (in_world t m)
@@ -216,11 +215,10 @@ module _ {world : World ℕ} {names : List TaskName} {name : TaskName} (it : IsC
 
         by : (b : Bool) → Ends b world task → is_out_left (cut b k m) ≡ false
         by true alone = ap (λ c. is_out_left (cond c (detached m) m)) e
-        by false (other, n, together, differ) = in_old m.namespace e
-            (any_from_among (λ (x : Task ℕ). nat_eq k x.namespace) new other
-            (subst (λ x. Among x new) (ap (λ b. cond b moved other) differ)
-            (in_set other (theirs other n together (is_member_task names other) refl)))
-            (eq-eqb k other.namespace (sym together)))
+        by false (other, n, together, differ) = in_old _ e
+            (any_from_among (λ (x : Task ℕ). nat_eq k x.namespace) new other (subst (λ x. Among x new)
+            (ap (λ b. cond b moved other) differ) (in_set other (theirs other n together _ refl)))
+            (eq-eqb k _ (sym together)))
 
     outs_stay : (list : List (Mount ℕ)) → ((x : Mount ℕ) → Among x list → Among x world.mounts)
         → filter is_out_left (map turn list ++ copies) ≡ filter is_out list
@@ -281,9 +279,7 @@ module _ {world : World ℕ} {names : List TaskName} {name : TaskName} (it : IsC
 
     at_turned : (m : Mount ℕ) → Among m world.mounts → (l : Location ℕ) → l.mount ≡ m.number
         → mount_at nat_eq left l ≡ turn m
-    at_turned m n l e = found_left (turn m)
-        (among-append_left (map turn world.mounts) copies (turn m) (among-map turn world.mounts m n)) l
-        (e ∙ sym (turned_number m))
+    at_turned m n l e = found_left _ (among-append_left _ _ _ (among-map turn _ m n)) l (e ∙ sym (turned_number m))
 
     at_old : (m : Mount ℕ) → Among m world.mounts → (l : Location ℕ) → l.mount ≡ m.number → mount_at nat_eq world l ≡ m
     at_old m n l e = cc (found_itself world.mounts it.is.mounts.one_number m n)
@@ -327,27 +323,20 @@ module _ {world : World ℕ} {names : List TaskName} {name : TaskName} (it : IsC
 
     located_was : (l : Location ℕ) → Among l (locations new)
         → Among (mount_at nat_eq left l).filesystem (used_directly nat_eq world names)
-    located_was l m = ⊎_elim (λ before. subst (λ i. Among i (used_directly nat_eq world names))
-        (sym (shown_there l (placed (is_member_task names) l before)))
-        (among-append_right mounted (map shows (locations old)) (shows l) (among-map shows (locations old) l before)))
-        (λ rest. ⊎_elim
+    located_was l m = ⊎_elim (λ before. subst (λ i. Among i (used_directly nat_eq world names)) (sym
+        (shown_there l (placed _ l before))) (among-append_right _ _ _ (among-map shows _ l before))) (λ rest. ⊎_elim
         (λ on. subst (λ i. Among i (used_directly nat_eq world names)) (sym (shown_still on.0 on.1 l (sym on.2)))
-        (theirs_directly world names it.is l on))
-        (λ late. let there = among-append_right (map turn world.mounts) copies late.0 late.1 in
-        shown_was late.0 there (copy_owned late.0 late.1) (mount_at nat_eq left l).filesystem
-        (ap (λ (x : Mount ℕ). x.filesystem) (found_left late.0 there l late.2))) rest)
+        (theirs_directly world names it.is l on)) (λ late. let there = among-append_right _ _ _ late.1 in
+        shown_was _ there (copy_owned _ late.1) (mount_at nat_eq left l).filesystem
+        (ap (λ (x : Mount ℕ). x.filesystem) (found_left _ there l late.2))) rest)
         (places_moved it task called fresh serves l m)
 
     direct_was : (n : ℕ) → Among n (used_directly nat_eq left names) → Among n (used_directly nat_eq world names)
-    direct_was n m = ⊎_elim
-        (λ shown. let y = among-from_map (λ (m : Mount ℕ). m.filesystem) (own_mounts nat_eq left names) n shown in
-        let own = among-from_filter owns_left left.mounts y.0 y.1 in
+    direct_was n m = ⊎_elim (λ shown. let y = among-from_map (λ (m : Mount ℕ). m.filesystem) _ n shown in
+        let own = among-from_filter _ _ y.0 y.1 in
         shown_was y.0 own.0 own.1 n y.2)
-        (λ located. let l = among-from_map (λ (l : Location ℕ). (mount_at nat_eq left l).filesystem) (locations new) n
-        located in
-        subst (λ i. Among i (used_directly nat_eq world names)) (sym l.2) (located_was l.0 l.1))
-        (among-append (map (λ (m : Mount ℕ). m.filesystem) (own_mounts nat_eq left names))
-        (map (λ (l : Location ℕ). (mount_at nat_eq left l).filesystem) (locations new)) n m)
+        (λ located. let l = among-from_map (λ (l : Location ℕ). (mount_at nat_eq left l).filesystem) _ n located in
+        subst (λ i. Among i (used_directly nat_eq world names)) (sym l.2) (located_was l.0 l.1)) (among-append _ _ n m)
 
     as_before : OthersAsBefore world left names names
     as_before = record {
@@ -355,14 +344,12 @@ module _ {world : World ℕ} {names : List TaskName} {name : TaskName} (it : IsC
       mounts = mounts_stay;
       shown = λ l m. shown_there l (placed (λ (t : Task ℕ). not (is_member_task names t)) l m);
       tasks = ap (list_all (λ (t : Task ℕ). not (own_left t.namespace))) others_are
-          ∙ list_all_from_among (λ (t : Task ℕ). not (own_left t.namespace)) (outsiders world names) (λ t m.
-          ap not (unentered t.namespace
-          (task_listed t (among-from_filter (λ (x : Task ℕ). not (is_member_task names x)) world.tasks t m).0)
+          ∙ list_all_from_among (λ (t : Task ℕ). not (own_left t.namespace)) _ (λ t m. ap not
+          (unentered _ (task_listed t (among-from_filter (λ (x : Task ℕ). not (is_member_task names x)) _ t m).0)
           (namespace_outside world names its_apart t m)));
       events = no_events;
       places = ap (λ tasks. list_all (λ l. not (owns_left (mount_at nat_eq left l))) (locations tasks)) others_are
-          ∙ list_all_from_among (λ l. not (owns_left (mount_at nat_eq left l))) (locations (outsiders world names))
-          none_on_own;
+          ∙ list_all_from_among (λ l. not (owns_left (mount_at nat_eq left l))) _ none_on_own;
       filesystems = λ f m. inl (f, m, refl, refl);
       direct = λ n m. inl (direct_was n m);
     }

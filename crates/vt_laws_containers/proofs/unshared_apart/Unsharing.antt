@@ -1,6 +1,6 @@
 -- No unshare(2) by a task of a sealed set gives others a foothold.
 use Rattle.std.proofs.Common.{inl, inr, ◌≡◌, refl, sym, ap, ℕ, nat_eq, true, false, List, Some, Ok, Err, filter, not, eqb-true, IfOk, is_ok}
-use Rattle.vt_spec.proofs.Common.{cases_Bool, Fresh, Judgement, Serves, Task, TaskName, ToUnshare, Unshare, World, among-filter, among-from_filter, any_among, judge_in, list_any, namespaces_ended, none_among, not-true, same_name, task_called, unshared}
+use Rattle.vt_spec.proofs.Common.{cases_Bool, Fresh, Judgement, Serves, Task, TaskName, ToUnshare, Unshare, World, among-filter, among-from_filter, any_among, judge_in, namespaces_ended, none_among, not-true, same_name, task_called, unshared}
 use Rattle.vt_laws_containers.proofs.Common.{cases_Option, IsCallOfTheirs, Unshares, ran, unshares}
 use Rattle.vt_laws_containers.specs.Footholds.{GivesNoFoothold}
 use Rattle.vt_laws_containers.proofs.footholds.AsBefore.{OthersAsBefore}
@@ -14,20 +14,19 @@ either_as_before : (world : World ℕ) (names : List TaskName) (name : TaskName)
     (it : IsCallOfTheirs world names name Unshare) (task : Task ℕ) → task_called world name ≡ Some task
     → (fresh : Fresh ℕ) → Serves nat_eq world fresh
     → OthersAsBefore world (namespaces_ended nat_eq (unshared nat_eq world fresh task)) names names
-either_as_before world names name it task called fresh serves =
-    elim (cases_Bool (list_any (λ (t : Task ℕ). nat_eq task.namespace t.namespace) rest)) [
-      | inl e ↦ let at = any_among (λ (t : Task ℕ). nat_eq task.namespace t.namespace) rest e in
-          let from = among-from_filter (λ (t : Task ℕ). not (same_name task.name t.name)) world.tasks at.0 at.1 in
-          unshared_as_before it task called fresh serves false (
-            at.0,
-            from.0,
-            sym (eqb-true task.namespace at.0.namespace at.2),
-            not-true (same_name task.name at.0.name) from.1,
-          )
-      | inr e ↦ unshared_as_before it task called fresh serves true
-          (λ t m differ. none_among (λ (x : Task ℕ). nat_eq task.namespace x.namespace) rest e t
-          (among-filter (λ (x : Task ℕ). not (same_name task.name x.name)) world.tasks t m (ap not differ)))
-    ]
+either_as_before world names name it task called fresh serves = elim (cases_Bool _) [
+  | inl e ↦ let at = any_among (λ (t : Task ℕ). nat_eq task.namespace t.namespace) rest e in
+      let from = among-from_filter (λ (t : Task ℕ). not (same_name task.name t.name)) _ at.0 at.1 in
+      unshared_as_before it task called fresh serves false (
+        at.0,
+        from.0,
+        sym (eqb-true _ _ at.2),
+        not-true _ from.1,
+      )
+  | inr e ↦ unshared_as_before it task called fresh serves true
+      (λ t m differ. none_among (λ (x : Task ℕ). nat_eq task.namespace x.namespace) rest e t
+      (among-filter (λ (x : Task ℕ). not (same_name task.name x.name)) _ t m (ap not differ)))
+]
   where
     rest : List (Task ℕ)
     rest = filter (λ (t : Task ℕ). not (same_name task.name t.name)) world.tasks
@@ -44,5 +43,4 @@ unshares_give_no_foothold world names name it fresh serves = elim (cases_Option 
     judged_by task e (Ok permit) judged known =
         permit_out (record { it = it; few = refl; serves = serves; called = e }) ToUnshare (cc)
         (λ ends. either_as_before world names name it task e fresh serves)
-    judged_by task e (Err deny) judged known = refused_out it fresh
-        (cc)
+    judged_by task e (Err deny) judged known = refused_out it fresh cc

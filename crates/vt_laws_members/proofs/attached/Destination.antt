@@ -1,7 +1,7 @@
 -- The part of a sealed set is fit for what is attached to a mount of theirs: mounts and locations stand in it.
 use Rattle.std.proofs.Common.{arith, ◌≡◌, ⊎_elim, ℕ, nat_eq, true, List, map, eq-eqb, IfOk}
 use Rattle.vt_spec.proofs.Common.{Among, IsWorld, Location, Mount, Task, TaskName, World, all_locations, among-filter_map, among-flat_map, among-from_filter, among-from_flat_map, among-from_map, among-map, among_from_list_all, among_numbers, and_parts, any_from_among, common_steps, destination_walk, is_among, is_among_numbers, is_located_well, is_member_task, is_there, list_all_from_among, locations, locations_of, members, mount_at, part_of, sealed, source_walk}
-use Rattle.vt_laws_members.proofs.judging.Common.{IsMember, IsTheirs, destination_agrees, its_mount, same_mount, source_agrees}
+use Rattle.vt_laws_members.proofs.judging.Common.{IsMember, IsTheirs, destination_agrees, its_mount, leads_alike, same_mount, source_agrees}
 use Rattle.vt_laws_members.proofs.Common.{LocationsStand, is_attached, is_own, keep, kept_how, sealed_by, shown_at}
 use Rattle.vt_laws_mounts.specs.LettingGo.Leaving.{MountsStand}
 use Rattle.vt_laws_mounts.proofs.letting_go.mounting.MountsSwept.{mounts_stand}
@@ -64,10 +64,10 @@ module _ {world : World ℕ} {names : List TaskName} {task : Task ℕ} (member :
       (StandsHere member)
   at_source path =
       let it = alike member in
-      (source_agrees it.walks it.directory it.rules.removed path).1
+      (source_agrees (leads_alike it) path).1
 
   pub at_destination : (path : List ℕ) → IfOk
       (destination_walk nat_eq (one member) task path) (StandsHere member)
   at_destination path =
       let it = alike member in
-      (destination_agrees it.walks it.directory it.rules.removed path).1
+      (destination_agrees (leads_alike it) path).1

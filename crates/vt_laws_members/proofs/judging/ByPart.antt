@@ -6,7 +6,7 @@ use Rattle.vt_laws_members.proofs.judging.TheirCalls.{IsMember, a_member}
 use Rattle.vt_laws_members.specs.Judging.{MembersAreJudgedByTheirPart, is_theirs}
 use Rattle.vt_laws_members.proofs.judging.AllJudged.{judges, members_are_judged_alike, owned}
 use Rattle.vt_laws_members.proofs.judging.Grounds.{IsTheirs, its_mount, theirs_from}
-use Rattle.vt_laws_members.proofs.judging.Judged.{JudgesAlike}
+use Rattle.vt_laws_members.proofs.judging.Judged.{JudgesAlike, leads_alike}
 use Rattle.vt_laws_members.proofs.judging.Overfilled.{bind_overfills, move_overfills, overlay_overfills, plain_overfills}
 use Rattle.vt_laws_members.proofs.judging.WalksLead.{HereAt, destination_agrees, judged_alike, source_agrees}
 
@@ -41,16 +41,16 @@ module _ {world : World ℕ} {names : List TaskName} {task : Task ℕ} (member :
   alike = judges member
 
   abbrev StandsThere : Here ℕ → Type 0
-  StandsThere = HereAt alike.walks alike.directory alike.rules.removed
+  StandsThere = HereAt (leads_alike alike)
 
   at_source : (path : List ℕ) → Agree StandsThere (source_walk nat_eq one task path) (source_walk nat_eq one task path)
-  at_source path = (refl, (source_agrees alike.walks alike.directory alike.rules.removed path).1)
+  at_source path = (refl, (source_agrees (leads_alike alike) path).1)
 
   at_destination : (path : List ℕ)
       → Agree StandsThere (destination_walk nat_eq one task path) (destination_walk nat_eq one task path)
   at_destination path = (
     refl,
-    (destination_agrees alike.walks alike.directory alike.rules.removed path).1,
+    (destination_agrees (leads_alike alike) path).1,
   )
 
   theirs : (here : Location ℕ) → On here.mount → IsTheirs world names member.is.mounts here.mount

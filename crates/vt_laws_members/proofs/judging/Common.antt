@@ -3,7 +3,7 @@ pub use Rattle.vt_laws_members.proofs.judging.AllJudged.{called_alike, judges, m
 pub use Rattle.vt_laws_members.proofs.judging.Busy.{no_events}
 pub use Rattle.vt_laws_members.proofs.judging.ByPart.{members_are_judged_by_their_part}
 pub use Rattle.vt_laws_members.proofs.judging.Grounds.{IsGround, IsTheirs, child_theirs, its_mount, own_by, parent_theirs, same_found, same_mount, theirs_from, theirs_test, up_alike}
-pub use Rattle.vt_laws_members.proofs.judging.Judged.{JudgesAlike}
+pub use Rattle.vt_laws_members.proofs.judging.Judged.{JudgesAlike, leads_alike}
 pub use Rattle.vt_laws_members.proofs.judging.Locks.{has_layer, whole_how}
 pub use Rattle.vt_laws_members.proofs.judging.LowersSeen.{lower_view, overlay_there}
 pub use Rattle.vt_laws_members.proofs.judging.MountPoints.{in_own, part_mount}

@@ -4,7 +4,7 @@ use Rattle.vt_spec.proofs.Common.{Access, Creation, Exclusive, Judgement, Locati
 use Rattle.vt_laws_members.proofs.Common.{E1, E2}
 use Rattle.vt_spec.specs.Machine.Judge.{made_permit}
 use Rattle.vt_spec.specs.Machine.Rules.Descriptors.{copy_rules, is_copied_up}
-use Rattle.vt_laws_members.proofs.judging.Judged.{JudgesAlike, Stands}
+use Rattle.vt_laws_members.proofs.judging.Judged.{JudgesAlike, Stands, leads_alike}
 use Rattle.vt_laws_members.proofs.judging.Masks.{by_mask, masked}
 use Rattle.vt_laws_members.proofs.judging.WalksLead.{FoundAt, PlaceAt, directory_agrees, file_agrees, judged_alike, new_agrees, new_leaf_agrees, object_agrees, old_leaf_agrees, symlink_agrees}
 
@@ -16,10 +16,10 @@ module _ {one other : Looks ℕ} {task : Task ℕ} {own uses : ℕ → Bool} (al
   StandsHere = Stands alike
 
   abbrev pub IsPlaced : Place ℕ → Type 0
-  IsPlaced = PlaceAt alike.walks alike.directory alike.rules.removed
+  IsPlaced = PlaceAt (leads_alike alike)
 
   abbrev pub IsFound : Option (Location ℕ) → Type 0
-  IsFound = FoundAt alike.walks alike.directory alike.rules.removed
+  IsFound = FoundAt (leads_alike alike)
 
   -- what is asked of what is reached is the same in both
   pub asked_alike : {R : Type 0} (asked : Looks ℕ → R)
@@ -39,7 +39,7 @@ module _ {one other : Looks ℕ} {task : Task ℕ} {own uses : ℕ → Bool} (al
       (record { attr = new_attr task (unwrap_or mode directory_mode); content = new_directory place.parent.node }))
       (λ place. made_permit nat_eq other task place
       (record { attr = new_attr task (unwrap_or mode directory_mode); content = new_directory place.parent.node }))
-      (new_agrees alike.walks alike.directory alike.rules.removed path) (λ place at. made_alike place
+      (new_agrees (leads_alike alike) path) (λ place at. made_alike place
       (record { attr = new_attr task (unwrap_or mode directory_mode); content = new_directory place.parent.node }) at.0)
 
   pub symlink_alike : (text path : List ℕ)
@@ -50,9 +50,8 @@ module _ {one other : Looks ℕ} {task : Task ℕ} {own uses : ℕ → Bool} (al
       (record { attr = exact_attr task symlink_mode; content = Symlink text }))
       (λ place. made_permit nat_eq other task place
       (record { attr = exact_attr task symlink_mode; content = Symlink text }))
-      (new_leaf_agrees alike.walks alike.directory alike.rules.removed path)
-      (λ place at. made_alike place
-      (record { attr = exact_attr task symlink_mode; content = Symlink text }) at.0))
+      (new_leaf_agrees (leads_alike alike) path)
+      (λ place at. made_alike place (record { attr = exact_attr task symlink_mode; content = Symlink text }) at.0))
 
   abbrev whiteout_by : Place ℕ → Looks ℕ → Judgement ℕ
   whiteout_by place looks = unless (whiteout_rules looks task place)
@@ -60,7 +59,7 @@ module _ {one other : Looks ℕ} {task : Task ℕ} {own uses : ℕ → Bool} (al
 
   pub whiteout_alike : (path : List ℕ) → whiteout_permit nat_eq one task path ≡ whiteout_permit nat_eq other task path
   unfolding whiteout_permit
-  whiteout_alike path = judged_alike IsPlaced _ _ _ _ (new_leaf_agrees alike.walks alike.directory alike.rules.removed
+  whiteout_alike path = judged_alike IsPlaced _ _ _ _ (new_leaf_agrees (leads_alike alike)
       path) (λ place at. let on : own place.parent.mount ≡ true = at.0 in
       asked_alike (whiteout_by place) (λ looks. rw (is_read_only, on) refl))
 
@@ -72,9 +71,9 @@ module _ {one other : Looks ℕ} {task : Task ℕ} {own uses : ℕ → Bool} (al
   pub hard_link_alike : (old new : List ℕ)
       → hard_link_permit nat_eq one task old new ≡ hard_link_permit nat_eq other task old new
   unfolding hard_link_permit
-  hard_link_alike old new = judged_alike StandsHere _ _ _ _ (symlink_agrees alike.walks alike.directory
-      alike.rules.removed old) (λ from there. judged_alike IsPlaced _ _ _ _ (new_leaf_agrees alike.walks alike.directory
-      alike.rules.removed new) (λ place at. let on : own place.parent.mount ≡ true = at.0 in
+  hard_link_alike old new = judged_alike StandsHere _ _ _ _ (symlink_agrees (leads_alike alike) old)
+      (λ from there. judged_alike IsPlaced _ _ _ _ (new_leaf_agrees (leads_alike alike) new)
+      (λ place at. let on : own place.parent.mount ≡ true = at.0 in
       asked_alike (link_by from.location place) (λ looks. rw (is_read_only, there, on) refl)))
 
   written_by : (place : Place ℕ) → On place.parent.mount → (bytes : List ℕ) (o : Option (Location ℕ)) → IsFound o
@@ -89,7 +88,7 @@ module _ {one other : Looks ℕ} {task : Task ℕ} {own uses : ℕ → Bool} (al
   write_alike path bytes = judged_alike IsPlaced (file_walk nat_eq one task path) (file_walk nat_eq other task path)
       (λ place. unless (file_word_rules place) (written_permit nat_eq one task place bytes place.object))
       (λ place. unless (file_word_rules place) (written_permit nat_eq other task place bytes place.object))
-      (file_agrees alike.walks alike.directory alike.rules.removed path)
+      (file_agrees (leads_alike alike) path)
       (λ place at. ap (unless (file_word_rules place)) (written_by place at.0 bytes place.object at.1))
 
   pub there_own : (place : Place ℕ) → IsPlaced place → On (object_there place).mount
@@ -109,7 +108,7 @@ module _ {one other : Looks ℕ} {task : Task ℕ} {own uses : ℕ → Bool} (al
 
   pub unlink_alike : (path : List ℕ) → unlink_permit nat_eq one task path ≡ unlink_permit nat_eq other task path
   unfolding unlink_permit
-  unlink_alike path = judged_alike IsPlaced _ _ _ _ (old_leaf_agrees alike.walks alike.directory alike.rules.removed
+  unlink_alike path = judged_alike IsPlaced _ _ _ _ (old_leaf_agrees (leads_alike alike)
       path) (λ place at. unlink_same place (object_there place) at.0 (there_own place at))
 
   -- Attributes
@@ -117,10 +116,9 @@ module _ {one other : Looks ℕ} {task : Task ℕ} {own uses : ℕ → Bool} (al
   pub chmod_alike : (path : List ℕ) (mode : ℕ)
       → chmod_permit nat_eq one task path mode ≡ chmod_permit nat_eq other task path mode
   unfolding chmod_permit
-  chmod_alike path mode =
-      judged_alike StandsHere (object_walk nat_eq one task path) (object_walk nat_eq other task path)
-      (λ here. by here.location one) (λ here. by here.location other)
-      (object_agrees alike.walks alike.directory alike.rules.removed path)
+  chmod_alike path mode = judged_alike StandsHere (object_walk nat_eq one task path)
+      (object_walk nat_eq other task path) (λ here. by here.location one) (λ here. by here.location other)
+      (object_agrees (leads_alike alike) path)
       (λ here on. asked_alike (by here.location) (λ looks. rw (is_read_only, on) refl))
     where
       by : Location ℕ → Looks ℕ → Judgement ℕ
@@ -130,10 +128,9 @@ module _ {one other : Looks ℕ} {task : Task ℕ} {own uses : ℕ → Bool} (al
   pub chown_alike : (path : List ℕ) (uid gid : Option ℕ)
       → chown_permit nat_eq one task path uid gid ≡ chown_permit nat_eq other task path uid gid
   unfolding chown_permit
-  chown_alike path uid gid =
-      judged_alike StandsHere (object_walk nat_eq one task path) (object_walk nat_eq other task path)
-      (λ here. by here.location one) (λ here. by here.location other)
-      (object_agrees alike.walks alike.directory alike.rules.removed path)
+  chown_alike path uid gid = judged_alike StandsHere (object_walk nat_eq one task path)
+      (object_walk nat_eq other task path) (λ here. by here.location one) (λ here. by here.location other)
+      (object_agrees (leads_alike alike) path)
       (λ here on. asked_alike (by here.location) (λ looks. rw (is_read_only, on) refl))
     where
       by : Location ℕ → Looks ℕ → Judgement ℕ
@@ -146,8 +143,7 @@ module _ {one other : Looks ℕ} {task : Task ℕ} {own uses : ℕ → Bool} (al
   unfolding opaque_permit
   opaque_alike path mark = ap (unless (admin_rules task))
       (judged_alike StandsHere (directory_walk nat_eq one task path) (directory_walk nat_eq other task path)
-      (λ here. by here.location one) (λ here. by here.location other)
-      (directory_agrees alike.walks alike.directory alike.rules.removed path)
+      (λ here. by here.location one) (λ here. by here.location other) (directory_agrees (leads_alike alike) path)
       (λ here on. asked_alike (by here.location) (λ looks. rw (is_read_only, on) refl)))
     where
       by : Location ℕ → Looks ℕ → Judgement ℕ
@@ -176,23 +172,20 @@ module _ {one other : Looks ℕ} {task : Task ℕ} {own uses : ℕ → Bool} (al
 
   open_by : (path : List ℕ) (access : Access) (creation : Creation)
       → open_by_permit nat_eq one task path access creation ≡ open_by_permit nat_eq other task path access creation
-  open_by path access NoCreation =
-      judged_alike StandsHere (object_walk nat_eq one task path) (object_walk nat_eq other task path)
-      (λ here. open_file_permit nat_eq one task here.location access)
-      (λ here. open_file_permit nat_eq other task here.location access)
-      (object_agrees alike.walks alike.directory alike.rules.removed path)
+  open_by path access NoCreation = judged_alike StandsHere (object_walk nat_eq one task path)
+      (object_walk nat_eq other task path) (λ here. open_file_permit nat_eq one task here.location access)
+      (λ here. open_file_permit nat_eq other task here.location access) (object_agrees (leads_alike alike) path)
       (λ here on. open_file_same here.location access on)
-  open_by path access (OrCreate mode) =
-      judged_alike IsPlaced (file_walk nat_eq one task path) (file_walk nat_eq other task path)
-      (λ place. unless (file_word_rules place) (opened_or_created_permit nat_eq one task place access mode
-      place.object)) (λ place. unless (file_word_rules place) (opened_or_created_permit nat_eq other task place access
-      mode place.object)) (file_agrees alike.walks alike.directory alike.rules.removed path)
-      (λ place at. cc (opened_by place at.0 access mode place.object at.1))
+  open_by path access (OrCreate mode) = judged_alike IsPlaced (file_walk nat_eq one task path)
+      (file_walk nat_eq other task path) (λ place. unless (file_word_rules place)
+      (opened_or_created_permit nat_eq one task place access mode place.object)) (λ place. unless
+      (file_word_rules place) (opened_or_created_permit nat_eq other task place access mode place.object))
+      (file_agrees (leads_alike alike) path) (λ place at. cc (opened_by place at.0 access mode place.object at.1))
   open_by path access (Exclusive mode) = judged_alike IsPlaced (new_walk nat_eq one task path)
       (new_walk nat_eq other task path) (λ place. unless (exclusive_word_rules place)
       (create_file_permit nat_eq one task place access mode)) (λ place. unless (exclusive_word_rules place)
-      (create_file_permit nat_eq other task place access mode)) (new_agrees alike.walks alike.directory
-      alike.rules.removed path) (λ place at. cc (create_same place access mode at.0))
+      (create_file_permit nat_eq other task place access mode)) (new_agrees (leads_alike alike) path)
+      (λ place at. cc (create_same place access mode at.0))
 
   pub open_alike : (path : List ℕ) (access : Access) (creation : Creation)
       → open_permit nat_eq one task path access creation ≡ open_permit nat_eq other task path access creation

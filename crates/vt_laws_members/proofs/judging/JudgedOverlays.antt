@@ -2,7 +2,7 @@
 use Rattle.std.proofs.Common.{arith, ◌≡◌, refl, ap, ◌∙◌, inl, inr, ⊎_elim, ℕ, nat_eq, Bool, true, not, List, [], ◌∷◌, ◌++◌, Option, Some, None, Ok, Err, Result, length, is_some, ◌||◌, ◌&&◌, nat_lt, option_map, option_to_list}
 use Rattle.vt_spec.proofs.Common.{Among, Here, Judgement, Layer, LayerLocations, Location, Looks, Mount, MountFlags, Overlay, OverlayWords, Permit, Stop, Task, ToMountOverlay, admin_rules, among-append, among-append_left, among-append_right, among-from_map, and_then, any_pair, attach_permit, common_steps, destination_walk, each_walked, has_single_lower, is_elsewhere, is_empty_list, is_overlay_at, is_read_only, layer_at, layer_locations, layer_rules, layers_walked, list_any, map_alike, most_lowers, mount_overlay_permit, new_mount_rules, one_under_another, overlay_at, overlay_permit_by, source_walk, unless, upper_and_work, walk_end, walked_if_given, work_walked}
 use Rattle.vt_laws_members.proofs.Common.{Agree, Deny, Each, O2, O3, O5, lie_apart, mount_at, upper_and_work_locations}
-use Rattle.vt_laws_members.proofs.judging.Judged.{JudgesAlike, Stands}
+use Rattle.vt_laws_members.proofs.judging.Judged.{JudgesAlike, Stands, leads_alike}
 use Rattle.vt_laws_members.proofs.judging.Masks.{by_mask}
 use Rattle.vt_laws_members.proofs.judging.WalksLead.{destination_agrees, judged_alike, source_agrees}
 
@@ -55,7 +55,7 @@ module _ {one other : Looks ℕ} (task : Task ℕ) (own : ℕ → Bool) {uses : 
   walked_one : (path : List ℕ)
       → Agree StandsThere (walk_end (source_walk nat_eq one task path)) (walk_end (source_walk nat_eq other task path))
   walked_one path = end_agrees StandsThere (source_walk nat_eq one task path) (source_walk nat_eq other task path)
-      (source_agrees alike.walks alike.directory alike.rules.removed path)
+      (source_agrees (leads_alike alike) path)
 
   each_agrees : (paths : List (List ℕ))
       → Agree (λ list. Each At list) (each_walked nat_eq one task paths) (each_walked nat_eq other task paths)
@@ -223,5 +223,4 @@ module _ {one other : Looks ℕ} (task : Task ℕ) (own : ℕ → Bool) {uses : 
       (judged_alike StandsThere (destination_walk nat_eq one task path) (destination_walk nat_eq other task path)
       (λ here. overlay_permit_by nat_eq one overfills task here.location options flags)
       (λ here. overlay_permit_by nat_eq other overfills task here.location options flags)
-      (destination_agrees alike.walks alike.directory alike.rules.removed path)
-      (λ here on. permit_by overfills here.location on options flags))
+      (destination_agrees (leads_alike alike) path) (λ here on. permit_by overfills here.location on options flags))

@@ -2,7 +2,7 @@
 use Rattle.std.proofs.Common.{◌≡◌, refl, ap, ◌∙◌, ℕ, nat_eq, Bool, true, false, not, List, [], ◌∷◌, Ok, ◌||◌, ◌&&◌}
 use Rattle.vt_spec.proofs.Common.{Here, Judgement, Location, Looks, MountFlags, Task, ToPivot, ToSetFlags, admin_rules, and_then, destination_walk, directory_walk, has_shared_parent, is_elsewhere, is_no_root, is_on_descendant, is_shared, lies_under_location, list_any, pivot_permit, remount_permit, source_walk, unless, walk_end}
 use Rattle.vt_laws_members.proofs.Common.{M11, M12, M2, M7, M8, mount_at}
-use Rattle.vt_laws_members.proofs.judging.Judged.{JudgesAlike, Stands}
+use Rattle.vt_laws_members.proofs.judging.Judged.{JudgesAlike, Stands, leads_alike}
 use Rattle.vt_laws_members.proofs.judging.Masks.{by_mask}
 use Rattle.vt_laws_members.proofs.judging.WalksLead.{destination_agrees, directory_agrees, judged_alike, source_agrees}
 
@@ -41,12 +41,10 @@ module _ {one other : Looks ℕ} {task : Task ℕ} {own : ℕ → Bool} (uses : 
   remount_alike path flags = cc (judged_alike StandsThere (directory_walk nat_eq one task path)
       (directory_walk nat_eq other task path) (λ here. flags_by flags here.location
       (one.is_written_through here.location.mount) one) (λ here. flags_by flags here.location
-      (other.is_written_through here.location.mount) other)
-      (directory_agrees alike.walks alike.directory alike.rules.removed path)
-      (λ here on. by_namespace flags here.location on
-      (is_elsewhere nat_eq one task here.location) refl ∙ by_mask own uses one other alike.rules
-      (flags_by flags here.location (other.is_written_through here.location.mount)) (λ looks. rw
-      (is_elsewhere, is_no_root, mount_at, on) refl)))
+      (other.is_written_through here.location.mount) other) (directory_agrees (leads_alike alike) path)
+      (λ here on. by_namespace flags here.location on (is_elsewhere nat_eq one task here.location) refl
+      ∙ by_mask own uses one other alike.rules (flags_by flags here.location
+      (other.is_written_through here.location.mount)) (λ looks. rw (is_elsewhere, is_no_root, mount_at, on) refl)))
 
   -- the rules of pivot_root(2), with what they ask of mounts below
   abbrev pivot_by : Location ℕ → Location ℕ → (descends below parent root : Bool) → Looks ℕ → Judgement ℕ
@@ -79,13 +77,10 @@ module _ {one other : Looks ℕ} {task : Task ℕ} {own : ℕ → Bool} (uses : 
   pub pivot_alike : (new put : List ℕ) → pivot_permit nat_eq one task new put ≡ pivot_permit nat_eq other task new put
   unfolding pivot_permit
   pivot_alike new put = ap (unless (admin_rules task))
-      (judged_alike StandsThere (source_walk nat_eq one task new) (source_walk nat_eq other task new)
-      (λ root. and_then (walk_end (destination_walk nat_eq one task put)) (λ here.
-      pivot_of one root.location here.location one))
-      (λ root. and_then (walk_end (destination_walk nat_eq other task put)) (λ here.
-      pivot_of other root.location here.location other))
-      (source_agrees alike.walks alike.directory alike.rules.removed new) (λ root there.
+      (judged_alike StandsThere (source_walk nat_eq one task new) (source_walk nat_eq other task new) (λ root. and_then
+      (walk_end (destination_walk nat_eq one task put)) (λ here. pivot_of one root.location here.location one))
+      (λ root. and_then (walk_end (destination_walk nat_eq other task put))
+      (λ here. pivot_of other root.location here.location other)) (source_agrees (leads_alike alike) new) (λ root there.
       judged_alike StandsThere (destination_walk nat_eq one task put) (destination_walk nat_eq other task put)
       (λ here. pivot_of one root.location here.location one) (λ here. pivot_of other root.location here.location other)
-      (destination_agrees alike.walks alike.directory alike.rules.removed put)
-      (λ here on. pivot_same root.location here.location there on)))
+      (destination_agrees (leads_alike alike) put) (λ here on. pivot_same root.location here.location there on)))

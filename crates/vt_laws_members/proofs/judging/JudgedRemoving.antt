@@ -5,7 +5,7 @@ use Rattle.vt_spec.specs.declared.errors.Rule.{Rule}
 use Rattle.vt_laws_members.proofs.Common.{B1, C1, C3, E2, E3, E4, E5, F1, F2, L1, O1, P1, P2, is_directory_at, mount_at}
 use Rattle.vt_spec.specs.Machine.Rules.Conditions.{is_kept, mounter_may_not}
 use Rattle.vt_spec.specs.Machine.Rules.Removing.{changes_parent, is_nonempty, is_stuck, same_filesystem}
-use Rattle.vt_laws_members.proofs.judging.Judged.{JudgesAlike}
+use Rattle.vt_laws_members.proofs.judging.Judged.{JudgesAlike, leads_alike}
 use Rattle.vt_laws_members.proofs.judging.JudgedFiles.{IsFound, IsPlaced, there_own}
 use Rattle.vt_laws_members.proofs.judging.Masks.{by_both, by_mask, masked}
 use Rattle.vt_laws_members.proofs.judging.WalksLead.{judged_alike, old_agrees, old_leaf_agrees, rename_new_agrees, same_directory_there}
@@ -52,8 +52,8 @@ module _ {one other : Looks ℕ} {task : Task ℕ} {own uses : ℕ → Bool} (al
 
   pub rmdir_alike : (path : List ℕ) → rmdir_permit nat_eq one task path ≡ rmdir_permit nat_eq other task path
   unfolding rmdir_permit
-  rmdir_alike path = judged_alike IsAt (old_walk nat_eq one task path) _ _ _ (old_agrees alike.walks alike.directory
-      alike.rules.removed path) (λ place at. cc (rmdir_same place (object_there place) at.0 (there_own alike place at)))
+  rmdir_alike path = judged_alike IsAt (old_walk nat_eq one task path) _ _ _ (old_agrees (leads_alike alike) path)
+      (λ place at. cc (rmdir_same place (object_there place) at.0 (there_own alike place at)))
 
   -- Renaming
 
@@ -164,20 +164,16 @@ module _ {one other : Looks ℕ} {task : Task ℕ} {own uses : ℕ → Bool} (al
   pub rename_alike : RenamesAlike one other own → (old new : List ℕ)
       → rename_permit nat_eq one task old new ≡ rename_permit nat_eq other task old new
   unfolding rename_permit
-  rename_alike renames old new =
-      judged_alike IsAt (old_leaf_walk nat_eq one task old) (old_leaf_walk nat_eq other task old)
-      (λ from. unless (old_word_rules from)
-      (and_then (walk_end (rename_new_walk nat_eq one task new (is_directory_there nat_eq one from)))
-      (to_rename from one))) (λ from. unless (old_word_rules from)
-      (and_then (walk_end (rename_new_walk nat_eq other task new (is_directory_there nat_eq other from)))
-      (to_rename from other))) (old_leaf_agrees alike.walks alike.directory alike.rules.removed old)
-      (λ from at. cc (
+  rename_alike renames old new = judged_alike IsAt (old_leaf_walk nat_eq one task old)
+      (old_leaf_walk nat_eq other task old) (λ from. unless (old_word_rules from) (and_then
+      (walk_end (rename_new_walk nat_eq one task new (is_directory_there nat_eq one from))) (to_rename from one)))
+      (λ from. unless (old_word_rules from) (and_then
+      (walk_end (rename_new_walk nat_eq other task new (is_directory_there nat_eq other from))) (to_rename from other)))
+      (old_leaf_agrees (leads_alike alike) old) (λ from at. cc (
         judged_alike IsAt (rename_new_walk nat_eq one task new (is_directory_there nat_eq one from))
             (rename_new_walk nat_eq other task new (is_directory_there nat_eq one from)) (to_rename from one)
-            (to_rename from other) (rename_new_agrees alike.walks alike.directory alike.rules.removed new
-            (is_directory_there nat_eq one from)) (λ to stands. ap (unless (old_word_rules to))
-            (renamed_alike renames from to (object_there from) at.0 stands.0
-            (there_own alike from at) stands.1)),
-        same_directory_there alike.walks alike.directory alike.rules.removed
-            from at,
+            (to_rename from other) (rename_new_agrees (leads_alike alike) new (is_directory_there nat_eq one from))
+            (λ to stands. ap (unless (old_word_rules to))
+            (renamed_alike renames from to (object_there from) at.0 stands.0 (there_own alike from at) stands.1)),
+        same_directory_there (leads_alike alike) from at,
       ))

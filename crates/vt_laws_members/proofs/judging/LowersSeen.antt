@@ -1,7 +1,7 @@
 -- What lower layers of overlays that members reach have at a path is in the part.
 use Rattle.std.proofs.Common.{◌≡◌, refl, sym, ap, ◌∙◌, inl, inr, ⊎_elim, ℕ, nat_eq, Bool, true, false, cond, not, List, [], ◌∷◌, ◌++◌, filter, find, flat_map, map, Option, Some, None, ◌||◌, ◌&&◌, eq-eqb, eqb-true, arith, option_to_list, unwrap_or, filter_map}
 use Rattle.vt_spec.proofs.Common.{cases_Bool, Among, FileTree, Filesystem, IsTree, IsWorld, Layer, ListsNumbers, Location, Node, Overlay, TaskName, World, among-append_left, among-append_right, among-filter, among-flat_map, among-map, among_from_all, among_numbers, and_from, any_from_among, change_layers, common_steps, cons_option, cuts, filesystem_at, filesystem_numbered, found_among, has_lower_directory, has_lower_directory_at, hides, is_among, is_among_numbers, is_directory_node, led, lies_in_own_lower, list_any, mount_at, no_filesystem, node_led, none_is_some, open_layer, overlay_or, own_lowers, part_of, part_of_filesystem, part_of_lower, path_down, prefixes, used_directly, used_filesystems, view_of, when}
-use Rattle.vt_laws_members.proofs.Common.{cases_Option, among-each_once, found, found_filesystem, layer_directory, led_is_there, led_under, lowers_have_directory, shown_how}
+use Rattle.vt_laws_members.proofs.Common.{cases_Option, among-each_once, found, found_filesystem, layer_directory, led_is_there, led_under, lowers_have_directory, shown_how, shown_number}
 use Rattle.vt_laws_trees.proofs.layers.views.Stay.{led_where}
 use Rattle.vt_laws_members.proofs.judging.SeenInPart.{OnTheirs, filesystem_alike, theirs_directly}
 
@@ -65,9 +65,6 @@ module _ (world : World ℕ) (names : List TaskName) (is : IsWorld nat_eq world)
       abbrev shown : Filesystem ℕ → Option (Filesystem ℕ)
       shown = part_of_filesystem nat_eq world names
 
-      shown_number : (x y : Filesystem ℕ) → shown x ≡ Some y → y.number ≡ x.number
-      shown_number x y e = ⊎_elim (λ same. cc same.0) (λ low. cc low.0) (shown_how world names x y e)
-
       kept : (x : Filesystem ℕ) → Among x world.filesystems → layer.filesystem ≡ x.number → (path : List (List ℕ))
           → (y : Filesystem ℕ) × (shown x ≡ Some y) × (view_at layer path y ≡ view_at layer path x)
       kept x there its path = elim (cases_Bool (is_among nat_eq x.number used)) [
@@ -103,7 +100,7 @@ module _ (world : World ℕ) (names : List TaskName) (is : IsWorld nat_eq world)
           skip : (o : Option (Filesystem ℕ)) → shown x ≡ o → passes x ≡ false
               → find passes (cons_option o (filter_map shown rest)) ≡ find passes (filter_map shown rest)
           skip None e f = refl
-          skip (Some y) e f = cc (shown_number x y e, f)
+          skip (Some y) e f = cc (shown_number world names x y e, f)
 
           by : (b : Bool) → passes x ≡ b → view_at layer path (unwrap_or (find passes (filter_map shown rest)) none)
               ≡ view_at layer path (unwrap_or (find passes rest) none)
@@ -114,7 +111,7 @@ module _ (world : World ℕ) (names : List TaskName) (is : IsWorld nat_eq world)
               ap (λ o. view_at layer path (unwrap_or (find passes (cons_option o (filter_map shown rest))) none)) its.1
               ∙ ap (λ b. view_at layer path
               (unwrap_or (cond b (Some its.0) (find passes (filter_map shown rest))) none))
-              (ap (nat_eq layer.filesystem) (shown_number x its.0 its.1) ∙ e) ∙ its.2
+              (ap (nat_eq layer.filesystem) (shown_number world names x its.0 its.1) ∙ e) ∙ its.2
           by false e later = cc (skip (shown x) refl e, later)
 
       pub lower_view : (path : List (List ℕ)) → node_led (view_of (open_layer nat_eq part layer)) path

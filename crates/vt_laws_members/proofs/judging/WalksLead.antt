@@ -30,9 +30,13 @@ placed_own Q R steps [] (Err deny) at q r = tt
 placed_own Q R steps ((true, rule) ∷ rules) found at q r = tt
 placed_own Q R steps ((false, rule) ∷ rules) found at q r = placed_own Q R steps rules found at q r
 
-module _ {one other : Looks ℕ} {task : Task ℕ} {Own : ℕ → Type 0} (alike : Alike one other task Own)
-    (directory : Own task.directory.mount)
-    (removed : (here : Location ℕ) → Own here.mount → one.is_removed here ≡ other.is_removed here) where
+-- What two worlds have to show alike, where walks of a task lead alike
+pub record WalksAlike (one other : Looks ℕ) (task : Task ℕ) (Own : ℕ → Type 0) : Type 0 where
+  pub walks : Alike one other task Own
+  pub directory : Own task.directory.mount
+  pub removed : (here : Location ℕ) → Own here.mount → one.is_removed here ≡ other.is_removed here
+
+module _ {one other : Looks ℕ} {task : Task ℕ} {Own : ℕ → Type 0} (leads : WalksAlike one other task Own) where
   abbrev pub At : Location ℕ → Type 0
   At here = Own here.mount
 
@@ -55,8 +59,8 @@ module _ {one other : Looks ℕ} {task : Task ℕ} {Own : ℕ → Type 0} (alike
   pub start_at : (text : List ℕ) → HereAt (walk_start task text)
   start_at text = grind (arith, common_steps)
 
-  follows : FollowsAgree one other task Own alike (followed nat_eq one task) (followed nat_eq other task)
-  follows = texts_agree one other task Own alike (most_symlinks + 1)
+  follows : FollowsAgree leads.walks (followed nat_eq one task) (followed nat_eq other task)
+  follows = texts_agree leads.walks (most_symlinks + 1)
 
   text_agrees : {B : Type 0} (R : B → Type 0) (path : List ℕ) (f g : List ℕ → Result B (Stop ℕ))
       → ((text : List ℕ) → Agree R (f text) (g text))
@@ -68,12 +72,12 @@ module _ {one other : Looks ℕ} {task : Task ℕ} {Own : ℕ → Type 0} (alike
       (λ text. words_walked nat_eq one task (followed nat_eq one task) (walk_start task text) (reverse (words text)))
       (λ text. words_walked nat_eq other task (followed nat_eq other task) (walk_start task text)
       (reverse (words text)))
-      (λ text. words_agree one other task Own alike (followed nat_eq one task) (followed nat_eq other task) follows
+      (λ text. words_agree leads.walks (followed nat_eq one task) (followed nat_eq other task) follows
       (walk_start task text) (start_at text) (reverse (words text)))
 
   same_slash : (text : List ℕ) (here : Location ℕ) → Own here.mount
       → slash_rules nat_eq one text here ≡ slash_rules nat_eq other text here
-  same_slash text here own = cc (alike.node here own)
+  same_slash text here own = cc (leads.walks.node here own)
 
   pub object_agrees : (path : List ℕ)
       → Agree HereAt (object_walk nat_eq one task path) (object_walk nat_eq other task path)
@@ -87,20 +91,20 @@ module _ {one other : Looks ℕ} {task : Task ℕ} {Own : ℕ → Type 0} (alike
       (λ here. walk_unless here.steps ((not (is_directory_at one here.location), W3) ∷ []) here)
       (λ here. walk_unless here.steps ((not (is_directory_at other here.location), W3) ∷ []) here) (path_agrees path)
       (λ here own. unless_same HereAt here.steps _ _ here
-      (ap (λ n. (not (is_directory_node n), W3) ∷ []) (alike.node here.location own)) own)
+      (ap (λ n. (not (is_directory_node n), W3) ∷ []) (leads.walks.node here.location own)) own)
 
   prefix_agrees : (here : Here ℕ) → HereAt here → (list : List (List ℕ))
       → Agree HereAt (prefix_walked nat_eq one task (followed nat_eq one task) here list)
       (prefix_walked nat_eq other task (followed nat_eq other task) here list)
   prefix_agrees here own [] = (refl, own)
-  prefix_agrees here own (word ∷ prefix) = words_agree one other task Own alike _ _ follows here own prefix
+  prefix_agrees here own (word ∷ prefix) = words_agree leads.walks _ _ follows here own prefix
 
   last_agrees : (here : Here ℕ) → HereAt here → (word : LastWord)
       → Agree HereAt (last_walked nat_eq one task here word) (last_walked nat_eq other task here word)
   last_agrees here own NoWord = (refl, own)
-  last_agrees here own Dot = word_agrees one other task Own alike here own Dot
-  last_agrees here own DotDot = word_agrees one other task Own alike here own DotDot
-  last_agrees here own (Named name) = word_agrees one other task Own alike here own (Named name)
+  last_agrees here own Dot = word_agrees leads.walks here own Dot
+  last_agrees here own DotDot = word_agrees leads.walks here own DotDot
+  last_agrees here own (Named name) = word_agrees leads.walks here own (Named name)
 
   symlink_by : (slash : Bool) (path : List ℕ)
       → Agree HereAt (symlink_walk_by nat_eq slash one task path) (symlink_walk_by nat_eq slash other task path)
@@ -132,22 +136,21 @@ module _ {one other : Looks ℕ} {task : Task ℕ} {Own : ℕ → Type 0} (alike
   named_agrees here own NoWord = (refl, found_some here own)
   named_agrees here own Dot = (refl, found_some here own)
   named_agrees here own DotDot =
-      let up = stepped_agrees one other task Own alike here own DotDot in
+      let up = stepped_agrees leads.walks here own DotDot in
       (cc up.0, by (stepped nat_eq one task here DotDot) up.1)
     where
       by : (r : Result (Location ℕ) Deny) → IfOk r At → IfOk (and_then r (λ parent. Ok (Some parent))) FoundAt
       by (Ok parent) on = found_some parent on
       by (Err deny) on = tt
-  named_agrees here own (Named name) =
-      (ap Ok (same_entry one other task Own alike here name own), entry_at here name own)
+  named_agrees here own (Named name) = (ap Ok (same_entry leads.walks here name own), entry_at here name own)
 
   same_met_at : (here : Location ℕ) → Own here.mount → (word : LastWord)
       → met_at nat_eq one task here word ≡ met_at nat_eq other task here word
-  same_met_at here own NoWord = same_met one other task Own alike here own NoWord
-  same_met_at here own Dot = same_met one other task Own alike here own Dot
-  same_met_at here own DotDot = same_met one other task Own alike here own DotDot
-  same_met_at here own (Named name) = same_filesystems one other task Own alike (here ∷ [])
-      (one_each one other task Own alike here own [] (none_each one other task Own alike))
+  same_met_at here own NoWord = same_met leads.walks here own NoWord
+  same_met_at here own Dot = same_met leads.walks here own Dot
+  same_met_at here own DotDot = same_met leads.walks here own DotDot
+  same_met_at here own (Named name) = same_filesystems leads.walks (here ∷ [])
+      (one_each leads.walks here own [] (none_each leads.walks))
 
   abbrev at_place : Here ℕ → LastWord → Bool → List (List ℕ) → Option (Location ℕ) → Place ℕ
   at_place here word slash steps object =
@@ -161,7 +164,7 @@ module _ {one other : Looks ℕ} {task : Task ℕ} {Own : ℕ → Type 0} (alike
       (at_place here word slash (steps_at nat_eq other task here word)))
   place_by here own word slash =
       let named = named_agrees here.location own word in (
-        cc (same_met_at here.location own word, same_search one other task Own alike here.location own, named.0),
+        cc (same_met_at here.location own word, same_search leads.walks here.location own, named.0),
         placed_own FoundAt PlaceAt (steps_at nat_eq one task here word) (search_rules nat_eq one task here.location)
             (object_named nat_eq one task here.location word)
             (at_place here word slash (steps_at nat_eq one task here word)) named.1 (λ object at. (own, at)),
@@ -192,7 +195,7 @@ module _ {one other : Looks ℕ} {task : Task ℕ} {Own : ℕ → Type 0} (alike
 
   same_new_name : (place : Place ℕ) → PlaceAt place
       → new_name_rules nat_eq one place ≡ new_name_rules nat_eq other place
-  same_new_name place at = cc (removed place.parent at.0)
+  same_new_name place at = cc (leads.removed place.parent at.0)
 
   pub new_agrees : (path : List ℕ) → Agree PlaceAt (new_walk nat_eq one task path) (new_walk nat_eq other task path)
   new_agrees path = then_agree PlaceAt PlaceAt (place_walk nat_eq one task path) (place_walk nat_eq other task path) _ _
@@ -239,7 +242,8 @@ module _ {one other : Looks ℕ} {task : Task ℕ} {Own : ℕ → Type 0} (alike
       then_agree HereAt HereAt (directory_walk nat_eq one task path) (directory_walk nat_eq other task path)
       (λ here. walk_unless here.steps ((one.is_removed here.location, W8) ∷ []) here)
       (λ here. walk_unless here.steps ((other.is_removed here.location, W8) ∷ []) here) (directory_agrees path)
-      (λ here own. unless_same HereAt here.steps _ _ here (ap (λ b. (b, W8) ∷ []) (removed here.location own)) own)
+      (λ here own. unless_same HereAt here.steps _ _ here
+      (ap (λ b. (b, W8) ∷ []) (leads.removed here.location own)) own)
 
   pub destination_agrees : (path : List ℕ)
       → Agree HereAt (destination_walk nat_eq one task path) (destination_walk nat_eq other task path)
@@ -248,10 +252,11 @@ module _ {one other : Looks ℕ} {task : Task ℕ} {Own : ℕ → Type 0} (alike
       (λ here. walk_unless here.steps ((one.is_removed (topmost one here.location), W8) ∷ []) (at_topmost one here))
       (λ here. walk_unless here.steps ((other.is_removed (topmost other here.location), W8) ∷ [])
       (at_topmost other here)) (source_agrees path) (λ here own.
-      let top : Own (topmost one here.location).mount = own_topmost one other task Own alike here.location own in (
-        ap (λ b. walk_unless here.steps ((b, W8) ∷ []) (at_topmost one here)) (removed (topmost one here.location) top)
+      let top : Own (topmost one here.location).mount = own_topmost leads.walks here.location own in (
+        ap (λ b. walk_unless here.steps ((b, W8) ∷ []) (at_topmost one here))
+            (leads.removed (topmost one here.location) top)
             ∙ ap (λ l. walk_unless here.steps ((other.is_removed l, W8) ∷ []) (record here { location = l }))
-            (same_topmost one other task Own alike here.location own),
+            (same_topmost leads.walks here.location own),
         unless_agree HereAt here.steps ((one.is_removed (topmost one here.location), W8) ∷ [])
             (at_topmost one here) top,
       ))
@@ -272,24 +277,23 @@ module _ {one other : Looks ℕ} {task : Task ℕ} {Own : ℕ → Type 0} (alike
   entered_by true None f = (refl, refl, found_none)
   entered_by false None f = (refl, refl, found_none)
   entered_by true (Some object) f = (
-    ap Some (same_topmost one other task Own alike object (f object refl)),
+    ap Some (same_topmost leads.walks object (f object refl)),
     refl,
-    found_some (topmost one object) (own_topmost one other task Own alike object (f object refl)),
+    found_some (topmost one object) (own_topmost leads.walks object (f object refl)),
   )
   entered_by false (Some object) f =
       let own : Own object.mount = f object refl in
       let by = over_list object own in (
-        ap Some (same_topmost one other task Own alike object own),
+        ap Some (same_topmost leads.walks object own),
         by,
-        found_some (topmost one object) (own_topmost one other task Own alike object own),
+        found_some (topmost one object) (own_topmost leads.walks object own),
       )
     where
       over_list : (object : Location ℕ) → Own object.mount → filesystems_of nat_eq one (one.mounts_over object ++ [])
           ≡ filesystems_of nat_eq other (other.mounts_over object ++ [])
-      over_list object own = same_filesystems one other task Own alike (one.mounts_over object ++ [])
-          (both_each one other task Own alike (one.mounts_over object) [] (alike.entered object own)
-          (none_each one other task Own alike))
-          ∙ ap (λ l. filesystems_of nat_eq other (l ++ [])) (alike.over object own)
+      over_list object own = same_filesystems leads.walks (one.mounts_over object ++ [])
+          (both_each leads.walks (one.mounts_over object) [] (leads.walks.entered object own) (none_each leads.walks))
+          ∙ ap (λ l. filesystems_of nat_eq other (l ++ [])) (leads.walks.over object own)
 
   entered_agrees : (place : Place ℕ) → PlaceAt place
       → (entered nat_eq one place ≡ entered nat_eq other place) × PlaceAt (entered nat_eq one place)
@@ -313,7 +317,7 @@ module _ {one other : Looks ℕ} {task : Task ℕ} {Own : ℕ → Type 0} (alike
       (walk_unless link.steps (follow_rules nat_eq one link text) (symlink_start nat_eq one task from link text))
       (walk_unless link.steps (follow_rules nat_eq other link text) (symlink_start nat_eq other task from link text))
   start_agrees from own link at text = (
-    cc (alike.mount link.location at, alike.mount task.root alike.root),
+    cc (leads.walks.mount link.location at, leads.walks.mount task.root leads.walks.root),
     unless_agree HereAt link.steps (follow_rules nat_eq one link text) (symlink_start nat_eq one task from link text)
         (inner_at from own text),
   )

@@ -9,40 +9,11 @@ use Rattle.vt_laws_sealed.proofs.part.part.PartOfPart.{keep}
 use Rattle.vt_laws_sealed.specs.Part.Seals.{IsApart}
 use Rattle.vt_laws_sealed.proofs.outsiders.Staying.{LeavesApart, free_from}
 
-module _ {world : World ℕ} {fresh : Fresh ℕ} {names : List TaskName} {name : TaskName} {call : Call}
-    {task : Task ℕ} (outsider : IsOthersCall world fresh names name call task) where
-  -- The sweep takes nothing at the end of a call that takes no use away and asks for no change.
-  pub nothing_is_swept : (permit : Permit ℕ) → judge_in nat_eq fresh world task call ≡ Ok permit
-      → takes_uses call ≡ false → sets_type call ≡ false → change_asked fresh world permit ≡ None
-      → settled nat_eq (apply nat_eq fresh world task permit).world ≡ (apply nat_eq fresh world task permit).world
-  nothing_is_swept permit judged only no_type none =
-      let left : (call_outcome nat_eq fresh world task call).world ≡ (apply nat_eq fresh world task permit).world =
-      ap (λ (o : Outcome ℕ). o.world) (call_is_judged_then_applied fresh world task call
-      ∙ ap (λ j. after world j (apply nat_eq fresh world task)) judged) in
-      subst (λ w. settled nat_eq w ≡ w) left (other_calls_keep_all world fresh task call outsider.is outsider.serves
-      (ap (task_called world) (sym (name_found world name task outsider.called)) ∙ outsider.called) only no_type
-      (ap (replaced_as fresh world) judged ∙ ap (replaced_if world) none))
-
-  -- the caller is one of the others
-  pub caller_outside : Among task (outsiders world names)
-  caller_outside = grind (arith, common_steps, among-filter, found_among, name_found)
-
 -- a location is on a mount on which one of the others was, or on a mount of another namespace
 abbrev pub IsOutside : World ℕ → List TaskName → Location ℕ → Type 0
 IsOutside world names location =
     ((old : Location ℕ) × Among old (locations (outsiders world names)) × (location.mount ≡ old.mount))
     ⊎ Among (mount_at nat_eq world location) (other_mounts nat_eq world names)
-
--- so are those of the caller
-module _ {world : World ℕ} {fresh : Fresh ℕ} {names : List TaskName} {name : TaskName} {call : Call}
-    {task : Task ℕ} (outsider : IsOthersCall world fresh names name call task) where
-  pub callers_outside : (location : Location ℕ) → Among location (locations_of task) → IsOutside world names location
-  callers_outside location m = inl (
-    location,
-    among-flat_map locations_of (outsiders world names) task location
-        (caller_outside outsider) m,
-    refl,
-  )
 
 -- Other tasks, with the members as they were: each task of others is where one of others was
 module _ {world : World ℕ} {names : List TaskName} (apart : IsApart world names) (tasks : List (Task ℕ))
@@ -127,71 +98,93 @@ module _ {world : World ℕ} {names : List TaskName} (apart : IsApart world name
     unraised = λ number m. refl;
   }
 
--- One task of others is replaced by one of its name, in its namespace and at its locations
-module _ {world : World ℕ} {fresh : Fresh ℕ} {names : List TaskName} {name : TaskName} {call : Call}
-    {task : Task ℕ} (outsider : IsOthersCall world fresh names name call task) (new : Task ℕ)
-    (same_called : new.name ≡ task.name) where
-  abbrev replaced : List (Task ℕ)
-  replaced = map (replaced_if_called new) world.tasks
-
-  not_member : (other : Task ℕ) → same_name new.name other.name ≡ true → is_member_task names other ≡ false
-  not_member other e =
-      cc (same_task_name new.name other.name e, name_found world name task outsider.called, outsider.outside)
-
-  pub replaced_members : filter (is_member_task names) replaced ≡ members world names
-  replaced_members = filter-map (is_member_task names) (replaced_if_called new) world.tasks
-      (λ other. ap (λ n. is_among same_name n names) (name-replaced_if_called new other))
-      ∙ map_same (replaced_if_called new) (members world names)
-      (λ other m. by other (among-from_filter (is_member_task names) world.tasks other m).1
-      (same_name new.name other.name) refl)
-    where
-      by : (other : Task ℕ) → is_member_task names other ≡ true → (b : Bool) → same_name new.name other.name ≡ b
-          → cond b new other ≡ other
-      by other member true e = cc (not_member other e)
-      by other member false e = refl
-
-  module _ (same_place : new.namespace ≡ task.namespace)
-      (no_more : (location : Location ℕ) → Among location (locations_of new) → IsOutside world names location) where
-    pub replaced_from : (other : Task ℕ) → Among other replaced → is_member_task names other ≡ false
-        → (old : Task ℕ) × Among old (outsiders world names) × (other.namespace ≡ old.namespace)
-        × ((location : Location ℕ) → Among location (locations_of other) → IsOutside world names location)
-    replaced_from other m outside =
-        let at = among-from_map (replaced_if_called new) world.tasks other m in
-        by at.0 at.1 at.2 (same_name new.name at.0.name) refl
-      where
-        by : (old : Task ℕ) → Among old world.tasks → other ≡ replaced_if_called new old → (b : Bool)
-            → same_name new.name old.name ≡ b
-            → (was : Task ℕ) × Among was (outsiders world names) × (other.namespace ≡ was.namespace)
-            × ((location : Location ℕ) → Among location (locations_of other) → IsOutside world names location)
-        by old there e true f =
-            let it : other ≡ new = cc in (
-              task,
-              caller_outside outsider,
-              cc (it),
-              λ location at. no_more location (subst (λ (t : Task ℕ). Among location (locations_of t)) it at),
-            )
-        by old there e false f =
-            let it : other ≡ old = cc in
-            let among = among-filter (λ (t : Task ℕ). not (is_member_task names t)) world.tasks old there
-            (ap not (ap (is_member_task names) (sym it) ∙ outside)) in (
-              old,
-              among,
-              ap (λ (t : Task ℕ). t.namespace) it,
-              λ location at. inl (
-                location,
-                among-flat_map locations_of (outsiders world names) old location among
-                    (subst (λ (t : Task ℕ). Among location (locations_of t)) it at),
-                refl,
-              ),
-            )
-
-    pub replacing_leaves_apart : LeavesApart world (record world { tasks = replaced }) names []
-    replacing_leaves_apart =
-        tasks_leave_apart (apart_from outsider.it) replaced replaced_members replaced_from
-
--- A child of one of others is none of the set's
+-- A call of one of others
 module _ {world : World ℕ} {fresh : Fresh ℕ} {names : List TaskName} {name : TaskName} {call : Call}
     {task : Task ℕ} (outsider : IsOthersCall world fresh names name call task) where
+  -- The sweep takes nothing at the end of a call that takes no use away and asks for no change.
+  pub nothing_is_swept : (permit : Permit ℕ) → judge_in nat_eq fresh world task call ≡ Ok permit
+      → takes_uses call ≡ false → sets_type call ≡ false → change_asked fresh world permit ≡ None
+      → settled nat_eq (apply nat_eq fresh world task permit).world ≡ (apply nat_eq fresh world task permit).world
+  nothing_is_swept permit judged only no_type none =
+      let left : (call_outcome nat_eq fresh world task call).world ≡ (apply nat_eq fresh world task permit).world =
+      ap (λ (o : Outcome ℕ). o.world) (call_is_judged_then_applied fresh world task call
+      ∙ ap (λ j. after world j (apply nat_eq fresh world task)) judged) in
+      subst (λ w. settled nat_eq w ≡ w) left (other_calls_keep_all world fresh task call outsider.is outsider.serves
+      (ap (task_called world) (sym (name_found world name task outsider.called)) ∙ outsider.called) only no_type
+      (ap (replaced_as fresh world) judged ∙ ap (replaced_if world) none))
+
+  -- the caller is one of the others
+  pub caller_outside : Among task (outsiders world names)
+  caller_outside = grind (arith, common_steps, among-filter, found_among, name_found)
+
+  -- the caller's locations are outside
+  pub callers_outside : (location : Location ℕ) → Among location (locations_of task) → IsOutside world names location
+  callers_outside location m = inl (
+    location,
+    among-flat_map locations_of (outsiders world names) task location caller_outside m,
+    refl,
+  )
+
+  -- one task of others is replaced by one of its name, in its namespace and at its locations
+  module _ (new : Task ℕ) (same_called : new.name ≡ task.name) where
+    abbrev replaced : List (Task ℕ)
+    replaced = map (replaced_if_called new) world.tasks
+
+    not_member : (other : Task ℕ) → same_name new.name other.name ≡ true → is_member_task names other ≡ false
+    not_member other e =
+        cc (same_task_name new.name other.name e, name_found world name task outsider.called, outsider.outside)
+
+    pub replaced_members : filter (is_member_task names) replaced ≡ members world names
+    replaced_members = filter-map (is_member_task names) (replaced_if_called new) world.tasks
+        (λ other. ap (λ n. is_among same_name n names) (name-replaced_if_called new other))
+        ∙ map_same (replaced_if_called new) (members world names)
+        (λ other m. by other (among-from_filter (is_member_task names) world.tasks other m).1
+        (same_name new.name other.name) refl)
+      where
+        by : (other : Task ℕ) → is_member_task names other ≡ true → (b : Bool) → same_name new.name other.name ≡ b
+            → cond b new other ≡ other
+        by other member true e = cc (not_member other e)
+        by other member false e = refl
+
+    module _ (same_place : new.namespace ≡ task.namespace)
+        (no_more : (location : Location ℕ) → Among location (locations_of new) → IsOutside world names location) where
+      pub replaced_from : (other : Task ℕ) → Among other replaced → is_member_task names other ≡ false
+          → (old : Task ℕ) × Among old (outsiders world names) × (other.namespace ≡ old.namespace)
+          × ((location : Location ℕ) → Among location (locations_of other) → IsOutside world names location)
+      replaced_from other m outside =
+          let at = among-from_map (replaced_if_called new) world.tasks other m in
+          by at.0 at.1 at.2 (same_name new.name at.0.name) refl
+        where
+          by : (old : Task ℕ) → Among old world.tasks → other ≡ replaced_if_called new old → (b : Bool)
+              → same_name new.name old.name ≡ b
+              → (was : Task ℕ) × Among was (outsiders world names) × (other.namespace ≡ was.namespace)
+              × ((location : Location ℕ) → Among location (locations_of other) → IsOutside world names location)
+          by old there e true f =
+              let it : other ≡ new = cc in (
+                task,
+                caller_outside,
+                cc (it),
+                λ location at. no_more location (subst (λ (t : Task ℕ). Among location (locations_of t)) it at),
+              )
+          by old there e false f =
+              let it : other ≡ old = cc in
+              let among = among-filter (λ (t : Task ℕ). not (is_member_task names t)) world.tasks old there
+              (ap not (ap (is_member_task names) (sym it) ∙ outside)) in (
+                old,
+                among,
+                ap (λ (t : Task ℕ). t.namespace) it,
+                λ location at. inl (
+                  location,
+                  among-flat_map locations_of (outsiders world names) old location among
+                      (subst (λ (t : Task ℕ). Among location (locations_of t)) it at),
+                  refl,
+                ),
+              )
+
+      pub replacing_leaves_apart : LeavesApart world (record world { tasks = replaced }) names []
+      replacing_leaves_apart = tasks_leave_apart (apart_from outsider.it) replaced replaced_members replaced_from
+
+  -- a child of one of others is none of the set's
   child_outside : is_among same_name (child_name task) names ≡ false
   child_outside = false_from_ne_true (is_among same_name (child_name task) names) (λ h.
       let member = any_among (same_name (child_name task)) names h in
@@ -219,38 +212,37 @@ module _ {world : World ℕ} {fresh : Fresh ℕ} {names : List TaskName} {name :
 
       forked_members : filter (is_member_task names) forked ≡ members world names
       forked_members =
-          grind (arith, common_steps, filter-append, child_is_none, append-nil, replaced_members outsider parent refl)
+          grind (arith, common_steps, filter-append, child_is_none, append-nil, replaced_members parent refl)
 
       forked_from : (other : Task ℕ) → Among other forked → is_member_task names other ≡ false
           → (old : Task ℕ) × Among old (outsiders world names) × (other.namespace ≡ old.namespace)
           × ((location : Location ℕ) → Among location (locations_of other) → IsOutside world names location)
       forked_from other m outside = ⊎_elim
-          (λ old. replaced_from outsider parent refl refl (callers_outside outsider) other old outside)
+          (λ old. replaced_from parent refl refl callers_outside other old outside)
           (λ new. ⊎_elim (λ it. (
             task,
-            caller_outside outsider,
+            caller_outside,
             cc (it),
             λ location at. no_more location (subst (λ (t : Task ℕ). Among location (locations_of t)) it at),
           )) (λ none. absurd none) new)
           (among-append (map (replaced_if_called parent) world.tasks) (child ∷ []) other m)
 
       pub forking_leaves_apart : LeavesApart world (record world { tasks = forked }) names []
-      forking_leaves_apart =
-          tasks_leave_apart (apart_from outsider.it) forked forked_members forked_from
+      forking_leaves_apart = tasks_leave_apart (apart_from outsider.it) forked forked_members forked_from
 
   unswept : (permit : Permit ℕ) → judge_in nat_eq fresh world task call ≡ Ok permit → (asked : Call) → call ≡ asked
       → takes_uses asked ≡ false → sets_type asked ≡ false → change_asked fresh world permit ≡ None
       → LeavesApart world (apply nat_eq fresh world task permit).world names []
       → LeavesApart world (settled nat_eq (apply nat_eq fresh world task permit).world) names []
   unswept permit judged asked e only no_type none leaves = subst (λ w. LeavesApart world w names [])
-      (sym (nothing_is_swept outsider permit judged (cc) (cc) none)) leaves
+      (sym (nothing_is_swept permit judged (cc) (cc) none)) leaves
 
   pub umask_leaves : (umask : ℕ) → judge_in nat_eq fresh world task call ≡ Ok (ToSetUmask umask)
       → LeavesApart world (settled nat_eq (apply nat_eq fresh world task (ToSetUmask umask)).world) names []
   umask_leaves umask judged =
       let for = permits_are_for_their_calls fresh world task call (ToSetUmask umask) judged in
       unswept (ToSetUmask umask) judged (Umask for.0) for.1 refl refl refl
-      (replacing_leaves_apart outsider (record task { umask = umask }) refl refl (callers_outside outsider))
+      (replacing_leaves_apart (record task { umask = umask }) refl refl callers_outside)
 
   pub credentials_leave : (credentials : Credentials)
       → judge_in nat_eq fresh world task call ≡ Ok (ToSetCredentials credentials)
@@ -258,12 +250,12 @@ module _ {world : World ℕ} {fresh : Fresh ℕ} {names : List TaskName} {name :
   credentials_leave credentials judged =
       let for = permits_are_for_their_calls fresh world task call (ToSetCredentials credentials) judged in
       unswept (ToSetCredentials credentials) judged (Drop for.0) for.1 refl refl refl
-      (replacing_leaves_apart outsider (record task { credentials = credentials }) refl refl (callers_outside outsider))
+      (replacing_leaves_apart (record task { credentials = credentials }) refl refl callers_outside)
 
   pub fork_leaves : (credentials : Credentials) → judge_in nat_eq fresh world task call ≡ Ok (ToFork credentials)
       → LeavesApart world (settled nat_eq (apply nat_eq fresh world task (ToFork credentials)).world) names []
   fork_leaves credentials judged =
       let for = permits_are_for_their_calls fresh world task call (ToFork credentials) judged in
       unswept (ToFork credentials) judged (Fork for.0) for.1 refl refl refl
-      (forking_leaves_apart (child_of task credentials) refl refl (λ location m. callers_outside outsider location
+      (forking_leaves_apart (child_of task credentials) refl refl (λ location m. callers_outside location
       (⊎_elim inl (λ rest. inr (⊎_elim inl (λ none. absurd none) rest)) m)))

@@ -25,16 +25,22 @@ module _ {world : World ℕ} {names : List TaskName} {New : ℕ → Type 0} (apa
     λ number e. other_hears_foreign apart other m number (inr (ap (master_of world) e)),
   )
 
--- A change of mounts of others, after which groups without members are gone
-module _ {world : World ℕ} {names : List TaskName} {New : ℕ → Type 0} (apart : StandsApart world names New)
-    (change : Mount ℕ → Mount ℕ) (shape : (mount : Mount ℕ) → IsReshaped mount (change mount))
-    (own_same : (own : Mount ℕ) → Among own (own_mounts nat_eq world names) → change own ≡ own)
-    (nowhere_same : (mount : Mount ℕ) → Among mount world.mounts → mount.namespace ≡ None → change mount ≡ mount)
-    (kinds : (other : Mount ℕ) → Among other (other_mounts nat_eq world names)
-    → IsOfOthers apart (change other).propagation) (middle_master : ℕ → Option ℕ)
-    (middle_above : (number above : ℕ) → Foreign apart number → middle_master number ≡ Some above → Foreign apart above)
-    (own_middle : (number : ℕ) → list_any (is_member_of nat_eq number) (own_mounts nat_eq world names) ≡ true
-    → middle_master number ≡ world.master number) {tasks : List (Task ℕ)} {namespaces : List (Namespace ℕ)}
+-- A change of mounts of others: those of the set and those in no namespace stay, and groups of others stay theirs.
+pub record ChangesOthers {world : World ℕ} {names : List TaskName} {New : ℕ → Type 0}
+    (apart : StandsApart world names New) (change : Mount ℕ → Mount ℕ) (master : ℕ → Option ℕ) : Type 0 where
+  pub shape : (mount : Mount ℕ) → IsReshaped mount (change mount)
+  pub own_same : (own : Mount ℕ) → Among own (own_mounts nat_eq world names) → change own ≡ own
+  pub nowhere_same : (mount : Mount ℕ) → Among mount world.mounts → mount.namespace ≡ None → change mount ≡ mount
+  pub kinds : (other : Mount ℕ) → Among other (other_mounts nat_eq world names)
+      → IsOfOthers apart (change other).propagation
+  pub above : (number above : ℕ) → Foreign apart number → master number ≡ Some above → Foreign apart above
+  pub own_master : (number : ℕ) → list_any (is_member_of nat_eq number) (own_mounts nat_eq world names) ≡ true
+      → master number ≡ world.master number
+
+-- After it groups without members are gone.
+module _ {world : World ℕ} {names : List TaskName} {New : ℕ → Type 0} {apart : StandsApart world names New}
+    {change : Mount ℕ → Mount ℕ} {middle_master : ℕ → Option ℕ} (it : ChangesOthers apart change middle_master)
+    {tasks : List (Task ℕ)} {namespaces : List (Namespace ℕ)}
     (moved : OthersMove world names tasks namespaces) (lost : Bool) where
   abbrev IsForeign : ℕ → Type 0
   IsForeign = Foreign apart
@@ -52,7 +58,7 @@ module _ {world : World ℕ} {names : List TaskName} {New : ℕ → Type 0} (apa
       → HearsGroup apart world own.propagation number → has_members nat_eq middle.mounts number ≡ true
   members_stay own m number how =
       let member = member_of_heard apart own m number how in
-      grind (arith, common_steps, any_from_among, among-map, among-from_filter)
+      grind (arith, common_steps, any_from_among, among-map, among-from_filter, it.own_same)
 
   heir_stays : (own : Mount ℕ) → Among own (own_mounts nat_eq world names) → (number : ℕ)
       → HearsGroup apart world own.propagation number → heir nat_eq middle (Some number) ≡ Some number
@@ -62,7 +68,7 @@ module _ {world : World ℕ} {names : List TaskName} {New : ℕ → Type 0} (apa
 
   heir_foreign : (number found : ℕ) → IsForeign number → heir nat_eq middle (Some number) ≡ Some found → IsForeign found
   heir_foreign number found foreign e =
-      along_chain middle.master IsForeign (λ above lower up lower_foreign. middle_above lower above lower_foreign up)
+      along_chain middle.master IsForeign (λ above lower up lower_foreign. it.above lower above lower_foreign up)
       (length middle.mounts) number found foreign (is_among_numbers (groups_up middle number) found
       (found_among (has_members nat_eq middle.mounts) (groups_up middle number) found e))
 
@@ -105,7 +111,8 @@ module _ {world : World ℕ} {names : List TaskName} {New : ℕ → Type 0} (apa
       by false = (mount.namespace, mount.mount_point, mount.propagation, refl, inl refl)
 
   pub all_shape : (mount : Mount ℕ) → IsReshaped mount (all_changed mount)
-  all_shape mount = reshaped_twice mount (change mount) (all_changed mount) (shape mount) (regroup_shape (change mount))
+  all_shape mount =
+      reshaped_twice mount (change mount) (all_changed mount) (it.shape mount) (regroup_shape (change mount))
 
   -- a mount of theirs stays
   own_type_stays : (own : Mount ℕ) → Among own (own_mounts nat_eq world names)
@@ -123,11 +130,11 @@ module _ {world : World ℕ} {names : List TaskName} {New : ℕ → Type 0} (apa
   regroup_stays mount e = grind (arith, common_steps)
 
   pub own_stays : (own : Mount ℕ) → Among own (own_mounts nat_eq world names) → all_changed own ≡ own
-  own_stays own m = cc (own_same own m, regroup_stays own (own_type_stays own m))
+  own_stays own m = cc (it.own_same own m, regroup_stays own (own_type_stays own m))
 
   nowhere_stays : (mount : Mount ℕ) → Among mount world.mounts → mount.namespace ≡ None → all_changed mount ≡ mount
   nowhere_stays mount there none =
-      grind (arith, common_steps, regroup_stays, and_parts, among_from_list_all, true≢false)
+      grind (arith, common_steps, regroup_stays, and_parts, among_from_list_all, true≢false, it.nowhere_same)
 
   -- masters of groups of theirs
   own_master_stays : (number : ℕ) → list_any (is_member_of nat_eq number) (own_mounts nat_eq world names) ≡ true
@@ -137,6 +144,7 @@ module _ {world : World ℕ} {names : List TaskName} {New : ℕ → Type 0} (apa
     common_steps,
     any_among (is_member_of nat_eq number) (own_mounts nat_eq world names) h,
     heir_stays,
+    it.own_master,
     same_Some,
     none_is_some,
   )
@@ -146,11 +154,11 @@ module _ {world : World ℕ} {names : List TaskName} {New : ℕ → Type 0} (apa
     where
       up : (o : Option ℕ) → middle.master number ≡ o → heir nat_eq middle o ≡ Some above → IsForeign above
       up None e f = none_is_some above f
-      up (Some upper) e f = heir_foreign upper above (middle_above number upper foreign e) f
+      up (Some upper) e f = heir_foreign upper above (it.above number upper foreign e) f
 
       by : (b : Bool) → (regrouped_by nat_eq b middle).master number ≡ Some above → IsForeign above
       by true e = up (middle.master number) refl e
-      by false e = middle_above number above foreign e
+      by false e = it.above number above foreign e
 
   -- the sweep may take masters, but not those of groups of theirs
   module _ (master : ℕ → Option ℕ)
@@ -184,8 +192,8 @@ module _ {world : World ℕ} {names : List TaskName} {New : ℕ → Type 0} (apa
       where
         by : (b : Bool) → IsOfOthers apart
             (cond b (inheriting nat_eq middle (change other)) (change other)).propagation
-        by true = inherited_foreign (change other).propagation (kinds other m)
-        by false = kinds other m
+        by true = inherited_foreign (change other).propagation (it.kinds other m)
+        by false = it.kinds other m
 
     own_kinds : (own : Mount ℕ) → Among own (own_mounts nat_eq world names)
         → master_of left own.propagation ≡ master_of world own.propagation

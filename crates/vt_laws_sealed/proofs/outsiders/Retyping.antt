@@ -8,7 +8,7 @@ use Rattle.vt_laws_sealed.specs.Part.Seals.{IsApart}
 use Rattle.vt_laws_sealed.proofs.outsiders.ChangedWorlds.{others_rest}
 use Rattle.vt_laws_sealed.proofs.outsiders.OtherMounts.{Foreign, HearsGroup, IsIn, tree_in, foreign_above, is_other, member_not_new, namespace_outside, other_hears_foreign, standing_apart_with}
 use Rattle.vt_laws_sealed.proofs.outsiders.OwnTasks.{caller_outside}
-use Rattle.vt_laws_sealed.proofs.outsiders.Regrouping.{IsOfOthers, after_all, all_changed, mounts_are, of_nobody, old_type, own_stays, regrouping_leaves_apart}
+use Rattle.vt_laws_sealed.proofs.outsiders.Regrouping.{ChangesOthers, IsOfOthers, after_all, all_changed, mounts_are, of_nobody, old_type, own_stays, regrouping_leaves_apart}
 use Rattle.vt_laws_sealed.proofs.outsiders.Reshaping.{IsReshaped}
 use Rattle.vt_laws_sealed.proofs.outsiders.StandingApart.{StandsApart}
 use Rattle.vt_laws_sealed.proofs.outsiders.Staying.{LeavesApart}
@@ -161,23 +161,29 @@ module _ {world : World ℕ} {names : List TaskName} (apart : IsApart world name
       absurd (member_not_new world fresh serves own.0 number new.0 there (member_group number own.0 own.2)
       (made.2 ∙ new.1))) (new_masters group number named world.master)
 
+  set_types : ChangesOthers so_far retype set_master
+  set_types = record {
+    shape = retyped_shape;
+    own_same = own_same;
+    nowhere_same = nowhere_same;
+    kinds = retyped_foreign;
+    above = set_above;
+    own_master = own_set;
+  }
+
   -- All of it, where some group lost its last member, or none did
   module _ (lost : Bool) where
     abbrev change : Mount ℕ → Mount ℕ
-    change = all_changed so_far retype retyped_shape own_same nowhere_same retyped_foreign set_master
-        set_above own_set (others_rest world names so_far) lost
+    change = all_changed set_types (others_rest world names so_far) lost
 
     abbrev retyped : World ℕ
-    retyped = after_all so_far retype retyped_shape own_same nowhere_same retyped_foreign set_master
-        set_above own_set (others_rest world names so_far) lost
+    retyped = after_all set_types (others_rest world names so_far) lost
 
     retyped_are : retyped.mounts ≡ map change world.mounts
-    retyped_are = mounts_are so_far retype retyped_shape own_same nowhere_same retyped_foreign set_master
-        set_above own_set (others_rest world names so_far) lost
+    retyped_are = mounts_are set_types (others_rest world names so_far) lost
 
     own_stay : (own : Mount ℕ) → Among own (own_mounts nat_eq world names) → change own ≡ own
-    own_stay = own_stays so_far retype retyped_shape own_same nowhere_same retyped_foreign set_master
-        set_above own_set (others_rest world names so_far) lost
+    own_stay = own_stays set_types (others_rest world names so_far) lost
 
     -- the sweep may take masters, but not those of groups of theirs
     retyping_leaves_apart : (master : ℕ → Option ℕ)
@@ -185,8 +191,7 @@ module _ {world : World ℕ} {names : List TaskName} (apart : IsApart world name
         → ((number : ℕ) → list_any (is_member_of nat_eq number) (own_mounts nat_eq world names) ≡ true
         → master number ≡ retyped.master number)
         → LeavesApart world (record world { mounts = map change world.mounts; master = master }) names []
-    retyping_leaves_apart = regrouping_leaves_apart so_far retype retyped_shape own_same nowhere_same
-        retyped_foreign set_master set_above own_set (others_rest world names so_far) lost
+    retyping_leaves_apart = regrouping_leaves_apart set_types (others_rest world names so_far) lost
 
 -- what a change of types names is in the namespace
 named_are_in : {world : World ℕ} {names : List TaskName} (apart : IsApart world names) (namespace number : ℕ)

@@ -86,16 +86,16 @@ module _ (world later : World ℕ) (names : List TaskName) (sees : SeesTheSame w
       let from = among-from_filter_map (keep later names (members later names)) later.mounts shown among in
       (from.0, from.1, cc (sees.tasks, from.2))
 
-  shown_number : (mount shown : Mount ℕ) → keep world names theirs mount ≡ Some shown
+  kept_alike : (mount shown : Mount ℕ) → keep world names theirs mount ≡ Some shown
       → (shown.number ≡ mount.number) × (shown.filesystem ≡ mount.filesystem) × (shown.root ≡ mount.root)
-  shown_number mount shown e = grind (arith, common_steps, kept_how)
+  kept_alike mount shown e = grind (arith, common_steps, kept_how)
 
   -- a mount that the part has is there, with number, filesystem and root
   pub there_later : (mount shown : Mount ℕ) → Among mount world.mounts → keep world names theirs mount ≡ Some shown
       → (there : Mount ℕ) × Among there later.mounts × (there.number ≡ mount.number)
       × (there.filesystem ≡ mount.filesystem) × (there.root ≡ mount.root)
       × (keep later names (members later names) there ≡ Some shown)
-  there_later mount shown m e = search (arith, common_steps, kept_later, shown_number, keep)
+  there_later mount shown m e = search (arith, common_steps, kept_later, kept_alike, keep)
 
   pub own_later : (mount : Mount ℕ) → Among mount (own_mounts nat_eq world names) → Among mount later.mounts
   own_later mount m = (among-from_filter (is_own_mount nat_eq later names) later.mounts mount

@@ -6,7 +6,7 @@ use Rattle.vt_laws_trees.proofs.trees.TreesEntered.{chain_ends_at}
 use Rattle.vt_laws_sealed.specs.Part.Seals.{IsApart}
 use Rattle.vt_laws_sealed.proofs.outsiders.ChangedWorlds.{OthersMove}
 use Rattle.vt_laws_sealed.proofs.outsiders.OtherMounts.{foreign_above, standing_apart}
-use Rattle.vt_laws_sealed.proofs.outsiders.Regrouping.{IsOfOthers, after_all, all_changed, all_shape, mounts_are, old_type, regrouping_leaves_apart}
+use Rattle.vt_laws_sealed.proofs.outsiders.Regrouping.{ChangesOthers, IsOfOthers, after_all, all_changed, all_shape, mounts_are, old_type, regrouping_leaves_apart}
 use Rattle.vt_laws_sealed.proofs.outsiders.Reshaping.{IsReshaped, reshaping_keeps}
 use Rattle.vt_laws_sealed.proofs.outsiders.StandingApart.{StandsApart}
 use Rattle.vt_laws_sealed.proofs.outsiders.Staying.{LeavesApart}
@@ -92,6 +92,16 @@ module _ {world : World ℕ} {names : List TaskName} {New : ℕ → Type 0} (apa
       → IsOfOthers apart (change other).propagation
   kinds other m = grind (arith, common_steps, old_type apart other m)
 
+  changes : ChangesOthers apart change world.master
+  changes = record {
+    shape = shape;
+    own_same = own_same;
+    nowhere_same = nowhere_same;
+    kinds = kinds;
+    above = foreign_above apart;
+    own_master = λ number h. refl;
+  }
+
   abbrev halfway : World ℕ
   halfway = with_mounts before (map change world.mounts)
 
@@ -99,12 +109,10 @@ module _ {world : World ℕ} {names : List TaskName} {New : ℕ → Type 0} (apa
   lost = list_any (lost_a_group nat_eq halfway) halfway.mounts
 
   abbrev regrouped_world : World ℕ
-  regrouped_world = after_all apart change shape own_same nowhere_same kinds world.master
-      (foreign_above apart) (λ number h. refl) moved lost
+  regrouped_world = after_all changes moved lost
 
   abbrev all_change : Mount ℕ → Mount ℕ
-  all_change = all_changed apart change shape own_same nowhere_same kinds world.master
-      (foreign_above apart) (λ number h. refl) moved lost
+  all_change = all_changed changes moved lost
 
   abbrev left : World ℕ
   left = record world {
@@ -117,8 +125,7 @@ module _ {world : World ℕ} {names : List TaskName} {New : ℕ → Type 0} (apa
   world_left : record (taken_away nat_eq before gone) { namespaces = namespaces } ≡ left
   world_left = cc (
     by lost,
-    mounts_are apart change shape own_same nowhere_same kinds world.master
-        (foreign_above apart) (λ number h. refl) moved lost,
+    mounts_are changes moved lost,
   )
     where
       with_names : World ℕ
@@ -135,17 +142,14 @@ module _ {world : World ℕ} {names : List TaskName} {New : ℕ → Type 0} (apa
 
   one_each : OneNumberEach left
   one_each =
-      let keeps = reshaping_keeps all_change
-      (all_shape apart change shape own_same nowhere_same kinds world.master
-      (foreign_above apart) (λ number h. refl) moved lost) in
+      let keeps = reshaping_keeps all_change (all_shape changes moved lost) in
       grind (arith, common_steps, pair-map)
 
   abbrev pub taken : World ℕ
   taken = record (taken_away nat_eq before gone) { namespaces = namespaces }
 
   left_leaves_apart : LeavesApart world left names []
-  left_leaves_apart = regrouping_leaves_apart apart change shape own_same nowhere_same kinds world.master
-      (foreign_above apart) (λ number h. refl) moved lost regrouped_world.master (λ number. inl refl)
+  left_leaves_apart = regrouping_leaves_apart changes moved lost regrouped_world.master (λ number. inl refl)
       (λ number h. refl)
 
   pub taken_leaves_apart : LeavesApart world taken names []
@@ -163,15 +167,11 @@ module _ {world : World ℕ} {names : List TaskName} {New : ℕ → Type 0} (apa
   taken_from mount m namespace e =
       let from = among-from_map all_change world.mounts mount
       (subst (λ (w : World ℕ). Among mount w.mounts) world_left m) in
-      let keeps = reshaping_keeps all_change
-      (all_shape apart change shape own_same nowhere_same kinds world.master
-      (foreign_above apart) (λ number h. refl) moved lost) in (
+      let keeps = reshaping_keeps all_change (all_shape changes moved lost) in (
         from.0,
         from.1,
         cc (keeps.number from.0, from.2),
-        ⊎_elim (λ same. cc (from.2))
-            (λ none. none_is_some namespace (cc (from.2)))
-            (keeps.namespace from.0),
+        ⊎_elim (λ same. cc (from.2)) (λ none. none_is_some namespace (cc (from.2))) (keeps.namespace from.0),
       )
 
 -- So it is after the sweep.

@@ -1,6 +1,6 @@
 -- Calls of others leave a sealed set sealed and its part the same, in all worlds that are the same as the policy's.
 use Rattle.std.proofs.Common.{◌≡◌, refl, sym, ap, subst, ◌∙◌, ℕ, nat_eq, true, List, [], ◌∷◌, Option, Some, None, is_some}
-use Rattle.vt_spec.proofs.Common.{IsWorld, SameFilesystem, SameWorlds, Task, TaskName, World, among_from_contains, among_from_list_all, any_from_among, contains_from_among, list_all_from_among, part_of, policy, same_name, same_name_itself, sealed, task_called, used_alone}
+use Rattle.vt_spec.proofs.Common.{IsWorld, SameFilesystem, SameWorlds, Task, TaskName, World, among_from_contains, among_from_list_all, any_from_among, contains_from_among, list_all_from_among, part_of, policy, same_name, same_name_itself, sealed, used_alone}
 use Rattle.vt_laws_containers.proofs.Common.{IfAny, IsOutsidersCall, OneCall, SameTask, alike_from_same, are_all_called, called_alike, every_call_keeps_worlds, outsiders_leave_a_sealed_set, sameness_is_an_equivalence, task_alike}
 use Rattle.vt_laws_worlds.proofs.one_text.same.SameWhole.{any_same_worlds_are_worlds}
 use Rattle.vt_laws_trees.proofs.runs.EachHas.{each_among}
@@ -14,20 +14,17 @@ outsiders_leave_same_worlds_sealed world other same fresh names name call outsid
     let leaves = outsiders_leave_a_sealed_set world fresh names name call outsider in record {
       sealed_off = sym (same_worlds_are_sealed_alike after later left names) ∙ leaves.sealed_off;
       part = sameness_is_an_equivalence.onward (part_of nat_eq later names) (part_of nat_eq after names)
-          (part_of nat_eq other names)
-          (sameness_is_an_equivalence.back (part_of nat_eq after names) (part_of nat_eq later names)
-          (same_worlds_have_same_parts after later left names))
+          (part_of nat_eq other names) (sameness_is_an_equivalence.back (part_of nat_eq after names)
+          (part_of nat_eq later names) (same_worlds_have_same_parts after later left names))
           (subst (λ part. SameWorlds part (part_of nat_eq other names)) (sym leaves.part)
           (same_worlds_have_same_parts world other same names));
       no_more = λ filesystem has alone.
           let its = each_among SameFilesystem world.filesystems other.filesystems
-          (alike_from_same world other same).filesystems filesystem
-          (among_from_contains other.filesystems filesystem has) in
+          (alike_from_same world other same).filesystems filesystem (among_from_contains _ _ has) in
           sym (same_worlds_give_footholds_alike after later left names filesystem.number)
-          ∙ subst (λ number. used_alone nat_eq after names number ≡ true) its.2.number
-          (leaves.no_more its.0 (contains_from_among world.filesystems its.0 its.1)
-          (subst (λ number. used_alone nat_eq world names number ≡ true) (sym its.2.number)
-          (same_worlds_give_footholds_alike world other same names filesystem.number ∙ alone)));
+          ∙ subst (λ number. used_alone nat_eq after names number ≡ true) its.2.number (leaves.no_more its.0
+          (contains_from_among _ its.0 its.1) (subst (λ number. used_alone nat_eq world names number ≡ true)
+          (sym its.2.number) (same_worlds_give_footholds_alike world other same names filesystem.number ∙ alone)));
     }
 
 some_alike : (one other : Option (Task ℕ)) → IfAny SameTask one other → is_some one ≡ is_some other
@@ -40,15 +37,10 @@ some_alike (Some a) (Some b) alike = refl
 still_called : (world later : World ℕ) (names : List TaskName)
     → SameWorlds (part_of nat_eq later names) (part_of nat_eq world names)
     → are_all_called world names ≡ true → are_all_called later names ≡ true
-still_called world later names same there =
-    list_all_from_among (λ member. is_some (task_called later member)) names (λ member m.
-    let theirs = any_from_among (same_name member) names member m (same_name_itself member) in
-    sym (ap is_some (called_alike names member theirs later.tasks))
-    ∙ some_alike (task_called (part_of nat_eq later names) member) (task_called (part_of nat_eq world names) member)
-    (task_alike (part_of nat_eq later names) (part_of nat_eq world names)
-    (alike_from_same (part_of nat_eq later names) (part_of nat_eq world names) same) member)
-    ∙ ap is_some (called_alike names member theirs world.tasks)
-    ∙ among_from_list_all (λ n. is_some (task_called world n)) names there member m)
+still_called world later names same there = list_all_from_among (λ member. is_some _) names (λ member m.
+    let theirs = any_from_among (same_name member) names _ m (same_name_itself member) in
+    sym (ap is_some (called_alike names _ theirs _)) ∙ some_alike _ _ (task_alike _ _ (alike_from_same _ _ same) _)
+    ∙ ap is_some (called_alike names _ theirs _) ∙ among_from_list_all (λ n. is_some _) names there _ m)
 
 in_turn : (calls : List OneCall) (world last : World ℕ) (names : List TaskName) → IsWorld nat_eq world
     → sealed nat_eq world names ≡ true → are_all_called world names ≡ true → OutsidersLeadTo world names calls last

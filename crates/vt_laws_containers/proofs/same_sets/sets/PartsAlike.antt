@@ -1,7 +1,7 @@
 -- The parts of a set of tasks in two worlds that are alike.
 use Rattle.std.proofs.Common.{◌≡◌, ap, subst, ◌∙◌, ℕ, nat_eq, Bool, true, false, cond, ◌&&◌, ◌||◌, List, [], ◌∷◌, filter, filter_map, flat_map, Option, Some, None, IsPermutation}
-use Rattle.vt_spec.proofs.Common.{FileTree, Filesystem, Layer, Mount, Namespace, Overlay, SameFiles, SameFilesystem, Task, TaskName, World, cons_option, filesystem_numbered, holds_of, is_among, is_at, is_member_of, is_own_namespace, lies_in_layer, lies_in_own_lower, list_any, list_any-IsPermutation, locations, members, only_among, overlay_or, own_lowers, part_of, part_of_filesystem, part_of_lower, part_of_master, part_of_mount, roots_and_directories, seen_by_descriptor, used_filesystems, when}
-use Rattle.vt_laws_containers.proofs.Common.{Alike, Each, IfAny, SameNamespace, SameTask, alike_from_same, directly_same, each_filter, each_flat, found_alike, members_alike, mounts_of_one, own_same, places_same, same_from_alike, used_same, with_mounts_of}
+use Rattle.vt_spec.proofs.Common.{FileTree, Filesystem, Layer, Mount, Namespace, Overlay, SameFiles, SameFilesystem, Task, TaskName, World, cons_option, filesystem_numbered, holds_of, is_among, is_at, is_member_of, is_own_namespace, lies_in_layer, lies_in_own_lower, list_any, list_any-IsPermutation, locations, members, only_among, overlay_or, own_lowers, part_of, part_of_filesystem, part_of_lower, part_of_master, part_of_mount, roots_and_directories, seen_by_descriptor, when}
+use Rattle.vt_laws_containers.proofs.Common.{Alike, Each, IfAny, SameTask, alike_from_same, directly_same, each_filter, each_flat, found_alike, members_alike, mounts_of_one, own_same, places_same, same_from_alike, used_same, with_mounts_of}
 use Rattle.vt_laws_rules.proofs.same.SameFiles.{under_same}
 use Rattle.vt_laws_trees.proofs.runs.Permuted.{IsPermutation-filter}
 use Rattle.vt_laws_containers.specs.SameSets.Sets.{SameWorldsHaveSameParts}
@@ -20,8 +20,7 @@ module _ {A B : Type 0} (R : A → A → Type 0) (S : B → B → Type 0) (f g :
   each_filter_map [] [] each = tt
   each_filter_map [] (b ∷ others) each = absurd each
   each_filter_map (a ∷ ones) [] each = absurd each
-  each_filter_map (a ∷ ones) (b ∷ others) each =
-      kept (f a) (g b) (filter_map f ones) (filter_map g others) (alike a b each.0) (each_filter_map ones others each.1)
+  each_filter_map (a ∷ ones) (b ∷ others) each = kept (f a) (g b) _ _ (alike a b each.0) (each_filter_map ones _ each.1)
 
 -- a tree with the numbers that pass alone
 files_among : (one other : FileTree ℕ) → SameFiles one other → (test again : ℕ → Bool) → test ≡ again
@@ -39,8 +38,7 @@ files_among one other same test again alike = record {
   where
     among : (number : ℕ)
         → is_among nat_eq number (filter test one.numbers) ≡ is_among nat_eq number (filter again other.numbers)
-    among number = list_any-IsPermutation (nat_eq number) (filter test one.numbers) (filter test other.numbers)
-        (IsPermutation-filter test one.numbers other.numbers same.numbers)
+    among number = list_any-IsPermutation _ _ _ (IsPermutation-filter test _ _ same.numbers)
         ∙ (λ i. is_among nat_eq number (filter (alike i) other.numbers))
 
 -- Two worlds with the very same mounts
@@ -54,8 +52,7 @@ module _ (one other : World ℕ) (same : Alike one (with_mounts_of one other)) (
       (members second names) (members_alike one other same names)
 
   located_same : locations (members one names) ≡ locations (members second names)
-  located_same = places_same one other same names (members one names) (members second names)
-      (members_alike one other same names)
+  located_same = places_same one other same names _ _ (members_alike one other same names)
 
   mount_same : part_of_mount nat_eq one names ≡ part_of_mount nat_eq second names
   mount_same = λ i mount.
@@ -70,8 +67,7 @@ module _ (one other : World ℕ) (same : Alike one (with_mounts_of one other)) (
   lowers_at : (number : ℕ)
       → overlay_or [] (λ (overlay : Overlay ℕ). overlay.lowers) (filesystem_numbered nat_eq one number).overlay
       ≡ overlay_or [] (λ (overlay : Overlay ℕ). overlay.lowers) (filesystem_numbered nat_eq second number).overlay
-  lowers_at number =
-      ap (overlay_or [] (λ (overlay : Overlay ℕ). overlay.lowers)) (found_alike one second same number).overlay
+  lowers_at number = ap (overlay_or [] (λ (overlay : Overlay ℕ). overlay.lowers)) (found_alike one _ same _).overlay
 
   lowers_same : own_lowers nat_eq one names ≡ own_lowers nat_eq second names
   lowers_same = λ i. flat_map (λ number. lowers_at number i) (directly_same one other same names i)
@@ -89,8 +85,7 @@ module _ (one other : World ℕ) (same : Alike one (with_mounts_of one other)) (
       → SameFilesystem (part_of_lower nat_eq one names a) (part_of_lower nat_eq second names b)
   lower_alike a b alike = record {
     number = alike.number;
-    files = files_among a.files b.files alike.files (lies_in_own_lower nat_eq one names a.number)
-        (lies_in_own_lower nat_eq second names b.number) (lower_same a.number b.number alike.number);
+    files = files_among _ _ alike.files _ _ (lower_same _ _ alike.number);
     overlay = alike.overlay;
   }
 
@@ -107,18 +102,14 @@ module _ (one other : World ℕ) (same : Alike one (with_mounts_of one other)) (
   filesystem_alike a b alike = subst (IfAny SameFilesystem (part_of_filesystem nat_eq one names a))
       (λ i. cond (is_among nat_eq (alike.number i) (used_same one other same names i)) (Some b)
       (when (list_any (λ (layer : Layer ℕ). nat_eq (alike.number i) layer.filesystem) (lowers_same i))
-      (part_of_lower nat_eq second names b)))
-      (by_tests a b alike (is_among nat_eq a.number (used_filesystems nat_eq one names))
-      (list_any (λ (layer : Layer ℕ). nat_eq a.number layer.filesystem) (own_lowers nat_eq one names)))
+      (part_of_lower nat_eq second names b))) (by_tests a b alike _ _)
 
   part_alike : Alike (part_of nat_eq one names) (part_of nat_eq second names)
   part_alike = record {
     mounts = λ i. filter_map (mount_same i) one.mounts;
     master = master_same;
-    filesystems = each_filter_map SameFilesystem SameFilesystem (part_of_filesystem nat_eq one names)
-        (part_of_filesystem nat_eq second names) filesystem_alike one.filesystems other.filesystems same.filesystems;
-    namespaces =
-        each_filter SameNamespace (λ (namespace : Namespace ℕ). is_own_namespace nat_eq one names namespace.number)
+    filesystems = each_filter_map _ _ _ _ filesystem_alike _ _ same.filesystems;
+    namespaces = each_filter _ (λ (namespace : Namespace ℕ). is_own_namespace nat_eq one names namespace.number)
         (λ (namespace : Namespace ℕ). is_own_namespace nat_eq second names namespace.number)
         (λ a b alike. λ i. own_same one other same names i (alike i).number) one.namespaces other.namespaces
         same.namespaces;
@@ -126,8 +117,7 @@ module _ (one other : World ℕ) (same : Alike one (with_mounts_of one other)) (
   }
 
 pub same_worlds_have_same_parts : SameWorldsHaveSameParts
-same_worlds_have_same_parts one other same names =
-    same_from_alike (part_of nat_eq one names) (part_of nat_eq other names)
+same_worlds_have_same_parts one other same names = same_from_alike _ _
     (mounts_of_one (λ world. Alike one world → Alike (part_of nat_eq one names) (part_of nat_eq world names)) one other
     alike (λ alike. part_alike one other alike names) alike)
   where

@@ -1,9 +1,9 @@
 -- A sealed set is answered as if nobody else were there.
-use Rattle.std.proofs.Common.{arith, Bool, List, [], ◌∷◌, map, true, false}
+use Rattle.std.proofs.Common.{arith, Bool, List, [], ◌∷◌, true, false}
 use Rattle.vt_spec.proofs.Common.{Call, TaskName, common_steps}
 use Rattle.vt_laws_containers.proofs.Common.{each_call_ends_alike}
 use Rattle.vt_laws_containers.specs.Calls.{AlwaysEndsAlike}
-use Rattle.vt_laws_containers.specs.Scripts.{Along, Asked, Stand, asked, next}
+use Rattle.vt_laws_containers.specs.Scripts.{Along, Asked, Stand, next}
 use Rattle.vt_laws_containers.proofs.scripts.AnsweredAlike.{sets_are_answered_as_alone}
 use Rattle.vt_laws_containers.proofs.scripts.CallsAlike.{runs_end_alike}
 use Rattle.vt_laws_containers.specs.SealedScripts.AsIfAlone.{SealedSetsAreAnsweredAsIfAlone}
@@ -25,7 +25,6 @@ always call world names name fresh it few serves = (
 
 pub sealed_sets_are_answered_as_if_alone : SealedSetsAreAnsweredAsIfAlone
 sealed_sets_are_answered_as_if_alone at grammar lines stands stays =
-    sets_are_answered_as_alone at grammar lines stands stays (runs_end_alike true at grammar lines
-    (along_all _ (λ here name call theirs. always call) true at (map (asked grammar) lines)))
-    (runs_end_alike false at grammar lines
-    (along_all _ (λ here name call theirs. always call) false at (map (asked grammar) lines)))
+    sets_are_answered_as_alone at grammar lines stands stays
+    (runs_end_alike true at grammar lines (along_all _ (λ here name call theirs. always call) true at _))
+    (runs_end_alike false at grammar lines (along_all _ (λ here name call theirs. always call) false at _))

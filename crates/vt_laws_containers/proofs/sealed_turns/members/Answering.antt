@@ -1,6 +1,6 @@
 -- A turn of theirs that answers a call which ends alike in the part is a turn of their part.
 use Rattle.std.proofs.Common.{arith, ◌≡◌, refl, sym, ap, subst, ◌∙◌, ℕ, nat_eq, Bool, true, false, true≢false, not, List, [], ◌∷◌, Some, None, Ok, Err, Result, filter, is_ok, is_some, map}
-use Rattle.vt_spec.proofs.Common.{Among, Answer, Call, Calls, Fresh, Progress, Queue, Queued, Sched, Someone, TaskName, Turned, World, among-from_filter, common_steps, contains_from_among, first_of_list, is_among, none_is_some, part_of, policy, queue_of, same_name, shortened, turn, without_progress}
+use Rattle.vt_spec.proofs.Common.{Among, Answer, Call, Calls, Fresh, Progress, Queue, Queued, Sched, Someone, TaskName, Turned, World, among-from_filter, common_steps, contains_from_among, first_of_list, is_among, none_is_some, policy, queue_of, same_name, shortened, turn, without_progress}
 use Rattle.vt_laws_containers.proofs.Common.{Deny, Shape, Turns, denials_end_alike, filters_swapped, grown, is_task_call, turn_is, turn_shape}
 use Rattle.vt_laws_containers.specs.SealedTurns.MembersTurns.{TheirAnswersAreOfTheGrownPart, TheirAnswersAreOfTheirPart, TheirRefusalsAreOfTheirPart, TurnsAlikeFor, part_of_sched}
 use Rattle.vt_laws_containers.specs.SealedTurns.OutsidersTurns.{their_calls}
@@ -32,9 +32,7 @@ module _ (sched : Sched ℕ) (name : TaskName) {line : ℕ} {call : Call} (fresh
 
     answered : is_some (turn nat_eq sched (Someone name) (Some fresh)).reply ≡ true
         → IsAnswered sched name line call fresh (turn nat_eq sched (Someone name) (Some fresh))
-    answered answers =
-        by_items (turn nat_eq sched (Someone name) (Some fresh)) answers (turn_shape sched (Someone name) (Some fresh))
-        (queue_of sched.queues (Someone name)) first (turn_is sched (Someone name) (Some fresh))
+    answered answers = by_items _ answers (turn_shape sched _ _) _ first (turn_is sched (Someone name) (Some fresh))
 
 -- a test that passes no more than another keeps the same of what that one kept
 filter_less : {A : Type 0} (p r : A → Bool) (xs : List A) → ((x : A) → Among x xs → p x ≡ true → r x ≡ true)
@@ -72,13 +70,10 @@ their_answers_are_of_the_grown_part sched names name call fresh turns ends =
     let whole : Sched ℕ = (turn nat_eq sched (Someone name) (Some fresh)).sched in
     let in_part : Sched ℕ = (turn nat_eq part (Someone name) (Some fresh)).sched in record {
       reply = cc (two.reply, ends.answer, one.reply);
-      left = same_sched (part_of nat_eq in_part.world set) (part_of nat_eq whole.world set) in_part.queues whole.queues
-          (their_calls set in_part.under_way) (their_calls set whole.under_way)
-          (cc (two.world, ends.part, one.world)) (two.queues ∙ sym one.queues)
-          (ap (their_calls set) two.under_way ∙ calls_left_of names set name sched.under_way (λ p m.
-          were_of_the_set names name call fresh turns.has.is p.task
-          (turns.has.holds.there p (contains_from_among sched.under_way p m)))
-          ∙ ap (their_calls set) (sym one.under_way));
+      left = same_sched _ _ _ _ _ _ (cc (two.world, ends.part, one.world)) (two.queues ∙ sym one.queues)
+          (ap (their_calls set) two.under_way
+          ∙ calls_left_of names set name _ (λ p m. were_of_the_set names name call fresh turns.has.is p.task
+          (turns.has.holds.there p (contains_from_among _ p m))) ∙ ap (their_calls set) (sym one.under_way));
     }
 
 pub their_answers_are_of_their_part : TheirAnswersAreOfTheirPart

@@ -28,12 +28,10 @@ module _ {world : World ℕ} (names : List TaskName) (name : TaskName) (call : C
   no_child_yet : (task : Task ℕ) → task_called world name ≡ Some task → (other : TaskName)
       → is_some (task_called world other) ≡ true → other ≡ child_name task → ⊥
   no_child_yet task e other there same =
-      let found = some_from_is_some (task_called world other) there in
+      let found = some_from_is_some _ there in
       let less = is.tasks.forks_counted task found.0 (task.forks + 1) []
-      (contains_from_among world.tasks task (found_among (λ (t : Task ℕ). same_name name t.name) world.tasks task e))
-      (contains_from_among world.tasks found.0
-      (found_among (λ (t : Task ℕ). same_name other t.name) world.tasks found.0 found.1))
-      (cc (name_found world other found.0 found.1)) in
+      (contains_from_among _ task (found_among (λ (t : Task ℕ). same_name name _) _ task e)) (contains_from_among _ _
+      (found_among (λ (t : Task ℕ). same_name other _) _ _ found.1)) (cc (name_found world other _ found.1)) in
       absurd (omega (arith, less))
 
   by_answer : (task : Task ℕ) → task_called world name ≡ Some task → (answer : Result Answer Deny)

@@ -1,6 +1,6 @@
 -- The change numbers that calls of theirs hold are those of the part.
 use Rattle.std.proofs.Common.{arith, ◌≡◌, refl, ap, ◌∙◌, inl, inr, ⊎_elim, ℕ, nat_eq, Bool, true, false, List, [], ◌∷◌, ◌||◌, filter, find, map, eqb-true, eq-eqb}
-use Rattle.vt_spec.proofs.Common.{Among, IsWorld, Location, Mount, Progress, Task, TaskName, World, among-append_left, among-filter, among-flat_map, among-from_filter, among-map, any_among, any_from_among, common_steps, filesystem_change_of, first_of_list, holds_of, is_among, is_overtaken, is_own_mount, is_stale, list_any, locations_of, members, mount_at, mounts_of, namespace_change_of, or_cases, own_mounts, part_of, used_filesystems}
+use Rattle.vt_spec.proofs.Common.{Among, IsWorld, Location, Mount, Progress, Task, TaskName, World, among-append_left, among-filter, among-flat_map, among-from_filter, among-map, any_among, any_from_among, common_steps, filesystem_change_of, first_of_list, holds_of, is_among, is_overtaken, is_stale, list_any, locations_of, members, mount_at, mounts_of, namespace_change_of, or_cases, own_mounts, part_of, used_filesystems}
 use Rattle.vt_laws_members.proofs.judging.JudgedOverlays.{any_same}
 use Rattle.vt_laws_containers.proofs.Common.{HoldsItsTask, filter_kept, find-filter, in_own, is_seen_by, located_used, shown_how, used_directly_used}
 
@@ -24,24 +24,18 @@ module _ (world : World ℕ) (names : List TaskName) (is : IsWorld nat_eq world)
 
   -- what one of their tasks sees is used
   pub seen_used : (f : ℕ) → is_seen_by world task f ≡ true → uses f ≡ true
-  seen_used f seen = ⊎_elim (λ both. ⊎_elim of_mount (stood_used task.root (inl refl) f)
-      (or_cases (list_any (λ (m : Mount ℕ). nat_eq f m.filesystem) (mounts_of nat_eq world task.namespace))
-      (nat_eq f (mount_at nat_eq world task.root).filesystem) both)) (stood_used task.directory (inr (inl refl)) f)
-      (or_cases (list_any (λ (m : Mount ℕ). nat_eq f m.filesystem) (mounts_of nat_eq world task.namespace)
-      || nat_eq f (mount_at nat_eq world task.root).filesystem)
-      (nat_eq f (mount_at nat_eq world task.directory).filesystem) seen)
+  seen_used f seen = ⊎_elim (λ both. ⊎_elim of_mount (stood_used _ (inl refl) f) (or_cases _ _ both))
+      (stood_used _ (inr (inl refl)) f) (or_cases _ _ seen)
     where
       of_mount : list_any (λ (m : Mount ℕ). nat_eq f m.filesystem) (mounts_of nat_eq world task.namespace) ≡ true
           → uses f ≡ true
       of_mount any =
-          let found = any_among (λ (m : Mount ℕ). nat_eq f m.filesystem) (mounts_of nat_eq world task.namespace) any in
-          let both = among-from_filter (λ (m : Mount ℕ). holds_of (nat_eq task.namespace) m.namespace) world.mounts
-          found.0 found.1 in
-          ap uses (eqb-true f found.0.filesystem found.2) ∙ used_directly_used world names found.0.filesystem
-          (among-append_left (map (λ (m : Mount ℕ). m.filesystem) (own_mounts nat_eq world names)) _ found.0.filesystem
-          (among-map (λ (m : Mount ℕ). m.filesystem) (own_mounts nat_eq world names) found.0
-          (among-filter (is_own_mount nat_eq world names) world.mounts found.0 both.0
-          (in_own world names is task member found.0 both.1))))
+          let found = any_among (λ (m : Mount ℕ). nat_eq f m.filesystem) _ any in
+          let both = among-from_filter (λ (m : Mount ℕ). holds_of (nat_eq task.namespace) m.namespace) _ _ found.1 in
+          ap uses (eqb-true f _ found.2) ∙ used_directly_used world names _
+          (among-append_left (map (λ (m : Mount ℕ). m.filesystem) (own_mounts nat_eq world names)) _ _
+          (among-map (λ (m : Mount ℕ). m.filesystem) _ _
+          (among-filter _ world.mounts _ both.0 (in_own world names is task member found.0 both.1))))
 
   -- the part has the numbers of what they use,
   pub filesystem_same : (f : ℕ) → uses f ≡ true → filesystem_change_of nat_eq part f
@@ -59,8 +53,7 @@ module _ (world : World ℕ) (names : List TaskName) (is : IsWorld nat_eq world)
       → is_overtaken nat_eq part task progress ≡ is_overtaken nat_eq world task progress
   overtaken_alike progress seen =
       ap (λ n. is_stale progress.task_change task.change || is_stale progress.namespace_change n
-      || list_any (stale_in part) progress.filesystems) namespace_same ∙ by (is_stale progress.task_change task.change)
-      (is_stale progress.namespace_change (namespace_change_of nat_eq world task.namespace)) refl refl
+      || list_any (stale_in part) progress.filesystems) namespace_same ∙ by _ _ refl refl
     where
       stale_in : World ℕ → ℕ × ℕ → Bool
       stale_in w held = is_stale held.1 (filesystem_change_of nat_eq w held.0)
@@ -71,6 +64,5 @@ module _ (world : World ℕ) (names : List TaskName) (is : IsWorld nat_eq world)
           ≡ (a || b || list_any (stale_in world) progress.filesystems)
       by true b e f = refl
       by false true e f = refl
-      by false false e f = any_same (stale_in part) (stale_in world) progress.filesystems (λ held m.
-          ap (is_stale held.1) (filesystem_same held.0 (seen_used held.0
-          (seen (record { task_change = e; namespace_change = f }) held m))))
+      by false false e f = any_same _ _ _ (λ held m. ap (is_stale held.1)
+          (filesystem_same _ (seen_used _ (seen (record { task_change = e; namespace_change = f }) held m))))

@@ -9,12 +9,10 @@ use Rattle.vt_laws_containers.proofs.sealed_turns.outsiders.Turned.{called_so, o
 
 pub their_calls_are_overtaken_alike : TheirCallsAreOvertakenAlike
 their_calls_are_overtaken_alike sched names task progress has under theirs =
-    let its : task.name ≡ progress.task = sym (name_found sched.world progress.task task under.called) in
-    overtaken_alike sched.world names has.is task
-    (among-filter (is_member_task names) sched.world.tasks task (found_among _ sched.world.tasks task under.called)
-    (cc)) progress
-    (λ current held m. has.holds.seen task progress under current held
-    (contains_from_among progress.filesystems held m))
+    let its : task.name ≡ progress.task = sym (name_found sched.world _ task under.called) in
+    overtaken_alike _ names has.is task (among-filter (is_member_task names) sched.world.tasks task
+    (found_among _ sched.world.tasks task under.called) (cc)) progress
+    (λ current held m. has.holds.seen task progress under current held (contains_from_among _ held m))
 
 -- turns of outsiders are fit
 pub fit_turns : (schedule : List Turn) (sched : Sched ℕ) (names : List TaskName)

@@ -1,13 +1,10 @@
 -- The paths of a call of theirs are walked alike in the world and in the part.
-use Rattle.std.proofs.Common.{arith, ◌≡◌, refl, ap, ℕ, nat_eq, List, [], ◌∷◌, ◌++◌, Option, Some, None, Ok, Err, Result, IfOk, option_to_list}
-use Rattle.vt_spec.proofs.Common.{Bind, Call, Chdir, Chmod, Chown, Chroot, Creation, Exclusive, Exec, Here, Lazy, LinkTo, Location, Looks, Ls, Lstat, MakeWhiteout, Mkdir, MountOverlay, MountPlain, MoveMount, NoCreation, Opaque, OpenFile, OrCreate, OverlayWords, PivotRoot, Place, Read, Readlink, Remount, Rename, Rmdir, SetType, Stat, Stop, SymlinkAt, Task, Umount, Unlink, Write, common_steps, destination_walk, directory_walk, file_walk, map_alike, new_leaf_walk, new_walk, object_walk, old_leaf_walk, old_walk, routes, source_walk, symlink_walk, work_walked}
+use Rattle.std.proofs.Common.{arith, ◌≡◌, refl, ap, ℕ, nat_eq, List, [], ◌∷◌, Option, Some, None, Ok, Err, Result, IfOk}
+use Rattle.vt_spec.proofs.Common.{Bind, Call, Chdir, Chmod, Chown, Chroot, Creation, Exclusive, Exec, Here, Lazy, LinkTo, Location, Looks, Ls, Lstat, MakeWhiteout, Mkdir, MountOverlay, MountPlain, MoveMount, NoCreation, Opaque, OpenFile, OrCreate, OverlayWords, PivotRoot, Place, Read, Readlink, Remount, Rename, Rmdir, SetType, Stat, Stop, SymlinkAt, Task, Umount, Unlink, Write, common_steps, destination_walk, directory_walk, file_walk, map_alike, new_leaf_walk, new_walk, object_walk, old_leaf_walk, old_walk, routes, source_walk, symlink_walk}
 use Rattle.vt_laws_containers.proofs.Common.{here_route, layer_routes, open_route, place_route, rename_from_directory}
-use Rattle.vt_laws_sealed.proofs.part.walks.WalksAgree.{Alike}
-use Rattle.vt_laws_members.proofs.judging.WalksLead.{PlaceAt, destination_agrees, directory_agrees, file_agrees, new_agrees, new_leaf_agrees, object_agrees, old_agrees, old_leaf_agrees, rename_new_agrees, same_directory_there, source_agrees, symlink_agrees}
+use Rattle.vt_laws_members.proofs.judging.WalksLead.{PlaceAt, WalksAlike, destination_agrees, directory_agrees, file_agrees, new_agrees, new_leaf_agrees, object_agrees, old_agrees, old_leaf_agrees, rename_new_agrees, same_directory_there, source_agrees, symlink_agrees}
 
-module _ {one other : Looks ℕ} {task : Task ℕ} {Own : ℕ → Type 0} (alike : Alike one other task Own)
-    (directory : Own task.directory.mount)
-    (removed : (here : Location ℕ) → Own here.mount → one.is_removed here ≡ other.is_removed here) where
+module _ {one other : Looks ℕ} {task : Task ℕ} {Own : ℕ → Type 0} (leads : WalksAlike one other task Own) where
   -- one path, walked alike
   here_same : (a b : Result (Here ℕ) (Stop ℕ)) → a ≡ b → (here_route a ∷ []) ≡ (here_route b ∷ [])
   here_same a b e = ap (λ w. here_route w ∷ []) e
@@ -17,68 +14,64 @@ module _ {one other : Looks ℕ} {task : Task ℕ} {Own : ℕ → Type 0} (alike
 
   object : (path : List ℕ)
       → (here_route (object_walk nat_eq one task path) ∷ []) ≡ (here_route (object_walk nat_eq other task path) ∷ [])
-  object path = here_same _ _ (object_agrees alike directory removed path).0
+  object path = here_same _ _ (object_agrees leads path).0
 
   symlink : (path : List ℕ)
       → (here_route (symlink_walk nat_eq one task path) ∷ []) ≡ (here_route (symlink_walk nat_eq other task path) ∷ [])
-  symlink path = here_same _ _ (symlink_agrees alike directory removed path).0
+  symlink path = here_same _ _ (symlink_agrees leads path).0
 
   directories : (path : List ℕ) → (here_route (directory_walk nat_eq one task path) ∷ [])
       ≡ (here_route (directory_walk nat_eq other task path) ∷ [])
-  directories path = here_same _ _ (directory_agrees alike directory removed path).0
+  directories path = here_same _ _ (directory_agrees leads path).0
 
   source : (path : List ℕ) → source_walk nat_eq one task path ≡ source_walk nat_eq other task path
-  source path = (source_agrees alike directory removed path).0
+  source path = (source_agrees leads path).0
 
   destination : (path : List ℕ) → (here_route (destination_walk nat_eq one task path) ∷ [])
       ≡ (here_route (destination_walk nat_eq other task path) ∷ [])
-  destination path = here_same _ _ (destination_agrees alike directory removed path).0
+  destination path = here_same _ _ (destination_agrees leads path).0
 
   file : (path : List ℕ)
       → (place_route (file_walk nat_eq one task path) ∷ []) ≡ (place_route (file_walk nat_eq other task path) ∷ [])
-  file path = place_same _ _ (file_agrees alike directory removed path).0
+  file path = place_same _ _ (file_agrees leads path).0
 
   new : (path : List ℕ)
       → (place_route (new_walk nat_eq one task path) ∷ []) ≡ (place_route (new_walk nat_eq other task path) ∷ [])
-  new path = place_same _ _ (new_agrees alike directory removed path).0
+  new path = place_same _ _ (new_agrees leads path).0
 
   new_leaf : (path : List ℕ) → (place_route (new_leaf_walk nat_eq one task path) ∷ [])
       ≡ (place_route (new_leaf_walk nat_eq other task path) ∷ [])
-  new_leaf path = place_same _ _ (new_leaf_agrees alike directory removed path).0
+  new_leaf path = place_same _ _ (new_leaf_agrees leads path).0
 
   old : (path : List ℕ)
       → (place_route (old_walk nat_eq one task path) ∷ []) ≡ (place_route (old_walk nat_eq other task path) ∷ [])
-  old path = place_same _ _ (old_agrees alike directory removed path).0
+  old path = place_same _ _ (old_agrees leads path).0
 
   old_leaf : (path : List ℕ) → old_leaf_walk nat_eq one task path ≡ old_leaf_walk nat_eq other task path
-  old_leaf path = (old_leaf_agrees alike directory removed path).0
+  old_leaf path = (old_leaf_agrees leads path).0
 
   -- the old object of a rename is a directory in both
   from_directory : (path : List ℕ) → rename_from_directory nat_eq one (old_leaf_walk nat_eq one task path)
       ≡ rename_from_directory nat_eq other (old_leaf_walk nat_eq other task path)
-  from_directory path =
-      cc (by (old_leaf_walk nat_eq one task path) (old_leaf_agrees alike directory removed path).1, old_leaf path)
+  from_directory path = cc (by _ (old_leaf_agrees leads path).1, old_leaf path)
     where
-      by : (a : Result (Place ℕ) (Stop ℕ)) → IfOk a (PlaceAt alike directory removed)
+      by : (a : Result (Place ℕ) (Stop ℕ)) → IfOk a (PlaceAt leads)
           → rename_from_directory nat_eq one a ≡ rename_from_directory nat_eq other a
-      by (Ok place) at = same_directory_there alike directory removed place at
+      by (Ok place) at = same_directory_there leads place at
       by (Err stop) at = refl
 
   renamed : (old new : List ℕ) → routes nat_eq one task (Rename old new) ≡ routes nat_eq other task (Rename old new)
   renamed old new = cc (
     old_leaf old,
     from_directory old,
-    (rename_new_agrees alike directory removed new
-        (rename_from_directory nat_eq other (old_leaf_walk nat_eq other task old))).0,
+    (rename_new_agrees leads new _).0,
   )
 
   layers : (options : Option OverlayWords)
       → layer_routes nat_eq one task options ≡ layer_routes nat_eq other task options
   layers None = refl
   layers (Some words) = map_alike (λ path. here_route (source_walk nat_eq one task path))
-      (λ path. here_route (source_walk nat_eq other task path))
-      (words.lowers ++ option_to_list words.upper ++ option_to_list (work_walked words))
-      (λ path m. ap (λ w. here_route w) (source path))
+      (λ path. here_route (source_walk nat_eq other task path)) _ (λ path m. ap (λ w. here_route w) (source path))
 
   opened_alike : (path : List ℕ) (how : Creation)
       → (open_route nat_eq one task path how ∷ []) ≡ (open_route nat_eq other task path how ∷ [])

@@ -1,6 +1,6 @@
 -- A turn of a task of theirs goes in their part as it goes in the world, as long as it answers nothing.
 use Rattle.std.proofs.Common.{arith, ◌≡◌, refl, sym, ap, subst, ◌∙◌, ◌⊎◌, inl, inr, ⊎_elim, ℕ, nat_eq, Bool, true, false, true≢false, cond, not, List, [], ◌∷◌, ◌++◌, ◌+◌, Option, Some, None, Ok, Err, Result, find, is_some, nat_le, slice_get}
-use Rattle.vt_spec.proofs.Common.{Among, Asks, Call, Calls, Filesystem, Fresh, Item, Progress, Queued, Refused, Route, Sched, Someone, Task, TaskName, Turned, World, among-filter, call_turn, call_turn_of, common_steps, contains_from_among, entry_rules, first_progress, first_turn, first_turn_by, folded, found_among, found_passes, further, is_among, is_failing, is_member_task, is_overtaken, is_removed, item_turn, later_turn, list_any, looks_of, members, most_restarts, next_word, one_further, queue_of, queue_turn, restarted, routes, same_name, same_task_name, task_called, turn, turn_under_way, unless, used_filesystems, without_progress, word_walked_by, words_of}
+use Rattle.vt_spec.proofs.Common.{Among, Asks, Call, Calls, Filesystem, Fresh, Item, Progress, Queued, Refused, Route, Sched, Someone, Task, TaskName, Turned, World, among-filter, call_turn, call_turn_of, common_steps, contains_from_among, entry_rules, first_progress, first_turn, first_turn_by, folded, found_among, found_passes, further, is_among, is_member_task, is_overtaken, is_removed, item_turn, later_turn, list_any, looks_of, members, most_restarts, next_word, one_further, queue_of, queue_turn, restarted, routes, same_name, same_task_name, task_called, turn, turn_under_way, unless, used_filesystems, without_progress, word_walked_by, words_of}
 use Rattle.vt_laws_containers.proofs.Common.{Deny, called_alike, directory_theirs, each_from, filesystem_alike, filters_swapped, find-filter, hold_one, is_theirs, members_see_alike, name_found, nth_among, theirs_from, theirs_test, went_on, word_seen}
 use Rattle.vt_laws_sealed.proofs.part.walks.WalksAgree.{Alike}
 use Rattle.vt_laws_containers.specs.SealedTurns.MembersTurns.{HasCallsUnderWay, TheirTurnsAnswerAlike, TheirWordsAreOfTheirPart, part_of_sched}
@@ -47,11 +47,13 @@ module _ (sched : Sched ℕ) (names : List TaskName) (has : HasCallsUnderWay sch
         }
 
     same_ways : ways ≡ routes nat_eq (looks_of nat_eq part.world) task call
-    same_ways = routes_alike
-        walks_alike
-        (theirs_test world names has.is.mounts task.directory.mount (directory_theirs world names has.is task member))
-        (λ here own. ap (λ (f : Filesystem ℕ). is_removed nat_eq f.files.tree here.node)
-        (filesystem_alike world names has.is here (theirs_from world names has.is.mounts here.mount own))) call
+    same_ways = routes_alike (record {
+      walks = walks_alike;
+      directory = theirs_test world names has.is.mounts task.directory.mount
+          (directory_theirs world names has.is task member);
+      removed = λ here own. ap (λ (f : Filesystem ℕ). is_removed nat_eq f.files.tree here.node)
+          (filesystem_alike world names has.is here (theirs_from world names has.is.mounts here.mount own));
+    }) call
 
     held_same : (met : List ℕ) (list : List (ℕ × ℕ))
         → ((f : ℕ) → Among f met → is_among nat_eq f (used_filesystems nat_eq world names) ≡ true)
@@ -59,8 +61,7 @@ module _ (sched : Sched ℕ) (names : List TaskName) (has : HasCallsUnderWay sch
     held_same [] list used = refl
     held_same (f ∷ met) list used = ap (λ n. folded (hold_one nat_eq part.world)
         (cond (list_any (λ (other : ℕ × ℕ). nat_eq f other.0) list) list (list ++ ((f, n) ∷ []))) met)
-        (filesystem_same world names has.is task member f (used f (inl refl)))
-        ∙ held_same met (hold_one nat_eq world list f) (λ g m. used g (inr m))
+        (filesystem_same world names has.is task member f (used f (inl refl))) ∙ held_same met _ (λ g m. used g (inr m))
 
     word : (fails : Bool) (before : Progress ℕ) (met : List ℕ) → before.task ≡ task.name
         → ((f : ℕ) → Among f met → is_among nat_eq f (used_filesystems nat_eq world names) ≡ true)
@@ -94,9 +95,8 @@ module _ (sched : Sched ℕ) (names : List TaskName) (has : HasCallsUnderWay sch
         → AlikeTurned (next_word nat_eq sched line call fresh before ways o)
         (next_word nat_eq part line call fresh before ways o)
     next_alike before None its e = inl (refl, refl)
-    next_alike before (Some met) its e = word (is_failing ways before.walked) before met its (λ f m.
-        seen_used world names has.is task member f
-        (word_seen world has.is task called call met (nth_among (words_of ways) before.walked met e) f m))
+    next_alike before (Some met) its e = word _ _ met its (λ f m. seen_used world names has.is task member f
+        (word_seen world has.is task called call met (nth_among _ _ met e) f m))
 
     further_alike : (before : Progress ℕ) → before.task ≡ task.name
         → AlikeTurned (further nat_eq sched task line call fresh before)
@@ -139,15 +139,14 @@ module _ (sched : Sched ℕ) (names : List TaskName) (has : HasCallsUnderWay sch
         (turn_under_way nat_eq part task line call fresh o)
     under_way_alike None e = first_alike 0
     under_way_alike (Some progress) e =
-        let its : task.name ≡ progress.task = same_task_name task.name progress.task
-        (found_passes (λ (p : Progress ℕ). same_name task.name p.task) sched.under_way progress e) in
+        let its : task.name ≡ progress.task = same_task_name _ _
+        (found_passes (λ (p : Progress ℕ). same_name task.name p.task) sched.under_way _ e) in
         subst (λ stale. AlikeTurned (turn_under_way nat_eq sched task line call fresh (Some progress))
         (later_turn nat_eq stale part task line call fresh progress))
-        (sym (overtaken_alike world names has.is task member progress (λ current held m.
-        has.holds.seen task progress (record {
-          under_way = contains_from_among sched.under_way progress (found_among _ sched.under_way progress e);
+        (sym (overtaken_alike world names has.is task member _ (λ current held m. has.holds.seen task progress (record {
+          under_way = contains_from_among _ _ (found_among _ _ _ e);
           called = ap (task_called world) (sym its) ∙ called;
-        }) current held (contains_from_among progress.filesystems held m))))
+        }) current held (contains_from_among _ held m))))
         (later_alike (is_overtaken nat_eq world task progress) progress (sym its))
 
   module _ (name : TaskName) (theirs : is_among same_name name names ≡ true) where
@@ -165,13 +164,12 @@ module _ (sched : Sched ℕ) (names : List TaskName) (has : HasCallsUnderWay sch
     by_task line call fresh (Some task) e =
         let its : task.name ≡ name = sym (name_found world name task e) in
         subst (λ o. AlikeTurned (call_turn_of nat_eq sched name line call fresh (Some task))
-        (turn_under_way nat_eq part task line call fresh o)) (sym same_found) (subst (λ n. AlikeTurned
-        (turn_under_way nat_eq sched task line call fresh
+        (turn_under_way nat_eq part task line call fresh o)) (sym same_found)
+        (subst (λ n. AlikeTurned (turn_under_way nat_eq sched task line call fresh
         (find (λ (p : Progress ℕ). same_name n p.task) sched.under_way))
         (turn_under_way nat_eq part task line call fresh
-        (find (λ (p : Progress ℕ). same_name n p.task) sched.under_way))) its
-        (under_way_alike (ap (task_called world) its ∙ e) (ap (λ n. is_among same_name n names) its ∙ theirs) line
-        call fresh (find (λ (p : Progress ℕ). same_name task.name p.task) sched.under_way) refl))
+        (find (λ (p : Progress ℕ). same_name n p.task) sched.under_way))) its (under_way_alike
+        (ap (task_called world) its ∙ e) (ap (λ n. is_among same_name n names) its ∙ theirs) line call fresh _ refl))
 
     by_call : (line : ℕ) (call : Call) (fresh : Option (Fresh ℕ))
         → AlikeTurned (call_turn nat_eq sched name line call fresh) (call_turn nat_eq part name line call fresh)

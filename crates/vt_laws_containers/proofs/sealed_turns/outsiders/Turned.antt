@@ -53,8 +53,7 @@ module _ (sched : Sched ℕ) (names : List TaskName) (given : Turn) (has : HasIt
   -- their queues
   queues_stay : (member : TaskName) → is_among same_name member names ≡ true
       → queue_of (map (shortened given.0) sched.queues) (Someone member) ≡ queue_of sched.queues (Someone member)
-  queues_stay member theirs =
-      cc (shorter given.0 (Someone member) sched.queues, other (same_who (Someone member) given.0) refl)
+  queues_stay member theirs = cc (shorter _ _ _, other _ refl)
     where
       other : (b : Bool) → same_who (Someone member) given.0 ≡ b → b ≡ false
       other false e = refl
@@ -88,12 +87,10 @@ module _ (sched : Sched ℕ) (names : List TaskName) (given : Turn) (has : HasIt
       (record { calls = refl; queues = λ member among. refl })
   by_shape turned (OtherDone first f none outcome e) =
       subst (λ (t : Turned ℕ). LeavesCalls t.sched) (sym e) (record { calls = refl; queues = queues_stay })
-  by_shape turned (CallDone name w line call f outcome e) =
-      subst (λ (t : Turned ℕ). LeavesCalls t.sched) (sym e) (record {
-        calls = calls_left name w sched.under_way;
-        queues = λ member among.
-            cc (w, queues_stay member among);
-      })
+  by_shape turned (CallDone name w line call f _ e) = subst (λ (t : Turned ℕ). LeavesCalls t.sched) (sym e) (record {
+    calls = calls_left name w _;
+    queues = λ member among. cc (w, queues_stay _ among);
+  })
   by_shape turned (Further task w line call new g next before at further) =
       let its : before.task ≡ task.name = named sched task before at in
       let who : given.0 ≡ Someone before.task = cc (its) in

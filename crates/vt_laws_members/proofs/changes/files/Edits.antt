@@ -3,7 +3,7 @@ use Rattle.std.proofs.Common.{arith, ◌≡◌, refl, ℕ, nat_eq, eqb-true, Boo
 use Rattle.vt_spec.proofs.Common.{Change, FileTree, Here, Location, Looks, Node, Permit, Place, SetAttr, SetBytes, SetMark, Task, TaskName, ToChange, World, admin_rules, and_then, attr_at, attr_permit, attr_rules, attr_with_mode, attr_with_owner, changed, changed_node, chmod_permit, chown_permit, common_steps, directory_walk, entries-node_with_attr, entries-node_with_bytes, entries-node_with_mark, entries_in, file_mode, file_word_rules, is_among, largest_file, looks_of, make_permit, make_rules, may_chown, named_in, new_file, object_walk, opaque_permit, opaque_rules, owns, part_of, rewrite_rules, targets_in, unless, unnumbered, used_filesystems, walk_end, write_permit, written_permit, ⊤}
 use Rattle.vt_spec.specs.declared.attributes.Attr.{Attr}
 use Rattle.vt_laws_members.proofs.Common.{E6}
-use Rattle.vt_laws_members.proofs.judging.Common.{FoundAt, HereAt, IsMember, JudgesAlike, PlaceAt, directory_agrees, file_agrees, judges, object_agrees}
+use Rattle.vt_laws_members.proofs.judging.Common.{FoundAt, HereAt, IsMember, JudgesAlike, PlaceAt, directory_agrees, file_agrees, judges, leads_alike, object_agrees}
 use Rattle.vt_laws_members.specs.Judging.{is_theirs}
 use Rattle.vt_laws_members.proofs.changes.looks.Granted.{of_rules, of_walk}
 
@@ -55,13 +55,13 @@ module _ {world : World ℕ} {names : List TaskName} {task : Task ℕ} (member :
   alike = judges member
 
   abbrev StandsHere : Here ℕ → Type 0
-  StandsHere = HereAt alike.walks alike.directory alike.rules.removed
+  StandsHere = HereAt (leads_alike alike)
 
   abbrev IsPlaced : Place ℕ → Type 0
-  IsPlaced = PlaceAt alike.walks alike.directory alike.rules.removed
+  IsPlaced = PlaceAt (leads_alike alike)
 
   abbrev IsFound : Option (Location ℕ) → Type 0
-  IsFound = FoundAt alike.walks alike.directory alike.rules.removed
+  IsFound = FoundAt (leads_alike alike)
 
   written_there : (place : Place ℕ) (bytes : List ℕ) (o : Option (Location ℕ)) → IsFound o
       → IfOk (written_permit nat_eq one task place bytes o) Edited
@@ -76,7 +76,7 @@ module _ {world : World ℕ} {names : List TaskName} {task : Task ℕ} (member :
 
   pub writes_edit : (path bytes : List ℕ) → IfOk (write_permit nat_eq one task path bytes) Edited
   unfolding write_permit
-  writes_edit path bytes = of_walk IsPlaced Edited _ _ (file_agrees alike.walks alike.directory alike.rules.removed
+  writes_edit path bytes = of_walk IsPlaced Edited _ _ (file_agrees (leads_alike alike)
       path).1 (λ place at. of_rules Edited (file_word_rules place) _ (written_there place bytes place.object at.1))
 
   attr_set : (here : Location ℕ) (allowed : Bool) (attr : Attr) → On here.mount
@@ -88,8 +88,7 @@ module _ {world : World ℕ} {names : List TaskName} {task : Task ℕ} (member :
   unfolding chmod_permit
   chmods_edit path mode = of_walk StandsHere Edited (object_walk nat_eq one task path)
       (λ here. attr_permit nat_eq one here.location (owns task.credentials (attr_at one here.location))
-      (attr_with_mode (attr_at one here.location) mode))
-      (object_agrees alike.walks alike.directory alike.rules.removed path).1
+      (attr_with_mode (attr_at one here.location) mode)) (object_agrees (leads_alike alike) path).1
       (λ here on. attr_set here.location (owns task.credentials (attr_at one here.location))
       (attr_with_mode (attr_at one here.location) mode) on)
 
@@ -99,17 +98,15 @@ module _ {world : World ℕ} {names : List TaskName} {task : Task ℕ} (member :
       (λ here. attr_permit nat_eq one here.location
       (may_chown task.credentials (attr_at one here.location) (attr_with_owner (attr_at one here.location) uid gid))
       (attr_with_owner (attr_at one here.location) uid gid))
-      (object_agrees alike.walks alike.directory alike.rules.removed path).1 (λ here on. attr_set here.location
+      (object_agrees (leads_alike alike) path).1 (λ here on. attr_set here.location
       (may_chown task.credentials (attr_at one here.location) (attr_with_owner (attr_at one here.location) uid gid))
       (attr_with_owner (attr_at one here.location) uid gid) on)
 
   pub opaques_edit : (path : List ℕ) (mark : Bool) → IfOk (opaque_permit nat_eq one task path mark) Edited
   unfolding opaque_permit
-  opaques_edit path mark = of_rules Edited (admin_rules task)
-      (and_then (walk_end (directory_walk nat_eq one task path)) (λ here.
-      unless (opaque_rules one here.location) (Ok (ToChange here.location (SetMark here.location.node mark)))))
+  opaques_edit path mark = of_rules Edited (admin_rules task) (and_then (walk_end (directory_walk nat_eq one task path))
+      (λ here. unless (opaque_rules one here.location) (Ok (ToChange here.location (SetMark here.location.node mark)))))
       (of_walk StandsHere Edited (directory_walk nat_eq one task path)
       (λ here. unless (opaque_rules one here.location) (Ok (ToChange here.location (SetMark here.location.node mark))))
-      (directory_agrees alike.walks alike.directory alike.rules.removed path).1
-      (λ here on. of_rules Edited (opaque_rules one here.location)
+      (directory_agrees (leads_alike alike) path).1 (λ here on. of_rules Edited (opaque_rules one here.location)
       (Ok (ToChange here.location (SetMark here.location.node mark))) (on, tt)))

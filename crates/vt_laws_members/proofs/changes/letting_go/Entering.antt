@@ -79,8 +79,7 @@ module _ {world : World ℕ} {names : List TaskName} {name called_so : TaskName}
           → option_map (λ m. topmost nat_eq part.mounts (root_of m)) o
           ≡ option_map (λ m. topmost nat_eq world.mounts (root_of m)) o
       by None e = refl
-      by (Some m) e =
-          cc (same_topmost (one member) (other member) task (On member) (alike member).walks (root_of m) (on_root m e))
+      by (Some m) e = cc (same_topmost (alike member).walks (root_of m) (on_root m e))
 
   abbrev pub root : Location ℕ
   root = unwrap_or (namespace_root nat_eq world space) task.root
@@ -92,7 +91,7 @@ module _ {world : World ℕ} {names : List TaskName} {name called_so : TaskName}
           (unwrap_or (option_map (λ m. topmost nat_eq world.mounts (root_of m)) o) task.root).mount
       by None e = root_theirs world names it.is task member.among
       by (Some m) e = theirs_from world names it.is.mounts (topmost nat_eq world.mounts (root_of m)).mount
-          (own_topmost (one member) (other member) task (On member) (alike member).walks (root_of m) (on_root m e))
+          (own_topmost (alike member).walks (root_of m) (on_root m e))
 
   -- The caller in it
   abbrev pub mine : Task ℕ

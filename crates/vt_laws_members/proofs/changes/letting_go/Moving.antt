@@ -2,7 +2,7 @@
 use Rattle.std.proofs.Common.{◌≡◌, refl, sym, ap, subst, ◌∙◌, inl, inr, ⊎_elim, ℕ, nat_eq, true, List, [], ◌∷◌, Some, Ok, Err, Result, filter, map, not, IfOk, ◌==◌}
 use Rattle.vt_spec.proofs.Common.{Among, Chdir, Chroot, Close, Descriptor, Here, Location, Looks, Permit, Task, TaskName, ToClose, ToSetDirectory, ToSetRoot, World, among-from_filter, among-from_map, among-map, and_then, cap_sys_chroot, chdir_permit, chroot_permit, close_permit, descriptor_at, directory_walk, enter_rules, is_among, judge_in, lacks, looks_of, part_of, task_called, unless, used_filesystems}
 use Rattle.vt_laws_members.proofs.Common.{Deny, K1}
-use Rattle.vt_laws_members.proofs.judging.Common.{HereAt, IsMember, IsTheirs, JudgesAlike, caller_in, directory_agrees, directory_theirs, judges, root_theirs, theirs_from}
+use Rattle.vt_laws_members.proofs.judging.Common.{HereAt, IsMember, IsTheirs, JudgesAlike, caller_in, directory_agrees, directory_theirs, judges, leads_alike, root_theirs, theirs_from}
 use Rattle.vt_laws_members.specs.Judging.{is_theirs}
 use Rattle.vt_laws_members.specs.Changes.Changes.{EndsAlike}
 use Rattle.vt_laws_members.specs.Changes.LettingGo.{ChdirsEndAlike, ChrootsEndAlike, ClosesEndAlike}
@@ -39,10 +39,10 @@ module _ {world : World ℕ} {names : List TaskName} {task : Task ℕ} (member :
   alike = judges member
 
   abbrev pub StandsHere : Here ℕ → Type 0
-  StandsHere = HereAt alike.walks alike.directory alike.rules.removed
+  StandsHere = HereAt (leads_alike alike)
 
   pub at_directory : (path : List ℕ) → IfOk (directory_walk nat_eq one task path) StandsHere
-  at_directory path = (directory_agrees alike.walks alike.directory alike.rules.removed path).1
+  at_directory path = (directory_agrees (leads_alike alike) path).1
 
   -- The permits of chdir(2) and chroot(2)
   abbrev pub SetsDirectory : Permit ℕ → Type 0

@@ -2,7 +2,7 @@
 use Rattle.std.proofs.Common.{◌≡◌, refl, sym, inr, ℕ, nat_eq, Bool, true, false, cond, find, true≢false, List, [], ◌∷◌, Option, Some, None, Ok, Err, Result, IfOk, ok_or, option_to_list}
 use Rattle.vt_spec.proofs.Common.{Allowed, Among, Bind, Call, Chdir, Chmod, Chown, Chroot, Close, Descriptor, Drop, Exec, Exit, Fork, Here, Judgement, Lazy, LinkTo, ListMounts, Location, Looks, Ls, Lstat, MakeWhiteout, Mkdir, MountOverlay, MountPlain, MoveMount, Opaque, OpenFile, Permit, PivotRoot, Pread, Pwrite, Read, Readlink, Remount, Rename, Rmdir, Rules, SetType, Setns, Stat, Stop, SymlinkAt, Task, TaskName, ToList, ToListMounts, ToRead, ToReadPart, ToStat, Umask, Umount, Unlink, Unshare, World, Write, among-flat_map, among-map, and_then, denial, descriptor_numbered, directory_walk, exec_permit, exec_rules, found_among, is_among, judge, list_permit, list_rules, locations, locations_of, looks_of, lstat_permit, members, object_walk, only_looks, part_of, pread_permit, read_permit, read_rules, readlink_permit, readlink_rules, stat_permit, symlink_walk, unless, used_filesystems, walk_end, ⊤}
 use Rattle.vt_laws_members.proofs.Common.{S4}
-use Rattle.vt_laws_members.proofs.judging.Common.{HereAt, IsMember, JudgesAlike, directory_agrees, judges, object_agrees, symlink_agrees}
+use Rattle.vt_laws_members.proofs.judging.Common.{HereAt, IsMember, JudgesAlike, directory_agrees, judges, leads_alike, object_agrees, symlink_agrees}
 use Rattle.vt_laws_members.specs.Changes.Changes.{left}
 use Rattle.vt_laws_members.specs.Judging.{is_theirs}
 
@@ -42,16 +42,16 @@ module _ {world : World ℕ} {names : List TaskName} {task : Task ℕ} (member :
   alike = judges member
 
   abbrev StandsHere : Here ℕ → Type 0
-  StandsHere = HereAt alike.walks alike.directory alike.rules.removed
+  StandsHere = HereAt (leads_alike alike)
 
   at_object : (path : List ℕ) → IfOk (object_walk nat_eq one task path) StandsHere
-  at_object path = (object_agrees alike.walks alike.directory alike.rules.removed path).1
+  at_object path = (object_agrees (leads_alike alike) path).1
 
   at_symlink : (path : List ℕ) → IfOk (symlink_walk nat_eq one task path) StandsHere
-  at_symlink path = (symlink_agrees alike.walks alike.directory alike.rules.removed path).1
+  at_symlink path = (symlink_agrees (leads_alike alike) path).1
 
   at_directory : (path : List ℕ) → IfOk (directory_walk nat_eq one task path) StandsHere
-  at_directory path = (directory_agrees alike.walks alike.directory alike.rules.removed path).1
+  at_directory path = (directory_agrees (leads_alike alike) path).1
 
   -- an open file of theirs
   pub opened_theirs : (descriptor : Descriptor ℕ) → Among descriptor task.descriptors

@@ -1,7 +1,7 @@
 -- Where a granted call of theirs makes, gives or takes a name: in a directory on a mount of theirs.
 use Rattle.std.proofs.Common.{◌≡◌, subst, ℕ, nat_eq, Bool, true, false, ◌∷◌, [], List, Option, Some, Ok, Result, IfOk}
 use Rattle.vt_spec.proofs.Common.{AddName, Call, Change, CopyUp, Fresh, Location, Looks, Make, Move, Permit, Place, Remove, SetAttr, SetBytes, SetMark, Stop, Task, TaskName, World, is_among, judge_in, looks_of, none_is_some, overfills, part_of, same_Some, used_filesystems, when, ⊤, Serves, task_called}
-use Rattle.vt_laws_members.proofs.judging.Common.{IsMember, IsTheirs, JudgesAlike, PlaceAt, caller_in, file_agrees, judges, new_agrees, new_leaf_agrees, old_agrees, old_leaf_agrees, theirs_from}
+use Rattle.vt_laws_members.proofs.judging.Common.{IsMember, IsTheirs, JudgesAlike, PlaceAt, caller_in, file_agrees, judges, leads_alike, new_agrees, new_leaf_agrees, old_agrees, old_leaf_agrees, theirs_from}
 use Rattle.vt_laws_members.proofs.Common.{IsGranted, calls_are_granted, change_asked, changes_mark, changes_mode, changes_owner, creates, creates_exclusively, makes_directory, makes_hard_link, makes_symlink, makes_whiteout, opens, opens_existing, overwrites_file, removes_directory, renames, unlinks, writes_new_file, writes_part}
 use Rattle.vt_laws_trees.specs.Calls.Inodes.{written_if_some}
 use Rattle.vt_laws_members.specs.Judging.{is_theirs}
@@ -49,7 +49,7 @@ module _ {world : World ℕ} {names : List TaskName} {task : Task ℕ} (member :
   alike = judges member
 
   abbrev IsPlaced : Place ℕ → Type 0
-  IsPlaced = PlaceAt alike.walks alike.directory alike.rules.removed
+  IsPlaced = PlaceAt (leads_alike alike)
 
   abbrev AreTheirs : Option (Location ℕ × Change ℕ) → Type 0
   AreTheirs asked = (made : Location ℕ × Change ℕ) → asked ≡ Some made → Names made.1 → On made.0.mount
@@ -76,30 +76,30 @@ module _ {world : World ℕ} {names : List TaskName} {task : Task ℕ} (member :
   names_theirs asked permit (overwrites_file path bytes place file walk named is_there passed) =
       of file _ (λ none. absurd none)
   names_theirs asked permit (writes_new_file path bytes place walk named missing fits passed) =
-      placed _ place _ (file_agrees alike.walks alike.directory alike.rules.removed path).1 walk
+      placed _ place _ (file_agrees (leads_alike alike) path).1 walk
   names_theirs asked permit (makes_directory path mode place walk passed) =
-      placed _ place _ (new_agrees alike.walks alike.directory alike.rules.removed path).1 walk
+      placed _ place _ (new_agrees (leads_alike alike) path).1 walk
   names_theirs asked permit (makes_symlink text path place fits walk passed) =
-      placed _ place _ (new_leaf_agrees alike.walks alike.directory alike.rules.removed path).1 walk
+      placed _ place _ (new_leaf_agrees (leads_alike alike) path).1 walk
   names_theirs asked permit (makes_whiteout path place walk passed) =
-      placed _ place _ (new_leaf_agrees alike.walks alike.directory alike.rules.removed path).1 walk
+      placed _ place _ (new_leaf_agrees (leads_alike alike) path).1 walk
   names_theirs asked permit (makes_hard_link old new from place from_walk walk named passed) =
-      placed _ place _ (new_leaf_agrees alike.walks alike.directory alike.rules.removed new).1 walk
+      placed _ place _ (new_leaf_agrees (leads_alike alike) new).1 walk
   names_theirs asked permit (unlinks path place walk named passed) =
-      placed _ place _ (old_leaf_agrees alike.walks alike.directory alike.rules.removed path).1 walk
+      placed _ place _ (old_leaf_agrees (leads_alike alike) path).1 walk
   names_theirs asked permit (removes_directory path place walk word passed) =
-      placed _ place _ (old_agrees alike.walks alike.directory alike.rules.removed path).1 walk
+      placed _ place _ (old_agrees (leads_alike alike) path).1 walk
   names_theirs asked permit (renames old new from to both two passed) =
-      placed _ from _ (old_leaf_agrees alike.walks alike.directory alike.rules.removed old).1 both.from_end
+      placed _ from _ (old_leaf_agrees (leads_alike alike) old).1 both.from_end
   names_theirs asked permit (changes_mode path mode here walk passed) = of here.location _ (λ none. absurd none)
   names_theirs asked permit (changes_owner path uid gid here walk passed) = of here.location _ (λ none. absurd none)
   names_theirs asked permit (changes_mark path mark here admin walk passed) = of here.location _ (λ none. absurd none)
   names_theirs asked permit (opens path access here few walk passed) = opened here.location _
   names_theirs asked permit (opens_existing path access mode place file few walk named is_there passed) = opened file _
   names_theirs asked permit (creates path access mode place few walk named missing passed) =
-      placed _ place _ (file_agrees alike.walks alike.directory alike.rules.removed path).1 walk
+      placed _ place _ (file_agrees (leads_alike alike) path).1 walk
   names_theirs asked permit (creates_exclusively path access mode place few walk named passed) =
-      placed _ place _ (new_agrees alike.walks alike.directory alike.rules.removed path).1 walk
+      placed _ place _ (new_agrees (leads_alike alike) path).1 walk
   names_theirs asked permit (writes_part number offset bytes descriptor found passed) = written _ offset bytes
   names_theirs asked permit granted = λ made e. none_is_some made e
 

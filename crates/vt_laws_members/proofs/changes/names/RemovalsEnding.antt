@@ -2,7 +2,7 @@
 -- namespace of theirs is on what goes.
 use Rattle.std.proofs.Common.{arith, ◌≡◌, refl, sym, subst, ◌∙◌, ℕ, nat_eq, eqb-true, true, false, List, Option, Some, None, Ok, IfOk, option_map, option_to_list}
 use Rattle.vt_spec.proofs.Common.{Call, Done, Fresh, Location, Looks, Move, Permit, Place, Remove, Rename, Rmdir, Serves, Task, TaskName, ToRemoveDirectory, ToRename, World, common_steps, entry_at, files_at, filesystem_at, holds_of, is_among, is_directory_there, is_locked_at, is_mount_point_anywhere, is_mount_point_in, is_overlay, judge_in, list_any, looks_of, name_of, none_is_some, object_there, only_looks, or_parts, overfills, part_of, same_Some, special_word, task_called, used_filesystems}
-use Rattle.vt_laws_members.proofs.judging.Common.{IsMember, JudgesAlike, PlaceAt, caller_in, judges, old_agrees, rename_new_agrees}
+use Rattle.vt_laws_members.proofs.judging.Common.{IsMember, JudgesAlike, PlaceAt, caller_in, judges, leads_alike, old_agrees, rename_new_agrees}
 use Rattle.vt_laws_members.proofs.Common.{IsGranted, all_permits_fit, calls_are_granted, name_found, removes_directory, renames}
 use Rattle.vt_laws_trees.proofs.trees.PlacesReached.{old_is, rename_new_is}
 use Rattle.vt_laws_trees.proofs.trees.TreesWalked.{not-false, place_named}
@@ -39,7 +39,7 @@ module _ {world : World ℕ} {names : List TaskName} {task : Task ℕ} (member :
   judged_alike = judges member
 
   abbrev IsPlaced : Place ℕ → Type 0
-  IsPlaced = PlaceAt judged_alike.walks judged_alike.directory judged_alike.rules.removed
+  IsPlaced = PlaceAt (leads_alike judged_alike)
 
   object_on : (place : Place ℕ) → IsPlaced place → On (object_there place).mount
   object_on place at = grind (arith, common_steps)
@@ -51,12 +51,9 @@ module _ {world : World ℕ} {names : List TaskName} {task : Task ℕ} (member :
   removed_free asked permit (removes_directory path place walk word passed) parent entry directory e =
       let same : object_there place ≡ directory = cc in
       let above : place.parent ≡ parent = cc in
-      rw (← above) (subst (λ object. IsFree world names task object place.parent) same
-      (record {
-        on = object_on place (subst (λ r. IfOk r IsPlaced) walk
-            (old_agrees judged_alike.walks judged_alike.directory judged_alike.rules.removed path).1);
-        unlocked =
-            (or_parts (is_locked_at nat_eq world (object_there place)) (is_locked_at nat_eq world place.parent)
+      rw (← above) (subst (λ object. IsFree world names task object place.parent) same (record {
+        on = object_on place (subst (λ r. IfOk r IsPlaced) walk (old_agrees (leads_alike judged_alike) path).1);
+        unlocked = (or_parts (is_locked_at nat_eq world (object_there place)) (is_locked_at nat_eq world place.parent)
             passed.1.1.1.1.0).0;
         bare = passed.1.1.1.1.1.0;
         beside = old_mount world task place
@@ -82,8 +79,8 @@ module _ {world : World ℕ} {names : List TaskName} {task : Task ℕ} (member :
       (not-false (nat_eq from_place.parent.mount to_place.parent.mount) passed.1.1.1.1.1.1.1.1.0) in
       subst (IsFree world names task replaced) source (record {
         on = (subst (λ r. IfOk r IsPlaced) both.to_end
-            (rename_new_agrees judged_alike.walks judged_alike.directory
-            judged_alike.rules.removed other (is_directory_there nat_eq one from_place)).1).1 replaced same;
+            (rename_new_agrees (leads_alike judged_alike) other
+            (is_directory_there nat_eq one from_place)).1).1 replaced same;
         unlocked = (or_parts (is_locked_at nat_eq world replaced) false
             (subst (λ o. list_any one.is_locked (option_to_list o) ≡ false) same
             (or_parts (is_locked_at nat_eq world (object_there from_place)) _

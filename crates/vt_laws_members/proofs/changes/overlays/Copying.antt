@@ -1,5 +1,5 @@
--- A change of an overlay by which inodes are copied up, and edited: the two filesystems that it changes, in the world and
--- in the part.
+-- A change of an overlay by which inodes are copied up, and edited: the two filesystems that it changes, in the world
+-- and in the part.
 use Rattle.std.proofs.Common.{inr, arith, ◌≡◌, refl, sym, ap, subst, ◌∙◌, inl, ⊎_elim, ℕ, nat_eq, eqb-true, Bool, true, false, cond, List, [], ◌∷◌, ◌++◌, Some, flat_map, map, option_to_list}
 use Rattle.vt_spec.proofs.Common.{cases_Bool, AddName, Among, Change, CopyUp, Filesystem, Fresh, IsWorld, Layer, Location, Make, Merge, Move, Overlay, Remove, SetAttr, SetBytes, SetMark, Stack, TaskName, World, among-append_left, among-append_right, among-flat_map, among-from_filter_map, among-map, among_from_all, change_layers, changed_at, common_steps, filesystem_at, filesystem_changed, filesystem_numbered, is_among, is_among_numbers, list_all, list_any, map_twice, merge_changed, mount_at, of_overlay, overlay_changed, overlay_or, part_of, part_of_filesystem, raised, raised_if_changed, replaced_if_numbered, stack_of, used_directly, used_filesystems, with_change, with_files, ⊤}
 use Rattle.vt_laws_members.proofs.Common.{CanChange, ChangesFilesystem, Inode, among-each_once, found, inodes_lost_with_upper, merge_after, shown_how, unchanged, used_directly_used, with_filesystems}

@@ -1,7 +1,7 @@
 -- The part of the part is the part, with the trees that it has by lower layers alone.
 use Rattle.std.proofs.Common.{arith, ◌≡◌, refl, sym, ap, subst, ◌∙◌, inl, inr, ⊎_elim, ℕ, nat_eq, Bool, true, false, cond, true≢false, List, [], ◌∷◌, Option, Some, None, filter, find, is_some, eq-eqb, eqb-true, unwrap_or, filter_map}
 use Rattle.vt_spec.proofs.Common.{cases_Bool, Among, FileTree, Filesystem, IsTree, IsWorld, Layer, ListsNumbers, Mount, Namespace, Node, Task, TaskName, World, among-filter, among-from_filter, among_from_all, among_numbers, and_from, and_parts, any_among, any_from_among, common_steps, cons_option, filesystem_numbered, is_among, is_among_numbers, is_at, is_under, lies_in_layer, lies_in_own_lower, list_any, locations, members, no_filesystem, only_among, own_lowers, part_of, part_of_filesystem, part_of_lower, part_of_master, part_of_mount, seen_by_descriptor, used_filesystems, when}
-use Rattle.vt_laws_members.proofs.Common.{filter_again, found_filesystem, keep, kept_again, kept_how, same_lowers, same_members, same_own, same_used, shown_how}
+use Rattle.vt_laws_members.proofs.Common.{filter_again, found_filesystem, keep, kept_again, kept_how, same_lowers, same_members, same_own, same_used, shown_how, shown_number}
 use Rattle.vt_laws_members.specs.Changes.Parts.{PartOfAPart}
 use Rattle.vt_laws_members.proofs.changes.part.CutTrees.{under_in_cut}
 
@@ -54,9 +54,6 @@ module _ (world : World ℕ) (names : List TaskName) (is : IsWorld nat_eq world)
   abbrev has_lower : ℕ → Bool
   has_lower number = list_any (λ (layer : Layer ℕ). nat_eq number layer.filesystem) lowers
 
-  pub shown_number : (x y : Filesystem ℕ) → shown x ≡ Some y → y.number ≡ x.number
-  shown_number x y e = ⊎_elim (λ same. cc same.0) (λ low. cc low.0) (shown_how world names x y e)
-
   -- what the part has of a filesystem is found there
   pub found_in_part : (x y : Filesystem ℕ) → Among x world.filesystems → shown x ≡ Some y
       → filesystem_numbered nat_eq part x.number ≡ y
@@ -75,7 +72,8 @@ module _ (world : World ℕ) (names : List TaskName) (is : IsWorld nat_eq world)
             (filter_map shown rest)))
             (ap shown (itself z (all z (inl refl)) h) ∙ e)
             ∙ ap (λ b. cond b (Some y) (find (λ (f : Filesystem ℕ). nat_eq x.number f.number)
-            (filter_map shown rest))) (ap (nat_eq x.number) (shown_number x y e) ∙ eq-eqb x.number x.number refl)
+            (filter_map shown rest)))
+            (ap (nat_eq x.number) (shown_number world names x y e) ∙ eq-eqb x.number x.number refl)
         | inr h ↦ cc (
           skip (shown z) refl h,
           (search rest (λ w n. all w (inr n))) (⊎_elim (λ same. absurd (true≢false (sym (eq-eqb x.number z.number
@@ -88,7 +86,7 @@ module _ (world : World ℕ) (names : List TaskName) (is : IsWorld nat_eq world)
               → find (λ (f : Filesystem ℕ). nat_eq x.number f.number) (cons_option o (filter_map shown rest))
               ≡ find (λ (f : Filesystem ℕ). nat_eq x.number f.number) (filter_map shown rest)
           skip None f h = refl
-          skip (Some w) f h = cc (shown_number z w f)
+          skip (Some w) f h = cc (shown_number world names z w f)
 
   -- a tree that the part has by lower layers alone
   module _ (x : Filesystem ℕ) (m : Among x world.filesystems) (unused : is_among nat_eq x.number used ≡ false)

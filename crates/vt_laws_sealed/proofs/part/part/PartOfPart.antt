@@ -99,7 +99,7 @@ module _ (world : World ℕ) (names : List TaskName) where
       × (list_any (λ layer. nat_eq x.number layer.filesystem) (own_lowers nat_eq world names) ≡ true))
   shown_how x y e = grind (arith, common_steps, same_Some, none_is_some)
 
-  shown_number : (x y : Filesystem ℕ) → shown x ≡ Some y → y.number ≡ x.number
+  pub shown_number : (x y : Filesystem ℕ) → shown x ≡ Some y → y.number ≡ x.number
   shown_number x y e = grind (arith, common_steps)
 
   -- a filesystem that they use is whole in the part

@@ -46,7 +46,7 @@ pub record Alike (one other : Looks ℕ) (task : Task ℕ) (Own : ℕ → Type 0
   pub hopped : (here : Location ℕ) → Own here.mount → Each (λ (l : Location ℕ). Own l.mount) (hops nat_eq one task here)
   pub lost : (here : Location ℕ) → Own here.mount → is_lost nat_eq one here ≡ is_lost nat_eq other here
 
-module _ (one other : Looks ℕ) (task : Task ℕ) (Own : ℕ → Type 0) (alike : Alike one other task Own) where
+module _ {one other : Looks ℕ} {task : Task ℕ} {Own : ℕ → Type 0} (alike : Alike one other task Own) where
   abbrev pub OnOwn : Location ℕ → Type 0
   OnOwn here = Own here.mount
 
@@ -275,12 +275,10 @@ module _ (one other : Looks ℕ) (task : Task ℕ) (own : ℕ → Bool) (alike :
   }
 
 pub words_walked_alike : WordsAgree
-words_walked_alike one other task own alike depth here list is =
-    words_agree one other task (On one other task own alike) (all_alike one other task own alike)
+words_walked_alike one other task own alike depth here list is = words_agree (all_alike one other task own alike)
     (symlink_walked nat_eq depth one task) (symlink_walked nat_eq depth other task)
-    (texts_agree one other task (On one other task own alike) (all_alike one other task own alike) depth) here is list
+    (texts_agree (all_alike one other task own alike) depth) here is list
 
 pub texts_walked_alike : TextsAgree
-texts_walked_alike one other task own alike depth directory symlink text from is =
-    texts_agree one other task (On one other task own alike) (all_alike one other task own alike) depth directory
-    symlink text from is
+texts_walked_alike one other task own alike depth directory symlink text from is = texts_agree
+    (all_alike one other task own alike) depth directory symlink text from is

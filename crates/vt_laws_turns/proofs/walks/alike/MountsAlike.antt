@@ -31,8 +31,13 @@ module _ (world : World ℕ) (is : MountInvariants nat_eq world) where
   child_namespace mount child here m number there at =
       grind (arith, common_steps, itself, namespace_below, stands_itself, stands_there)
 
-module _ {world later : World ℕ} (is : MountInvariants nat_eq world) (are : MountInvariants nat_eq later)
-    (namespace : ℕ) (same : mounts_of nat_eq later namespace ≡ mounts_of nat_eq world namespace) where
+-- Two worlds with the same mounts of a namespace
+pub record SameMounts (world later : World ℕ) (namespace : ℕ) : Type 0 where
+  pub was : MountInvariants nat_eq world
+  pub now : MountInvariants nat_eq later
+  pub same : mounts_of nat_eq later namespace ≡ mounts_of nat_eq world namespace
+
+module _ {world later : World ℕ} {namespace : ℕ} (worlds : SameMounts world later namespace) where
   abbrev within : Mount ℕ → Bool
   within mount = holds_of (nat_eq namespace) mount.namespace
 
@@ -47,34 +52,40 @@ module _ {world later : World ℕ} (is : MountInvariants nat_eq world) (are : Mo
   pub later_too : (mount : Mount ℕ) → Among mount world.mounts → mount.namespace ≡ Some namespace
       → Among mount later.mounts
   later_too mount m e = (among-from_filter within later.mounts mount
-      (subst (Among mount) (sym same) (among-filter within world.mounts mount m (is_within mount e)))).0
+      (subst (Among mount) (sym worlds.same) (among-filter within world.mounts mount m (is_within mount e)))).0
 
   pub same_mount : (number : ℕ) → IsOwn number → mount_numbered nat_eq later number ≡ mount_numbered nat_eq world number
-  same_mount number own = cc (own.3, itself later are own.0 own.2, itself world is own.0 own.1)
+  same_mount number own = cc (own.3, itself later worlds.now own.0 own.2, itself world worlds.was own.0 own.1)
 
   -- what stands at a location
   same_child : (here : Location ℕ) → IsOwn here.mount
       → child_at nat_eq later.mounts here ≡ child_at nat_eq world.mounts here
-  same_child here (mount, m, n, number, kind) = ⊎_elim (λ e. sym (find_where (stands_at nat_eq here) within later.mounts
-      (λ c there at. is_within c (child_namespace later are mount c here n number there at ∙ e))) ∙ ap
-      (find (stands_at nat_eq here)) same ∙ find_where (stands_at nat_eq here) within world.mounts
-      (λ c there at. is_within c (child_namespace world is mount c here m number there at ∙ e)))
+  same_child here (mount, m, n, number, kind) = ⊎_elim
+      (λ e. sym (find_where (stands_at nat_eq here) within later.mounts
+      (λ c there at. is_within c (below_now c there at ∙ e))) ∙ ap (find (stands_at nat_eq here)) worlds.same
+      ∙ find_where (stands_at nat_eq here) within world.mounts (λ c there at. is_within c (below c there at ∙ e)))
       (λ none. find_none (stands_at nat_eq here) later.mounts (λ c there. false_from_ne_true (stands_at nat_eq here c)
-      (λ at. placed_inside later are c there here (stands_there here c at) (child_namespace later are mount c here n
-      number there at ∙ none))) ∙ sym (find_none (stands_at nat_eq here) world.mounts
-      (λ c there. false_from_ne_true _ (λ at. placed_inside world is c there here (stands_there here c at)
-      (child_namespace world is mount c here m number there at ∙ none))))) kind
+      (λ at. placed_inside later worlds.now c there here (stands_there here c at) (below_now c there at ∙ none)))
+      ∙ sym (find_none (stands_at nat_eq here) world.mounts (λ c there. false_from_ne_true _
+      (λ at. placed_inside world worlds.was c there here (stands_there here c at) (below c there at ∙ none))))) kind
+    where
+      below : (c : Mount ℕ) → Among c world.mounts → stands_at nat_eq here c ≡ true → c.namespace ≡ mount.namespace
+      below c there at = child_namespace world worlds.was mount c here m number there at
+
+      below_now : (c : Mount ℕ) → Among c later.mounts → stands_at nat_eq here c ≡ true
+          → c.namespace ≡ mount.namespace
+      below_now c there at = child_namespace later worlds.now mount c here n number there at
 
   child_own : (here : Location ℕ) (child : Mount ℕ) → IsOwn here.mount → child_at nat_eq world.mounts here ≡ Some child
       → IsOwn child.number × Among child (mounts_of nat_eq world namespace)
   child_own here child (mount, m, n, number, kind) e =
       let there = found_among (stands_at nat_eq here) world.mounts child e in
       let at = found_passes (stands_at nat_eq here) world.mounts child e in
-      let below = child_namespace world is mount child here m number there at in
+      let below = child_namespace world worlds.was mount child here m number there at in
       ⊎_elim (λ f. (
         (child, there, later_too child there (below ∙ f), refl, inl (below ∙ f)),
         among-filter within world.mounts child there (is_within child (below ∙ f)),
-      )) (λ none. absurd (placed_inside world is child there here (stands_there here child at) (cc))) kind
+      )) (λ none. absurd (placed_inside world worlds.was child there here (stands_there here child at) (cc))) kind
 
   abbrev up : World ℕ → Location ℕ → Option (Location ℕ)
   up in_world here = option_map root_of (child_at nat_eq in_world.mounts here)
@@ -103,8 +114,9 @@ module _ {world later : World ℕ} (is : MountInvariants nat_eq world) (are : Mo
       by None None f g e = refl
       by None (Some d) f g e = absurd (omega (arith, e))
       by (Some c) None f g e = absurd (omega (arith, e))
-      by (Some c) (Some d) f g e = ap (λ x. Some (root_of x)) (sym (itself world is c (found_among _ world.mounts c f))
-          ∙ ap (mount_numbered nat_eq world) (ap pred e) ∙ itself world is d (found_among _ world.mounts d g))
+      by (Some c) (Some d) f g e = ap (λ x. Some (root_of x))
+          (sym (itself world worlds.was c (found_among _ world.mounts c f))
+          ∙ ap (mount_numbered nat_eq world) (ap pred e) ∙ itself world worlds.was d (found_among _ world.mounts d g))
 
   way : (n : ℕ) (a : Location ℕ) → IsOwn a.mount → up world (last_or a (chain n (up world) a)) ≡ None
       → Way (up world) (up later) key there a
@@ -128,7 +140,8 @@ module _ {world later : World ℕ} (is : MountInvariants nat_eq world) (are : Mo
   pub same_over : (here : Location ℕ) → IsOwn here.mount
       → mounts_over nat_eq later.mounts here ≡ mounts_over nat_eq world.mounts here
   same_over here own = sym (chains_alike (up world) (up later) key there by_key (length world.mounts) _ here
-      (way (length world.mounts) here own (ap (option_map root_of) (topmost_is_free world here is))) few few_later)
+      (way (length world.mounts) here own (ap (option_map root_of) (topmost_is_free world here worlds.was))) few
+      few_later)
 
   pub over_own : (here : Location ℕ) → IsOwn here.mount → (l : Location ℕ)
       → Among l (mounts_over nat_eq world.mounts here) → IsOwn l.mount
@@ -145,14 +158,13 @@ module _ {world later : World ℕ} (is : MountInvariants nat_eq world) (are : Mo
   pub parent_own : (number : ℕ) (point : Location ℕ) → IsOwn number
       → (mount_numbered nat_eq world number).mount_point ≡ Some point → IsOwn point.mount × Among (suc number) there
   parent_own number point (mount, m, n, at, kind) e =
-      let its : mount_numbered nat_eq world number ≡ mount =
-      cc (at, itself world is mount m) in
+      let its : mount_numbered nat_eq world number ≡ mount = cc (at, itself world worlds.was mount m) in
       let placed : mount.mount_point ≡ Some point = cc (its) in
       ⊎_elim (λ f.
       let above : (mount_numbered nat_eq world point.mount).namespace ≡ Some namespace =
-      sym (sym (ap (λ (x : Mount ℕ). x.namespace) (itself world is mount m))
-      ∙ namespace_below world mount.number point (stands_itself world is mount m)
-      (ap (λ (x : Mount ℕ). x.mount_point) (itself world is mount m) ∙ placed)) ∙ f in (
+      sym (sym (ap (λ (x : Mount ℕ). x.namespace) (itself world worlds.was mount m))
+      ∙ namespace_below world mount.number point (stands_itself world worlds.was mount m)
+      (ap (λ (x : Mount ℕ). x.mount_point) (itself world worlds.was mount m) ∙ placed)) ∙ f in (
         ⊎_elim (λ found. (
           mount_numbered nat_eq world point.mount,
           found,
@@ -161,7 +173,7 @@ module _ {world later : World ℕ} (is : MountInvariants nat_eq world) (are : Mo
           inl above,
         )) (λ none. none_is_some namespace (cc)) (found_or_none _ point.mount),
         subst (λ k. Among (suc k) there) at (among-map _ _ mount (among-filter within _ mount m (is_within mount f))),
-      )) (λ none. absurd (placed_inside world is mount m point placed none)) kind
+      )) (λ none. absurd (placed_inside world worlds.was mount m point placed none)) kind
 
   -- `..` goes on from mount points
   module _ (task : Task ℕ) where
@@ -212,4 +224,4 @@ module _ {world later : World ℕ} (is : MountInvariants nat_eq world) (are : Mo
     pub same_hops : (here : Location ℕ) → IsOwn here.mount
         → hops nat_eq (looks_of nat_eq later) task here ≡ hops nat_eq (looks_of nat_eq world) task here
     same_hops here own = sym (chains_alike (hop_in world) (hop_in later) hop_key there by_hop_key (length world.mounts)
-        _ here (hop_way own.0.number (stands_itself world is own.0 own.1) here (sym own.3) own) few few_later)
+        _ here (hop_way own.0.number (stands_itself world worlds.was own.0 own.1) here (sym own.3) own) few few_later)

@@ -3,7 +3,7 @@ use Rattle.std.proofs.Common.{append-nil, ◌≡◌, refl, sym, ap, subst, ◌�
 use Rattle.vt_spec.proofs.Common.{Among, Dot, DotDot, Here, IsWorld, LastWord, Location, Looks, Mount, Named, NoWord, Node, Overlay, Rules, Stop, Task, World, among-append, among-append_left, among-append_right, among-map, and_then, chain, common_steps, denial, entered_upward, entries_in, entry_location, entry_named, execute_right, filesystem_numbered, filesystems_of, hops, is_directory_node, is_directory_under, is_removed, last_or, looks_of, map-append, map_alike, met_by, mount_numbered, mounter_allows, mounts_of, node_allows, parent_in, same_location, search_rules, stepped, steps_with, stopped_by, unless, word_walked}
 use Rattle.vt_laws_turns.proofs.Common.{Deny, IsFound, W3, W4, W5, W6, W8, directory_found, is_directory_at, is_lost, is_top, mount_at, parent_location, place_found, step_found, topmost}
 use Rattle.vt_laws_turns.specs.Frames.Unraised.{KeepsFilesystem, KeepsOverlay}
-use Rattle.vt_laws_turns.proofs.walks.alike.MountsAlike.{IsOwn, chain_each, hop_in, hop_point, over_own, parent_own, same_hops, same_mount, same_over}
+use Rattle.vt_laws_turns.proofs.walks.alike.MountsAlike.{IsOwn, SameMounts, chain_each, hop_in, hop_point, over_own, parent_own, same_hops, same_mount, same_over}
 use Rattle.vt_laws_turns.proofs.walks.alike.NodesAlike.{node_same, removed_same, under_same}
 
 -- a chain begins with its start, and ends with one of its own
@@ -42,8 +42,16 @@ ok_is : (P : Location ℕ → Type 0) (found : Result (Location ℕ) Deny) → I
 ok_is P (Ok a) is l e = let same : a ≡ l = cc in subst P same is
 ok_is P (Err deny) is l e = cc
 
-module _ {world later : World ℕ} (isw : IsWorld nat_eq world) (isl : IsWorld nat_eq later) (task : Task ℕ)
-    (same : mounts_of nat_eq later task.namespace ≡ mounts_of nat_eq world task.namespace) where
+-- Two worlds in which a task's namespace has the same mounts
+pub record StandsAlike (world later : World ℕ) (task : Task ℕ) : Type 0 where
+  pub was : IsWorld nat_eq world
+  pub now : IsWorld nat_eq later
+  pub same : mounts_of nat_eq later task.namespace ≡ mounts_of nat_eq world task.namespace
+
+module _ {world later : World ℕ} {task : Task ℕ} (worlds : StandsAlike world later task) where
+  abbrev mounts : SameMounts world later task.namespace
+  mounts = record { was = worlds.was.mounts; now = worlds.now.mounts; same = worlds.same }
+
   abbrev pub one : Looks ℕ
   one = looks_of nat_eq world
 
@@ -51,7 +59,7 @@ module _ {world later : World ℕ} (isw : IsWorld nat_eq world) (isl : IsWorld n
   other = looks_of nat_eq later
 
   abbrev pub Own : ℕ → Type 0
-  Own = IsOwn isw.mounts isl.mounts task.namespace same
+  Own = IsOwn mounts
 
   abbrev pub shown_at : Location ℕ → ℕ
   shown_at l = (mount_at one l).filesystem
@@ -66,15 +74,15 @@ module _ {world later : World ℕ} (isw : IsWorld nat_eq world) (isl : IsWorld n
   -- a location that is there in both worlds, on a mount that is as it was
   pub record IsThere (l : Location ℕ) : Type 0 where
     pub own : Own l.mount
-    pub before : IsFound world isw task l
-    pub after : IsFound later isl task l
+    pub before : IsFound world worlds.was task l
+    pub after : IsFound later worlds.now task l
 
   pub mount_same : (number : ℕ) → Own number → mount_numbered nat_eq later number ≡ mount_numbered nat_eq world number
-  mount_same = same_mount isw.mounts isl.mounts task.namespace same
+  mount_same = same_mount mounts
 
   pub node_is : (l : Location ℕ) → IsThere l → Kept (shown_at l) → other.node l ≡ one.node l
   node_is l is kept = first
-      ∙ node_same isw.files isl.files (shown_at l) kept l.node (cc (first, is.after.1))
+      ∙ node_same worlds.was.files worlds.now.files (shown_at l) kept l.node (cc (first, is.after.1))
     where
       first : other.node l ≡ (filesystem_numbered nat_eq later (shown_at l)).files.tree.node l.node
       first = ap (λ (m : Mount ℕ). (filesystem_numbered nat_eq later m.filesystem).files.tree.node l.node)
@@ -108,7 +116,7 @@ module _ {world later : World ℕ} (isw : IsWorld nat_eq world) (isl : IsWorld n
 
       removed : is_removed nat_eq (filesystem_numbered nat_eq later (shown_at l)).files.tree l.node
           ≡ is_removed nat_eq (filesystem_numbered nat_eq world (shown_at l)).files.tree l.node
-      removed = removed_same isw.files isl.files (shown_at l) kept l.node there
+      removed = removed_same worlds.was.files worlds.now.files (shown_at l) kept l.node there
 
       by : (b : Bool) → is_removed nat_eq (filesystem_numbered nat_eq later (shown_at l)).files.tree l.node ≡ b
           → lost_by later (mount_at one l) l.node ≡ lost_by world (mount_at one l) l.node
@@ -117,17 +125,16 @@ module _ {world later : World ℕ} (isw : IsWorld nat_eq world) (isl : IsWorld n
   -- Where `..` goes on from
 
   hop_there : (a b : Location ℕ) → IsThere a
-      → hop_in isw.mounts isl.mounts task.namespace same task world a ≡ Some b
+      → hop_in mounts task world a ≡ Some b
       → IsThere b × (is_directory_at one b ≡ true)
   hop_there a b is e =
-      let point = hop_point isw.mounts isl.mounts task.namespace same task a b e in
-      let before = place_found world isw task a.mount b is.before.0 point in
-      let after = place_found later isl task a.mount b is.after.0
-      (cc (mount_same a.mount is.own, point)) in (
+      let point = hop_point mounts task a b e in
+      let before = place_found world worlds.was task a.mount b is.before.0 point in
+      let after = place_found later worlds.now task a.mount b is.after.0 (cc (mount_same a.mount is.own, point)) in (
         record {
-          own = (parent_own isw.mounts isl.mounts task.namespace same a.mount b is.own point).0;
-          before = directory_found world isw task b before;
-          after = directory_found later isl task b after;
+          own = (parent_own mounts a.mount b is.own point).0;
+          before = directory_found world worlds.was task b before;
+          after = directory_found later worlds.now task b after;
         },
         before.1,
       )
@@ -139,27 +146,25 @@ module _ {world later : World ℕ} (isw : IsWorld nat_eq world) (isl : IsWorld n
   top_of here = last_or here (way here)
 
   way_there : (here : Location ℕ) → IsThere here → (l : Location ℕ) → Among l (way here) → IsThere l
-  way_there here is = chain_each IsThere (hop_in isw.mounts isl.mounts task.namespace same task world)
+  way_there here is = chain_each IsThere (hop_in mounts task world)
       (λ a b p e. (hop_there a b p e).0) (length world.mounts) here is
 
   way_directories : (here : Location ℕ) → IsThere here → is_directory_at one here ≡ true → (l : Location ℕ)
       → Among l (way here) → IsThere l × (is_directory_at one l ≡ true)
   way_directories here is directory = chain_each (λ l. IsThere l × (is_directory_at one l ≡ true))
-      (hop_in isw.mounts isl.mounts task.namespace same task world)
-      (λ a b p e. hop_there a b p.0 e) (length world.mounts) here (is, directory)
+      (hop_in mounts task world) (λ a b p e. hop_there a b p.0 e) (length world.mounts) here (is, directory)
 
   top_among : (here : Location ℕ) → Among (top_of here) (way here)
-  top_among here = last_among (way here) here
-      (chain_start (hop_in isw.mounts isl.mounts task.namespace same task world) (length world.mounts) here)
+  top_among here = last_among (way here) here (chain_start (hop_in mounts task world) (length world.mounts) here)
 
   way_same : (here : Location ℕ) → IsThere here → hops nat_eq other task here ≡ way here
-  way_same here is = same_hops isw.mounts isl.mounts task.namespace same task here is.own
+  way_same here is = same_hops mounts task here is.own
 
   pub over_same : (here : Location ℕ) → Own here.mount → other.mounts_over here ≡ one.mounts_over here
-  over_same = same_over isw.mounts isl.mounts task.namespace same
+  over_same = same_over mounts
 
   pub over_each : (here : Location ℕ) → Own here.mount → (l : Location ℕ) → Among l (one.mounts_over here) → Own l.mount
-  over_each = over_own isw.mounts isl.mounts task.namespace same
+  over_each = over_own mounts
 
   pub topmost_same : (here : Location ℕ) → Own here.mount → topmost other here ≡ topmost one here
   topmost_same here own = ap (last_or here) (over_same here own)
@@ -320,8 +325,8 @@ module _ {world later : World ℕ} (isw : IsWorld nat_eq world) (isl : IsWorld n
       let its = ok_is IsKept (stepped nat_eq one task here word) step.1 l e in (
         record {
           own = its.0;
-          before = step_found world isw task here word l (is.before.0, directory) e;
-          after = step_found later isl task here word l
+          before = step_found world worlds.was task here word l (is.before.0, directory) e;
+          after = step_found later worlds.now task here word l
               (is.after.0, directory_is here is (kept_here here word kept) ∙ directory) (step.0 ∙ e);
         },
         its.1,

@@ -8,7 +8,7 @@ use Rattle.vt_laws_turns.specs.Walks.Walkers.{Last, Pending, Walk, all_words, ar
 use Rattle.vt_laws_turns.specs.Walks.Walkers.Last.{AsFile, AsName, AsOthers, NotFollowed}
 use Rattle.vt_laws_turns.specs.Walks.Walkers.Walk.{Goes, Names, Reaches}
 use Rattle.vt_laws_turns.proofs.walks.alike.Seeing.{Sees, met_next, walked_on_sees, word_by_sees}
-use Rattle.vt_laws_turns.proofs.walks.alike.StepsAlike.{EachKept, IsThere, Kept, Own, directory_is, entry_is, kept_here, met_is, mount_same, node_is, one, other, over_each, over_same, reached_there, rules_by, search_is, shown_at, shown_same, stepped_is, topmost_same, word_is}
+use Rattle.vt_laws_turns.proofs.walks.alike.StepsAlike.{EachKept, IsThere, Kept, Own, StandsAlike, directory_is, entry_is, kept_here, met_is, mount_same, node_is, one, other, over_each, over_same, reached_there, rules_by, search_is, shown_at, shown_same, stepped_is, topmost_same, word_is}
 use Rattle.vt_laws_turns.proofs.walks.by_words.Counting.{HasItsWord, HasSteps, has_word, one_word_steps}
 use Rattle.vt_laws_turns.proofs.walks.by_words.Depths.{then_same}
 use Rattle.vt_laws_turns.proofs.walks.by_words.Whole.{begun_steps}
@@ -26,29 +26,32 @@ then_if P (Err stop) f g p same = refl
 
 module _ {world later : World ℕ} (isw : IsWorld nat_eq world) (isl : IsWorld nat_eq later) {task : Task ℕ}
     (stands : StandsAsItStood world later task) where
+  abbrev worlds : StandsAlike world later task
+  worlds = record { was = isw; now = isl; same = stands.mounts }
+
   abbrev before : Looks ℕ
-  before = one isw isl task stands.mounts
+  before = one worlds
 
   abbrev after : Looks ℕ
-  after = other isw isl task stands.mounts
+  after = other worlds
 
   abbrev There : Location ℕ → Type 0
-  There = IsThere isw isl task stands.mounts
+  There = IsThere worlds
 
   abbrev Owned : ℕ → Type 0
-  Owned = Own isw isl task stands.mounts
+  Owned = Own worlds
 
   abbrev KeptOne : ℕ → Type 0
-  KeptOne = Kept isw isl task stands.mounts
+  KeptOne = Kept worlds
 
   abbrev KeptAll : List ℕ → Type 0
-  KeptAll = EachKept isw isl task stands.mounts
+  KeptAll = EachKept worlds
 
   abbrev shown : Location ℕ → ℕ
-  shown = shown_at isw isl task stands.mounts
+  shown = shown_at worlds
 
   mount_is : (number : ℕ) → Owned number → mount_numbered nat_eq later number ≡ mount_numbered nat_eq world number
-  mount_is = mount_same isw isl task stands.mounts
+  mount_is = mount_same worlds
 
   -- The task's root and working directory
 
@@ -110,7 +113,7 @@ module _ {world later : World ℕ} (isw : IsWorld nat_eq world) (isl : IsWorld n
       by false = is
 
   kept_standing : (l : Location ℕ) → There l → KeptOne (shown l) → Standing l
-  kept_standing l there kept = (there, directory_is isw isl task stands.mounts l there kept)
+  kept_standing l there kept = (there, directory_is worlds l there kept)
 
   -- where a walk stands that goes on
   abbrev Fine : Result (Walk ℕ) (Stop ℕ) → Type 0
@@ -150,7 +153,7 @@ module _ {world later : World ℕ} (isw : IsWorld nat_eq world) (isl : IsWorld n
     object = Some l;
     slash = false;
     steps = all_met [] here.steps;
-  }))) (topmost_same isw isl task stands.mounts here.location there.own)
+  }))) (topmost_same worlds here.location there.own)
   end_is here last there true e = cc
 
   end_fine : (here : Here ℕ) (last : Last) → There here.location → (b : Bool)
@@ -213,9 +216,8 @@ module _ {world later : World ℕ} (isw : IsWorld nat_eq world) (isl : IsWorld n
       ≡ text_word nat_eq before task here (word ∷ list) slash others last)
       × Fine (text_word nat_eq before task here (word ∷ list) slash others last)
   text_word_is here there word list slash others last kept =
-      let step = word_is isw isl task stands.mounts here (last_word word) there kept in
-      let directory = kept_standing here.location there
-      (kept_here isw isl task stands.mounts here.location (last_word word) kept) in (
+      let step = word_is worlds here (last_word word) there kept in
+      let directory = kept_standing here.location there (kept_here worlds here.location (last_word word) kept) in (
         ap (λ r. then_walk r (λ next. arrived nat_eq after task here.location next
             (record { words = list; slash = slash } ∷ others) last (symlink_text (after.node next.location)))) step.0
             ∙ then_if (λ (next : Here ℕ). There next.location × KeptOne (shown next.location))
@@ -225,7 +227,7 @@ module _ {world later : World ℕ} (isw : IsWorld nat_eq world) (isl : IsWorld n
             (record { words = list; slash = slash } ∷ others) last (symlink_text (before.node next.location))) step.1
             (λ next fine.
             ap (λ n. arrived nat_eq after task here.location next (record { words = list; slash = slash } ∷ others) last
-            (symlink_text n)) (node_is isw isl task stands.mounts next.location fine.0 fine.1)
+            (symlink_text n)) (node_is worlds next.location fine.0 fine.1)
             ∙ (arrived_is here.location directory next (kept_standing next.location fine.0 fine.1)
             (record { words = list; slash = slash } ∷ others) last (symlink_text (before.node next.location))).0),
         fine_if (λ (next : Here ℕ). There next.location × KeptOne (shown next.location))
@@ -262,8 +264,8 @@ module _ {world later : World ℕ} (isw : IsWorld nat_eq world) (isl : IsWorld n
               own = subst (λ (x : Location ℕ). Owned x.mount) same there.own;
               before = entry_found world isw task here name l (there.before.0, directory) e;
               after = entry_found later isl task here name l
-                  (there.after.0, directory_is isw isl task stands.mounts here there kept ∙ directory)
-                  (entry_is isw isl task stands.mounts here name there kept ∙ e);
+                  (there.after.0, directory_is worlds here there kept ∙ directory)
+                  (entry_is worlds here name there kept ∙ e);
             },
             subst (λ (x : Location ℕ). KeptOne (shown x)) same kept,
           )
@@ -275,14 +277,12 @@ module _ {world later : World ℕ} (isw : IsWorld nat_eq world) (isl : IsWorld n
   object_is here NoWord there directory kept = (refl, some_fine here (there, kept (shown here) (inl refl)))
   object_is here Dot there directory kept = (refl, some_fine here (there, kept (shown here) (inl refl)))
   object_is here (Named name) there directory kept = (
-    ap Ok (entry_is isw isl task stands.mounts here name there (kept (shown here) (inl refl))),
+    ap Ok (entry_is worlds here name there (kept (shown here) (inl refl))),
     entry_fine here there (kept (shown here) (inl refl)) directory name,
   )
   object_is here DotDot there directory kept = (
-    ap (λ r. and_then r (λ parent. Ok (Some parent)))
-        (stepped_is isw isl task stands.mounts here DotDot there directory kept).0,
-    by (stepped nat_eq before task here DotDot)
-        (reached_there isw isl task stands.mounts here DotDot there directory kept),
+    ap (λ r. and_then r (λ parent. Ok (Some parent))) (stepped_is worlds here DotDot there directory kept).0,
+    by (stepped nat_eq before task here DotDot) (reached_there worlds here DotDot there directory kept),
   )
     where
       by : (r : Result (Location ℕ) Deny) → ((l : Location ℕ) → r ≡ Ok l → There l × KeptOne (shown l))
@@ -322,7 +322,7 @@ module _ {world later : World ℕ} (isw : IsWorld nat_eq world) (isl : IsWorld n
   named_is here word slash there kept met same = (
     cc (
       same,
-      search_is isw isl task stands.mounts here.location there kept,
+      search_is worlds here.location there kept,
       found_same (is_directory_at before here.location) refl,
     ),
     found_fine (is_directory_at before here.location) refl,
@@ -332,7 +332,7 @@ module _ {world later : World ℕ} (isw : IsWorld nat_eq world) (isl : IsWorld n
       steps = steps_at nat_eq before task here word
 
       rules_of : Bool → Rules
-      rules_of = rules_by isw isl task stands.mounts here.location
+      rules_of = rules_by worlds here.location
 
       found_same : (b : Bool) → is_directory_at before here.location ≡ b
           → placed_to here word slash steps (search_rules nat_eq before task here.location)
@@ -357,13 +357,11 @@ module _ {world later : World ℕ} (isw : IsWorld nat_eq world) (isl : IsWorld n
       × IfOk (placed nat_eq before task here word slash) PlaceFine
   placed_is here NoWord slash there some kept = absurd (true≢false some)
   placed_is here Dot slash there some kept = named_is here Dot slash there (kept (shown here.location) (inl refl)) kept
-      (met_is isw isl task stands.mounts here.location Dot there kept)
-  placed_is here DotDot slash there some kept =
-      named_is here DotDot slash there (kept_here isw isl task stands.mounts here.location DotDot kept) kept
-      (met_is isw isl task stands.mounts here.location DotDot there kept)
-  placed_is here (Named name) slash there some kept =
-      named_is here (Named name) slash there (kept (shown here.location) (inl refl)) kept
-      (shown_same isw isl task stands.mounts (here.location ∷ [])
+      (met_is worlds here.location Dot there kept)
+  placed_is here DotDot slash there some kept = named_is here DotDot slash there
+      (kept_here worlds here.location DotDot kept) kept (met_is worlds here.location DotDot there kept)
+  placed_is here (Named name) slash there some kept = named_is here (Named name) slash there
+      (kept (shown here.location) (inl refl)) kept (shown_same worlds (here.location ∷ [])
       (λ l m. ⊎_elim (λ e. subst (λ (x : Location ℕ). Owned x.mount) (sym e) there.own) (λ none. absurd none) m))
 
   entered_is : (place : Place ℕ) → ObjectFine place.object → entered nat_eq after place ≡ entered nat_eq before place
@@ -381,19 +379,19 @@ module _ {world later : World ℕ} (isw : IsWorld nat_eq world) (isl : IsWorld n
       by true None fine = refl
       by false None fine = refl
       by true (Some l) fine = ap (λ x. record place { object = Some x; steps = all_met [] place.steps })
-          (topmost_same isw isl task stands.mounts l (fine l refl).0.own)
+          (topmost_same worlds l (fine l refl).0.own)
       by false (Some l) fine =
           let own = (fine l refl).0.own in
           ap (λ x. record place {
             object = Some x;
             steps = all_met (filesystems_of nat_eq after (after.mounts_over l ++ [])) place.steps;
-          }) (topmost_same isw isl task stands.mounts l own)
-          ∙ ap (λ met. record place { object = Some (topmost before l); steps = all_met met place.steps })
-          (ap (λ list. filesystems_of nat_eq after (list ++ []))
-          (over_same isw isl task stands.mounts l own)
-          ∙ shown_same isw isl task stands.mounts (before.mounts_over l ++ [])
-          (λ x m. ⊎_elim (λ n. over_each isw isl task stands.mounts l own x n) (λ none. absurd none)
-          (among-append (before.mounts_over l) [] x m)))
+          }) (topmost_same worlds l own) ∙ ap (λ met. record place {
+            object = Some
+                (topmost before l);
+            steps = all_met met place.steps;
+          }) (ap (λ list. filesystems_of nat_eq after (list ++ []))
+          (over_same worlds l own) ∙ shown_same worlds (before.mounts_over l ++ []) (λ x m. ⊎_elim
+          (λ n. over_each worlds l own x n) (λ none. absurd none) (among-append (before.mounts_over l) [] x m)))
 
   opened_is : (here : Here ℕ) → Standing here.location → (place : Place ℕ) → PlaceFine place → (slash : Bool)
       (text : Option (List ℕ))
@@ -416,7 +414,7 @@ module _ {world later : World ℕ} (isw : IsWorld nat_eq world) (isl : IsWorld n
           → then_some object (λ l. symlink_text (after.node l)) ≡ then_some object (λ l. symlink_text (before.node l))
       by None f = refl
       by (Some l) f =
-          let its = f l refl in ap symlink_text (node_is isw isl task stands.mounts l its.0 its.1)
+          let its = f l refl in ap symlink_text (node_is worlds l its.0 its.1)
 
   file_is : (here : Here ℕ) (word : LastWord) (slash : Bool) → There here.location → is_no_word word ≡ false
       → KeptAll (met_at nat_eq before task here.location word) → KeptOne (shown here.location)
@@ -443,7 +441,7 @@ module _ {world later : World ℕ} (isw : IsWorld nat_eq world) (isl : IsWorld n
       ≡ then_walk (word_walked nat_eq before task here word) (λ next. Ok (Reaches next)))
       × Fine (then_walk (word_walked nat_eq before task here word) (λ next. Ok (Reaches next)))
   reached_is here word there kept =
-      let step = word_is isw isl task stands.mounts here word there kept in (
+      let step = word_is worlds here word there kept in (
         ap (λ r. then_walk r (λ next. Ok (Reaches next))) step.0,
         fine_if (λ (next : Here ℕ). There next.location × KeptOne (shown next.location))
             (word_walked nat_eq before task here word) (λ next. Ok (Reaches next)) step.1 (λ next fine. tt),
@@ -472,7 +470,7 @@ module _ {world later : World ℕ} (isw : IsWorld nat_eq world) (isl : IsWorld n
   last_is here (AsFile Dot slash) there has kept =
       file_is here Dot slash there refl kept (kept (shown here.location) (inl refl))
   last_is here (AsFile DotDot slash) there has kept = file_is here DotDot slash there refl kept
-      (kept_here isw isl task stands.mounts here.location DotDot kept)
+      (kept_here worlds here.location DotDot kept)
   last_is here (AsFile (Named name) slash) there has kept =
       file_is here (Named name) slash there refl kept (kept (shown here.location) (inl refl))
 
