@@ -118,15 +118,6 @@ fn tell_bytes(found: &mut Diagnosis, line: &[u8], fault: ByteFault) {
     found.message.push(said);
 }
 
-// Tells what is wrong with the words of a line.
-fn tell_line(found: &mut Diagnosis, line: Given<'_>) {
-    let fault = first_fault(found, line);
-    found.column = fault.part.column;
-    found.width = fault.part.text.len();
-    fault.write(found);
-    write_help(found, line, fault);
-}
-
 // Tells what is wrong with the words of a text.
 fn tell_words(found: &mut Diagnosis, text: &str) {
     let words = parts_of(found, Word { column: 0, text }, [' ', ' ']);
@@ -135,7 +126,11 @@ fn tell_words(found: &mut Diagnosis, text: &str) {
         text,
         words: words.as_slice(),
     };
-    tell_line(found, line);
+    let fault = first_fault(found, line);
+    found.column = fault.part.column;
+    found.width = fault.part.text.len();
+    fault.write(found);
+    write_help(found, line, fault);
     drop(words);
 }
 

@@ -54,6 +54,21 @@ pub struct Report<'a> {
     pub told: [u64; 4],
 }
 
+/// The line of this number in a text, from 1, without its newline; an empty one behind the last.
+pub fn line_at(text: &[u8], number: u64) -> &[u8] {
+    let mut rest = text;
+    for _ in 1..number {
+        match first_line(rest) {
+            Some((_, after)) => rest = after,
+            None => return rest,
+        }
+    }
+    match first_line(rest) {
+        Some((line, _)) => line,
+        None => rest,
+    }
+}
+
 // What is found so far. An allocation that fails is noted with the history, and told at the end.
 #[derive(Drop)]
 struct Scan<'a> {
@@ -128,15 +143,10 @@ impl<'a> Scan<'a> {
         }
     }
 
-    // Whether so many findings are kept that no more are shown.
-    fn is_full(&self) -> bool {
-        self.findings.len() >= MOST_SHOWN
-    }
-
     // Keeps what is wrong with a refused line.
     fn refuse(&mut self, number: u64, line: &'a [u8]) {
         self.refuse_fork(number, str::from_utf8(line).unwrap_or_default());
-        if !self.is_told(line) && !self.is_full() {
+        if !self.is_told(line) && self.findings.len() < MOST_SHOWN {
             let found = diagnosis(self.version, self.alloc, line);
             self.find(number, line, true, found);
         }
@@ -145,7 +155,7 @@ impl<'a> Scan<'a> {
     // Keeps a warning about a line.
     fn warn(&mut self, number: u64, line: &'a [u8], warning: Diagnosis) {
         self.warnings = self.warnings.saturating_add(1);
-        if !self.is_full() {
+        if self.findings.len() < MOST_SHOWN {
             self.find(number, line, false, warning);
         }
     }
@@ -200,23 +210,16 @@ impl<'a> Scan<'a> {
         Ok(errors)
     }
 
-    // Warns of these changes of the root, that no change of the working directory follows.
-    fn warn_of_chroots(&mut self, text: &'a [u8], numbers: &[u64]) {
-        for number in numbers {
-            let place = usize::try_from(number.saturating_sub(1)).unwrap_or(usize::MAX);
-            let line = text.split(|byte| *byte == b'\n').nth(place);
-            let line = line.unwrap_or_default();
-            let warning = self.history.unfollowed(line);
-            self.warn(*number, line, warning);
-        }
-    }
-
-    // Goes on behind the last line: warns, and puts the findings in the order of their lines.
+    // Goes on behind the last line: warns of changes of the root that no change of the working directory follows, and
+    // puts the findings in the order of their lines.
     fn finish(&mut self, text: &'a [u8]) {
         match self.history.unfollowed_chroots() {
             Ok(numbers) => {
-                self.warn_of_chroots(text, numbers.as_slice());
-                drop(numbers);
+                for number in &numbers {
+                    let line = line_at(text, *number);
+                    let warning = self.history.unfollowed(line);
+                    self.warn(*number, line, warning);
+                }
             }
             Err(_) => self.history.failed = true,
         }

@@ -1,79 +1,78 @@
 //! Who receives from whom, as a graph of Graphviz.
-use crate::cells::{Cell, push_cells, push_escaped};
+use crate::cells::push_escaped;
 use crate::names::push_mount;
 use crate::picture::{MountShown, Picture, split_first};
 use vt_check::draft::Draft;
-use vt_request::PeerLine;
+use vt_request::{MountPlace, PeerLine};
 
-// Appends the mounts of a namespace in a frame, each with its number and its path.
-fn push_namespace(text: &mut Draft, namespace: usize, mounts: &[MountShown]) {
-    push_cells(
-        text,
-        &[
-            Cell::Text("  subgraph cluster_"),
-            Cell::Count(namespace),
-            Cell::Text(" {\n    label=\"namespace "),
-            Cell::Count(namespace),
-            Cell::Text("\";\n"),
-        ],
-    );
-    for mount in mounts {
-        text.push("    \"");
-        push_mount(text, mount.place);
-        text.push("\" [label=\"");
-        push_mount(text, mount.place);
-        text.push(" ");
-        push_escaped(text, mount.path());
-        text.push("\"];\n");
-    }
-    text.push("  }\n");
+// What is drawn.
+#[derive(Clone, Copy)]
+enum Drawn {
+    Mount(MountPlace),
+    Group(usize),
 }
 
-// Appends a line of a node or an edge, which begins by a name.
-fn push_line(text: &mut Draft, cells: &[Cell<'_>]) {
+// Appends the name of what is drawn.
+fn push_name(text: &mut Draft, drawn: Drawn) {
+    match drawn {
+        Drawn::Mount(place) => push_mount(text, place),
+        Drawn::Group(number) => {
+            text.push("group ");
+            text.push_number(number as u64);
+        }
+    }
+}
+
+// Appends an edge, from who sends to who receives, and its marks.
+fn push_edge(text: &mut Draft, from: Drawn, to: Drawn, marks: &str) {
     text.push("  \"");
-    push_cells(text, cells);
+    push_name(text, from);
+    text.push("\" -> \"");
+    push_name(text, to);
+    text.push("\"");
+    text.push(marks);
     text.push(";\n");
+}
+
+// Appends a mount with its number and its path.
+fn push_shown(text: &mut Draft, shown: &MountShown) {
+    text.push("    \"");
+    push_mount(text, shown.place);
+    text.push("\" [label=\"");
+    push_mount(text, shown.place);
+    text.push(" ");
+    push_escaped(text, shown.path());
+    text.push("\"];\n");
+}
+
+// Appends the mounts of a namespace in a frame.
+fn push_namespace(text: &mut Draft, namespace: usize, mounts: &[MountShown]) {
+    text.push("  subgraph cluster_");
+    text.push_number(namespace as u64);
+    text.push(" {\n    label=\"namespace ");
+    text.push_number(namespace as u64);
+    text.push("\";\n");
+    for shown in mounts {
+        push_shown(text, shown);
+    }
+    text.push("  }\n");
 }
 
 // Appends a peer group with all that receives from it or sends to it: the group from which it receives, its members,
 // which receive from it and it from them, and its slaves.
 fn push_group(text: &mut Draft, line: &PeerLine) {
-    let group = line.group;
-    let name = [
-        Cell::Text("group "),
-        Cell::Count(group),
-        Cell::Text("\" [shape=ellipse]"),
-    ];
-    push_line(text, &name);
+    let group = Drawn::Group(line.group);
+    text.push("  \"");
+    push_name(text, group);
+    text.push("\" [shape=ellipse];\n");
     if let Some(master) = line.master {
-        let edge = [
-            Cell::Text("group "),
-            Cell::Count(master),
-            Cell::Text("\" -> \"group "),
-            Cell::Count(group),
-            Cell::Text("\""),
-        ];
-        push_line(text, &edge);
+        push_edge(text, Drawn::Group(master), group, "");
     }
     for place in &line.members {
-        let edge = [
-            Cell::Mount(*place),
-            Cell::Text("\" -> \"group "),
-            Cell::Count(group),
-            Cell::Text("\" [dir=both]"),
-        ];
-        push_line(text, &edge);
+        push_edge(text, Drawn::Mount(*place), group, " [dir=both]");
     }
     for place in &line.slaves {
-        let edge = [
-            Cell::Text("group "),
-            Cell::Count(group),
-            Cell::Text("\" -> \""),
-            Cell::Mount(*place),
-            Cell::Text("\""),
-        ];
-        push_line(text, &edge);
+        push_edge(text, group, Drawn::Mount(*place), "");
     }
 }
 

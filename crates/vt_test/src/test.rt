@@ -35,15 +35,6 @@ impl Totals {
             failed: 0,
         }
     }
-
-    // One more.
-    fn count(&mut self, passed: bool) {
-        if passed {
-            self.passed = self.passed.saturating_add(1);
-        } else {
-            self.failed = self.failed.saturating_add(1);
-        }
-    }
 }
 
 // Appends what is to be said of a script, and tells whether it passes.
@@ -86,8 +77,11 @@ fn test_scripts<C: Calls, W: Write>(
     let mut totals = Totals::new();
     for script in scripts {
         let mut text = Draft::new(alloc);
-        let passed = push_tested::<C>(&mut text, alloc, file, format, script)?;
-        totals.count(passed);
+        if push_tested::<C>(&mut text, alloc, file, format, script)? {
+            totals.passed = totals.passed.saturating_add(1);
+        } else {
+            totals.failed = totals.failed.saturating_add(1);
+        }
         write_text(output, text)?;
     }
     Ok(totals)

@@ -4,6 +4,7 @@ use crate::suite::{Answer, Script, without_end};
 use std::alloc::{AllocError, Global};
 use vt_check::check::push_explained;
 use vt_check::draft::Draft;
+use vt_check::report::line_at;
 
 /// The most differences of a script that are shown.
 pub const MOST_SHOWN: usize = 50;
@@ -22,14 +23,7 @@ pub fn push_name(text: &mut Draft, file: &str, name: &[u8]) {
 
 /// A line of a script, by its number, without spaces at its end.
 pub fn line_of<'a>(script: &'a Script<'_>, number: u64) -> &'a [u8] {
-    let place = usize::try_from(number.saturating_sub(1)).unwrap_or(usize::MAX);
-    let line = script
-        .text
-        .as_slice()
-        .split(|byte| *byte == b'\n')
-        .nth(place)
-        .unwrap_or_default();
-    without_end(line)
+    without_end(line_at(script.text.as_slice(), number))
 }
 
 // Appends the answers of a line of the file that has this number, each behind a mark.
