@@ -1,7 +1,7 @@
 -- What calls that look answer where their walks end.
 use Rattle.std.proofs.Common.{arith, ◌≡◌, refl, ap, ◌∙◌, ℕ, nat_eq, Bool, true, false, cond, not, ◌||◌, ◌&&◌, List, [], ◌∷◌, Option, Some, Ok, Err, ok_or, Result}
-use Rattle.vt_spec.proofs.Common.{Answer, Bytes, Call, Content, Credentials, Fresh, Here, Judgement, Ls, Lstat, Names, Node, Outcome, Read, Readlink, Regular, Stat, Stop, Task, TaskName, ToList, ToRead, ToStat, Told, World, after, allows, and_then, apply, bytes_in, call_outcome, common_steps, denial, execute_right, filesystems_changed_by, finished, is_directory_node, is_kind_in, judge_in, kind_of, list_permit, lstat_permit, mount_at, mounter_allows, names_in, node_allows, node_at, policy, read_permit, read_right, readlink_permit, stat_line, stat_permit, task_called, unless, walk_end}
-use Rattle.vt_laws_later_calls.proofs.Common.{Attr, B1, C1, Deny, E5, File, IsPlain, S2, Symlink, directory_walk, list_rules, object_walk, plain_numbered, read_rules, readlink_rules, symlink_walk}
+use Rattle.vt_spec.proofs.Common.{Answer, Bytes, Call, Content, Credentials, Fresh, Here, Judgement, Ls, Lstat, Names, Node, Outcome, Read, Readlink, Regular, Stat, Stop, Task, TaskName, ToList, Told, World, after, allows, and_then, apply, bytes_in, call_outcome, common_steps, denial, execute_right, filesystems_changed_by, finished, is_directory_node, is_kind_in, judge_in, kind_of, list_permit, lstat_permit, mount_at, mounter_allows, names_in, node_allows, node_at, policy, read_permit, read_right, readlink_permit, stat_line, stat_permit, task_called, unless, walk_end}
+use Rattle.vt_laws_later_calls.proofs.Common.{Attr, B1, C1, Deny, File, IsPlain, S2, Symlink, directory_walk, list_rules, object_walk, plain_numbered, read_rules, symlink_walk}
 use Rattle.vt_laws_later_calls.specs.LaterPaths.{reads_all}
 
 -- Who may read everything

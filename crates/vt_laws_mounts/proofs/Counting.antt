@@ -1,5 +1,5 @@
 -- How many mounts namespaces have once a tree is attached.
-use Rattle.std.proofs.Common.{◌≡◌, ℕ, Bool, true, false, cond, ◌+◌, ◌*◌, ◌≤◌, ◌++◌, ◌||◌, List, [], ◌∷◌, map, filter, length, nat_eq, Option, None, Some, flat_map, suc, refl, sym, ap, ◌∙◌, arith, true≢false, inl, inr, append_assoc, eq-eqb, find, unwrap_or, eqb-true, length-append}
+use Rattle.std.proofs.Common.{◌≡◌, ℕ, Bool, true, false, cond, ◌+◌, ◌*◌, ◌≤◌, ◌++◌, ◌||◌, List, [], ◌∷◌, map, filter, length, nat_eq, Option, None, Some, flat_map, suc, refl, sym, ap, ◌∙◌, arith, inl, inr, append_assoc, eq-eqb, find, unwrap_or, eqb-true, length-append}
 use Rattle.vt_spec.proofs.Common.{Among, Copies, Graft, Location, Mount, World, among-from_map, among-map, attached_by, common_steps, copies_at, copy_at, filter-append, folded, graft_of, group_of, holds_of, is_among, is_among_numbers, length-map, list_any, map_alike, mount_at, mount_in, no_mount, none_among, or_parts, parts_of, pushed_up, receivers_of, takes_part, twig_of, with_mount}
 use Rattle.vt_laws_mounts.specs.Mounts.Attaching.{numbers_of, OneNumberAMount}
 use Rattle.vt_laws_mounts.proofs.mounts.MountsFound.{number-mount_in}
@@ -76,7 +76,7 @@ module _ (new : Mount ℕ) (namespace : ℕ) where
   one_counted : (mounts : List (Mount ℕ)) → OneNumberAMount mounts → is_among nat_eq new.number (numbers_of mounts)
       ≡ true → count_in (with_mount nat_eq mounts new) namespace + count_in
       (mount_in nat_eq mounts new.number ∷ []) namespace ≡ count_in mounts namespace + count_in (new ∷ []) namespace
-  one_counted [] own there = absurd (true≢false (sym there))
+  one_counted [] own there = absurd cc
   one_counted (mount ∷ rest) own there =
       let parts = or_parts _ _ own in
       by _ refl parts.0 (λ later. one_counted rest parts.1 later) there

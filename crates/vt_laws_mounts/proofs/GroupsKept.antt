@@ -1,5 +1,5 @@
 -- Groups live on through changes of mounts.
-use Rattle.std.proofs.Common.{arith, ◌≡◌, refl, sym, ap, subst, ◌∙◌, true, false, Bool, List, None, Option, Some, [], eq-eqb, eqb-true, filter, find, is_some, length, map, not, true≢false, ℕ, ⊎_elim, ◌++◌, ◌∷◌, nat_eq, if◌then◌else◌}
+use Rattle.std.proofs.Common.{arith, ◌≡◌, refl, sym, ap, subst, ◌∙◌, true, false, Bool, List, None, Option, Some, [], eq-eqb, eqb-true, filter, find, length, map, not, true≢false, ℕ, ⊎_elim, ◌++◌, ◌∷◌, nat_eq, if◌then◌else◌}
 use Rattle.vt_spec.proofs.Common.{Among, Lives, Mount, Private, Propagation, Shared, Slave, Unbindable, World, after_going, among-append, among-append_left, among-filter, among-from_filter, among-from_map, among-map, among_from_list_all, and-false, any_among, any_from_among, common_steps, copied_mount, deepest_first, evens, folded, going, group_of, groups_up, has_master, has_members, has_no_master, head_among, heir, holds_of, inherited, is_among, is_going, is_in_ended, is_lost_group, is_member_of, is_nowhere_or_attached, list_any, lost_a_group, mount_at, mount_lives, mount_numbered, mount_tree, mounts_of, none_among, not-false, number-mount_in, numbers_by, odds, or_parts, pivoted, pivoted_mount, regrouped, regrouped_by, replaced_if_same, same_Some, settled, slave_of_heir, source_of, tail_among, then_some, unmounted, unmounted_if_there, unshared, with_flags, with_mount}
 use Rattle.vt_laws_mounts.proofs.GroupsUp.{EndsUp, LivesIn, Up, groups_live_by, lives_in, way_up}
 use Rattle.vt_laws_mounts.proofs.GroupsUp.EndsUp.{at_top, goes_up}
@@ -13,7 +13,7 @@ use Rattle.vt_laws_mounts.proofs.Groups.{members-inherited}
 -- what is found passes, and is there
 pub found_passes : (p : ℕ → Bool) (xs : List ℕ) (x : ℕ) → find p xs ≡ Some x
     → (p x ≡ true) × (is_among nat_eq x xs ≡ true)
-found_passes p [] x e = absurd (true≢false (sym (ap is_some e)))
+found_passes p [] x e = absurd cc
 found_passes p (y ∷ ys) x e = grind (arith, common_steps, found_passes p ys x, head_among, tail_among)
 
 -- a group lives also where more groups count as having members
@@ -59,8 +59,7 @@ module _ (world : World ℕ) where
   inherits_live : (group : ℕ) → EndsUp world.master group → (other : ℕ) → Up world.master group other
       → members other ≡ true → Lives members inherited_master other
   inherits_live group (at_top it e) other (here same) has = has_no_master same has (ap (heir nat_eq world) e)
-  inherits_live group (at_top it e) other (above same next end f way) has =
-      absurd (true≢false (sym (ap is_some f) ∙ ap is_some e))
+  inherits_live group (at_top it e) other (above same next end f way) has = absurd cc
   inherits_live group (goes_up it next e rest) other (here same) has = by _ refl (inherits_live next rest)
     where
       by : (found : Option ℕ) → heir nat_eq world (Some next) ≡ found
@@ -104,14 +103,14 @@ module _ (world : World ℕ) where
           slave : (found : Option ℕ) → heir nat_eq world (Some first) ≡ found
               → source_of (slave_of_heir (heir nat_eq world (Some first))) ≡ Some source
               → Lives members inherited_master source
-          slave None g t = absurd (true≢false (sym (ap is_some t) ∙ ap (λ o. is_some (source_of (slave_of_heir o))) g))
+          slave None g t = absurd cc
           slave (Some end) g t =
               let same : end ≡ source = same_Some end source (sym (ap (λ o. source_of (slave_of_heir o)) g) ∙ t) in
               let found = heir_found first end g in
               subst (Lives members inherited_master) same
               (inherits_live first (ends mount m first (ap source_of e)) end found.1 found.0)
-      source_lives mount m Private e source f = absurd (true≢false (sym (ap is_some f)))
-      source_lives mount m Unbindable e source f = absurd (true≢false (sym (ap is_some f)))
+      source_lives mount m Private e source f = absurd cc
+      source_lives mount m Unbindable e source f = absurd cc
 
       by : (b : Bool) → list_any (lost_a_group nat_eq world) world.mounts ≡ b → GroupsLive (regrouped_by nat_eq b world)
       by true e = groups_live_by (regrouped_by nat_eq true world) (λ mount m source f.
@@ -141,8 +140,7 @@ taking_away_keeps_groups world gone live = regrouped_live _ (λ mount m source e
     by : (mount : Mount ℕ) (b : Bool) → is_going nat_eq gone mount.number ≡ b → (source : ℕ)
         → source_of (after_going nat_eq world gone mount).propagation ≡ Some source
         → source_of mount.propagation ≡ Some source
-    by mount true e source f = absurd (true≢false (sym (ap is_some f)
-        ∙ ap (λ x. is_some (source_of x.propagation)) (going_is_detached world gone mount e)))
+    by mount true e source f = absurd (cc (going_is_detached world gone mount e))
     by mount false e source f = cc (staying_is_placed world gone mount e)
 
 pub unmount_keeps_groups : KeptByUnmount GroupsLive

@@ -57,7 +57,7 @@ module _ (other : ℕ) where
       → BothRemain merge (changed_both nat_eq (copied_up nat_eq fresh merge object) object set)
   set_remains fresh merge object set leaves = then_remain merge copied _ (up_remain fresh merge object) (record {
     files = λ there. at_node other copied.files object set leaves there;
-    upper = λ there. at_node other copied.upper (upper_of copied object) set leaves there;
+    upper = λ there. at_node other copied.upper _ set leaves there;
   })
     where
       copied : Merge ℕ
@@ -151,9 +151,7 @@ module _ (other : ℕ) where
               (merge_at world location overlay upper) change
 
           both : BothRemain (merge_at world location overlay upper) later
-          both = merge_remains fresh (stack_of nat_eq world overlay upper) (merge_at world location overlay upper)
-              change
-              none
+          both = merge_remains fresh _ _ change none
 
           new_merged : Filesystem ℕ
           new_merged = record merged { files = later.files; overlay = Some (record overlay { real = later.real }) }

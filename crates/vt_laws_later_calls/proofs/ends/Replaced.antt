@@ -44,7 +44,7 @@ module _ {world : World ℕ} (is : IsWorld nat_eq world) (number : ℕ) {overlay
       there = last_name merge.upper.tree stack.directory way name
           ∙ ap (option_and_then (λ d. entry_at merge.upper.tree d name))
           (named_above stack merge whole way directory stands.0 free.reached.1
-          (upper_is (overlay.real directory) stands.0 stands.1)) ∙ stands.2
+          (upper_is _ stands.0 stands.1)) ∙ stands.2
 
       nothing : number_at_path merge.files (way ++ name ∷ []) ≡ None
       nothing = cc (last_name merge.files.tree merge.files.tree.root way name, free.reached.1, free.free)
@@ -52,7 +52,7 @@ module _ {world : World ℕ} (is : IsWorld nat_eq world) (number : ℕ) {overlay
       by : (b : Bool) → is_kind_in White (merge.upper.tree.node object) ≡ b → b ≡ true
       by true white = refl
       by false white =
-          let shown = above_named stack merge whole (way ++ name ∷ []) object there white in
+          let shown = above_named stack merge whole _ object there white in
           none_is_some shown.0 (sym nothing ∙ shown.1)
 
 -- What a change replaces

@@ -50,7 +50,7 @@ inodes_stay : (list : List Inode) (world : World ℕ) (filesystem number : ℕ)
 inodes_stay [] world filesystem number = inl refl
 inodes_stay (inode ∷ rest) world filesystem number = ⊎_elim (λ same. ⊎_elim (λ stays. inl (cc))
     (λ goes. inr (inl goes.0, same ∙ goes.1)) (in_list world inode filesystem number world.filesystems))
-    (λ gone. inr (inr gone.0, gone.1)) (inodes_stay rest (let_go_in is_plain world inode) filesystem number)
+    (λ gone. inr (inr gone.0, gone.1)) (inodes_stay rest _ filesystem number)
 
 pub leaves_all_but : (world : World ℕ) (list : List Inode) → LeavesAllBut list world (let_go_plain world list)
 leaves_all_but world list =

@@ -46,8 +46,8 @@ module _ (world : World ℕ) (front back : List (Mount ℕ)) (old new : Mount �
   members_as_before : (other : ℕ) → nat_eq other group ≡ false
       → has_members nat_eq after.mounts other ≡ has_members nat_eq world.mounts other
   members_as_before other differs = cc (
-    some_without_another (is_member_of nat_eq other) new (new_is_none other) front back,
-    some_without_another (is_member_of nat_eq other) old (old_is_one other ∙ differs) front back,
+    some_without_another _ new (new_is_none other) front back,
+    some_without_another _ old (old_is_one other ∙ differs) front back,
   )
 
   -- the group has one if it had more
@@ -58,7 +58,7 @@ module _ (world : World ℕ) (front back : List (Mount ℕ)) (old new : Mount �
 
   other_groups : AllInUse world → GroupsInUseBut (group ∷ []) after
   other_groups in_use other among none =
-      in_use.groups other (cc (members_as_before other (or_false_left (nat_eq other group) false among)))
+      in_use.groups other (cc (members_as_before other (or_false_left _ false among)))
 
   pub group_left : AllInUse world → without_dead_groups nat_eq after
       ≡ cond (nat_lt 1 (member_count world group)) after (without_master after group)
@@ -95,12 +95,12 @@ module _ (world : World ℕ) (front back : List (Mount ℕ)) (old new : Mount �
     -- a group with members lives
     lives : (other : ℕ) → members other ≡ true → Lives members world.master other
     lives other has =
-        let t = any_among (is_member_of nat_eq other) world.mounts has in
+        let t = any_among _ world.mounts has in
         among_from_all (HasLivingGroups nat_eq world) world.mounts mounts.groups t.0 t.1 other
         (cc (member_shared other t.0 t.2))
 
     its_life : Lives members world.master group
-    its_life = lives group (any_from_among (is_member_of nat_eq group) world.mounts old
+    its_life = lives group (any_from_among _ world.mounts old
         (rw before (among-append_right front (old ∷ back) old (inl refl))) (old_is_one group ∙ eq-eqb group group refl))
 
     -- its master is another group, and has members
@@ -135,8 +135,7 @@ module _ (world : World ℕ) (front back : List (Mount ℕ)) (old new : Mount �
 
         above : (other : ℕ) (b : Bool) → members other ≡ b
             → list_all (is_group_or_lives after group) (option_to_list (world.master other)) ≡ true
-        above other true has =
-            had_members_all (world.master other) (master_lives members world.master other (lives other has))
+        above other true has = had_members_all _ (master_lives members world.master other (lives other has))
         above other false none = cc (in_use.groups other none)
 
     -- where the group has members left, none has lost a group

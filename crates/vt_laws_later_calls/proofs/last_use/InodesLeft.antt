@@ -1,7 +1,7 @@
 -- An inode goes with its last use.
 use Rattle.std.proofs.Common.{◌≡◌, refl, sym, ap, subst, ◌∙◌, ℕ, nat_eq, eqb-true, eq-eqb, Bool, true, false, true≢false, cond, not, ◌&&◌, ◌+◌, [], ◌∷◌, ◌++◌, find, map, Option, Some, None, is_some, option_map, unwrap_or, arith, nat_lt}
 use Rattle.vt_spec.proofs.Common.{Filesystem, Overlay, World, and-false, and-true, and_parts, any_pair, common_steps, filesystem_numbered, is_overlay, list_all, map_alike, no_filesystem, of_overlay, overlay_or, without_dead_inodes}
-use Rattle.vt_laws_later_calls.proofs.Common.{Among, HasTrees, Inode, InodesInUse, InodesInUseBut, RealsAreThere, UppersArePlain, all_from_among, among-from_map, among_from_all, among_from_list_all, flat_map_none, found_by, inode_is_looked_up, inode_uses, inodes_stay, is_inode, is_inode_used, is_plain, is_used_or_among, let_go_in, let_go_in_of, let_go_inode, let_go_plain, list_all_from_among, map_same, uppers_in, uppers_of, uppers_of_inode, uppers_of_inode_in, used_while_counted, without_inode_at, without_real}
+use Rattle.vt_laws_later_calls.proofs.Common.{Among, HasTrees, Inode, InodesInUse, InodesInUseBut, RealsAreThere, UppersArePlain, all_from_among, among-from_map, among_from_all, among_from_list_all, flat_map_none, found_by, inode_is_looked_up, inode_uses, inodes_stay, is_inode, is_inode_used, is_plain, is_used_or_among, let_go_in, let_go_in_of, let_go_inode, let_go_plain, list_all_from_among, map_same, uppers_in, uppers_of, uppers_of_inode, used_while_counted, without_inode_at, without_real}
 use Rattle.vt_laws_mounts.proofs.letting_go.Lists.{found_in}
 use Rattle.vt_laws_mounts.proofs.letting_go.sweeps.Inodes.{inodes_go_one_by_one}
 use Rattle.vt_laws_mounts.proofs.letting_go.sweeps.WithOverlays.{all_inodes_go_one_by_one}
@@ -29,7 +29,7 @@ used_in_numbered world in_use k number = by (find (λ (f : Filesystem ℕ). nat_
         → Among number (unwrap_or o (no_filesystem k)).files.numbers
         → is_inode_used world (unwrap_or o (no_filesystem k)) number ≡ true
     by None e m = absurd m
-    by (Some f) e m = among_from_list_all (is_inode_used world f) f.files.numbers
+    by (Some f) e m = among_from_list_all _ f.files.numbers
         (among_from_all (λ g. list_all (is_inode_used world g) g.files.numbers ≡ true) world.filesystems in_use f
         (found_in (λ (g : Filesystem ℕ). nat_eq k g.number) world.filesystems f e).0) number m
 
@@ -60,8 +60,7 @@ module _ {world after : World ℕ} {inode : Inode} (in_use : InodesInUse world)
 
   pub found_after : (filesystem : Filesystem ℕ) → Among filesystem after.filesystems
       → filesystem_numbered nat_eq after filesystem.number ≡ filesystem
-  found_after filesystem m =
-      found_by (λ (x : Filesystem ℕ). x.number) (no_filesystem filesystem.number) after.filesystems one filesystem m
+  found_after filesystem m = found_by (λ (x : Filesystem ℕ). x.number) _ after.filesystems one filesystem m
 
   -- what is not this inode is used
   others_used : (filesystem : Filesystem ℕ) → Among filesystem after.filesystems → (number : ℕ)
@@ -110,8 +109,7 @@ module _ {world after : World ℕ} {inode : Inode} (in_use : InodesInUse world)
     merged_stay = grind (arith, common_steps, map_same, its_kind, and-false)
 
     no_uppers : uppers_of_inode after inode ≡ []
-    no_uppers =
-        flat_map_none (uppers_of_inode_in inode) after.filesystems (λ f m. by f m (nat_eq f.number inode.0) refl)
+    no_uppers = flat_map_none _ after.filesystems (λ f m. by f m (nat_eq f.number inode.0) refl)
       where
         none : (o : Option (Overlay ℕ)) → is_some o ≡ false → overlay_or [] (uppers_in inode.1) o ≡ []
         none None e = refl

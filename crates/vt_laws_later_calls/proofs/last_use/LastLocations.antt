@@ -46,7 +46,7 @@ module _ {world : World ℕ} (tasks : List (Task ℕ)) (front back : List (Locat
   at_mounts = locations_of_worlds_stand world whole
 
   located : Among location (all_locations world)
-  located = rw before (among-append_right front (location ∷ back) location (inl refl))
+  located = rw before (among-append_right front _ location (inl refl))
 
   -- the mount is there
   numbered : is_among nat_eq location.mount (map (λ mount. mount.number) world.mounts) ≡ true
@@ -73,7 +73,7 @@ module _ {world : World ℕ} (tasks : List (Task ℕ)) (front back : List (Locat
       cc (filesystem_goes_with_its_last_use world unmounted split.front split.back its in_use plain refl split.whole
       (filter_alike (λ mount. not (nat_eq mount.number location.mount)) (λ mount. not (nat_eq its.number mount.number))
       world.mounts (λ mount m. ap (λ n. not (nat_eq mount.number n)) (sym its_there.1) ∙ ap not
-      (nat_eq-swapped its.number mount.number (nat_eq its.number mount.number) refl)) ∙ split.left))
+      (nat_eq-swapped its.number mount.number _ refl)) ∙ split.left))
 
   -- Inodes of other filesystems are used as before
 
@@ -83,9 +83,9 @@ module _ {world : World ℕ} (tasks : List (Task ℕ)) (front back : List (Locat
   at_mounts_after : LocationsStand after
   at_mounts_after = cc (list_all_from_among (λ l. is_among nat_eq l.mount (map (λ mount. mount.number) world.mounts))
       (front ++ back) (λ l m. among_from_list_all (λ x. is_among nat_eq x.mount
-      (map (λ mount. mount.number) world.mounts)) (all_locations world) at_mounts l
-      (subst (Among l) (sym before) (⊎_elim (λ f. among-append_left front (location ∷ back) l f)
-      (λ b. among-append_right front (location ∷ back) l (inr b)) (among-append front back l m)))))
+      (map (λ mount. mount.number) world.mounts)) _ at_mounts l
+      (subst (Among l) (sym before) (⊎_elim (λ f. among-append_left front _ l f)
+      (λ b. among-append_right front _ l (inr b)) (among-append front back l m)))))
 
   unused : is_mount_used after location.mount ≡ false
   unused = cc (located_still world tasks front back location before left)

@@ -30,4 +30,4 @@ location_takes_its_inode world tasks front back location whole plain before left
         → without_dead_groups nat_eq (cond more after (without_inode_at after (inode_at world location)))
         ≡ cond more after (without_inode_at after (inode_at world location))
     groups true = groups_stay after in_use.groups
-    groups false = groups_stay (without_inode_at after (inode_at world location)) in_use.groups
+    groups false = groups_stay _ in_use.groups

@@ -11,8 +11,8 @@ module _ {A : Type 0} (test : A → Bool) where
   -- without one that passes, some pass just where more than one did
   pub some_without_it : (a : A) → test a ≡ true → (front back : List A)
       → list_any test (front ++ back) ≡ nat_lt 1 (times test (front ++ (a ∷ back)))
-  some_without_it a e front back = any_counted test (front ++ back) ∙ some_left (times test (front ++ (a ∷ back)))
-      (times test (front ++ back)) (cc (times_around test front back a))
+  some_without_it a e front back = any_counted test (front ++ back) ∙ some_left _
+      _ (cc (times_around test front back a))
 
   -- without one that does not pass, some pass just where some did
   pub some_without_another : (a : A) → test a ≡ false → (front back : List A)

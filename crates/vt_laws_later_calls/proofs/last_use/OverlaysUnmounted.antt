@@ -1,6 +1,6 @@
 -- A filesystem goes with its last mount, in a world with overlays.
 use Rattle.std.proofs.Common.{arith, ◌≡◌, refl, sym, ap, ◌∙◌, ◌⊎◌, inl, inr, ⊎_elim, ℕ, nat_eq, eqb-true, Bool, true, false, true≢false, cond, ◌||◌, ◌&&◌, List, [], ◌∷◌, ◌++◌, map, Some, nat_lt}
-use Rattle.vt_spec.proofs.Common.{cases_Bool, Filesystem, Mount, Overlay, World, and_parts, any_pair, common_steps, filesystem_lives, filesystem_numbered, has_layer_on, is_among, is_mounted, is_overlay, layers_of, list_any, no_filesystem, or_cases, without_dead_filesystems}
+use Rattle.vt_spec.proofs.Common.{cases_Bool, Filesystem, Mount, Overlay, World, and_parts, any_pair, common_steps, filesystem_lives, filesystem_numbered, has_layer_on, is_among, is_mounted, is_overlay, layers_of, list_any, or_cases, without_dead_filesystems}
 use Rattle.vt_laws_later_calls.proofs.Common.{Among, FilesystemsInUse, FilesystemsInUseBut, among_from_list_all, any-map, any_among, any_from_among, filesystem_is_looked_up, filesystems_go_one_by_one, filesystems_stay, found_by, let_go_filesystems, list_all_from_among, mounts_showing, none_among, none_from_among, or_left, or_right, without_filesystem}
 use Rattle.vt_laws_later_calls.specs.LastUse.{FilesystemBesideOverlaysGoesWithItsLastUse, OverlayGoesWithItsLastUse, is_layered}
 use Rattle.vt_laws_later_calls.proofs.last_use.MountsAndFilesystems.{mounted_as_before, mounted_still}
@@ -24,7 +24,7 @@ module _ (world after : World ℕ) (front back : List (Mount ℕ)) (mount : Moun
   its_own : (f : Filesystem ℕ) → Among f world.filesystems → nat_eq f.number mount.filesystem ≡ true
       → filesystem_numbered nat_eq world mount.filesystem ≡ f
   its_own f m e = ap (filesystem_numbered nat_eq world) (sym (eqb-true f.number mount.filesystem e))
-      ∙ found_by (λ (x : Filesystem ℕ). x.number) (no_filesystem f.number) world.filesystems one f m
+      ∙ found_by (λ (x : Filesystem ℕ). x.number) _ world.filesystems one f m
 
   -- Where it was a plain one, overlays are mounted as before
   module _ (plain : is_overlay (filesystem_numbered nat_eq world mount.filesystem) ≡ false) where
@@ -103,7 +103,7 @@ module _ (world after : World ℕ) (front back : List (Mount ℕ)) (mount : Moun
 
     -- while another mount shows it, all are in use
     all_mounted : is_mounted nat_eq after mount.filesystem ≡ true → FilesystemsInUse after
-    all_mounted still = cc (list_all_from_among (filesystem_lives nat_eq after) world.filesystems
+    all_mounted still = cc (list_all_from_among _ world.filesystems
         (λ f m. ⊎_elim (λ mounted. or_left (is_mounted nat_eq after f.number) (is_layered after f.number)
         (as_before f.number mounted)) (λ t. lives_layered f.number t.0 t.1 t.2 (as_before t.0.number t.3)) (lived f m)))
       where
@@ -114,7 +114,7 @@ module _ (world after : World ℕ) (front back : List (Mount ℕ)) (mount : Moun
     not_layered : is_layered after mount.filesystem ≡ false
     not_layered = cc (none_from_among (λ x. has_layer_on nat_eq mount.filesystem x && is_mounted nat_eq after x.number)
         world.filesystems (λ x m. ap (λ b. b && is_mounted nat_eq after x.number)
-        (none_among (has_layer_on nat_eq mount.filesystem) world.filesystems no_layers x m)))
+        (none_among _ world.filesystems no_layers x m)))
 
     overlay_left : (b : Bool) → is_mounted nat_eq after mount.filesystem ≡ b → without_dead_filesystems nat_eq after
         ≡ cond b after (let_go_filesystems (without_filesystem after mount.filesystem) layers)
@@ -126,7 +126,7 @@ module _ (world after : World ℕ) (front back : List (Mount ℕ)) (mount : Moun
     pub overlay_goes : without_dead_filesystems nat_eq after
         ≡ cond (nat_lt 1 (mounts_showing world mount.filesystem)) after
         (let_go_filesystems (without_filesystem after mount.filesystem) layers)
-    overlay_goes = overlay_left (is_mounted nat_eq after mount.filesystem) refl
+    overlay_goes = overlay_left _ refl
         ∙ ap (λ b. cond b after (let_go_filesystems (without_filesystem after mount.filesystem) layers))
         (mounted_still world after front back mount before left)
 

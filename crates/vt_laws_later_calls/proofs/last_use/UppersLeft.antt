@@ -1,7 +1,7 @@
 -- The upper inode of an inode of an overlay goes with it, where that was its last use.
 use Rattle.std.proofs.Common.{◌≡◌, refl, sym, ap, ◌∙◌, ⊎_elim, ℕ, nat_eq, eqb-true, eq-eqb, Bool, true, false, true≢false, cond, not, ◌&&◌, ◌+◌, List, [], ◌∷◌, ◌++◌, find, flat_map, map, Option, Some, None, is_some, option_map, option_to_list, unwrap_or, arith, All, nat_lt, append-nil}
 use Rattle.vt_spec.proofs.Common.{Filesystem, Layer, Overlay, Upper, World, and-false, and-true, any_pair, common_steps, filesystem_numbered, is_overlay, list_any, map_alike, nat_eq-swapped, no_filesystem, or_parts, upper_object}
-use Rattle.vt_laws_later_calls.proofs.Common.{AllInUse, Among, Inode, UppersArePlain, among-from_map, among_from_all, flat_map_none, has_upper_in, inode_uses, is_inode_used, is_plain, let_go_in, let_go_in_of, let_go_plain, map_same, none_among, times, uppers_in, uppers_of, used_while_counted, without_inode, without_inode_at, without_inode_in, without_inode_of, without_real}
+use Rattle.vt_laws_later_calls.proofs.Common.{AllInUse, Among, Inode, UppersArePlain, among-from_map, among_from_all, flat_map_none, has_upper_in, inode_uses, is_inode_used, is_plain, let_go_in, let_go_in_of, let_go_plain, map_same, none_among, times, uppers_in, uppers_of, used_while_counted, without_inode, without_inode_at, without_inode_of, without_real}
 use Rattle.vt_laws_mounts.proofs.letting_go.Lists.{found_in}
 use Rattle.vt_laws_mounts.proofs.letting_go.sweeps.UpperUses.{one_upper_use_less}
 use Rattle.vt_laws_later_calls.specs.LastUse.{InodeOverLowersGoesAlone, LosesOneUse, UpperInodeGoesWithItsLastUse, without_inode_of_any, without_merged_inode}
@@ -160,12 +160,12 @@ module _ (after : World ℕ) (inode : Inode) (overlay : Overlay ℕ)
               → nat_lt 1 (inode_uses world (filesystem_numbered nat_eq world layer.filesystem) object) ≡ still
               → let_go_in is_plain left (layer.filesystem, object)
               ≡ cond still left (without_inode_at left (layer.filesystem, object))
-          by true k = cc (map_same (let_go_in_of is_plain left (layer.filesystem, object)) left.filesystems
+          by true k = cc (map_same _ left.filesystems
               (λ g m. of true k g m (nat_eq g.number layer.filesystem) refl ∙
               ap (λ b. cond b (record g { files = without_inode object g.files }) g)
               (and-false (nat_eq g.number layer.filesystem))))
-          by false k = cc (map_alike (let_go_in_of is_plain left (layer.filesystem, object))
-              (without_inode_in (layer.filesystem, object)) left.filesystems
+          by false k = cc (map_alike _
+              _ left.filesystems
               (λ g m. of false k g m (nat_eq g.number layer.filesystem) refl ∙
               ap (λ b. cond b (record g { files = without_inode object g.files }) g)
               (and-true (nat_eq g.number layer.filesystem))))

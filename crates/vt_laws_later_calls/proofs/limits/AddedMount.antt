@@ -1,13 +1,13 @@
 -- What a new mount leaves at a destination that is not shared: one mount more, and the filesystem that it shows.
 use Rattle.std.proofs.Common.{arith, ◌≡◌, refl, ap, subst, ◌∙◌, ℕ, nat_eq, eq-eqb, true, false, List, [], ◌∷◌, ◌++◌, None, Some, filter, flat_map, is_some, map, append-nil, if◌then◌else◌}
 use Rattle.vt_spec.proofs.Common.{Copies, Filesystem, Fresh, Graft, Location, Mount, MountFlags, Private, Serves, Task, ToMountPlain, World, among_numbers, apply, common_steps, copies_at, copies_from, copy_mount_point, graft_of, group_of, mount_at, mount_numbered, new_mount, number-mount_in, odds, plain_filesystem, pushed_up, receivers_of, takes_part, twig_of, type_at_part, with_new_filesystem}
-use Rattle.vt_laws_later_calls.proofs.Common.{found_is_there, is_mount, is_one_of, number_is_old, numbers_of}
+use Rattle.vt_laws_later_calls.proofs.Common.{found_is_there, is_mount, is_one_of, number_is_old}
 
 -- a mount that is in a namespace is one of the world's
 pub attached_is_mount : (world : World ℕ) (number : ℕ) → is_some (mount_numbered nat_eq world number).namespace ≡ true
     → is_mount world number ≡ true
 attached_is_mount world number attached = subst (λ n. is_mount world n ≡ true) (number-mount_in world.mounts number)
-    (is_one_of world.mounts (mount_numbered nat_eq world number) (found_is_there world.mounts number attached))
+    (is_one_of world.mounts _ (found_is_there world.mounts number attached))
 
 module _ (fresh : Fresh ℕ) (world : World ℕ) (place : Location ℕ) (flags : MountFlags) where
   -- the filesystem that is mounted
@@ -109,5 +109,4 @@ module _ (fresh : Fresh ℕ) (world : World ℕ) (place : Location ℕ) (flags :
   -- the number of the new mount is that of no mount of the world
   pub other_number : Serves nat_eq world fresh → (number : ℕ) → is_mount world number ≡ true
       → nat_eq number added_mount.number ≡ false
-  other_number serves number there =
-      number_is_old world fresh serves number (among_numbers (numbers_of world.mounts) number there) _
+  other_number serves number there = number_is_old world fresh serves number (among_numbers _ number there) _

@@ -30,13 +30,13 @@ numbered_from number count answer = refl
 -- the answers `ok` and M9, printed
 pub ok_is_printed : (number : ℕ) → reply_line number (Ok Done) ≡ decimal number ++ codes " ok\n"
 ok_is_printed number =
-    append-nil (decimal number ++ codes " ok" ++ codes "\n") ∙ append_assoc (decimal number) (codes " ok") (codes "\n")
+    append-nil (decimal number ++ codes " ok" ++ codes "\n") ∙ append_assoc _ (codes " ok") (codes "\n")
 
 -- a refusal by M9, printed
 pub full_is_printed : (number : ℕ)
     → reply_line number (Err (denial M9)) ≡ decimal number ++ codes " deny 28 ENOSPC M9\n"
 unfolding digits
-full_is_printed number = append_assoc (decimal number) (codes " deny 28 ENOSPC M9") (codes "\n")
+full_is_printed number = append_assoc _ _ (codes "\n")
 
 -- the line asks for a call of a task
 pub record AsksFor (grammar : Grammar) (line : List ℕ) (name : TaskName) (call : Call) : Type 0 where

@@ -40,7 +40,7 @@ pub line_adds_its_numbers : (grammar : Grammar) (world : World ℕ) (last : ℕ)
     → HasNumbersUntil last world → HasNumbersUntil (suc last)
     (step_world world (line_step nat_eq grammar world line (Some (numbers_for (suc last)))))
 line_adds_its_numbers grammar world last line has =
-    lines_keep_to_numbers (is_handed_until (suc last)) grammar (numbers_for (suc last)) world line
+    lines_keep_to_numbers _ grammar _ world line
     (λ renaming leaves. has renaming (λ number is. leaves number (more_are_handed last number is))) (handed_in_row last)
 
 -- what the next line is handed is not in use

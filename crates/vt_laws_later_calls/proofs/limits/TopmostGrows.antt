@@ -23,12 +23,12 @@ module _ (mounts : List (Mount ℕ)) (new : Mount ℕ) (top : Location ℕ) wher
   -- a child that there was is found first
   child_stays : (here : Location ℕ) (child : Mount ℕ) → child_at nat_eq mounts here ≡ Some child
       → child_at nat_eq (mounts ++ (new ∷ [])) here ≡ Some child
-  child_stays here child is = cc (find-append (stands_at nat_eq here) mounts (new ∷ []))
+  child_stays here child is = cc (find-append _ mounts (new ∷ []))
 
   -- where no child was, the new mount is one if it stands there
   child_alone : (here : Location ℕ) (stands : Bool) → child_at nat_eq mounts here ≡ None
       → stands_at nat_eq here new ≡ stands → child_at nat_eq (mounts ++ (new ∷ [])) here ≡ cond stands (Some new) None
-  child_alone here stands none is = cc (find-append (stands_at nat_eq here) mounts (new ∷ []))
+  child_alone here stands none is = cc (find-append _ mounts (new ∷ []))
 
   -- a mount on the root of the topmost one is the topmost
   pub topmost_is_new : (place : Location ℕ) → topmost nat_eq mounts place ≡ top → child_at nat_eq mounts top ≡ None

@@ -1,6 +1,6 @@
 -- A new mount on a private mount, unmounted again: when what nothing uses is gone, the world is as it was before.
 use Rattle.std.proofs.Common.{arith, ◌≡◌, refl, ap, ◌∙◌, inl, ⊎_elim, true≢false, ℕ, nat_eq, eq-eqb, eqb-true, Bool, true, false, cond, not, ◌||◌, ◌&&◌, List, [], ◌∷◌, ◌++◌, Option, None, Some, filter, find, flat_map, is_some, map, unwrap_or, append-nil, map-id}
-use Rattle.vt_spec.proofs.Common.{Among, Filesystem, Fresh, HasLivingGroups, IsWorld, Lives, Location, Mount, MountFlags, Namespace, Private, Serves, Task, World, all_locations, among-append, among-append_left, among-append_right, among-flat_map, among_from_all, and_parts, common_steps, detached, filesystem_lives, filter-append, filter_all, find-append, found_among, found_passes, going, going_from, has_child, has_layer_on, has_master, has_members, has_no_master, is_among, is_lost_group, is_member_of, is_mounted, is_overlay, is_shared, is_used, list_any, list_any-append, lost_a_group, map-append, map_alike, mount_at, mount_lives, mount_numbered, nat_eq_false_turned, no_mount, none_among, none_from_among, numbers_in_use, or-false, regrouped, regrouped_by, settled, source_of, stands_on, unmounted, used_by_filesystem, used_by_mount, without_dead_filesystems, without_dead_groups, without_dead_in, without_dead_inodes}
+use Rattle.vt_spec.proofs.Common.{Among, Filesystem, Fresh, HasLivingGroups, IsWorld, Lives, Location, Mount, MountFlags, Namespace, Private, Serves, Task, World, all_locations, among-append, among-append_left, among-append_right, among-flat_map, among_from_all, and_parts, common_steps, detached, filesystem_lives, filter-append, filter_all, find-append, found_among, found_passes, going, going_from, has_child, has_layer_on, has_master, has_members, has_no_master, is_among, is_lost_group, is_mounted, is_overlay, is_shared, is_used, list_any, list_any-append, lost_a_group, map-append, map_alike, mount_at, mount_lives, mount_numbered, nat_eq_false_turned, no_mount, none_among, none_from_among, numbers_in_use, or-false, regrouped, regrouped_by, settled, source_of, stands_on, unmounted, used_by_filesystem, used_by_mount, without_dead_filesystems, without_dead_groups, without_dead_in, without_dead_inodes}
 use Rattle.std.specs.Option.{option_or}
 use Rattle.vt_laws_later_calls.proofs.Common.{AllInUse, IsPlain, among_from_list_all, find_none, found-append, groups_stay, inodes_stay, is_one_of, live_members, locations_of_worlds_stand, mounts_of_worlds_stand, numbers_of, place_attached}
 use Rattle.vt_laws_mounts.specs.LettingGo.Detaching.{StandsUnshared, detached_if, without_place}
@@ -28,9 +28,9 @@ module _ {world : World ℕ} {fresh : Fresh ℕ} (place : Location ℕ) (flags :
       → nat_eq added.number filesystem.number ≡ false
   other_filesystem filesystem m =
       none_among (nat_eq added.number) (numbers_in_use world) (serves.unused _) filesystem.number
-      (among-append_left (flat_map used_by_mount world.mounts ++ flat_map used_by_filesystem world.filesystems)
+      (among-append_left _
       (map (λ (namespace : Namespace ℕ). namespace.number) world.namespaces) filesystem.number
-      (among-append_right (flat_map used_by_mount world.mounts) (flat_map used_by_filesystem world.filesystems)
+      (among-append_right (flat_map used_by_mount world.mounts) _
       filesystem.number
       (among-flat_map used_by_filesystem world.filesystems filesystem filesystem.number m (inl refl))))
 
@@ -66,7 +66,7 @@ module _ {world : World ℕ} {fresh : Fresh ℕ} (place : Location ℕ) (flags :
 
     -- no mount stands on the new one
     pub none_on_new : has_child nat_eq (with_new new) new.number ≡ false
-    none_on_new = none_from_among (stands_on nat_eq new.number) (world.mounts ++ (new ∷ [])) (λ mount m.
+    none_on_new = none_from_among _ (world.mounts ++ (new ∷ [])) (λ mount m.
         ⊎_elim (λ old. by mount old mount.mount_point refl)
         (λ last. ⊎_elim (λ same. ap (stands_on nat_eq new.number) same
         ∙ nat_eq_false_turned place.mount new.number (other_number fresh world place flags serves place.mount
@@ -96,7 +96,7 @@ module _ {world : World ℕ} {fresh : Fresh ℕ} (place : Location ℕ) (flags :
     -- the mount alone is detached
     placed_nowhere : without_place (with_new new) new.number ≡ with_new (detached new)
     placed_nowhere = ap (λ mounts. record (with_new new) { mounts = mounts })
-        (map-append (detached_if new.number) world.mounts (new ∷ []) ∙
+        (map-append _ world.mounts (new ∷ []) ∙
         (λ i. (map_alike (detached_if new.number) (λ mount. mount) world.mounts (λ mount m. cc (other_mount mount m)) ∙
         map-id world.mounts) i ++ ap (λ b. cond b (detached new) new ∷ []) (eq-eqb new.number new.number refl) i))
 
@@ -104,7 +104,7 @@ module _ {world : World ℕ} {fresh : Fresh ℕ} (place : Location ℕ) (flags :
     same_members : (group : ℕ)
         → has_members nat_eq (world.mounts ++ (detached new ∷ [])) group ≡ has_members nat_eq world.mounts group
     same_members group = cc (
-      list_any-append (is_member_of nat_eq group) world.mounts (detached new ∷ []),
+      list_any-append _ world.mounts (detached new ∷ []),
       or-false (has_members nat_eq world.mounts group),
     )
 
@@ -112,7 +112,7 @@ module _ {world : World ℕ} {fresh : Fresh ℕ} (place : Location ℕ) (flags :
     no_group_is_lost : (mount : Mount ℕ) → Among mount (world.mounts ++ (detached new ∷ []))
         → lost_a_group nat_eq (with_new (detached new)) mount ≡ false
     no_group_is_lost mount m = ⊎_elim (λ old. by old (source_of mount.propagation) refl)
-        (λ last. ⊎_elim (λ same. cc) (λ none. absurd none) last) (among-append world.mounts (detached new ∷ []) mount m)
+        (λ last. ⊎_elim (λ same. cc) (λ none. absurd none) last) (among-append world.mounts _ mount m)
       where
         of_master : (group : ℕ) → Lives (has_members nat_eq world.mounts) world.master group
             → (is_lost_group nat_eq (with_new (detached new)) (Some group)
@@ -134,7 +134,7 @@ module _ {world : World ℕ} {fresh : Fresh ℕ} (place : Location ℕ) (flags :
     unmounted_is : unmounted nat_eq (with_new new) new.number ≡ with_new (detached new)
     unmounted_is = unmount_is_of_one (with_new new) new.number none_on_new stands_unshared
         ∙ ap (regrouped nat_eq) placed_nowhere ∙ ap (λ b. regrouped_by nat_eq b (with_new (detached new)))
-        (none_from_among (lost_a_group nat_eq (with_new (detached new))) (world.mounts ++ (detached new ∷ []))
+        (none_from_among _ _
         no_group_is_lost)
 
     -- the sweep takes the mount and its filesystem
@@ -144,15 +144,15 @@ module _ {world : World ℕ} {fresh : Fresh ℕ} (place : Location ℕ) (flags :
       none_from_among (λ (location : Location ℕ). nat_eq new.number location.mount) (all_locations world) (λ
           location m. nat_eq_false_turned location.mount new.number (other_number fresh world place flags serves
           location.mount (among_from_list_all (λ (at : Location ℕ). is_among nat_eq at.mount (numbers_of world.mounts))
-          (all_locations world) (locations_of_worlds_stand world is) location m))),
+          _ (locations_of_worlds_stand world is) location m))),
     )
 
     -- the sweep leaves the mounts that were there
     mounts_left : filter (mount_lives nat_eq (with_new (detached new))) (world.mounts ++ (detached new ∷ []))
         ≡ world.mounts
-    mounts_left = filter-append (mount_lives nat_eq (with_new (detached new))) world.mounts (detached new ∷ [])
-        ∙ (λ i. filter_all (mount_lives nat_eq (with_new (detached new))) world.mounts
-        (among_from_list_all (mount_lives nat_eq before) world.mounts in_use.mounts) i
+    mounts_left = filter-append _ world.mounts (detached new ∷ [])
+        ∙ (λ i. filter_all _ world.mounts
+        (among_from_list_all _ world.mounts in_use.mounts) i
         ++ cond (located_elsewhere i) (detached new ∷ []) []) ∙ append-nil world.mounts
 
     -- then the filesystem is left over
@@ -165,7 +165,7 @@ module _ {world : World ℕ} {fresh : Fresh ℕ} (place : Location ℕ) (flags :
 
     -- none has one
     no_layers : (number : ℕ) → list_any (has_its_layer number) (world.filesystems ++ (added ∷ [])) ≡ false
-    no_layers number = none_from_among (has_its_layer number) (world.filesystems ++ (added ∷ []))
+    no_layers number = none_from_among _ (world.filesystems ++ (added ∷ []))
         (λ merged m. ⊎_elim (λ old. cc (no_overlay world plain merged old))
         (λ last. ⊎_elim (λ same. cc) (λ none. absurd none) last) (among-append world.filesystems (added ∷ []) merged m))
 
@@ -183,8 +183,8 @@ module _ {world : World ℕ} {fresh : Fresh ℕ} (place : Location ℕ) (flags :
     -- the sweep leaves the filesystems that were there
     filesystems_left : filter (filesystem_lives nat_eq without_new) (world.filesystems ++ (added ∷ []))
         ≡ world.filesystems
-    filesystems_left = filter-append (filesystem_lives nat_eq without_new) world.filesystems (added ∷ [])
-        ∙ (λ i. filter_all (filesystem_lives nat_eq without_new) world.filesystems filesystem_stays_alive i
+    filesystems_left = filter-append _ world.filesystems (added ∷ [])
+        ∙ (λ i. filter_all _ world.filesystems filesystem_stays_alive i
         ++ cond (added_is_dead i) (added ∷ []) []) ∙ append-nil world.filesystems
 
     -- no task uses the mount
@@ -199,7 +199,7 @@ module _ {world : World ℕ} {fresh : Fresh ℕ} (place : Location ℕ) (flags :
         (λ (location : Location ℕ). is_among nat_eq location.mount (new.number ∷ [])) (all_locations world)
         (λ location m. cc (other_number fresh world place flags serves location.mount
         (among_from_list_all (λ (at : Location ℕ). is_among nat_eq at.mount (numbers_of world.mounts))
-        (all_locations world) (locations_of_worlds_stand world is) location m)))
+        _ (locations_of_worlds_stand world is) location m)))
 
     -- the sweep after the unmount leaves the world before, with these tasks
     pub unmount_gives_back : settled nat_eq (unmounted nat_eq (with_new new) new.number) ≡ before

@@ -1,5 +1,5 @@
 -- Groups live on where a tree of mounts is attached: those that were there, and the images of those that take part.
-use Rattle.std.proofs.Common.{arith, ◌≡◌, refl, sym, ap, subst, ◌∙◌, true, false, nat_eq, ℕ, Bool, List, None, Option, Some, find, inl, is_some, length, option_map, true≢false, unwrap_or, ⊎_elim, ◌⊎◌, if◌then◌else◌}
+use Rattle.std.proofs.Common.{arith, ◌≡◌, refl, sym, ap, subst, ◌∙◌, true, false, nat_eq, ℕ, Bool, List, None, Option, Some, find, inl, length, option_map, unwrap_or, ⊎_elim, ◌⊎◌, if◌then◌else◌}
 use Rattle.vt_spec.proofs.Common.{Among, Copies, Graft, Location, Mount, Private, Propagation, Shared, Slave, Twig, Unbindable, World, any_among, any_from_among, attached_by, common_steps, copy_type, found_or_none, graft_of, group_of, groups_up, has_master, has_members, has_no_master, image, is_destination, is_member_of, mount_at, nearest_image, parts_of, same_Some, slave_of_heir, source_of, twig_of, type_at, type_at_part, type_on_shared}
 use Rattle.vt_laws_mounts.specs.Mounts.Attaching.{OneNumberAMount}
 use Rattle.vt_laws_mounts.specs.Mounts.Copies.{ServeAsImages}
@@ -80,7 +80,7 @@ module _ {world : World ℕ} {new : Copies ℕ} (place : Location ℕ) (moves : 
 
   destination_lives : (source : ℕ) → source_of destination.propagation ≡ Some source → LivesIn world source
   destination_lives source e = ⊎_elim (λ there. lives_in world live _ there source e)
-      (λ none. absurd (true≢false (sym (ap is_some e) ∙ ap (λ (x : Mount ℕ). is_some (source_of x.propagation)) none)))
+      (λ none. absurd cc)
       (found_or_none _ _)
 
   part_lives : (part : Mount ℕ) → Among part parts → (source : ℕ) → source_of part.propagation ≡ Some source
@@ -181,10 +181,9 @@ module _ {world : World ℕ} {new : Copies ℕ} (place : Location ℕ) (moves : 
   image_lives : (group : ℕ) → LivesIn world group → (other : ℕ) → Up world.master group other
       → has_members nat_eq parts other ≡ true → (origin : Mount ℕ) → Among origin mounts
       → LivesIn after (image_of origin other)
-  image_lives group (has_no_master it lived f) other (here same) has origin m =
-      lives_either same has origin m (λ next g o way h. absurd (true≢false (sym (ap is_some g) ∙ ap is_some f)))
-  image_lives group (has_no_master it lived f) other (above same next end g way) has origin m =
-      absurd (true≢false (sym (ap is_some g) ∙ ap is_some f))
+  image_lives group (has_no_master it lived f) other (here same) has origin m = lives_either same has origin m (λ
+      next g o way h. absurd cc)
+  image_lives group (has_no_master it lived f) other (above same next end g way) has origin m = absurd cc
   image_lives group (has_master it next lived f later) other (here same) has origin m =
       lives_either same has origin m (λ n g o way h.
       image_lives next later o (subst (λ x. Up world.master x o) (same_Some n next (sym g ∙ f)) way) h origin m)
@@ -206,8 +205,7 @@ module _ {world : World ℕ} {new : Copies ℕ} (place : Location ℕ) (moves : 
       of_slave : (master : ℕ) → part.propagation ≡ Slave master
           → source_of (kind_elsewhere origin (Slave master)) ≡ Some source
           → (found : Option ℕ) → find (has_members nat_eq parts) (groups_up world master) ≡ found → LivesIn after source
-      of_slave master f h None g = absurd (true≢false (sym (ap is_some h)
-          ∙ ap (λ o. is_some (source_of (slave_of_heir (option_map (image_of origin) o)))) g))
+      of_slave master f h None g = absurd cc
       of_slave master f h (Some other) g =
           let t = found_passes (has_members nat_eq parts) (groups_up world master) other g in
           subst (LivesIn after) (same_Some _ source (sym (ap (λ o. source_of
@@ -220,8 +218,8 @@ module _ {world : World ℕ} {new : Copies ℕ} (place : Location ℕ) (moves : 
           (image_lives group (part_lives part m group (ap source_of f)) group (here group)
           (takes_part_in place moves serve own part group m (ap group_of f)) origin n)
       of_copy (Slave master) f h = of_slave master f h _ refl
-      of_copy Private f h = absurd (true≢false (sym (ap is_some h)))
-      of_copy Unbindable f h = absurd (true≢false (sym (ap is_some h)))
+      of_copy Private f h = absurd cc
+      of_copy Unbindable f h = absurd cc
 
       by : (b : Bool) → is_destination nat_eq tree part.number ≡ b → LivesIn after source
       by true f = of_twig _ refl (sym (ap source_of (there part origin f)) ∙ e)

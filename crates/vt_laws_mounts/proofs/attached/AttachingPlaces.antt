@@ -236,7 +236,7 @@ module _ (world : World ℕ) (new : Copies ℕ) (place : Location ℕ) (mounts :
       by true e n hung is = at_part e (placed true e)
       by false e n (from_top first rest list) is =
           let same : first ≡ top = same_first first rest top others (sym list ∙ is_tree) in
-          absurd (true≢false (sym (eq-eqb origin.number top.number (sym is ∙ ap (λ (x : Mount ℕ). x.number) same)) ∙ e))
+          absurd (cc (eq-eqb origin.number top.number (sym is ∙ ap (λ (x : Mount ℕ). x.number) same)))
         where
           same_first : (a : Mount ℕ) (as_list : List (Mount ℕ)) (b : Mount ℕ) (bs : List (Mount ℕ))
               → a ∷ as_list ≡ b ∷ bs → a ≡ b

@@ -46,8 +46,7 @@ module _ (world : World ℕ) (gone : List ℕ) where
     stands_later number (at_root it e) =
         let itself : Stands nat_eq later it = at_root it (root_stays world gone it e) in (
           itself,
-          λ place rest same fall. fallen it place rest same fall itself (λ below f more. absurd
-              (true≢false (sym (ap is_some f) ∙ ap is_some e))),
+          λ place rest same fall. fallen it place rest same fall itself (λ below f more. absurd cc),
         )
     stands_later number (on_parent it on e f stands) =
         let deeper = stands_later _ stands in
@@ -85,8 +84,7 @@ module _ (world : World ℕ) (gone : List ℕ) where
       from below (at_root it f) above at g same = by _ refl
         where
           by : (b : Bool) → is_going nat_eq gone at.mount ≡ b → (rest : Location ℕ) × FallsTo world gone at rest
-          by true goes = absurd (true≢false (sym (placed (before_it above) at (placed_among _ above at g) g goes) ∙ ap
-              (λ n. is_some (before_it n).mount_point) same ∙ ap is_some f))
+          by true goes = absurd (cc (placed (before_it above) at (placed_among _ above at g) g goes, same, f))
           by false rest = (at, rests at rest)
       from below (on_parent it on f same_namespace stands) above at g same = by _ refl
           (from _ stands _ on (ap (λ n. (before_it n).mount_point) same ∙ f) refl)

@@ -1,6 +1,6 @@
 -- Mounts that end with something else, and lazy unmounts.
-use Rattle.std.proofs.Common.{arith, ◌≡◌, refl, sym, ap, subst, ◌∙◌, true, false, Bool, List, None, Some, [], is_some, map, nat_eq, true≢false, ⊎_elim, ◌∷◌, ◌⊎◌, ℕ, inr, inl, filter_map, if◌then◌else◌}
-use Rattle.vt_spec.proofs.Common.{Among, Mount, Private, Propagation, Shared, Slave, Unbindable, World, among-filter, among-filter_map, among-map, child_at, children, common_steps, deepest_first, detached, filter_none, folded, found_or_none, goes_at, going_from, group_of, head_among, is_among, is_among_numbers, is_going, is_shared, list_any, may_go, mount_at, mount_numbered, mount_tree, number-mount_in, receivers, source_of, stands_on, taken_away, unmounted, unmounted_if_there}
+use Rattle.std.proofs.Common.{arith, ◌≡◌, refl, sym, ap, subst, ◌∙◌, true, false, Bool, List, None, Some, [], map, nat_eq, ⊎_elim, ◌∷◌, ◌⊎◌, ℕ, inr, inl, filter_map, if◌then◌else◌}
+use Rattle.vt_spec.proofs.Common.{Among, Mount, Private, Propagation, Shared, Slave, Unbindable, World, among-filter, among-filter_map, among-map, child_at, children, common_steps, deepest_first, detached, filter_none, folded, found_or_none, goes_at, going_from, head_among, is_among, is_among_numbers, is_going, is_shared, list_any, may_go, mount_at, mount_numbered, mount_tree, number-mount_in, receivers, source_of, stands_on, taken_away, unmounted, unmounted_if_there}
 use Rattle.vt_laws_mounts.specs.Mounts.Unmounting.{KeepsAllButMounts, KeepsAllButMountPointAndType}
 use Rattle.vt_laws_mounts.specs.Mounts.Ends.{LazyDetachesOrKeeps, LazyIsOfMounts, OthersAreKept, OthersKeepTheirMountPoints, OthersKeepTheirTypes, TakenAreDetached, TheMountItselfGoes}
 use Rattle.vt_laws_mounts.proofs.ends.Unmounting.{all_but_mounts, detached_by_number, going_is_detached, kept_by_number, place_kept, staying_is_placed, taken, type_kept}
@@ -115,16 +115,14 @@ the_mount_itself_goes world one place one_each at childless = cc (by _ refl)
     may = cc (number, empty world.mounts childless)
 
     itself_among : Among itself world.mounts
-    itself_among = ⊎_elim (λ m. m) (λ none. absurd (true≢false (sym (ap is_some at) ∙ ap (λ m. is_some m.mount_point)
-        none))) (found_or_none _ one)
+    itself_among = ⊎_elim (λ m. m) (λ none. absurd (cc at)) (found_or_none _ one)
 
     at_parent : child_at nat_eq world.mounts (record { mount = parent.number; node = place.node }) ≡ Some itself
     at_parent = ap (λ n. child_at nat_eq world.mounts (record { mount = n; node = place.node })) (number-mount_in _ _)
         ∙ found_at_its_place _ one_each itself itself_among place at
 
     parent_among : (group : ℕ) → parent.propagation ≡ Shared group → Among parent world.mounts
-    parent_among group e = ⊎_elim (λ m. m) (λ none. absurd (true≢false (sym (ap (λ k. is_some (group_of k)) e)
-        ∙ ap (λ m. is_some (group_of m.propagation)) none))) (found_or_none _ _)
+    parent_among group e = ⊎_elim (λ m. m) (λ none. absurd cc) (found_or_none _ _)
 
     by : (kind : Propagation ℕ) → parent.propagation ≡ kind
         → is_going nat_eq (going_from nat_eq world itself place (is_shared parent.propagation)) one ≡ true

@@ -33,7 +33,7 @@ objects_more some more number g within object = over _
       where
         left : (k : ℕ) (a : Bool) → some k ≡ a → not (more k) ≡ true → some k ≡ false
         left k false e stays = e
-        left k true e stays = absurd (true≢false (sym stays ∙ ap not (within k e)))
+        left k true e stays = absurd (cc (within k e))
 
         here : (b : Bool) → Among object (cond b (filter_map (λ k. upper_object (cond (more k) None (overlay.real k)))
             (filter (λ k. not (more k)) g.files.numbers)) [])
@@ -229,7 +229,7 @@ module _ (world : World ℕ) (once_mounts again_mounts : List (Mount ℕ)) (once
           ≡ (not (is_among nat_eq number used) || not (is_among nat_eq number later))
       by number b e true f = ap (λ c. not c || not (is_among nat_eq number later)) (sym f)
       by number false e false f = cc
-      by number true e false f = absurd (true≢false (sym (within number e) ∙ f))
+      by number true e false f = absurd (cc (within number e))
 
   -- what is used in the end was used before
   used_before : (with_sweep without : World ℕ) (f : Filesystem ℕ)

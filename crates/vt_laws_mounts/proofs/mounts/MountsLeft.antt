@@ -1,5 +1,5 @@
 -- Calls that are of no mount leave the mounts as they were.
-use Rattle.std.proofs.Common.{arith, ◌≡◌, refl, sym, ℕ, nat_eq, Bool, true, false, true≢false, List, [], ◌∷◌}
+use Rattle.std.proofs.Common.{arith, ◌≡◌, refl, ℕ, nat_eq, Bool, true, false, List, [], ◌∷◌}
 use Rattle.vt_spec.proofs.Common.{Bind, Call, Change, Exit, Fresh, Lazy, Location, MountOverlay, MountPlain, MoveMount, Permit, PivotRoot, Remount, Rename, Rmdir, SetBytes, SetMark, SetType, Setns, Task, Umount, Unshare, World, apply, common_steps, evens, file_mode, is_copied_up, linking, looks_of, making, new_file, object_there, odds, overfills, pwritten, removing, with_change, with_copy}
 use Rattle.vt_laws_mounts.specs.Mounts.FileCalls.{FileCallsLeaveMounts, is_of_no_mount}
 use Rattle.vt_laws_mounts.proofs.mounts.MountsGranted.{policy_leaves}
@@ -56,20 +56,20 @@ module _ (world : World ℕ) where
       mounts-with_change (odds fresh) place.parent (making place (evens fresh 0) (new_file task mode []))
   granted_leaves fresh task call permit e (writes_part number offset bytes descriptor found passed) =
       pwritten_leaves fresh descriptor.location offset bytes
-  granted_leaves fresh task (Rmdir path) permit e granted = absurd (true≢false (sym e))
-  granted_leaves fresh task (Rename old new) permit e granted = absurd (true≢false (sym e))
-  granted_leaves fresh task Exit permit e granted = absurd (true≢false (sym e))
-  granted_leaves fresh task Unshare permit e granted = absurd (true≢false (sym e))
-  granted_leaves fresh task (Setns name) permit e granted = absurd (true≢false (sym e))
-  granted_leaves fresh task (MountPlain path flags) permit e granted = absurd (true≢false (sym e))
-  granted_leaves fresh task (MountOverlay path options flags) permit e granted = absurd (true≢false (sym e))
-  granted_leaves fresh task (Bind source path recursive) permit e granted = absurd (true≢false (sym e))
-  granted_leaves fresh task (MoveMount source path) permit e granted = absurd (true≢false (sym e))
-  granted_leaves fresh task (Umount path) permit e granted = absurd (true≢false (sym e))
-  granted_leaves fresh task (Lazy path) permit e granted = absurd (true≢false (sym e))
-  granted_leaves fresh task (Remount path flags) permit e granted = absurd (true≢false (sym e))
-  granted_leaves fresh task (SetType path word recursive) permit e granted = absurd (true≢false (sym e))
-  granted_leaves fresh task (PivotRoot new put) permit e granted = absurd (true≢false (sym e))
+  granted_leaves fresh task (Rmdir path) permit e granted = absurd cc
+  granted_leaves fresh task (Rename old new) permit e granted = absurd cc
+  granted_leaves fresh task Exit permit e granted = absurd cc
+  granted_leaves fresh task Unshare permit e granted = absurd cc
+  granted_leaves fresh task (Setns name) permit e granted = absurd cc
+  granted_leaves fresh task (MountPlain path flags) permit e granted = absurd cc
+  granted_leaves fresh task (MountOverlay path options flags) permit e granted = absurd cc
+  granted_leaves fresh task (Bind source path recursive) permit e granted = absurd cc
+  granted_leaves fresh task (MoveMount source path) permit e granted = absurd cc
+  granted_leaves fresh task (Umount path) permit e granted = absurd cc
+  granted_leaves fresh task (Lazy path) permit e granted = absurd cc
+  granted_leaves fresh task (Remount path flags) permit e granted = absurd cc
+  granted_leaves fresh task (SetType path word recursive) permit e granted = absurd cc
+  granted_leaves fresh task (PivotRoot new put) permit e granted = absurd cc
   granted_leaves fresh task call permit e granted = refl
 
 pub file_calls_leave_mounts : FileCallsLeaveMounts

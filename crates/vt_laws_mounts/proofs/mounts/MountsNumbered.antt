@@ -51,7 +51,7 @@ place_found p k (y ∷ ys) a m e = by _ refl (place_found p (k + 1) ys a)
         × (slice_get ys i ≡ Some x) × (p x ≡ true))
         → (i : ℕ) × (x : _) × (index_from p k (y ∷ ys) ≡ Some (i + k)) × (slice_get (y ∷ ys) i ≡ Some x) × (p x ≡ true)
     by true f later = (0, y, ap (λ b. if b then Some k else index_from p (k + 1) ys) f ∙ ap Some (omega arith), refl, f)
-    by false f later = ⊎_elim (λ same. absurd (true≢false (sym e ∙ ap p same ∙ f))) (λ l.
+    by false f later = ⊎_elim (λ same. absurd (cc e)) (λ l.
         let t = later l e in (
           suc t.0,
           t.1,

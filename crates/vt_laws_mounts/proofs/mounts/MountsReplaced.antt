@@ -1,5 +1,5 @@
 -- A mount in the place of the one with its number.
-use Rattle.std.proofs.Common.{arith, ◌≡◌, refl, sym, ap, ◌∙◌, List, [], eq-eqb, eqb-true, nat_eq, true≢false, ℕ, ◌++◌, ◌||◌, ◌∷◌, false, true, if◌then◌else◌}
+use Rattle.std.proofs.Common.{arith, ◌≡◌, refl, ap, ◌∙◌, List, [], eq-eqb, eqb-true, nat_eq, ℕ, ◌++◌, ◌||◌, ◌∷◌, false, true, if◌then◌else◌}
 use Rattle.vt_spec.proofs.Common.{Among, Mount, any_pair, common_steps, is_among, list_any, mount_in, nat_eq_false_turned, no_mount, none_among, number-mount_in, or_parts, replaced_if_same, with_mount}
 use Rattle.vt_laws_mounts.proofs.mounts.MountsFound.{found-map, numbers-map}
 use Rattle.vt_laws_mounts.specs.Mounts.Attaching.{numbers_of, OneNumberAMount}
@@ -28,7 +28,7 @@ module _ (new : Mount ℕ) where
   -- where a mount has its number, it is found itself
   pub found-with_mount_itself : (mounts : List (Mount ℕ)) → is_among nat_eq new.number (numbers_of mounts) ≡ true
       → mount_in nat_eq (with_mount nat_eq mounts new) new.number ≡ new
-  found-with_mount_itself [] h = absurd (true≢false (sym h))
+  found-with_mount_itself [] h = absurd cc
   found-with_mount_itself (first ∷ rest) h =
       grind (arith, common_steps, found-with_mount_itself rest, replaced_there, eq-eqb, replaced_elsewhere)
 
@@ -56,7 +56,7 @@ module _ (R : Mount ℕ → Mount ℕ → Type 0) (same : (mount : Mount ℕ) �
 -- what stands first in a list is found there
 pub found-append : (mounts others : List (Mount ℕ)) (number : ℕ) → is_among nat_eq number (numbers_of mounts) ≡ true
     → mount_in nat_eq (mounts ++ others) number ≡ mount_in nat_eq mounts number
-found-append [] others number h = absurd (true≢false (sym h))
+found-append [] others number h = absurd cc
 found-append (first ∷ rest) others number h = grind (arith, common_steps, found-append rest others number)
 
 -- where no two mounts have one number, a mount is found by its own

@@ -14,12 +14,12 @@ module _ (master : ℕ → Option ℕ) where
   pub along_chain : (P : ℕ → Type 0) → ((group lower : ℕ) → master lower ≡ Some group → P lower → P group)
       → (n source group : ℕ) → P source → is_among nat_eq group (chain n master source) ≡ true → P group
   along_chain P up zero source group p h =
-      ⊎_elim (λ e. subst P (sym e) p) (λ none. absurd (true≢false (sym none))) (among_cases group source [] h)
+      ⊎_elim (λ e. subst P (sym e) p) (λ none. absurd cc) (among_cases group source [] h)
   along_chain P up (suc n) source group p h = by _ refl (λ above q later. along_chain P up n above group q later)
     where
       by : (found : Option ℕ) → master source ≡ found
           → ((above : ℕ) → P above → is_among nat_eq group (chain n master above) ≡ true → P group) → P group
-      by None e next = ⊎_elim (λ same. subst P (sym same) p) (λ none. absurd (true≢false (sym none)))
+      by None e next = ⊎_elim (λ same. subst P (sym same) p) (λ none. absurd cc)
           (among_cases group source [] (sym (ap (is_among nat_eq group) (chain_ends master n source e)) ∙ h))
       by (Some above) e next = ⊎_elim (λ same. subst P (sym same) p) (λ later. next above (up above source e p) later)
           (among_cases group source _ (sym (ap (is_among nat_eq group) (chain_goes_on master n source above e)) ∙ h))
@@ -41,7 +41,7 @@ module _ (master : ℕ → Option ℕ) where
       → is_among nat_eq lower (chain n master source) ≡ true → is_among nat_eq group (chain n master source) ≡ true
   chain_is_closed zero source lower group ends above h =
       ⊎_elim (λ same. absurd (no_end source group (ap master (sym same) ∙ above) ends))
-      (λ none. absurd (true≢false (sym none))) (among_cases lower source [] h)
+      (λ none. absurd cc) (among_cases lower source [] h)
   chain_is_closed (suc n) source lower group ends above h = by _ refl (λ next. chain_is_closed n next lower group)
     where
       by : (found : Option ℕ) → master source ≡ found
@@ -49,7 +49,7 @@ module _ (master : ℕ → Option ℕ) where
           → is_among nat_eq group (chain n master next) ≡ true)
           → is_among nat_eq group (chain (suc n) master source) ≡ true
       by None e go = ⊎_elim (λ same. absurd (no_end source group (ap master (sym same) ∙ above) (ap is_some e)))
-          (λ none. absurd (true≢false (sym none)))
+          (λ none. absurd cc)
           (among_cases lower source [] (sym (ap (is_among nat_eq lower) (chain_ends master n source e)) ∙ h))
       by (Some next) e go =
           let longer : chain (suc n) master source ≡ source ∷ chain n master next =
@@ -91,7 +91,7 @@ module _ (world : World ℕ) where
           (sym (receives_by_source group source mount e) ∙ h)
 
       none : source_of mount.propagation ≡ None → Receives world group mount
-      none e = absurd (true≢false (sym h ∙ ap (holds_of (λ s. is_among nat_eq group (groups_up world s))) e))
+      none e = absurd (cc h)
 
       by : (kind : Propagation ℕ) → mount.propagation ≡ kind → Receives world group mount
       by (Shared own) e = from own (ap source_of e) (member own mount e)

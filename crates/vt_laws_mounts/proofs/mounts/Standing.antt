@@ -129,7 +129,7 @@ module _ (world : World ℕ) where
   same_as_test : (a b : Option ℕ) → a ≡ b → same_option nat_eq a b ≡ true
   same_as_test None None e = refl
   same_as_test None (Some b) e = cc
-  same_as_test (Some a) None e = absurd (true≢false (ap is_some e))
+  same_as_test (Some a) None e = absurd cc
   same_as_test (Some a) (Some b) e = eq-eqb a b (same_Some a b e)
 
   test_of_standing : OneNumberEach world → AllStand world → ChainsEnd world

@@ -1,5 +1,5 @@
 -- After a move at most one mount stands at a place: of what moved, the copies at receivers, and what they push up.
-use Rattle.std.proofs.Common.{arith, ◌≡◌, refl, sym, ap, subst, ◌∙◌, true, false, nat_eq, ℕ, Bool, List, None, Option, Some, [], append-nil, eq-eqb, eqb-true, flat_map, inl, inr, is_some, map, option_map, true≢false, ◌++◌, ◌∷◌, if◌then◌else◌, unwrap_or}
+use Rattle.std.proofs.Common.{arith, ◌≡◌, refl, sym, ap, subst, ◌∙◌, true, false, nat_eq, ℕ, Bool, List, None, Option, Some, [], append-nil, eq-eqb, eqb-true, flat_map, inl, inr, map, option_map, true≢false, ◌++◌, ◌∷◌, if◌then◌else◌, unwrap_or}
 use Rattle.vt_spec.proofs.Common.{Among, Copies, Graft, Location, Mount, Stands, Twig, World, among-from_filter, among-from_flat_map, among-from_map, among-map, among_from_all, any_pair, at_root, attached_by, child_at, common_steps, copies_at, copy_at, false_from_ne_true, first_of_list, graft_of, group_of, holds_of, is_among, is_among_numbers, is_top, mount_at, mount_in, mount_numbered, mount_point_on_copy, nat_eq_false_turned, number-mount_in, numbers_in_use, on_parent, or_parts, pair-map, parts_of, pushed_onto, pushed_up, receiver_stood_on, receivers_of, rest_of, root_of, same_Some, same_location, same_option, stands_at, takes_part, top_of_copies, twig_of}
 use Rattle.vt_laws_mounts.specs.Mounts.Attaching.{is_mount}
 use Rattle.vt_laws_mounts.specs.Mounts.Copies.{ServeAsCopies}
@@ -102,8 +102,7 @@ module _ {world : World ℕ} {new : Copies ℕ} {place : Location ℕ} {mounts :
       by true e n hung is = at_part e (placed true e)
       by false e n (from_top first rest list) is =
           let same : first ≡ may.top = same_Some first _ (ap first_of_list (sym list ∙ may.is_tree)) in
-          absurd (true≢false
-          (sym (eq-eqb origin.number may.top.number (sym is ∙ ap (λ (x : Mount ℕ). x.number) same)) ∙ e))
+          absurd (cc (eq-eqb origin.number may.top.number (sym is ∙ ap (λ (x : Mount ℕ). x.number) same)))
       by false e n (from_parent other on l f later) is =
           let it : other ≡ origin = sym (found_itself mounts may.own other l) ∙ ap (mount_in nat_eq mounts) is
           ∙ found_itself mounts may.own origin m in
@@ -242,9 +241,7 @@ module _ {world : World ℕ} {new : Copies ℕ} {place : Location ℕ} {mounts :
       where
         by : Stands nat_eq moved mount.number → mount_numbered nat_eq moved mount.number ≡ mount
             → is_mount moved on.mount ≡ true
-        by (at_root number f) itself =
-            absurd (true≢false (sym (ap is_some e) ∙ sym (ap (λ (x : Mount ℕ). is_some x.mount_point) itself)
-            ∙ ap is_some f))
+        by (at_root number f) itself = absurd (cc e)
         by (on_parent number at f g stands) itself =
             let same : at.mount ≡ on.mount = ap (λ (l : Location ℕ). l.mount)
             (same_Some at on (sym f ∙ ap (λ (x : Mount ℕ). x.mount_point) itself ∙ e)) in

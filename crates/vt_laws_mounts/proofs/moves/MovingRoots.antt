@@ -1,5 +1,5 @@
 -- What is attached has a place, and is in the namespace of the mount that it is attached on.
-use Rattle.std.proofs.Common.{arith, ◌≡◌, refl, sym, ap, subst, ◌∙◌, true, false, suc, nat_eq, ℕ, Bool, List, None, Option, Some, [], add-zero, cond, filter, inl, inr, is_some, length, map, not, true≢false, ⊎_elim, ◌&&◌, ◌++◌, ◌+◌, ◌∷◌, zero, eqb-true, ◌⊎◌, length-append, Contains}
+use Rattle.std.proofs.Common.{arith, ◌≡◌, refl, sym, ap, subst, ◌∙◌, true, false, suc, nat_eq, ℕ, Bool, List, None, Option, Some, [], add-zero, cond, filter, inl, inr, is_some, length, map, not, ⊎_elim, ◌&&◌, ◌++◌, ◌+◌, ◌∷◌, zero, eqb-true, ◌⊎◌, length-append, Contains}
 use Rattle.vt_spec.proofs.Common.{Among, Copies, Graft, Location, Mount, World, added_mounts, all_from_among, among-append, among-folded_mounts, among-from_filter, among-from_flat_map, among-from_map, attached_by, bind_tree, common_steps, contains_from_among, copies_at, filter-append, filter_here, filter_skip, folded, found_or_none, holds_of, is_root_mount, mount_at, mount_in, moved_tree, new_mount, parts_of, pushed_onto, receiver_stood_on, replaced_if_same, rest_of, stands_at, tree_among, tree_from, with_mount, with_new_filesystem}
 use Rattle.vt_laws_mounts.proofs.attached.Attaching.{taker_there}
 use Rattle.vt_laws_mounts.proofs.mounts.MountsAttached.{arrives, arriving, graft, in_front, moved_ones, others, push, push_keeps, supplied}
@@ -124,7 +124,7 @@ module _ (world : World ℕ) (new : Copies ℕ) (place : Location ℕ) (moves : 
     where
       there : destination.namespace ≡ Some namespace → HasOne world namespace
       there f = ⊎_elim (λ l. (destination, contains_from_among _ _ l, f))
-          (λ none. absurd (true≢false (sym (ap is_some f) ∙ ap (λ (x : Mount ℕ). is_some x.namespace) none)))
+          (λ none. absurd cc)
           (found_or_none _ _)
 
   attached_namespaces : ((x : Mount ℕ) → Among x left → (namespace : ℕ) → x.namespace ≡ Some namespace
@@ -205,7 +205,7 @@ tree_placed (suc fuel) mounts top x e m = ⊎_elim (λ same. ap (λ (y : Mount �
   where
     by : (place : Option (Location ℕ)) → holds_of (λ (p : Location ℕ). nat_eq top.number p.mount) place ≡ true
         → is_some place ≡ true
-    by None on = absurd (true≢false (sym on))
+    by None on = absurd cc
     by (Some place) on = refl
 
 pub moves_keep_root_mounts : MovesKeepRootMounts
@@ -225,7 +225,7 @@ moves_keep_root_mounts world fresh source place one placed namespace =
   where
     top_there : (found : Option (Location ℕ)) → (mount_at nat_eq world source).mount_point ≡ found
         → Among (mount_at nat_eq world source) world.mounts
-    top_there None e = absurd (true≢false (sym placed ∙ ap is_some e))
+    top_there None e = absurd (cc placed)
     top_there (Some at) e = placed_among world.mounts source.mount at e
 
     there : {origin : Mount ℕ} → (origin ≡ mount_at nat_eq world source) ⊎ Among origin world.mounts

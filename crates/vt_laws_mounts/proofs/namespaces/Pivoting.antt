@@ -54,8 +54,7 @@ module _ {world : World ℕ} {namespace : ℕ} {root new : Mount ℕ} {put : Loc
 
   pub inside_there : (number : ℕ) → (mount_numbered nat_eq world number).namespace ≡ Some namespace
       → Among (mount_numbered nat_eq world number) world.mounts
-  inside_there number e = ⊎_elim (λ m. m) (λ none. absurd (true≢false
-      (sym (ap is_some e) ∙ ap (λ x. is_some x.namespace) none))) (found_or_none _ number)
+  inside_there number e = ⊎_elim (λ m. m) (λ none. absurd cc) (found_or_none _ number)
 
   pub root_among : Among root world.mounts
   root_among = subst (λ x. Among x world.mounts) may.root_there

@@ -38,8 +38,7 @@ module _ (world : World ℕ) (mounts : MountInvariants nat_eq world) where
     where
       by : Stands nat_eq world mount.number → mount_numbered nat_eq world mount.number ≡ mount
           → Parent world mount place
-      by (at_root it f) same =
-          absurd (true≢false (sym (ap is_some e) ∙ ap (λ x. is_some x.mount_point) (sym same) ∙ ap is_some f))
+      by (at_root it f) same = absurd (cc e)
       by (on_parent it at f g stands) same =
           let at_is : at ≡ place = same_Some at place (sym f ∙ ap (λ x. x.mount_point) same ∙ e) in
           let inside : mount.namespace ≡ (mount_numbered nat_eq world place.mount).namespace =

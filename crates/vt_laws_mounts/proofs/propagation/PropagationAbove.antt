@@ -1,6 +1,6 @@
 -- Receivers that take part, but for members of the destination's group, have a group above them of which a part is a
 -- member: the destination's, or a nearer one.
-use Rattle.std.proofs.Common.{arith, ◌≡◌, refl, sym, ap, ◌∙◌, true, false, nat_eq, eq-eqb, ne_eqb, ℕ, zero, suc, List, Option, Some, inl, true≢false, ◌||◌}
+use Rattle.std.proofs.Common.{arith, ◌≡◌, refl, sym, ap, ◌∙◌, true, false, nat_eq, eq-eqb, ne_eqb, ℕ, zero, suc, List, Option, Some, inl, true≢false}
 use Rattle.vt_spec.proofs.Common.{Mount, among-from_filter, among_from_contains, any_among, any_from_among, chain, chain_ends, chain_goes_on, common_steps, contains_from_among, group_of, groups_up, has_members, holds_of, is_among, is_member_of, parts_of, receivers_of, receives, source_of, takes_part}
 use Rattle.vt_laws_mounts.specs.Mounts.Propagation.{Attachment, HasGroupAbove, IsPart, LowerGroupsHaveAGroupAbove, SlavesHaveAGroupAbove, destination_of}
 use Rattle.vt_laws_mounts.proofs.GroupsKept.{found_passes, member_shared, shared_member}
@@ -21,7 +21,7 @@ longer next (suc n) a d h = by _ refl (λ b. longer next n b d)
 -- what is in a chain after its start is in that from the next one
 above_in : (next : ℕ → Option ℕ) (n a d : ℕ) → is_among nat_eq d (chain n next a) ≡ true → nat_eq d a ≡ false
     → (b : ℕ) × (next a ≡ Some b) × (is_among nat_eq d (chain n next b) ≡ true)
-above_in next zero a d h e = absurd (true≢false (sym h ∙ ap (λ c. c || false) e))
+above_in next zero a d h e = absurd cc
 above_in next (suc n) a d h e = grind (arith, common_steps, true≢false, chain_ends, longer, chain_goes_on)
 
 module _ (it : Attachment) where

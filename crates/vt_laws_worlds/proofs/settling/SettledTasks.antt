@@ -1,5 +1,5 @@
 -- Tasks, and what mounts show, where what nothing uses goes.
-use Rattle.std.proofs.Common.{arith, ◌≡◌, refl, sym, ap, subst, ◌∙◌, not, inl, inr, ℕ, nat_eq, Bool, true, false, List, ◌++◌, Option, Some, None, filter, is_some, map, true≢false, ◌&&◌, All, filter_map, option_to_list}
+use Rattle.std.proofs.Common.{arith, ◌≡◌, refl, sym, ap, subst, ◌∙◌, not, inl, inr, ℕ, nat_eq, Bool, true, false, List, ◌++◌, Option, Some, None, filter, is_some, map, ◌&&◌, All, filter_map, option_to_list}
 use Rattle.vt_spec.proofs.Common.{All-filter, All-weaker, Descriptor, Filesystem, HasOwnParents, IsTree, IsWorld, ListsNumbers, Location, Mount, Stands, Task, TaskInvariants, TreeInvariants, World, all_locations, and_from, and_parts, any_pair, at_root, common_steps, filesystem_lives, filesystem_numbered, has_its_root, has_regular_files_open, is_among, is_directory_at, is_directory_node, is_kind_in, is_located_well, is_overlay, list_all, locations_of, mount_at, mount_lives, mount_numbered, node_at, number-mount_in, number-only_used, on_parent, pair-filter, pair-map, root_of, same_Some, settled, stands_on_directories, without_dead_filesystems, without_dead_in, without_dead_mounts}
 use Rattle.vt_spec.specs.declared.attributes.Kind.TheVariants.{File}
 use Rattle.vt_laws_mounts.proofs.letting_go.sweeps.InUse.{one_sweep_is_enough}
@@ -149,9 +149,7 @@ module _ (world : World ℕ) (unsettled : IsUnderWay world) where
         where
           by : (number : ℕ) → Stands nat_eq world number → mount_numbered nat_eq world number ≡ mount
               → is_some (mount_at nat_eq world place).namespace ≡ true
-          by number (at_root it f) same =
-              absurd (true≢false (sym (ap is_some e) ∙ ap (λ (x : Mount ℕ). is_some x.mount_point) (sym same)
-              ∙ ap is_some f))
+          by number (at_root it f) same = absurd (cc e)
           by number (on_parent it at f g stands) same = cc (
             same_Some place at (sym e ∙ ap (λ (x : Mount ℕ). x.mount_point) (sym same) ∙ f),
             placed_attached world unsettled mount m (ap is_some e),

@@ -86,8 +86,7 @@ module _ (world : World ℕ) (is : IsWorld nat_eq world) where
   place_listed mount m place at = by _ refl
     where
       by : (o : Option ℕ) → (mount_at nat_eq world place).namespace ≡ o → is_mount world place.mount ≡ true
-      by None e = absurd (true≢false (sym (placed_is_attached mount m place at)
-          ∙ ap is_some (parent_namespace mount m place at) ∙ ap is_some e))
+      by None e = absurd (cc (placed_is_attached mount m place at, parent_namespace mount m place at))
       by (Some own) e = subst (λ n. is_mount world n ≡ true) (number-mount_in _ _)
           (is_numbered world is _ (own_there world is _ own e))
 
@@ -270,6 +269,6 @@ module _ (world : World ℕ) (fresh : Fresh ℕ) (task : Task ℕ) (is : IsWorld
         where
           by : (o : Option (Location ℕ)) → old.mount_point ≡ o → (at : Location ℕ)
               → option_map (location_on_copy copy) o ≡ Some at → IsPlace after at
-          by None e at f = absurd (true≢false (sym (ap is_some f)))
+          by None e at f = absurd cc
           by (Some place) e at f = subst (IsPlace after) (same_Some (location_on_copy copy place) at f)
               (copy_mount_point old n place e)

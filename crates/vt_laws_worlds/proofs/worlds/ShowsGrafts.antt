@@ -103,9 +103,9 @@ module _ (world : World ℕ) (is : IsWorld nat_eq world) where
       (λ origin m. ⊎_elim
       (λ e. ap (λ (x : Mount ℕ). is_directory_node (inode_in world x.filesystem x.root)) e ∙ directory)
       (λ has. (world_shows world is origin has.0).root) (bind_parents source recursive origin m))
-      (λ origin m below on e. ⊎_elim (λ top. absurd (true≢false (sym (top_is_top origin top) ∙ below)))
+      (λ origin m below on e. ⊎_elim (λ top. absurd (cc (top_is_top origin top)))
       (λ has. stands_there_well mounts well origin has on e) (bind_parents source recursive origin m))
-      (λ moved. absurd (true≢false (sym moved)))
+      (λ moved. absurd cc)
     where
       mounts : List (Mount ℕ)
       mounts = bind_tree nat_eq world source recursive
@@ -138,8 +138,7 @@ module _ (world : World ℕ) (is : IsWorld nat_eq world) where
       (world_shows world is) at is.mounts.one_number (moves_keep_numbers world fresh
       (record { mount = mount; node = 0 }) place serves is.mounts.one_number is.mounts.standing)
       (λ origin m. (world_shows world is origin (listed origin m)).root) (λ origin m below on e. ⊎_elim
-      (λ same. absurd (true≢false
-      (sym (top_is_top (length world.mounts) origin.number (ap (λ (x : Mount ℕ). x.number) same)) ∙ below)))
+      (λ same. absurd (cc (top_is_top (length world.mounts) origin.number (ap (λ (x : Mount ℕ). x.number) same))))
       (λ has. stands_there_well mounts (λ x n. listed_well x (listed x n)) origin has on e)
       (tree_parents (length world.mounts) top origin m))
       (λ moved origin m. (is_numbered world is origin (listed origin m), listed_well origin (listed origin m)))

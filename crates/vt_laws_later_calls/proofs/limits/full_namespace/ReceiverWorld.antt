@@ -116,7 +116,7 @@ list_of_two default (a ∷ b ∷ c ∷ list) e = absurd (omega arith)
 
 -- these are its filesystems
 pub filesystems_are_two : world_7.filesystems ≡ first_tree ∷ second_tree ∷ []
-filesystems_are_two = list_of_two (no_filesystem 0) world_7.filesystems two_there_are
+filesystems_are_two = list_of_two _ world_7.filesystems two_there_are
 
 -- the numbers of the trees
 pub first_number : first_tree.number ≡ 2
@@ -186,10 +186,10 @@ line_leads : (last : ℕ) (world : World ℕ) (line : List ℕ) (name : TaskName
     → AsksFor (whole One) line name call → mounts_overlay call ≡ false → names_few_groups call ≡ true
     → IsReached last world → IsReached (suc last) (next_world (suc last) world name call)
 line_leads last world line name call asked plainly few reached = record {
-  kept = calls_keep_worlds world (numbers_for (suc last)) name call reached.kept.0 reached.kept.1
+  kept = calls_keep_worlds world _ name call reached.kept.0 reached.kept.1
       (next_numbers_serve world last reached.has) plainly few;
   has = numbers_go_on (whole One) line name call asked world last
-      (policy nat_eq (numbers_for (suc last)) world name call) reached.has refl;
+      _ reached.has refl;
 }
 
 -- the first seven lines lead to a world with the invariants

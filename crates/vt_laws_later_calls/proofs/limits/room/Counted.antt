@@ -1,6 +1,6 @@
 -- What is attached fills namespaces by its parts in them.
 use Rattle.std.proofs.Common.{◌≡◌, ap, ◌∙◌, ⊎_elim, ℕ, nat_eq, nat_lt, true, false, List, [], ◌∷◌, length, arith, ◌+◌, ◌*◌, ◌-◌}
-use Rattle.vt_spec.proofs.Common.{Among, Copies, Filesystem, Fresh, IsWorld, Location, Mount, MountFlags, World, attached_by, bind_tree, copies_from, evens, has_too_many, list_any, most_mounts, mount_numbered, mounted, new_mount, odds, overlay_filesystem, parts_of, plain_filesystem, tree_among, with_new_filesystem}
+use Rattle.vt_spec.proofs.Common.{Among, Copies, Filesystem, Fresh, IsWorld, Location, Mount, MountFlags, World, attached_by, bind_tree, copies_from, has_too_many, list_any, most_mounts, mounted, new_mount, odds, parts_of, tree_among, with_new_filesystem}
 use Rattle.vt_laws_later_calls.proofs.Common.{found_there, mount_count, trees_have_each_once}
 use Rattle.vt_laws_mounts.proofs.Counting.{added_counted, moved_all}
 use Rattle.vt_laws_worlds.proofs.permits.taken.PartsKept.{same_parts}
@@ -27,13 +27,12 @@ mounted_asks_for_room world fresh place filesystem flags is =
 
 -- a new mount of a plain filesystem
 pub new_mounts_ask_for_room : NewMountsAskForRoom
-new_mounts_ask_for_room world fresh task place flags is =
-    mounted_asks_for_room world (odds fresh) place (plain_filesystem nat_eq fresh) flags is
+new_mounts_ask_for_room world fresh task place flags is = mounted_asks_for_room world (odds fresh) place _ flags is
 
 -- a mount of an overlay
 pub overlays_ask_for_room : OverlaysAskForRoom
 overlays_ask_for_room world fresh task place overlay flags is =
-    mounted_asks_for_room world (odds fresh) place (overlay_filesystem nat_eq (evens fresh) world overlay) flags is
+    mounted_asks_for_room world (odds fresh) place _ flags is
 
 -- a bind
 pub binds_ask_for_room : BindsAskForRoom
@@ -54,12 +53,12 @@ moves_ask_for_room world fresh task mount place is there =
 
     within : (one : Mount ℕ) → Among one (tree_of world mount) → Among one world.mounts
     within one m = ⊎_elim (λ same. rw same (found_there world.mounts mount there)) (λ other. other)
-        (tree_among (length world.mounts) world.mounts (mount_numbered nat_eq world mount) one m)
+        (tree_among _ world.mounts _ one m)
 
     counted : (namespace : ℕ) → mount_count (attached_by nat_eq world new place true (tree_of world mount)) namespace
         ≡ mount_count world namespace + how_many_in namespace (parts_of nat_eq world place) * length
         (tree_of world mount) - how_many_in namespace (tree_of world mount)
     counted namespace =
-        let all = moved_all world place new (tree_of world mount) is.mounts.one_number
+        let all = moved_all world place new _ is.mounts.one_number
         (trees_have_each_once world mount is.mounts.one_number is.mounts.standing) within namespace in
         omega (arith, all)

@@ -1,5 +1,5 @@
 -- Mounts and filesystems that go at zero.
-use Rattle.std.proofs.Common.{◌≡◌, refl, sym, ap, ◌∙◌, ℕ, ◌+◌, nat_eq, eqb-true, Bool, true, false, true≢false, cond, not, ◌||◌, List, [], ◌∷◌, map, filter, find, Some, unwrap_or, arith}
+use Rattle.std.proofs.Common.{◌≡◌, refl, ap, ◌∙◌, ℕ, ◌+◌, nat_eq, eqb-true, Bool, true, false, cond, not, ◌||◌, List, [], ◌∷◌, map, filter, find, Some, unwrap_or, arith}
 use Rattle.vt_spec.proofs.Common.{Mount, any_pair, common_steps, filter_all, is_among, is_mounted, list_any, mount_in, nat_eq-swapped, no_mount, or-false, or_parts}
 use Rattle.vt_laws_mounts.specs.LettingGo.Counts.{times}
 use Rattle.vt_laws_mounts.specs.LettingGo.OneByOne.{without_filesystem}
@@ -27,7 +27,7 @@ one_taken : (test : Mount ℕ → Bool) (mounts : List (Mount ℕ)) (number : �
     → is_among nat_eq number (map (λ mount. mount.number) mounts) ≡ true
     → times test mounts ≡ times test (filter (λ mount. not (nat_eq mount.number number)) mounts) + cond
     (test (mount_in nat_eq mounts number)) 1 0
-one_taken test [] number one there = absurd (true≢false (sym there))
+one_taken test [] number one there = absurd cc
 one_taken test (first ∷ rest) number one there = by _ refl there (one_taken test rest number parts.1)
   where
     parts : (list_any (λ b. nat_eq first.number b.number) rest ≡ false)

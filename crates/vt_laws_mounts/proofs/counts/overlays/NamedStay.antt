@@ -1,5 +1,5 @@
 -- The sweep leaves overlays whose inodes have names.
-use Rattle.std.proofs.Common.{arith, ◌≡◌, refl, sym, ap, ◌∙◌, ⊎_elim, ℕ, nat_eq, Bool, true, false, true≢false, ◌||◌, List, [], ◌∷◌, ◌++◌, map, filter, flat_map}
+use Rattle.std.proofs.Common.{arith, ◌≡◌, refl, ap, ◌∙◌, ⊎_elim, ℕ, nat_eq, Bool, true, false, ◌||◌, List, [], ◌∷◌, ◌++◌, map, filter, flat_map}
 use Rattle.vt_spec.proofs.Common.{Filesystem, World, common_steps, filesystem_lives, filesystem_numbered, is_among, is_among_left, is_overlay, layers_in, list_all, located_in, map_twice, named_in, objects_of_overlay, only_used, only_used_by, or_cases, settled, used_in, without_dead_mounts}
 use Rattle.vt_laws_mounts.specs.LettingGo.Keeping.{has_only_named}
 use Rattle.vt_laws_mounts.specs.LettingGo.TreesOverlays.{in_use_of}
@@ -61,7 +61,7 @@ module _ (world : World ℕ) (named : OverlaysAreNamed world) where
       there : (b : Bool) → is_among nat_eq number (map (λ f. f.number) lives.filesystems) ≡ b
           → is_among nat_eq number (map (λ f. f.number) lives.filesystems) ≡ true
       there true h = h
-      there false h = absurd (true≢false (sym e ∙ ap is_overlay (not_found _ number h)))
+      there false h = absurd (cc (e, not_found _ number h))
 
 pub named_overlays_stay : NamedOverlaysStay
 named_overlays_stay world named = all_stay world named

@@ -90,7 +90,7 @@ pub found_mapped : (step : Filesystem ℕ → Filesystem ℕ) → ((f : Filesyst
     → (filesystems : List (Filesystem ℕ)) (k : ℕ) → is_among nat_eq k (map (λ f. f.number) filesystems) ≡ true
     → unwrap_or (find (λ f. nat_eq k f.number) (map step filesystems)) (no_filesystem k)
     ≡ step (unwrap_or (find (λ f. nat_eq k f.number) filesystems) (no_filesystem k))
-found_mapped step same [] k there = absurd (true≢false (sym there))
+found_mapped step same [] k there = absurd cc
 found_mapped step same (first ∷ rest) k there = grind (arith, common_steps, there, found_mapped step same rest k)
 
 pub numbers_mapped : (step : Filesystem ℕ → Filesystem ℕ) → ((f : Filesystem ℕ) → (step f).number ≡ f.number)
@@ -225,7 +225,7 @@ all_left : (k : ℕ) (world : World ℕ) (lost : List Inode) → HasNoUpperIn k 
 all_left k world [] apart there empty stand = record {
   uses = λ n. refl;
   used = λ n some. refl;
-  gone = λ n zero_uses among. absurd (true≢false (sym among));
+  gone = λ n zero_uses among. absurd cc;
   other = λ n apart. refl;
   root = refl;
   once = stand;
@@ -275,7 +275,7 @@ all_left k world (inode ∷ rest) apart there empty stand = then_left (all_left 
         neither : (n : ℕ) (a : Bool) → is_inode k n inode ≡ a → (is_inode k n inode || is_inode_among k n rest) ≡ false
             → (filesystem_numbered nat_eq (let_go_inodes (let_go_inode world inode) rest) k).files.tree.node n
             ≡ f.files.tree.node n
-        neither n true e h = absurd (true≢false (sym (ap (λ b. b || is_inode_among k n rest) e) ∙ h))
+        neither n true e h = absurd cc
         neither n false e h = later.other n (sym (ap (λ b. b || is_inode_among k n rest) e) ∙ h)
             ∙ first_left.other n (among_one n false e)
 

@@ -1,5 +1,5 @@
 -- Locations and mounts as uses of inodes.
-use Rattle.std.proofs.Common.{◌≡◌, refl, sym, ap, subst, ◌∙◌, ⊎_elim, inl, inr, ℕ, ◌+◌, nat_eq, eqb-true, eq-eqb, Bool, true, false, true≢false, cond, not, ◌||◌, List, [], ◌∷◌, ◌++◌, map, filter, find, flat_map, Some, None, unwrap_or, arith, filter_map, option_to_list, append_assoc}
+use Rattle.std.proofs.Common.{◌≡◌, refl, sym, ap, subst, ◌∙◌, ⊎_elim, inl, inr, ℕ, ◌+◌, nat_eq, eqb-true, eq-eqb, Bool, true, false, cond, not, ◌||◌, List, [], ◌∷◌, ◌++◌, map, filter, find, flat_map, Some, None, unwrap_or, arith, filter_map, option_to_list, append_assoc}
 use Rattle.vt_spec.proofs.Common.{Filesystem, Location, Mount, World, all_locations, and_parts, any_pair, common_steps, filesystem_numbered, filter_alike, is_among, layers_in, layers_of, list_all, located_in, mount_in, named_in, new_directory, new_plain, no_filesystem, node_in, number-mount_in, objects_of_overlay, of_overlay, root_attr, root_of, targets_in, uses_in}
 use Rattle.vt_laws_mounts.specs.LettingGo.Counts.{inode_uses, mounts_showing, times}
 use Rattle.vt_laws_mounts.specs.LettingGo.Mounting.{inode_at}
@@ -45,7 +45,7 @@ module _ (mounts : List (Mount ℕ)) (k n : ℕ) where
     where
       by : (b : Bool) → not b ≡ true → count_in rest ≡ 0
           → times_in n (map (λ location. location.node) (cond b (first ∷ filter shown rest) (filter shown rest))) ≡ 0
-      by true h later = absurd (true≢false (sym h))
+      by true h later = absurd cc
       by false h later = later
 
 -- Worlds with the same filesystems

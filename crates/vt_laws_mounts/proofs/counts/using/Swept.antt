@@ -55,7 +55,7 @@ pub found_changed : (filesystems : List (Filesystem ℕ)) (number : ℕ) (new : 
     → is_among nat_eq number (map (λ f. f.number) filesystems) ≡ true
     → unwrap_or (find (λ f. nat_eq number f.number) (map (replaced_if_numbered nat_eq new) filesystems))
     (no_filesystem number) ≡ new
-found_changed [] number new is there = absurd (true≢false (sym there))
+found_changed [] number new is there = absurd cc
 found_changed (first ∷ rest) number new is there = by _ refl (found_changed rest number new is)
   where
     Found : Filesystem ℕ → Type 0
@@ -98,7 +98,7 @@ found_other (first ∷ rest) other new apart = by _ refl (found_other rest other
 pub found_is : (filesystems : List (Filesystem ℕ)) (number : ℕ)
     → is_among nat_eq number (map (λ f. f.number) filesystems) ≡ true
     → Among (unwrap_or (find (λ f. nat_eq number f.number) filesystems) (no_filesystem number)) filesystems
-found_is [] number there = absurd (true≢false (sym there))
+found_is [] number there = absurd cc
 found_is (first ∷ rest) number there = by _ refl (found_is rest number)
   where
     by : (b : Bool) → nat_eq number first.number ≡ b → (is_among nat_eq number (map (λ f. f.number) rest) ≡ true

@@ -44,7 +44,7 @@ module _ (world : World ℕ) (tasks : List (Task ℕ)) (kept : MountInvariants n
       let ended = among-from_filter _ _ from.0 from.1 in
       let same : mount ≡ from.0 = sym (found_itself _ kept.one_number mount m) ∙ ap (mount_in nat_eq world.mounts)
       from.2 ∙ found_itself _ kept.one_number from.0 ended.0 in
-      absurd (true≢false (sym ended.1 ∙ ap ends_with_it (sym same) ∙ e))) (λ isnt. isnt) (cases_Bool _)
+      absurd (cc (ended.1, same))) (λ isnt. isnt) (cases_Bool _)
 
   ends_or_stays : (mount : Mount ℕ) → Among mount world.mounts → is_going nat_eq gone mount.number ≡ false
       → ends_with_it mount ≡ false
@@ -76,8 +76,7 @@ module _ (world : World ℕ) (tasks : List (Task ℕ)) (kept : MountInvariants n
       left false = ap (λ (x : Mount ℕ). x.mount_point) (stays_there not_swept gone namespaces mount isnt)
 
       by : (o : Option (Location ℕ)) → mount.mount_point ≡ o → is_some (mount_at nat_eq ended place).namespace ≡ true
-      by None e = absurd (true≢false (sym (ap is_some p)
-          ∙ ap is_some (left b ∙ ap (option_map (mount_point_left nat_eq not_swept gone)) e)))
+      by None e = absurd (cc (p, left b))
       by (Some at) e =
           let below = mount_in nat_eq world.mounts at.mount in
           let same = beside_parent world kept mount m at e in

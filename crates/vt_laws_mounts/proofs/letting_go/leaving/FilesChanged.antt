@@ -1,5 +1,5 @@
 -- What calls that change plain trees let go of.
-use Rattle.std.proofs.Common.{arith, ◌≡◌, refl, sym, ap, subst, ◌∙◌, ◌⊎◌, inl, inr, ⊎_elim, ℕ, nat_eq, true, false, ◌||◌, List, [], ◌∷◌, flat_map, map, true≢false, Option, Some, None, is_some, option_to_list}
+use Rattle.std.proofs.Common.{arith, ◌≡◌, refl, sym, ap, subst, ◌∙◌, ◌⊎◌, inl, inr, ⊎_elim, ℕ, nat_eq, true, false, ◌||◌, List, [], ◌∷◌, flat_map, map, Option, Some, None, is_some, option_to_list}
 use Rattle.vt_spec.proofs.Common.{Access, Change, Descriptor, FileTree, Filesystem, Fresh, Location, Make, Move, Overlay, Remove, SetBytes, Task, World, all_locations, among_from_contains, any_pair, bytes_decides, bytes_in, changed, common_steps, evens, files_at, filesystem_at, filesystem_changed, filesystem_numbered, inserted, is_among, is_overlay, list_any, locations_of, mount_at, mounts_on, node_at, odds, or_parts, overwritten, replaced_if_called, replaced_if_numbered, same_name, settled, taken_away, with_change, with_descriptor, with_files, with_task}
 use Rattle.vt_spec.proofs.Nodes.{is_some-node_with_bytes}
 use Rattle.vt_spec.proofs.Trees.{is_tree-with_file_bytes, same_part}
@@ -73,7 +73,7 @@ module _ (world : World ℕ) (location : Location ℕ) (change : Change ℕ) (se
           → filesystem_changed nat_eq fresh other (filesystem_at nat_eq world location)
           (filesystem_at nat_eq world location).overlay change ≡ with_filesystems other swap
       by None e = ap (λ o. filesystem_changed nat_eq fresh other (filesystem_at nat_eq world location) o change) e
-      by (Some overlay) e = absurd (true≢false (sym (ap is_some e) ∙ plain))
+      by (Some overlay) e = absurd (cc plain)
 
   goes_alone : (fresh : Fresh ℕ) → settled nat_eq (with_change nat_eq fresh world location change)
       ≡ let_go_all_inodes (with_change nat_eq fresh world location change) (inodes_lost world location change)
@@ -193,8 +193,7 @@ one_task (first ∷ rest) one a b m n same = by m n (one_task rest parts.1 a b)
     parts = or_parts _ _ one
 
     not_both : (x y : Task ℕ) → x ≡ first → Among y rest → same_name x.name y.name ≡ true → a ≡ b
-    not_both x y e l h = absurd (true≢false (sym (ap (λ (z : Task ℕ). same_name z.name y.name) (sym e) ∙ h)
-        ∙ none_among _ rest parts.0 y l))
+    not_both x y e l h = absurd (cc (none_among _ rest parts.0 y l))
 
     back : same_name b.name a.name ≡ true
     back = cc ((bytes_decides a.name b.name).0 same, (bytes_decides a.name a.name).1 refl)

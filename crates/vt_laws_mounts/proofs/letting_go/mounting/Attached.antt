@@ -165,7 +165,7 @@ module _ (world : World ℕ) (filesystems : List (Filesystem ℕ)) (new : Copies
       same_as e = ap (λ b. went_by b mount) e
 
       by : (b : Bool) → moves ≡ b → Went mount
-      by false e = stayed (ap (λ b. went_by b mount) e) (λ f. absurd (true≢false (sym f ∙ e)))
+      by false e = stayed (ap (λ b. went_by b mount) e) (λ f. absurd cc)
       by true e = ⊎_elim (λ none. stayed (same_as e ∙ none.1) (λ f n. true≢false (sym
           (any_from_among (λ x. nat_eq x.number mount.number) (copies destination) (copy destination mount)
           (copy_there destination mount n)
@@ -247,7 +247,7 @@ module _ (world : World ℕ) (filesystems : List (Filesystem ℕ)) (new : Copies
       → ((mount : Mount ℕ) → Among mount mounts → Among mount world.mounts)
       → is_among nat_eq number (map (λ x. x.number) mounts) ≡ true
       → (mount_in nat_eq (map last mounts ++ others) number).filesystem ≡ (mount_in nat_eq mounts number).filesystem
-  found_changed [] others number sub h = absurd (true≢false (sym h))
+  found_changed [] others number sub h = absurd cc
   found_changed (one ∷ mounts) others number sub h = ap (λ n. (unwrap_or (cond (nat_eq number n) (Some (last one))
       (find (λ x. nat_eq number x.number) (map last mounts ++ others))) (no_mount number)).filesystem)
       (last_number one (sub one (inl refl))) ∙ by _ h (found_changed mounts others number (λ x m. sub x (inr m)))

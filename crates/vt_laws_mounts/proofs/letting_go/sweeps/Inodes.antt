@@ -185,8 +185,7 @@ node_kept used files numbers all number = by _ refl _ (numbers number)
         → is_among nat_eq number files.numbers ≡ is_some o → o ≡ cond u o None
     by true f o there = refl
     by false f None there = refl
-    by false f (Some node) there =
-        absurd (true≢false (sym (among_from_list_all _ _ all number (among_numbers number _ there)) ∙ f))
+    by false f (Some node) there = absurd (cc (among_from_list_all _ _ all number (among_numbers number _ there)))
 
 pub left_of_plain : (used : List ℕ) (filesystem : Filesystem ℕ) → ListsNumbers nat_eq filesystem.files
     → is_overlay filesystem ≡ false
@@ -246,8 +245,7 @@ module _ (used : List ℕ) (losers : List Inode) (filesystem : Filesystem ℕ)
       missing : (b : Bool) → is_among nat_eq number filesystem.files.numbers ≡ b
           → is_among nat_eq number filesystem.files.numbers ≡ false
       missing false e = e
-      missing true e = absurd (true≢false (sym (among_from_list_all _ _ others number (among_numbers number _ e)) ∙ ap
-          (λ b. b || is_among nat_eq number used) other ∙ unused))
+      missing true e = absurd (cc (among_from_list_all _ _ others number (among_numbers number _ e), other, unused))
 
   goes : ℕ → Bool
   goes = goes_of used losers filesystem

@@ -1,5 +1,5 @@
 -- What a permit that a call is given leaves is a world, with overlays too.
-use Rattle.std.proofs.Common.{arith, ◌≡◌, refl, sym, subst, true≢false, ℕ, nat_eq, Bool, true, false}
+use Rattle.std.proofs.Common.{arith, ◌≡◌, refl, subst, ℕ, nat_eq, Bool, true, false}
 use Rattle.vt_spec.proofs.Common.{Call, Fresh, IsWorld, MountOverlay, OverlayInvariants, Permit, Task, World, apply, call_outcome, common_steps}
 use Rattle.vt_laws_rules.proofs.judged.CallsJudged.{call_is_judged_then_applied}
 use Rattle.vt_laws_trees.specs.Trees.Calls.{mounts_overlay}
@@ -25,7 +25,7 @@ module _ {world : World ℕ} {fresh : Fresh ℕ} {task : Task ℕ} {permit : Per
   mounting (MountOverlay path options flags) e =
       world_is_ready (call_outcome nat_eq fresh world task (MountOverlay path options flags)).world
       (mounting_leaves_a_world fresh world task path options flags is given.serves given.called)
-  mounting call e = absurd (true≢false (sym e))
+  mounting call e = absurd cc
 
   outcome_ready : (b : Bool) → mounts_overlay given.call ≡ b
       → IsReady (call_outcome nat_eq fresh world task given.call).world

@@ -126,8 +126,7 @@ module _ (fresh : Fresh ℕ) (stack : Stack ℕ) (merge : Merge ℕ) (whole : Is
     where
       by : (o : Option (ℕ × List ℕ)) → a_name nat_eq merge.files directory ≡ o
           → copied_up nat_eq fresh merge r.0 ≡ merge → copied_up nat_eq fresh merge directory ≡ merge
-      by None e above = absurd (true≢false
-          (sym (has_a_name merge.files whole.numbers r.0 r.1 directory r.3) ∙ ap is_some e))
+      by None e above = absurd (cc (has_a_name merge.files whole.numbers r.0 r.1 directory r.3))
       by (Some name) e above =
           let parent : r.0 ≡ name.0 = sym (whole.tree.one_parent r.0 r.1 directory r.3 r.4)
           ∙ whole.tree.one_parent name.0 name.1 directory (named_so merge.files whole.tree directory name e) r.4 in
@@ -274,5 +273,5 @@ none_copied fresh stack upper (suc steps) (word ∷ path) n e =
   where
     by : (p : List (List ℕ)) (o : Option ℕ) → led_above stack upper p ≡ o → is_some (led_above stack upper p) ≡ true
         → copied_at fresh stack upper p ≡ upper
-    by p None l h = absurd (true≢false (sym h ∙ ap is_some l))
+    by p None l h = absurd cc
     by p (Some u) l h = ap (λ o. copy_over fresh stack upper p o (node_seen stack upper p)) l

@@ -268,8 +268,7 @@ module _ (fresh : Fresh ℕ) (distinct : (j k : ℕ) → fresh j ≡ fresh k →
             λ i. (parents_same i, names_same i)
 
         by : (o : Option (ℕ × List ℕ)) → a_name nat_eq merge.files object ≡ o → o ≡ Some (parent, name)
-        by None e = absurd (true≢false (sym (has_a_name merge.files whole.numbers parent name object entry)
-            ∙ ap is_some e))
+        by None e = absurd (cc (has_a_name merge.files whole.numbers parent name object entry))
         by (Some other) e = ap Some (at_name other e)
 
     count : length (directories_to nat_eq merge.files parent) ≡ length (front ++ name ∷ [])
@@ -446,7 +445,7 @@ module _ (fresh : Fresh ℕ) (distinct : (j k : ℕ) → fresh j ≡ fresh k →
           ((to_object merge.files whole.tree whole.numbers object there).directories d) other
       by false d true u way e = ap (λ n. cuts (view_in n.upper stack.directory) other)
           (stays fresh stack merge whole object u)
-      by false d false u [] e = absurd (true≢false (sym (root_stands object (sym (ap at e) ∙ leads)) ∙ u))
+      by false d false u [] e = absurd (cc (root_stands object (sym (ap at e) ∙ leads)))
       by false d false u (word ∷ way) e =
           let last = last_of (word ∷ way) (not_empty word way) in
           low d u last.0 last.1 (last.2 ∙ sym e) (at last.0) refl

@@ -1,6 +1,6 @@
 -- What copies make of the upper layer, for an object at a path or without a name, and what lower layers show beside
 -- them.
-use Rattle.std.proofs.Common.{arith, ◌≡◌, ◌≢◌, refl, sym, ap, subst, ◌∙◌, true≢false, ℕ, suc, ◌+◌, nat_eq, eq-eqb, ne_eqb, Bool, true, false, cond, not, List, [], ◌∷◌, ◌++◌, length, map, Option, Some, None, is_some, unwrap_or, append-nil}
+use Rattle.std.proofs.Common.{arith, ◌≡◌, ◌≢◌, refl, sym, ap, subst, ◌∙◌, ℕ, suc, ◌+◌, nat_eq, eq-eqb, ne_eqb, Bool, true, false, cond, not, List, [], ◌∷◌, ◌++◌, length, map, Option, Some, None, is_some, unwrap_or, append-nil}
 use Rattle.vt_spec.proofs.Common.{FileTree, Fresh, Lower, Merge, Node, OpenLayer, Real, SameObject, Shown, Stack, Upper, View, a_name, common_steps, copied_content, copied_each, copied_up, copy_named, copy_of, copy_parent, cuts, is_directory_shown, is_in_upper, is_kind_in, led-append, line_by, number_at_path, same_Some, shown_from, shown_over, then_some, upper_object, upper_of, view_of, when, with_inode, without_last}
 use Rattle.vt_laws_trees.specs.Layers.Layers.Views.{view_in}
 use Rattle.vt_laws_trees.proofs.layers.layers.UpperLine.{is_reached_in, named_so}
@@ -71,7 +71,7 @@ module _ (fresh : Fresh ℕ) (stack : Stack ℕ) (merge : Merge ℕ) (whole : Is
       by : (o : Option (Node ℕ)) → merge.files.tree.node object ≡ o → (s : Option (Node ℕ))
           → node_below stack layer way ≡ s
           → SameObject (merge.files.tree.node object) (node_below stack layer way) → Says (Held (Lower layer way))
-      by None e s f same = absurd (true≢false (sym there ∙ ap is_some e))
+      by None e s f same = absurd (cc there)
       by (Some node) e None f same = absurd
           (λ-no (subst (λ o. SameObject o None) e (subst (SameObject (merge.files.tree.node object)) f same)))
         where
@@ -114,7 +114,7 @@ prefixes_lead_to_copies fresh stack merge whole new path some = by (number_at_pa
         ≡ Some (unwrap_or (led_above stack merge.upper front) (fresh (length front))))
         × ((other : List (List ℕ)) → ((rest : List (List ℕ)) → other ++ rest ≢ path)
         → led_above stack (copied_to fresh stack merge.upper path) other ≡ led_above stack merge.upper other)
-    by None e h = absurd (true≢false (sym h))
+    by None e h = absurd cc
     by (Some object) e h =
         let copied = copied_along fresh new.distinct stack merge whole new.unused (length path) path object refl
         (path_there stack merge whole path object e) e in
@@ -178,7 +178,7 @@ copies_hide_nothing fresh stack merge whole new path way directory name some lea
         (way ++ name ∷ []) ≡ seen_below stack merge.upper (way ++ name ∷ []))
         × (directory_below stack (copied_to fresh stack merge.upper path)
         (way ++ name ∷ []) ≡ directory_below stack merge.upper (way ++ name ∷ []))
-    by None e h = absurd (true≢false (sym h))
+    by None e h = absurd cc
     by (Some object) e h =
         let there = path_there stack merge whole path object e in
         let copied = copied_along fresh new.distinct stack merge whole new.unused

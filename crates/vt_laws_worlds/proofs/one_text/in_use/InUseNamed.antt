@@ -31,9 +31,7 @@ found_by_name (first ∷ entries) entry sorted (inr among) =
 
     by : (tied : Bool) → eq_by_cmp name_cmp entry.0 first.0 ≡ tied → entry_named entry.0 entries ≡ Some entry.1
         → cond tied (Some first.1) (entry_named entry.0 entries) ≡ Some entry.1
-    by true t named = absurd (true≢false (ap there
-        (sym named ∙ ap (λ n. entry_named n entries) (same_name entry.0 first.0 t)
-        ∙ entry_named-below first.0 entries parts.0)))
+    by true t named = absurd (cc (same_name entry.0 first.0 t, entry_named-below first.0 entries parts.0))
     by false t named = named
 
 -- the group of a member is its source
@@ -266,7 +264,7 @@ module _ (world : World ℕ) (whole : IsWorld nat_eq world) where
         upper_is : (object : ℕ) (upper : Option (Layer ℕ))
             → holds_of (λ layer. is_there nat_eq world layer.filesystem object) upper ≡ true
             → is_in_use world object ≡ true
-        upper_is object None is = absurd (true≢false (sym is))
+        upper_is object None is = absurd cc
         upper_is object (Some layer) is = (found_used layer.filesystem object is).1
 
         real_is : (number : ℕ) (real : Option (Real ℕ)) → overlay.real number ≡ real

@@ -144,7 +144,7 @@ module _ {world : World ℕ} (whole : IsWorld nat_eq world) {task : Task ℕ}
         (
           may_be_made place (whiteout_made task) (place_is_file world place.parent place.last place.object is.0.0)
               is.0.1 passed.0 passed.1.0 (inr refl),
-          λ overlay. absurd (true≢false (sym overlay ∙ passed.1.1.1.1.1.1.0)),
+          λ overlay. absurd (cc (passed.1.1.1.1.1.1.0)),
         ),
         (fit_name_of place.last passed.0 is.1, refl),
       )

@@ -1,5 +1,5 @@
 -- Every call keeps the invariants of a world, with overlays too.
-use Rattle.std.proofs.Common.{◌≡◌, refl, sym, ap, subst, ◌∙◌, ℕ, nat_eq, Bool, true, false, List, [], ◌∷◌, ◌++◌, Option, Some, None, Ok, true≢false}
+use Rattle.std.proofs.Common.{◌≡◌, refl, sym, ap, subst, ◌∙◌, ℕ, nat_eq, Bool, true, false, List, [], ◌∷◌, ◌++◌, Option, Some, None, Ok}
 use Rattle.vt_spec.proofs.Common.{Call, Change, CopyUp, Filesystem, ForksAreCounted, Fresh, IsWorld, Layer, Location, MountInvariants, MountOverlay, NamespaceInvariants, Outcome, Overlay, OverlayInvariants, Permit, Serves, Task, TaskName, ToChange, ToEnterNamespace, ToExit, ToMake, ToMountOverlay, ToMountPlain, ToOpen, ToOpenNew, ToRemoveDirectory, ToRename, ToSetType, ToUnmount, ToUnmountLazily, ToUnshare, ToWritePart, TreeInvariants, World, apply, call_outcome, evens, filesystem_at, filesystem_changed, filesystems-taken_away, finished_by, going, is_copied_up, is_within_limits, judge_in, mount_numbered, namespace_entered, none_is_some, overlay_changed, overlay_filesystem, plain_filesystem, policy, same_name, settled, task_called, unshared, when, with_change, with_copy, with_new_filesystem, without_task}
 use Rattle.vt_laws_rules.proofs.judged.CallsJudged.{call_is_judged_then_applied}
 use Rattle.vt_laws_mounts.proofs.letting_go.Lists.{all_from_among, among_from_list_all}
@@ -192,7 +192,7 @@ module _ (world : World ℕ) (fresh : Fresh ℕ) (name : TaskName) (is : IsWorld
     (serves : Serves nat_eq world fresh) where
   overlay_call : (call : Call) → mounts_overlay call ≡ true → IsWorld nat_eq (policy nat_eq fresh world name call).world
   overlay_call (MountOverlay path options flags) e = policy_mounts_a_world fresh world name path options flags is serves
-  overlay_call call e = absurd (true≢false (sym e))
+  overlay_call call e = absurd cc
 
   not_mounting : (call : Call) → mounts_overlay call ≡ false → names_few_groups call ≡ true
       → IsWorld nat_eq (policy nat_eq fresh world name call).world

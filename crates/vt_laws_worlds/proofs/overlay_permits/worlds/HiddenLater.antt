@@ -108,8 +108,7 @@ module _ (fresh : Fresh ℕ) (world : World ℕ) (location : Location ℕ) (chan
   change_hides path seen low e = by seen.layer refl
     where
       by : (k : ℕ) → seen.layer ≡ k → shown_in world overlay path ≡ Some seen
-      by zero f = absurd (true≢false (sym low ∙ ap (λ n. not (is_some overlay.upper && nat_eq n 0)) f
-          ∙ ap (λ u. not (is_some u && true)) has))
+      by zero f = absurd (cc (low, has))
       by (suc j) f =
           let same : seen ≡ record { layer = j + 1; object = seen.object } =
           λ i. record { layer = (f ∙ one_more j) i; object = seen.object } in
@@ -187,7 +186,7 @@ module _ {world : World ℕ} (is : IsWorld nat_eq world) (number : ℕ) {overlay
           (same_Some (location, change) made (sym g ∙ e)))) ∙ f))
 
       by : (o : Option (Location ℕ × Change ℕ)) → change_asked fresh world permit ≡ o → Hides world called_world overlay
-      by None e = elsewhere (λ location change g. absurd (true≢false (sym (ap is_some (sym e ∙ g)))))
+      by None e = elsewhere (λ location change g. absurd cc)
       by (Some made) e = at made e (nat_eq number (mount_at nat_eq world made.0).filesystem) refl
 
   finished_hides : names_few_groups call ≡ true → (name : TaskName) (changed : List ℕ)

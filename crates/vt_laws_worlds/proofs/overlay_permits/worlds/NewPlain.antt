@@ -1,5 +1,5 @@
 -- A new plain filesystem beside those that are there keeps the invariants of trees and of overlays.
-use Rattle.std.proofs.Common.{◌≡◌, refl, sym, ap, subst, ◌∙◌, inl, true≢false, eq-eqb, ℕ, nat_eq, Bool, true, false, cond, List, [], ◌∷◌, ◌++◌, find, Option, Some, None, is_some, append-nil, flat_map, unwrap_or, arith}
+use Rattle.std.proofs.Common.{◌≡◌, refl, sym, ap, subst, ◌∙◌, inl, eq-eqb, ℕ, nat_eq, Bool, true, false, cond, List, [], ◌∷◌, ◌++◌, find, Option, Some, None, is_some, append-nil, flat_map, unwrap_or, arith}
 use Rattle.vt_spec.proofs.Common.{All-push, Among, Filesystem, Fresh, HasOwnParents, IsMerged, IsReached, IsTree, IsWorld, Layer, ListsNumbers, Overlay, OverlayInvariants, Serves, TreeInvariants, World, and_true_right, any_pair, directory_used, evens, filesystem_numbered, filter-append, is_fit_filesystem, is_overlay, layers_of, nat_eq_false_turned, no_filesystem, of_overlay, overlays, plain_filesystem, upper_and_work, with_new_filesystem, common_steps}
 use Rattle.vt_laws_trees.proofs.trees.ChangesByCalls.{new_tree_is}
 use Rattle.vt_laws_trees.proofs.trees.TreesTasks.{all_appended, and_from}
@@ -65,8 +65,7 @@ module _ (world : World ℕ) (fresh : Fresh ℕ) (conditions : IsWorld nat_eq wo
     where
       by : (o : Option (Filesystem ℕ)) → looked_up number world.filesystems ≡ o
           → filesystem_numbered nat_eq later number ≡ filesystem_numbered nat_eq world number
-      by None e = absurd (true≢false
-          (sym there ∙ ap (λ o. is_some ((unwrap_or o (no_filesystem number)).files.tree.node inode)) e))
+      by None e = absurd (cc there)
       by (Some f) e = stays_found number f e
 
   overlay_stays : (number : ℕ) (after : Overlay ℕ) → (filesystem_numbered nat_eq later number).overlay ≡ Some after

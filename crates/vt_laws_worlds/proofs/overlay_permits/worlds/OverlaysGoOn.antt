@@ -160,7 +160,7 @@ module _ (world later : World ℕ) (files : AreTrees world) (are : OverlayInvari
       && (holds_of (λ u. nat_eq n u.filesystem) upper
       && list_any (is_real_upper nat_eq after object) (filesystem_numbered nat_eq later number).files.numbers)) ≡ true
       → Lies world layer n object
-  counted layer live n object number after e None f h = absurd (true≢false (sym h))
+  counted layer live n object number after e None f h = absurd cc
   counted layer live n object number after e (Some top) f h =
       let on = goes number after e in
       let lies = and_true_left (lies_in_layer nat_eq later top.filesystem top.directory layer) _ h in
@@ -244,7 +244,7 @@ module _ (world later : World ℕ) (files : AreTrees world) (are : OverlayInvari
               && (holds_of (λ u. nat_eq n u.filesystem) upper
               && list_any (is_real_upper nat_eq v object) f.files.numbers)) ≡ true
               → is_some (inode_in world n object) ≡ true
-          at f v is None g h = absurd (true≢false (sym h))
+          at f v is None g h = absurd cc
           at f v is (Some top) g h =
               let rest = and_true_right (lies_in_layer nat_eq world top.filesystem top.directory layer) _ h in
               let found = any_among (is_real_upper nat_eq v object) f.files.numbers
@@ -259,7 +259,7 @@ module _ (world later : World ℕ) (files : AreTrees world) (are : OverlayInvari
               → f.overlay ≡ o
               → overlay_or false (λ v. holds_of (λ u. lies_in_layer nat_eq world u.filesystem u.directory layer) v.upper
               && is_object_of nat_eq n object f v) o ≡ true → is_some (inode_in world n object) ≡ true
-          by f itself None g h = absurd (true≢false (sym h))
+          by f itself None g h = absurd cc
           by f itself (Some v) g h = at f v (ap (λ (x : Filesystem ℕ). x.overlay) itself ∙ g) v.upper refl h
 
   -- Layers that overlap overlapped

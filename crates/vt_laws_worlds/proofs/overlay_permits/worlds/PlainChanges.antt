@@ -120,7 +120,7 @@ module _ (fresh : Fresh ℕ) {world : World ℕ} {location : Location ℕ} {chan
 
       by : (b : Bool) → nat_eq new.number f.number ≡ b
           → (is_overlay (cond b new f) ≡ is_overlay f) × (is_overlay f ≡ true → cond b new f ≡ f)
-      by true e = (ap is_some plain ∙ sym (plain_there e), λ over. absurd (true≢false (sym over ∙ plain_there e)))
+      by true e = (ap is_some plain ∙ sym (plain_there e), λ over. absurd (cc (plain_there e)))
       by false e = (refl, λ over. refl)
 
   overlays_same : overlays later ≡ overlays world

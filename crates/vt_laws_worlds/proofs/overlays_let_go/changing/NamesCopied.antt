@@ -128,7 +128,7 @@ module _ (files : FileTree ℕ) (tree : IsTree files.tree) (numbers : ListsNumbe
       where
         by : (o : Option ℕ) → upper_object (real name.0) ≡ o → is_some o ≡ true
             → IsFine (k + 1) real_later (with_name nat_eq added (unwrap_or o name.0) name.1 copy)
-        by None u h = absurd (true≢false (sym h))
+        by None u h = absurd cc
         by (Some parent) u h = fine_by (with_name nat_eq added parent name.1 copy)
             (λ d n x f. put_same added parent name.1 copy d n
             (λ a b. none_is_some x (sym (fine.free name.0 name.1 object parent
@@ -170,8 +170,7 @@ module _ (files : FileTree ℕ) (tree : IsTree files.tree) (numbers : ListsNumbe
           → ((r : ℕ → Option (Real ℕ)) (u : FileTree ℕ) → IsFine (k + 1) r u → ParentsStand r rest
           → Fine (copied_each nat_eq fresh (k + 1) (MergeOf r u) rest)) → Fine (copied_each nat_eq fresh (k + 1)
           (copy_of nat_eq (MergeOf real upper) object (fresh k) o (is_some p)) rest)
-      by None e p f later = later real upper (skipped k real upper fine)
-          (stand.1 real (λ there. absurd (true≢false (sym there ∙ ap is_some e))))
+      by None e p f later = later real upper (skipped k real upper fine) (stand.1 real (λ there. absurd cc))
       by (Some node) e (Some seen) f later =
           later real upper (skipped k real upper fine) (stand.1 real (λ there. ap is_some f))
       by (Some node) e None f later = later (with_real nat_eq real object (Upper (fresh k))) _

@@ -76,7 +76,7 @@ module _ (fresh : Fresh ℕ) (stack : Stack ℕ) (before : Merge ℕ) (fit : IsF
     where
       by : (o : Option ℕ) → upper_object (ready.soundly.real directory) ≡ o → is_some o ≡ true
           → upper_object (before.real directory) ≡ Some d
-      by None u h = absurd (true≢false (sym h))
+      by None u h = absurd cc
       by (Some seen) u h =
           let is : d ≡ seen = same ∙ ap (λ m. upper_of m directory) ready.soundly.is
           ∙ ap (λ o. unwrap_or o directory) u in

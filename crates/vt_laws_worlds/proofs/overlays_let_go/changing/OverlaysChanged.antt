@@ -182,9 +182,9 @@ module _ {fresh : Fresh ℕ} {world : World ℕ} {location : Location ℕ} {chan
           ∙ ap is_some e))
 
   pub uppers_then : UppersArePlain then_
-  uppers_then = for_all (λ f. is_overlay f ≡ true → All (λ g. has_upper_in f.number g ≡ false) then_.filesystems)
-      (λ is. all_upper merged.number (was merged merged_there (ap is_some can.overlay_there)))
-      (λ is. absurd (true≢false (sym is ∙ layer_plain))) (λ f m is. all_upper f.number (was f m is))
+  uppers_then = for_all (λ f. is_overlay f ≡ true → All (λ g. has_upper_in f.number g ≡ false) then_.filesystems) (λ
+      is. all_upper merged.number (was merged merged_there (ap is_some can.overlay_there))) (λ is. absurd (cc
+      layer_plain)) (λ f m is. all_upper f.number (was f m is))
     where
       was : (f : Filesystem ℕ) → Among f world.filesystems → is_overlay f ≡ true → (g : Filesystem ℕ)
           → Among g world.filesystems → has_upper_in f.number g ≡ false
@@ -359,9 +359,7 @@ module _ {fresh : Fresh ℕ} {world : World ℕ} {location : Location ℕ} {chan
           (subst (λ w. Among f w.filesystems) (is_swap world refl refl) m) is) new_merged merged_then
 
       by : (b : Bool) → nat_eq f.number upper.filesystem ≡ b → b ≡ false
-      by true e =
-          absurd (true≢false (sym (ap (holds_of (λ (l : Layer ℕ). nat_eq f.number l.filesystem)) can.upper_there ∙ e)
-          ∙ has_none))
+      by true e = absurd (cc (can.upper_there, has_none))
       by false e = refl
 
   pub goes_within : (wider : List Inode) → HasThese lost wider

@@ -1,5 +1,5 @@
 -- Each inode of a newly mounted overlay has a name.
-use Rattle.std.proofs.Common.{◌≡◌, ◌≢◌, ◌≤◌, refl, sym, ap, subst, ◌∙◌, true≢false, ⊎_elim, ℕ, nat_eq, eq-eqb, Bool, true, ◌||◌, List, [], ◌∷◌, length, Option, Some, None, is_some, option_and_then, option_map}
+use Rattle.std.proofs.Common.{◌≡◌, ◌≢◌, ◌≤◌, refl, sym, ap, subst, ◌∙◌, ⊎_elim, ℕ, nat_eq, eq-eqb, Bool, true, ◌||◌, List, [], ◌∷◌, length, Option, Some, None, is_some, option_and_then, option_map}
 use Rattle.vt_spec.proofs.Common.{Filesystem, Fresh, HasName, Merged, MergedInode, OpenLayer, Shown, Tree, entry_at, eqb_tells, evens, evens-distinct, inode_count, inode_of, is_among, led, named_in, none_is_some, odds, odds-distinct, overlay_filesystem, same_Some, shown}
 use Rattle.vt_laws_trees.proofs.layers.directories.Fit.{new_overlay_is_tree, new_overlay_lists_numbers}
 use Rattle.vt_laws_trees.proofs.layers.layers.ShownDirectories.{AreOpen, last_of}
@@ -56,7 +56,7 @@ module _ (layers : List (OpenLayer ℕ)) (are_open : AreOpen layers) (longest : 
           → inode_of (inodes layers are_open longest bounded fresh distinct has_upper) n nat_eq ≡ o
           → is_some (option_map (λ inode. inode.node) o) ≡ true
           → (path : List (List ℕ)) × (led tree tree.root path ≡ Some n)
-      by None e h = absurd (true≢false (sym h))
+      by None e h = absurd cc
       by (Some inode) e h =
           let is = is_of_object layers are_open longest bounded fresh distinct has_upper n inode e in (
             is.object.path,

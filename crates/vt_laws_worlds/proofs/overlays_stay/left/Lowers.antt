@@ -1,5 +1,5 @@
 -- A given permit leaves the lower layers of overlays.
-use Rattle.std.proofs.Common.{◌≡◌, refl, sym, ap, subst, ◌∙◌, ℕ, nat_eq, true, true≢false, Option, Some, None, is_some}
+use Rattle.std.proofs.Common.{◌≡◌, refl, ap, subst, ◌∙◌, ℕ, nat_eq, true, Option, Some, None, is_some}
 use Rattle.vt_spec.proofs.Common.{Fresh, IsWorld, Overlay, Permit, Task, World, apply, call_outcome, filesystem_numbered, is_overlay, settled}
 use Rattle.vt_laws_rules.proofs.judged.CallsJudged.{call_is_judged_then_applied}
 use Rattle.vt_laws_worlds.proofs.given.left.Permits.{given_permits_leave_every_world}
@@ -24,7 +24,7 @@ module _ {world : World ℕ} (fresh : Fresh ℕ) (task : Task ℕ) (permit : Per
 
   stays_by : (o : Option (Overlay ℕ)) → (filesystem_numbered nat_eq (settled nat_eq left) number).overlay ≡ o
       → is_some o ≡ true → OverlayStays world (settled nat_eq left) number overlay
-  stays_by None e there = absurd (true≢false (sym there))
+  stays_by None e there = absurd cc
   stays_by (Some now) e there = stays_both world left (settled nat_eq left) number overlay first (swept_stays left
       (under given.call is given.serves given.called given.no_overlay given.few_groups given.judged)
       (overlays_kept given.call is given.serves given.called given.no_overlay given.few_groups

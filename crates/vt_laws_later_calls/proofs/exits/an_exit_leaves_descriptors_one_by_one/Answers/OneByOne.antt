@@ -71,7 +71,7 @@ module _ (fresh : Fresh ℕ) (task : Task ℕ) where
           (closing_comes_nowhere world one number (called_there world.tasks task.name one e)))
           ∙ later changed trees uppers reals (same_mounts world changed refl refl kept)
           ∙ ap (λ tasks. settled nat_eq (namespaces_ended nat_eq (record world { tasks = tasks })))
-          (gone_alike task.name (without_descriptor one number) (name_found world task.name one e) world.tasks)
+          (gone_alike task.name _ (name_found world task.name one e) world.tasks)
         where
           changed : World ℕ
           changed = with_task world (without_descriptor one number)
