@@ -189,7 +189,8 @@ module _ {world : World ℕ} {names : List TaskName} {name called_so : TaskName}
       ap (ran name (Setns called_so) part supply)
       (same_caller (sealing_of enter.it) name enter.it.theirs ∙ enter.called)
       ∙ ran_there enter.it fresh supply task enter.called judged
-      ∙ ap (λ o. granted Done (numbers_raised nat_eq part name [] (settled nat_eq (namespaces_ended nat_eq (record part {
+      ∙ ap (λ o. granted Done (numbers_raised nat_eq part name []
+      (settled nat_eq (namespaces_ended nat_eq (record part {
         tasks = map (replaced_if_called (entered_at task target.namespace (unwrap_or o task.root))) part.tasks;
       }))))) (root_alike enter)
       ∙ ap (λ w. granted Done (numbers_raised nat_eq part name [] (settled nat_eq w))) part_ends in
