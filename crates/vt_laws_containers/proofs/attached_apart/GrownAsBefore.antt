@@ -41,13 +41,14 @@ module _ {world : World ℕ} {names : List TaskName} (sealing : IsSealed world n
   outs_stay : (list : List (Mount ℕ)) → ((x : Mount ℕ) → Among x list → Among x world.mounts)
       → filter is_out (map change list ++ added) ≡ filter is_out list
   outs_stay [] sub = none_added added (λ x m. m)
-  outs_stay (x ∷ rest) sub = by (owns x) refl (outs_stay rest (λ y m. sub y (inr m)))
-    where
-      by : (b : Bool) → owns x ≡ b → filter is_out (map change rest ++ added) ≡ filter is_out rest
-          → filter is_out (map change (x ∷ rest) ++ added) ≡ filter is_out (x ∷ rest)
-      by true own later =
-          cc (own_not_out (change x).namespace (grows.kept x (sub x (inl refl)) own).0, own_not_out x.namespace own)
-      by false other later = cc ((grows.others x (sub x (inl refl)) other).0)
+  outs_stay (x ∷ rest) sub = grind (
+    arith,
+    common_steps,
+    outs_stay rest (λ y m. sub y (inr m)),
+    grows.kept x (sub x (inl refl)),
+    grows.others x (sub x (inl refl)),
+    own_not_out,
+  )
 
   pub others_stay : other_mounts nat_eq left names ≡ other_mounts nat_eq world names
   others_stay = outs_stay world.mounts (λ x m. m)

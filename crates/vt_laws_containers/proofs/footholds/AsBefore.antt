@@ -98,11 +98,7 @@ module _ {world left : World ℕ} {names set : List TaskName} (is : IsWorld nat_
 
   -- on what is new no other is
   none_on_unknown : (number : ℕ) → (IsThere world number → ⊥) → no_outsider_on nat_eq left set number ≡ true
-  none_on_unknown number new = no_outsider_same number ∙ by (no_outsider_on nat_eq world names number) refl
-    where
-      by : (b : Bool) → no_outsider_on nat_eq world names number ≡ b → b ≡ true
-      by true e = refl
-      by false e = absurd (new (others_there world names is number e))
+  none_on_unknown number new = grind (arith, common_steps, no_outsider_same, others_there world names is number)
 
   -- an overlay that is left has no more layers
   still_free : (number : ℕ) → used_alone nat_eq world names number ≡ true → used_alone nat_eq left set number ≡ true

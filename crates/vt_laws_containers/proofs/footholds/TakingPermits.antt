@@ -4,7 +4,7 @@ use Rattle.vt_spec.proofs.Common.{Among, Call, Exit, Fresh, IsWorld, Location, M
 use Rattle.vt_laws_containers.proofs.footholds.ServedCalls.{IsServedCall}
 use Rattle.vt_laws_containers.proofs.Common.{IsApart, IsCallOfTheirs, IsMember, IsTheirs, NothingNew, all_permits_fit, apart_if_sealed, caller_in, filter_less, found_itself, left, mounts_overlay, name_found, namespaces_taken_away, of_set, permits_are_for_their_calls, places_left, raised_is, sealing_of}
 use Rattle.vt_laws_sealed.proofs.outsiders.Unmounting.{others_go}
-use Rattle.vt_laws_members.proofs.changes.letting_go.Entering.{Enters, entered_was, enters, stands}
+use Rattle.vt_laws_members.proofs.changes.letting_go.Entering.{Enters, EntersTheirs, entered_was, enters, stands}
 use Rattle.vt_laws_members.proofs.changes.letting_go.Leaving.{is_task, its, its_name, member, new_old, set_from, set_parts, stays}
 use Rattle.vt_laws_containers.specs.PermitFootholds.{DetachingGivesNoFoothold, is_of_detaching}
 use Rattle.vt_laws_containers.proofs.footholds.AsBefore.{OthersAsBefore}
@@ -173,17 +173,16 @@ module _ {world : World ℕ} {names : List TaskName} {name : TaskName} (it : IsC
       (its_name it task called) (exit_before changed)
 
 -- setns(2)
-pub entering_before : (world : World ℕ) (names : List TaskName) (name target_name : TaskName)
-    (it : IsCallOfTheirs world names name (Setns target_name)) (task : Task ℕ)
-    (called : task_called world name ≡ Some task) (target : Task ℕ) (target_in : Among target (members world names))
-    (fresh : Fresh ℕ) (changed : List ℕ) → IsWorld nat_eq (numbers_raised nat_eq world name changed
+pub entering_before : {world : World ℕ} {names : List TaskName} {name target_name : TaskName} {task target : Task ℕ}
+    (enter : EntersTheirs world names name target_name task target) (fresh : Fresh ℕ) (changed : List ℕ)
+    → IsWorld nat_eq (numbers_raised nat_eq world name changed
     (settled nat_eq (apply nat_eq fresh world task (ToEnterNamespace target.namespace)).world))
     → OthersAsBefore world (apply nat_eq fresh world task (ToEnterNamespace target.namespace)).world names names
-entering_before world names name target_name it task called target target_in fresh changed ends =
-    ended_as_before it names _ (others_unmoved world names name _ it task called _ refl)
-    (λ n h. entered_was it task called _ target_in n (sym (ap (list_any (λ (t : Task ℕ). nat_eq n t.namespace))
-    (of_set it task called _ (stands it task called target target_in) _)) ∙ h))
-    (places_left it task called _ (stands it task called target target_in)) _ ends
+entering_before {world} {names} {name} {target_name} {task} enter fresh changed ends =
+    ended_as_before enter.it names _ (others_unmoved world names name _ enter.it task enter.called _ refl)
+    (λ n h. entered_was enter n (sym (ap (list_any (λ (t : Task ℕ). nat_eq n t.namespace))
+    (of_set enter.it task enter.called _ (stands enter) _)) ∙ h))
+    (places_left enter.it task enter.called _ (stands enter)) _ ends
 
 -- umount(2)
 module _ {world : World ℕ} {names : List TaskName} {name : TaskName} {call : Call} {fresh : Fresh ℕ}
@@ -275,8 +274,8 @@ module _ {world : World ℕ} {names : List TaskName} {name : TaskName} {call : C
           subst (λ k. IsWorld nat_eq (numbers_raised nat_eq world name []
           (settled nat_eq (apply nat_eq fresh world task (ToEnterNamespace k)).world))
           → OthersAsBefore world (apply nat_eq fresh world task (ToEnterNamespace k)).world names names)
-          (sym (ap (space_of n) target.2)) (entering_before world names name target_name its_call task it.called
-          target.0 target.1 fresh []) ended
+          (sym (ap (space_of n) target.2)) (entering_before
+          (record { it = its_call; called = it.called; target_in = target.1 }) fresh []) ended
   of_detaching (ToUnmount number) judged e ends = umount_before number judged ends
   of_detaching permit judged e ends = absurd (true≢false (sym e))
 

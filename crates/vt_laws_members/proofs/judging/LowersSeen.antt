@@ -1,7 +1,7 @@
 -- What lower layers of overlays that members reach have at a path is in the part.
-use Rattle.std.proofs.Common.{◌≡◌, refl, sym, ap, ◌∙◌, inl, inr, ⊎_elim, ℕ, nat_eq, Bool, true, false, cond, not, List, [], ◌∷◌, ◌++◌, filter, find, flat_map, map, Option, Some, None, ◌||◌, ◌&&◌, eq-eqb, eqb-true, arith, option_to_list, unwrap_or, filter_map}
+use Rattle.std.proofs.Common.{◌≡◌, refl, sym, ap, ◌∙◌, inl, inr, ℕ, nat_eq, Bool, true, false, cond, not, List, [], ◌∷◌, ◌++◌, filter, find, flat_map, map, Option, Some, None, ◌||◌, ◌&&◌, eq-eqb, eqb-true, arith, option_to_list, unwrap_or, filter_map}
 use Rattle.vt_spec.proofs.Common.{cases_Bool, Among, FileTree, Filesystem, IsTree, IsWorld, Layer, ListsNumbers, Location, Node, Overlay, TaskName, World, among-append_left, among-append_right, among-filter, among-flat_map, among-map, among_from_all, among_numbers, and_from, any_from_among, change_layers, common_steps, cons_option, cuts, filesystem_at, filesystem_numbered, found_among, has_lower_directory, has_lower_directory_at, hides, is_among, is_among_numbers, is_directory_node, led, lies_in_own_lower, list_any, mount_at, no_filesystem, node_led, none_is_some, open_layer, overlay_or, own_lowers, part_of, part_of_filesystem, part_of_lower, path_down, prefixes, used_directly, used_filesystems, view_of, when}
-use Rattle.vt_laws_members.proofs.Common.{cases_Option, among-each_once, found, found_filesystem, layer_directory, led_is_there, led_under, lowers_have_directory, shown_how, shown_number}
+use Rattle.vt_laws_members.proofs.Common.{cases_Option, among-each_once, found, found_filesystem, layer_directory, led_is_there, led_under, lowers_have_directory, shown_number}
 use Rattle.vt_laws_trees.proofs.layers.views.Stay.{led_where}
 use Rattle.vt_laws_members.proofs.judging.SeenInPart.{OnTheirs, filesystem_alike, theirs_directly}
 

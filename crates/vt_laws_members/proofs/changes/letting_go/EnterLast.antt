@@ -8,15 +8,15 @@ use Rattle.vt_laws_members.specs.Changes.LettingGo.{SetnsEndsAlike}
 use Rattle.vt_laws_members.proofs.changes.Common.{Detaches, SetIsLess, by_known, ended, ended_alike, ended_part, flags_same, group_lost, in_same, in_space, numbers_in, own_in, part_mounts, ran, ran_there, run_by, same_caller, space_in_part}
 use Rattle.vt_laws_members.proofs.changes.letting_go.Callers.{all_in_set, of_set, others_left, places_left, replaced_apart, roots_left, same_set}
 use Rattle.vt_laws_members.proofs.changes.letting_go.Detached.{detached_parts}
-use Rattle.vt_laws_members.proofs.changes.letting_go.Entering.{Enters, entered, entered_itself, entered_was, entering_alike, enters, exit_it, mine, replaced, root_alike, stands}
+use Rattle.vt_laws_members.proofs.changes.letting_go.Entering.{Enters, EntersTheirs, entered, entered_itself, entered_was, entering_alike, enters, exit_it, mine, replaced, root_alike, stands}
 use Rattle.vt_laws_members.proofs.changes.letting_go.ExitLast.{ends_so}
 use Rattle.vt_laws_members.proofs.changes.letting_go.Leaving.{in_world, part_listed}
 
-module _ {world : World ℕ} {names : List TaskName} {name called_so : TaskName}
-    (it : IsCallOfTheirs world names name (Setns called_so)) {task : Task ℕ}
-    (called : task_called world name ≡ Some task) (target : Task ℕ) (target_in : Among target (members world names))
-    (away : nat_eq task.namespace target.namespace ≡ false) (empty : list_any (λ (t : Task ℕ). nat_eq task.namespace
-    t.namespace) (filter (λ (t : Task ℕ). not (same_name name t.name)) world.tasks) ≡ false) where
+module _ {world : World ℕ} {names : List TaskName} {name called_so : TaskName} {task target : Task ℕ}
+    (enter : EntersTheirs world names name called_so task target)
+    (away : nat_eq task.namespace target.namespace ≡ false)
+    (empty : list_any (λ (t : Task ℕ). nat_eq task.namespace t.namespace)
+    (filter (λ (t : Task ℕ). not (same_name name t.name)) world.tasks) ≡ false) where
   abbrev part : World ℕ
   part = part_of nat_eq world names
 
@@ -27,13 +27,13 @@ module _ {world : World ℕ} {names : List TaskName} {name called_so : TaskName}
   k = task.namespace
 
   exits : IsCallOfTheirs world names name Exit
-  exits = exit_it it task called target target_in
+  exits = exit_it enter
 
   abbrev moved : Task ℕ → Task ℕ
-  moved = replaced it task called target target_in
+  moved = replaced enter
 
   abbrev caller : Task ℕ
-  caller = mine it task called target target_in
+  caller = mine enter
 
   abbrev rest : List (Task ℕ)
   rest = map moved world.tasks
@@ -45,36 +45,33 @@ module _ {world : World ℕ} {names : List TaskName} {name called_so : TaskName}
   in_space_of n t = nat_eq n t.namespace
 
   known : (t : Task ℕ) → Among t old → Among t world.tasks
-  known = in_world exits task called
+  known = in_world exits task enter.called
 
   how : (t : Task ℕ) → Among t world.tasks
       → ((moved t ≡ caller) × (task ≡ t)) ⊎ ((moved t ≡ t) × (same_name task.name t.name ≡ false))
-  how = replaced_apart it task called caller refl
+  how = replaced_apart enter.it task enter.called caller refl
 
   set_is : filter (is_member_task names) rest ≡ map moved old
-  set_is = of_set it task called caller (stands it task called target target_in) world.tasks
+  set_is = of_set enter.it task enter.called caller (stands enter) world.tasks
 
-  less : SetIsLess world names it.is names rest
+  less : SetIsLess world names enter.it.is names rest
   less = record {
-    entered = λ n h. entered_was it task called target target_in n
-        (cc set_is);
-    roots = roots_left it task called caller
-        (stands it task called target target_in);
-    places = places_left it task called caller
-        (stands it task called target target_in);
+    entered = λ n h. entered_was enter n (cc set_is);
+    roots = roots_left enter.it task enter.called caller (stands enter);
+    places = places_left enter.it task enter.called caller (stands enter);
   }
 
   theirs_ends : is_own_namespace nat_eq world names k ≡ true
-  theirs_ends = any_from_among (in_space_of k) old task (caller_in it called).among (eq-eqb k k refl)
+  theirs_ends = any_from_among (in_space_of k) old task (caller_in enter.it enter.called).among (eq-eqb k k refl)
 
   abbrev gone : List ℕ
   gone = numbers_in world k
 
   gone_same : (m : Mount ℕ) → Among m world.mounts → is_going nat_eq gone m.number ≡ in_space k m
-  gone_same m n = in_same world k it.is.mounts.one_number m n
+  gone_same m n = in_same world k enter.it.is.mounts.one_number m n
 
   own_go : (m : Mount ℕ) → Among m world.mounts → is_going nat_eq gone m.number ≡ true → is_own world names old m ≡ true
-  own_go m there h = own_in (sealing_of it) k theirs_ends m (sym (gone_same m there) ∙ h)
+  own_go m there h = own_in (sealing_of enter.it) k theirs_ends m (sym (gone_same m there) ∙ h)
 
   abbrev lasts : ℕ → Bool
   lasts n = not (nat_eq k n)
@@ -96,7 +93,7 @@ module _ {world : World ℕ} {names : List TaskName} {name called_so : TaskName}
         ⊎_elim (λ its. ap (in_space_of k) its.0 ∙ away) (λ same. ap (in_space_of k) same.0 ∙ none_among
             (in_space_of k) (filter (λ (t : Task ℕ). not (same_name name t.name)) world.tasks) empty from.0
             (among-filter (λ (t : Task ℕ). not (same_name name t.name)) world.tasks from.0 (within from.0 from.1)
-            (ap not (ap (λ n. same_name n from.0.name) (name_found world name task called) ∙ same.1))))
+            (ap not (ap (λ n. same_name n from.0.name) (name_found world name task enter.called) ∙ same.1))))
             (how from.0 (within from.0 from.1)),
       ))
 
@@ -113,11 +110,11 @@ module _ {world : World ℕ} {names : List TaskName} {name called_so : TaskName}
   flag = group_lost world gone
 
   same : filter (is_member_task names) rest_too ≡ filter (is_member_task names) rest
-  same = same_set it task called caller (stands it task called target target_in)
+  same = same_set enter.it task enter.called caller (stands enter)
 
   abbrev ends : Detaches world names names gone
   ends = record {
-    go = record { sealing = sealing_of it; own_go = own_go };
+    go = record { sealing = sealing_of enter.it; own_go = own_go };
     lasts = lasts;
     tasks = rest;
     tasks_too = rest_too;
@@ -147,24 +144,24 @@ module _ {world : World ℕ} {names : List TaskName} {name called_so : TaskName}
       by n m false e = or_right (nat_eq k n.number) _ (still_in n.number e list within (live n m))
 
   world_ends : namespaces_ended nat_eq (record world { tasks = rest }) ≡ v
-  world_ends = ends_so (record world { tasks = rest }) k gone refl it.is.namespaces.mounts_listed
+  world_ends = ends_so (record world { tasks = rest }) k gone refl enter.it.is.namespaces.mounts_listed
       (none_in world.tasks (λ t m. m)) (others_live world world.tasks (λ t m. m)
-      (λ n m. among_from_list_all (has_tasks nat_eq world) world.namespaces it.is.namespaces.namespaces_live n m))
+      (λ n m. among_from_list_all (has_tasks nat_eq world) world.namespaces enter.it.is.namespaces.namespaces_live n m))
       flag refl
 
   part_ends : namespaces_ended nat_eq (record part { tasks = rest_too }) ≡ v_part
-  part_ends = ends_so (record part { tasks = rest_too }) k gone (cc (space_in_part (sealing_of it) k theirs_ends))
-      (part_listed exits task called) (none_in part.tasks known) (others_live part part.tasks known
+  part_ends = ends_so (record part { tasks = rest_too }) k gone (cc (space_in_part (sealing_of enter.it) k theirs_ends))
+      (part_listed exits task enter.called) (none_in part.tasks known) (others_live part part.tasks known
       (λ n m. (among-from_filter (λ (s : Namespace ℕ). list_any (in_space_of s.number) old) world.namespaces n m).1))
       flag (sym (flags_same ends.go))
 
   kept : MountInvariants nat_eq v
   kept = rw (← world_ends) (ended_namespaces_keep_mounts (record world { tasks = rest })
-      (same_mounts world (record world { tasks = rest }) refl refl it.is.mounts))
+      (same_mounts world (record world { tasks = rest }) refl refl enter.it.is.mounts))
 
   kept_there : MountInvariants nat_eq v_part
   kept_there = rw (← part_ends) (ended_namespaces_keep_mounts (record part { tasks = rest_too })
-      (same_mounts part (record part { tasks = rest_too }) refl refl (part_mounts (sealing_of it))))
+      (same_mounts part (record part { tasks = rest_too }) refl refl (part_mounts (sealing_of enter.it))))
 
   abbrev left_one : World ℕ
   left_one = numbers_raised nat_eq world name [] (settled nat_eq v)
@@ -174,8 +171,8 @@ module _ {world : World ℕ} {names : List TaskName} {name called_so : TaskName}
 
   parts : part_of nat_eq left_one names ≡ part_of nat_eq left_too names
   parts = detached_parts ends (record {
-    others = others_left it task called caller (stands it task called target target_in);
-    all = all_in_set it task called caller (stands it task called target target_in);
+    others = others_left enter.it task enter.called caller (stands enter);
+    all = all_in_set enter.it task enter.called caller (stands enter);
     still = mounts_stay;
     kept = kept;
     kept_there = kept_there;
@@ -186,14 +183,16 @@ module _ {world : World ℕ} {names : List TaskName} {name called_so : TaskName}
       → EndsAlike world names name (Setns called_so) fresh supply
   last_setns_alike fresh supply judged =
       let first : policy nat_eq fresh world name (Setns called_so) ≡ granted Done left_one =
-      ap (ran name (Setns called_so) world fresh) called ∙ ap (run_by it world fresh task) judged
+      ap (ran name (Setns called_so) world fresh) enter.called ∙ ap (run_by enter.it world fresh task) judged
       ∙ ap (λ w. granted Done (numbers_raised nat_eq world name [] (settled nat_eq w))) world_ends in
       let second : policy nat_eq supply part name (Setns called_so) ≡ granted Done left_too =
-      ap (ran name (Setns called_so) part supply) (same_caller (sealing_of it) name it.theirs ∙ called) ∙ ran_there it
-      fresh supply task called judged ∙ ap (λ o. granted Done (numbers_raised nat_eq part name []
+      ap (ran name (Setns called_so) part supply)
+      (same_caller (sealing_of enter.it) name enter.it.theirs ∙ enter.called)
+      ∙ ran_there enter.it fresh supply task enter.called judged
+      ∙ ap (λ o. granted Done (numbers_raised nat_eq part name []
       (settled nat_eq (namespaces_ended nat_eq (record part {
         tasks = map (replaced_if_called (entered_at task target.namespace (unwrap_or o task.root))) part.tasks;
-      }))))) (root_alike it task called target target_in)
+      }))))) (root_alike enter)
       ∙ ap (λ w. granted Done (numbers_raised nat_eq part name [] (settled nat_eq w))) part_ends in
       ended_alike names name (Setns called_so) first second (record { answer = refl; part = parts })
 
@@ -204,28 +203,25 @@ module _ {world : World ℕ} {names : List TaskName} {name called_so : TaskName}
   abbrev stays : Task ℕ → Bool
   stays t = not (same_name name t.name)
 
-  granted_alike : (target : Task ℕ) → Among target (members world names)
+  granted_alike : (target : Task ℕ) → EntersTheirs world names name called_so task target
       → judge_in nat_eq fresh world task (Setns called_so) ≡ Ok (ToEnterNamespace target.namespace)
       → (b c : Bool) → nat_eq task.namespace target.namespace ≡ b
       → list_any (λ (t : Task ℕ). nat_eq task.namespace t.namespace) (filter stays world.tasks) ≡ c
       → EndsAlike world names name (Setns called_so) fresh supply
-  granted_alike target target_in judged true c e f =
-      entering_alike it task called target target_in
-      (entered_itself it task called target target_in (sym (eqb-true task.namespace target.namespace e))) fresh supply
-      judged
-  granted_alike target target_in judged false true e f =
+  granted_alike target enter judged true c e f = entering_alike enter
+      (entered_itself enter (sym (eqb-true task.namespace target.namespace e))) fresh supply judged
+  granted_alike target enter judged false true e f =
       let other = any_among (λ (t : Task ℕ). nat_eq task.namespace t.namespace) (filter stays world.tasks) f in
       let from = among-from_filter stays world.tasks other.0 other.1 in
-      entering_alike it task called target target_in
-      (entered it task called target target_in other.0 from.0 (sym (eqb-true task.namespace other.0.namespace other.2))
+      entering_alike enter (entered enter other.0 from.0 (sym (eqb-true task.namespace other.0.namespace other.2))
       (not-true (same_name name other.0.name) from.1)) fresh supply judged
-  granted_alike target target_in judged false false e f =
-      last_setns_alike it called target target_in e f fresh supply judged
+  granted_alike target enter judged false false e f = last_setns_alike enter e f fresh supply judged
 
   permitted_alike : (permit : Permit ℕ) → judge_in nat_eq fresh world task (Setns called_so) ≡ Ok permit
       → Enters (caller_in it called) permit → EndsAlike world names name (Setns called_so) fresh supply
   permitted_alike permit judged its =
-      granted_alike its.0 its.1 (judged ∙ ap Ok its.2) (nat_eq task.namespace its.0.namespace)
+      granted_alike its.0 (record { it = it; called = called; target_in = its.1 }) (judged ∙ ap Ok its.2)
+      (nat_eq task.namespace its.0.namespace)
       (list_any (λ (t : Task ℕ). nat_eq task.namespace t.namespace) (filter stays world.tasks)) refl refl
 
 pub setns_ends_alike : SetnsEndsAlike
