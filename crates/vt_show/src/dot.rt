@@ -34,18 +34,7 @@ fn push_edge(text: &mut Draft, from: Drawn, to: Drawn, marks: &str) {
     text.push(";\n");
 }
 
-// Appends a mount with its number and its path.
-fn push_shown(text: &mut Draft, shown: &MountShown) {
-    text.push("    \"");
-    push_mount(text, shown.place);
-    text.push("\" [label=\"");
-    push_mount(text, shown.place);
-    text.push(" ");
-    push_escaped(text, shown.path());
-    text.push("\"];\n");
-}
-
-// Appends the mounts of a namespace in a frame.
+// Appends the mounts of a namespace in a frame, each with its number and its path.
 fn push_namespace(text: &mut Draft, namespace: usize, mounts: &[MountShown]) {
     text.push("  subgraph cluster_");
     text.push_number(namespace as u64);
@@ -53,7 +42,13 @@ fn push_namespace(text: &mut Draft, namespace: usize, mounts: &[MountShown]) {
     text.push_number(namespace as u64);
     text.push("\";\n");
     for shown in mounts {
-        push_shown(text, shown);
+        text.push("    \"");
+        push_mount(text, shown.place);
+        text.push("\" [label=\"");
+        push_mount(text, shown.place);
+        text.push(" ");
+        push_escaped(text, shown.path());
+        text.push("\"];\n");
     }
     text.push("  }\n");
 }
