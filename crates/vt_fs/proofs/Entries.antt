@@ -1,13 +1,14 @@
 -- The filesystems as the map keeps them, and as contracts see them.
 use Rattle.std.proofs.Common.{◌≡◌, refl, sym, ap, ◌∙◌, ℕ, suc, Bool, true, false, T, cond, ◌||◌, ◌&&◌, nat_eq, nat_lt, eq-eqb, List, [], ◌∷◌, ◌++◌, map, filter, not, slice_get, Option, Some, None, option_map, unwrap_or, is_some, length, IsSome, eqb-true}
-use Rattle.vt_spec.proofs.Common.{AllByRecursion, T_and_left, T_and_right, any_pair, keys_of, list_all, list_any, lookup}
+use Rattle.vt_spec.proofs.Common.{AllByRecursion, T_and_left, T_and_right, any_pair, keys_of, list_all, list_any, lookup, values_of}
 use Rattle.std.specs.List.{IsDistinct}
-use Rattle.indexmap.specs.IndexMap.{IndexMap, WritesThrough, get_by}
+use Rattle.indexmap.specs.IndexMap.{IndexMap, WritesThrough, get_by, set_value_at}
 use Rattle.vt_location.specs.declared.numbers.FilesystemId.{FilesystemId}
 use Rattle.vt_location.specs.InOrder.{in_order_by}
 use Rattle.vt_fs.specs.declared.filesystems.Filesystem.{Filesystem}
 use Rattle.vt_fs.specs.FilesystemsValue.{FilesystemEntry, Filesystems, entries_in, entry_at, entry_of, held, held_entry, no_entry, with_changed, without}
 use Rattle.vt_location.proofs.OrderLemmas.{IsChanged, apart-below, change_kept, changed-by, in_order-changed, in_order-last, in_order-removed, is_above, length-in_order, looked-in_order, rises, rises-in_order}
+use Rattle.vt_spec.proofs.Truths.{nat_eq_turned}
 pub use Rattle.vt_spec.proofs.Truths.{or_false_left}
 pub use Rattle.vt_spec.proofs.Truths.{or_false_right}
 
@@ -46,6 +47,36 @@ first_found id first x (e ∷ es) at is =
     let here : e ≡ (first, x) = cc in
     sym (ap (λ e. lookup (is_key id.count) (e ∷ es)) here ∙ ap (λ b. cond b (Some x) (lookup (is_key id.count) es))
     (eq-eqb id.count first.count (sym (eqb-true first.count id.count is))))
+
+-- the first filesystem, where it is the one of a number, is what is found, and what is changed
+pub found_first : (id : FilesystemId) (x : Filesystem) (es : List (FilesystemId × Filesystem))
+    → option_map (λ e. e.0) (slice_get es 0) ≡ Some id → Some x ≡ slice_get (values_of es) 0
+    → Some x ≡ lookup (is_key id.count) es
+found_first id x [] first at = absurd cc
+found_first id x (e ∷ es) first at =
+    let here : e.0 ≡ id = cc in
+    at ∙ sym (ap (λ b. cond b (Some e.1) (lookup (is_key id.count) es))
+    (eq-eqb id.count e.0.count (ap count_of (sym here))))
+
+pub first_there : {C : Type 0} (id : FilesystemId) (es : List (FilesystemId × Filesystem))
+    → option_map (λ e. e.0) (slice_get es 0) ≡ Some id → None ≡ slice_get (values_of es) 0 → C
+first_there id [] first none = absurd cc
+first_there id (e ∷ es) first none = absurd cc
+
+set_first : (id : FilesystemId) (w : Filesystem) (es : List (FilesystemId × Filesystem))
+    → option_map (λ e. e.0) (slice_get es 0) ≡ Some id → (q : FilesystemId)
+    → lookup (key_eq q) (set_value_at es 0 w) ≡ cond (key_eq id q) (Some w) (lookup (key_eq q) es)
+set_first id w [] first q = absurd cc
+set_first id w (e ∷ es) first q =
+    let here : e.0 ≡ id = cc in
+    by (key_eq q e.0) (key_eq id q) (nat_eq_turned q.count e.0.count ∙ ap (λ id. key_eq id q) here)
+  where
+    by : (b c : Bool) → b ≡ c
+        → cond b (Some w) (lookup (key_eq q) es) ≡ cond c (Some w) (cond b (Some e.1) (lookup (key_eq q) es))
+    by true true is = refl
+    by false false is = refl
+    by true false is = absurd cc
+    by false true is = absurd cc
 
 module _ (f : ℕ) where
   -- a count finds the filesystem that it is the key of
@@ -167,6 +198,17 @@ writes f written change m n fs x w view there is so through = held-changed f wri
   where
     some : IsSome (get_by (is_key f) m)
     some = ap is_some there
+
+pub writes_first : (id : FilesystemId) (written : Filesystem → Filesystem) (change : FilesystemEntry → FilesystemEntry)
+    (es new : List (FilesystemId × Filesystem)) (fs : Filesystems) (x w : Filesystem) → held es ≡ fs
+    → option_map (λ e. e.0) (slice_get es 0) ≡ Some id → Some x ≡ slice_get (values_of es) 0 → w ≡ written x
+    → ((k : ℕ) (one : Filesystem) → of_count k (written one) ≡ change (of_count k one))
+    → new ≡ set_value_at es 0 w → held new ≡ with_changed id.count change fs
+writes_first id written change es new fs x w view first at is so sets =
+    held-changed id.count written change es new so
+    (changed-by count_of whole id written es new x w (sym (found_first id x es first at)) is
+    (λ q. ap (lookup (key_eq q)) sets ∙ set_first id w es first q))
+    ∙ ap (with_changed id.count change) view
 
 pub writes_none : (f : ℕ) (change : FilesystemEntry → FilesystemEntry) (es new : List (FilesystemId × Filesystem))
     (fs : Filesystems) → held es ≡ fs → lookup (is_key f) es ≡ None → new ≡ es → held new ≡ with_changed f change fs

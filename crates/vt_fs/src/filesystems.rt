@@ -1,5 +1,5 @@
 //! `Filesystems`, and the calls that look at them and change them.
-ghost use Rattle.std.specs.Prelude.{◌≡◌, ℕ, [], ◌+◌, ◌-◌, ◌++◌, ◌∷◌, ◌↔◌, ◌≤◌, nat_eq, nat_le, ◌&&◌, length, map, drop, take, true, false, nat_lt, None, Some, IfOk, IfSome, IsOk, IsTrue, OnOk, OnErr, ◌<◌, is_some, option_copied, option_map, IsErr};
+ghost use Rattle.std.specs.Prelude.{◌≡◌, ℕ, [], ◌+◌, ◌-◌, ◌++◌, ◌∷◌, ◌↔◌, ◌≤◌, nat_eq, nat_le, ◌&&◌, length, map, drop, take, true, false, nat_lt, None, Some, IfOk, IfSome, IsOk, IsTrue, OnOk, OnErr, ◌<◌, is_some, option_copied, option_map, slice_get, IsErr};
 ghost use Rattle.std.specs.Option.{option_copied_mut};
 ghost use Rattle.std.specs.Borrow.{sem};
 ghost use Rattle.std.specs.List.{list_all};
@@ -99,6 +99,17 @@ fn found_under(
     }
 }
 
+// Whether this is the first filesystem.
+#[inline(always)]
+fn is_first(by_number: &IndexMap<FilesystemId, Filesystem>, id: FilesystemId) -> bool
+    ensures { result ≡ true → option_map (λ entry. entry.0) (slice_get by_number.now.entries 0) ≡ Some id }
+{
+    match by_number.first() {
+        Some((first, _)) => *first == id,
+        None => false,
+    }
+}
+
 /// The plain filesystems. Each is a tree of inodes in slots of its own.
 ///
 /// They are kept by hash, in no order, so that making one and removing one cost the same however many there are; their
@@ -149,13 +160,19 @@ impl Filesystems {
         Some(&found.tree)
     }
 
-    // The tree of a filesystem, for a change.
+    // The tree of a filesystem, for a change. The first one is looked for as by `found_under`.
     fn get_mut(&mut self, filesystem: FilesystemId) -> Option<&mut Tree>
         ensures* writes_back { sem 𝓛 (lends_tree self.entry filesystem.count result) }
         ensures value { option_copied_mut result
             ≡ option_map (λ entry. entry.tree) (entry_of self.old filesystem.count) }
         ensures apart { any_pair (λ a b. nat_eq a.count b.count) self.old ≡ false }
     {
+        if is_first(&self.by_number, filesystem) {
+            return match self.by_number.get_index_mut(0) {
+                Some(found) => Some(found.tree_mut()),
+                None => None,
+            };
+        }
         match self.by_number.get_mut(&filesystem) {
             Some(found) => Some(found.tree_mut()),
             None => None,

@@ -8,7 +8,7 @@ use crate::passed::Passed;
 use vt_cred::{MountFlags, Rights};
 use vt_layers::{LookAtLayers, Lower};
 use vt_location::{Location, Mount, MountId, NamespaceId, NodeRef};
-use vt_looks::{Asked, Entry, Ground, Look, LookAtMounts};
+use vt_looks::{Asked, Entered, Entry, Ground, Look, LookAtMounts};
 use vt_node::Node;
 use vt_permits::Attachment;
 use vt_request::TaskName;
@@ -71,6 +71,10 @@ impl<'a, L: LookAtMounts> Look for Lenient<'a, L> {
 
     fn topmost(&self, at: Location) -> Location {
         self.world.topmost(at)
+    }
+
+    fn entered(&self, at: Location) -> Option<Entered> {
+        self.world.entered(at)
     }
 
     fn is_mount_point_in(&self, namespace: NamespaceId, at: Location) -> bool {

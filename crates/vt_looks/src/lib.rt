@@ -7,5 +7,5 @@ mod look;
 mod places;
 
 pub use asked::Asked;
-pub use look::{Entry, Ground, Look, LookAtMounts};
+pub use look::{Entered, Entry, Ground, Look, LookAtMounts};
 pub use places::{LastWord, OldPlace, Place};

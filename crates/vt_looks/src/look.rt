@@ -1,5 +1,5 @@
 //! The traits `Look` and `LookAtMounts`.
-ghost use Rattle.std.specs.Prelude.{◌≡◌, false, nat_eq, option_copied, option_map, Bool, IfErr, IfOk, IfSome, Ok, Option, Some, ℕ};
+ghost use Rattle.std.specs.Prelude.{◌≡◌, false, nat_eq, option_copied, option_map, Bool, IfErr, IfOk, IfSome, Ok, Option, Some, unwrap_or, ℕ};
 ghost use Rattle.vt_spec.specs.declared.errors.Rule.TheVariants.{S5};
 ghost use Rattle.vt_spec.specs.Errors.{denial, unless};
 ghost use Rattle.vt_spec.specs.Language.Changes.{Change};
@@ -36,6 +36,14 @@ pub struct Ground {
     pub is_bare: bool,
 }
 
+/// Where a walk comes to that enters the mounts over a location.
+#[derive(Clone, Copy, Debug)]
+pub struct Entered {
+    /// The root of the topmost mount.
+    pub root: Location,
+    pub ground: Ground,
+}
+
 /// What a name of a directory leads to, and its real object, as `node` lends it.
 #[derive(Clone, Copy, Debug)]
 pub struct Entry<'a> {
@@ -67,6 +75,12 @@ pub trait Look {
     /// The root of the topmost mount over a location, or the location itself.
     fn topmost(&self, at: Location) -> Location
         ensures { location_of result ≡ topmost (looks self.now) (location_of at) };
+
+    /// As `topmost`, with what a walk keeps of the mount that it enters; nothing if no mount stands at the location.
+    fn entered(&self, at: Location) -> Option<Entered>
+        ensures root { unwrap_or (option_map (λ entered. location_of entered.root) result) (location_of at)
+            ≡ topmost (looks self.now) (location_of at) }
+        ensures ground { IfSome result (λ entered. IsGround (looks self.now) entered.root.mount entered.ground) };
 
     /// Whether a mount of this namespace stands on a directory, through whatever mount that is seen: EBUSY of rmdir(2).
     fn is_mount_point_in(&self, namespace: NamespaceId, at: Location) -> bool

@@ -1,14 +1,16 @@
 -- What the definitions see of the mounts that are kept.
-use Rattle.std.specs.Prelude.{Bool, List, Option, [], filter, find, if◌then◌else◌, is_some, map, nat_eq, nat_lt, not, option_map, true, unwrap_or, ℕ, ◌&&◌, ◌++◌, ◌+◌, ◌-◌, ◌≡◌, ◌∷◌}
+use Rattle.std.specs.Prelude.{Bool, List, Option, Some, [], filter, find, if◌then◌else◌, is_some, map, nat_eq, nat_lt, not, option_map, true, unwrap_or, ℕ, ◌&&◌, ◌++◌, ◌+◌, ◌-◌, ◌≡◌, ◌∷◌}
 use Rattle.std.specs.List.{list_all}
 use Rattle.std.specs.FinMap.Entries.{put}
 use Rattle.std.specs.Ordering.{nat_cmp}
 use Rattle.std.specs.declared.cmp.Ordering.{Ordering}
 use Rattle.vt_spec.specs.Lists.{holds_of}
 use Rattle.vt_spec.specs.Machine.Mounts as meant
+use Rattle.vt_location.specs.declared.locations.Location.{Location}
 use Rattle.vt_location.specs.declared.mounts.Mount.{Mount}
 use Rattle.vt_location.specs.declared.numbers.MountId.{MountId}
 use Rattle.vt_location.specs.MountValue.{mount_of}
+use Rattle.vt_location.specs.Numbers.{filesystem_number, mount_number}
 use Rattle.vt_mount.specs.declared.mounted.Mounted.{Mounted}
 
 -- a mount, how many roots, working directories and descriptors are on it, and how many of these are open for writing
@@ -65,6 +67,11 @@ is_unused entry = not (is_some entry.mount.namespace) && nat_eq entry.uses 0
 -- the mount's mount point is on the inode with this number, through whatever mount
 abbrev pub stands_over : ℕ → meant.Mount ℕ → Bool
 stands_over inode mount = holds_of (λ place. nat_eq place.node inode) mount.mount_point
+
+-- the mount of a location shows the filesystem of its node
+abbrev pub IsShown : List (meant.Mount ℕ) → Location → Type 0
+IsShown mounts at = option_map (λ mount. mount.filesystem)
+    (find (λ mount. nat_eq (mount_number at.mount) mount.number) mounts) ≡ Some (filesystem_number at.node.filesystem)
 
 -- Mounts as they are kept
 

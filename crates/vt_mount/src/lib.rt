@@ -16,3 +16,4 @@ mod trees;
 pub use changes::Left;
 pub use mounts::Mounts;
 pub use moving::{Moved, NewPoint};
+pub use places::Top;

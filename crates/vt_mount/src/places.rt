@@ -1,15 +1,23 @@
 //! Which mounts are at a location, on a mount, on an inode and in a namespace.
-ghost use Rattle.std.specs.Prelude.{Some, ◌≡◌, ◌&&◌, filter, find, is_some, map, nat_eq, option_map, true};
+ghost use Rattle.std.specs.Prelude.{IfSome, Some, ◌≡◌, ◌&&◌, filter, find, is_some, map, nat_eq, not, option_map, true, unwrap_or};
 ghost use Rattle.std.specs.List.{list_any};
 ghost use Rattle.vt_spec.specs.Lists.{holds_of};
 ghost use Rattle.vt_spec.specs.Machine.Mounts.{child_at, children, root_of, stands_on, topmost};
 ghost use Rattle.vt_location.specs.Locations.{location_of, number_of};
 ghost use Rattle.vt_location.specs.Numbers.{mount_number, namespace_number};
 ghost use Rattle.vt_mount.specs.Attached.{AreOf, attached_in};
-ghost use Rattle.vt_mount.specs.MountsValue.{are_ascending, mounts_in, stands_over};
+ghost use Rattle.vt_mount.specs.MountsValue.{IsShown, are_ascending, mounts_in, stands_over};
 
 use crate::mounts::{Mounts, kept_under};
 use vt_location::{Location, MountId, NamespaceId, NodeRef};
+
+/// The topmost mount over a location.
+#[derive(Clone, Copy, Debug)]
+pub struct Top {
+    pub root: Location,
+    /// Whether no mount stands on it.
+    pub is_bare: bool,
+}
 
 impl Mounts {
     /// The mount at a location; of several, the one with the least number.
@@ -44,46 +52,67 @@ impl Mounts {
     pub fn topmost(&self, place: Location) -> Location
         ensures { location_of result ≡ topmost nat_eq (mounts_in self.now) (location_of place) }
     {
-        match self.root_over(place) {
-            Some(root) => self.topmost_over(place, root),
+        match self.top_over(place) {
+            Some(top) => top.root,
             None => place,
         }
     }
 
-    // The same, where this is the root of the mount at the location. It is a call of its own, so that a walk past no
-    // mount stays small.
+    /// The topmost mount over a location, if a mount stands there.
+    #[inline(always)]
+    pub fn top_over(&self, place: Location) -> Option<Top>
+        ensures root { unwrap_or (option_map (λ top. location_of top.root) result) (location_of place)
+            ≡ topmost nat_eq (mounts_in self.now) (location_of place) }
+        ensures shown { IfSome result (λ top. IsShown (mounts_in self.now) top.root) }
+        ensures bare { IfSome result (λ top. top.is_bare
+            ≡ not (list_any (stands_on nat_eq (mount_number top.root.mount)) (mounts_in self.now))) }
+    {
+        match self.root_over(place) {
+            Some(root) => Some(self.top_from(place, root)),
+            None => None,
+        }
+    }
+
+    // The topmost mount over a location, from the root of the mount that stands there. It is a call of its own, so that
+    // a walk past no mount stays small. Mostly no other mount stands on that one, at its root or elsewhere.
     #[inline(never)]
-    fn topmost_over(&self, place: Location, root: Location) -> Location
-        requires { option_map root_of (child_at nat_eq (mounts_in self.now) (location_of place)) ≡ Some (location_of root) }
-        ensures { location_of result ≡ topmost nat_eq (mounts_in self.now) (location_of place) }
+    fn top_from(&self, place: Location, root: Location) -> Top
+        requires over { option_map root_of (child_at nat_eq (mounts_in self.now) (location_of place))
+            ≡ Some (location_of root) }
+        requires shown { IsShown (mounts_in self.now) root }
+        ensures root { location_of result.root ≡ topmost nat_eq (mounts_in self.now) (location_of place) }
+        ensures shown { IsShown (mounts_in self.now) result.root }
+        ensures bare { result.is_bare
+            ≡ not (list_any (stands_on nat_eq (mount_number result.root.mount)) (mounts_in self.now)) }
     {
         let mut here = root;
         for _ in 1..self.len() {
-            let Some(root) = self.covering_root(here) else {
-                return here;
+            if !self.has_child(here.mount) {
+                return Top {
+                    root: here,
+                    is_bare: true,
+                };
+            }
+            let Some(root) = self.root_over(here) else {
+                return Top {
+                    root: here,
+                    is_bare: false,
+                };
             };
             here = root;
         }
-        here
-    }
-
-    // The same as `root_over`, at the root of a mount: mostly no other stands on that mount at all.
-    fn covering_root(&self, place: Location) -> Option<Location>
-        ensures { option_map location_of result
-            ≡ option_map root_of (child_at nat_eq (mounts_in self.now) (location_of place)) }
-    {
-        if self.has_child(place.mount) {
-            self.root_over(place)
-        } else {
-            None
+        Top {
+            root: here,
+            is_bare: !self.has_child(here.mount),
         }
     }
 
     // The root of the mount that stands at a location.
     #[inline(always)]
     fn root_over(&self, place: Location) -> Option<Location>
-        ensures { option_map location_of result
+        ensures root { option_map location_of result
             ≡ option_map root_of (child_at nat_eq (mounts_in self.now) (location_of place)) }
+        ensures shown { IfSome result (λ root. IsShown (mounts_in self.now) root) }
     {
         let child = self.child_at(place)?;
         let kept = kept_under(&self.by_number, child)?;

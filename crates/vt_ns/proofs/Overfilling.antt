@@ -1,7 +1,11 @@
 -- Whether a namespace has too many mounts once a tree is attached: ENOSPC of mount(2).
 use Rattle.std.proofs.Common.{◌≡◌, refl, sym, ap, subst, ◌∙◌, ⊎_elim, ◌+◌, ◌-◌, ◌*◌, ℕ, nat_eq, Bool, true, false, true≢false, List, [], ◌∷◌, map, filter, find, length, take, Option, Some, None, is_some, option_map, unwrap_or, arith, take_all, Contains, drop}
-use Rattle.vt_spec.proofs.Common.{Among, Copies, Location, Mount, MountFlags, NamespaceInvariants, Overlay, ToBind, ToMountOverlay, ToMountPlain, ToMove, World, all_from_among, attached_by, bind_tree, contains_from_among, copies_from, evens, has_too_many, length-map, mount_at, mount_numbered, mount_tree, new_mount, no_mount, odds, overlay_filesystem, parts_of, plain_filesystem, receivers_of, rest_of, takes_part, with_new_filesystem}
+use Rattle.vt_spec.proofs.Common.{Among, Copies, Location, Mount, MountFlags, NamespaceInvariants, Overlay, ToBind, ToMountOverlay, ToMountPlain, ToMove, World, all_from_among, attached_by, bind_tree, contains_from_among, copies_from, evens, group_of, has_too_many, length-map, mount_at, mount_numbered, mount_tree, new_mount, no_mount, odds, overlay_filesystem, parts_of, plain_filesystem, receivers, receivers_of, rest_of, takes_part, with_new_filesystem}
 use Rattle.vt_location.specs.declared.mounts.Mount.{Mount as Kept}
+use Rattle.vt_location.specs.MountValue.{propagation_of}
+use Rattle.vt_location.specs.declared.mounts.Propagation.{Propagation}
+use Rattle.vt_location.specs.declared.mounts.Propagation.TheVariants.{Private, Shared, Slave, Unbindable}
+use Rattle.vt_location.specs.declared.numbers.GroupId.{GroupId}
 use Rattle.vt_location.specs.declared.numbers.MountId.{MountId}
 use Rattle.vt_location.specs.declared.numbers.NamespaceId.{NamespaceId}
 use Rattle.vt_ns.proofs.Common.{IsHeld, WorldValue, among-from_filter, counted, counts_from, mount_of, mounts_in, world_of}
@@ -14,6 +18,23 @@ use Rattle.vt_laws_worlds.proofs.worlds.FewMounts.{shrinks_few}
 use Rattle.vt_mounting.proofs.detach.Leaving.{none_among}
 use Rattle.vt_mounting.specs.Detach.Looking.{overfills_of}
 use Rattle.vt_mounting.proofs.detach.TreesInNamespaces.{alone_in_tree, in_tree}
+
+pub groupless : (kind : Propagation) → ((group : GroupId) → kind ≡ Shared group → ⊥)
+    → group_of (propagation_of kind) ≡ None
+groupless (Shared group) apart = absurd (apart group refl)
+groupless (Slave group) apart = refl
+groupless Private apart = refl
+groupless Unbindable apart = refl
+
+-- a mount that is not shared is the only part
+pub only_part : (world : World ℕ) (place : Location ℕ) (parent : Mount ℕ)
+    → find (λ (mount : Mount ℕ). nat_eq place.mount mount.number) world.mounts ≡ Some parent
+    → group_of parent.propagation ≡ None → parent ∷ [] ≡ parts_of nat_eq world place
+only_part world place parent found alone =
+    let there : mount_at nat_eq world place ≡ parent = ap (λ o. unwrap_or o (no_mount place.mount)) found in
+    ap (λ receivers. parent ∷ filter (takes_part nat_eq world place) receivers)
+    (sym (ap (λ o. unwrap_or (option_map (receivers nat_eq world) o) []) alone))
+    ∙ ap (λ mount. mount ∷ filter (takes_part nat_eq world place) (receivers_of nat_eq world mount)) (sym there)
 
 -- A place on a mount that is not there is in no namespace, and nothing is received there.
 module _ (mounts : List (Mount ℕ)) (place : Location ℕ)

@@ -13,7 +13,7 @@ ghost use Rattle.vt_world.specs.WorldValue.{world_of};
 use crate::world::World;
 use vt_cred::{Cred, Rights, allows};
 use vt_location::{FilesystemId, Location, Mount, MountId, NamespaceId, NodeRef};
-use vt_looks::{Asked, Entry, Ground, Look};
+use vt_looks::{Asked, Entered, Entry, Ground, Look};
 use vt_node::Node;
 use vt_overlay::Overlay;
 use vt_request::TaskName;
@@ -84,6 +84,18 @@ impl Look for World {
     #[inline(always)]
     fn topmost(&self, at: Location) -> Location {
         self.mounts.topmost(at)
+    }
+
+    #[inline(always)]
+    fn entered(&self, at: Location) -> Option<Entered> {
+        let top = self.mounts.top_over(at)?;
+        Some(Entered {
+            root: top.root,
+            ground: Ground {
+                filesystem: top.root.node.filesystem,
+                is_bare: top.is_bare,
+            },
+        })
     }
 
     fn is_mount_point_in(&self, namespace: NamespaceId, at: Location) -> bool {

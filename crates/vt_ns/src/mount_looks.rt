@@ -4,7 +4,7 @@ ghost use Rattle.vt_location.specs.Locations.{location_of};
 ghost use Rattle.vt_location.specs.Numbers.{mount_number};
 ghost use Rattle.vt_mount.specs.MountsValue.{mounts_in};
 ghost use Rattle.vt_permits.specs.GrantValue.{attachment_permit};
-ghost use Rattle.vt_spec.specs.Machine.Attach.{Copies, attached_by, has_too_many, parts_of};
+ghost use Rattle.vt_spec.specs.Machine.Attach.{Copies, attached_by, bind_tree, has_too_many, parts_of};
 ghost use Rattle.vt_spec.specs.Machine.Invariants.{NamespaceInvariants};
 ghost use Rattle.vt_spec.specs.Machine.Mounts as meant;
 ghost use Rattle.vt_spec.specs.Language.Calls.{MountFlags};
@@ -20,7 +20,7 @@ ghost use Rattle.vt_world.specs.WorldValue.{world_of};
 use crate::world::World;
 use std::alloc::AllocError;
 use vt_layers::{LookAtLayers, Lower};
-use vt_location::{Location, MountId};
+use vt_location::{Location, MountId, Propagation};
 use vt_looks::LookAtMounts;
 use vt_permits::Attachment;
 use vt_propagate::{Load, is_busy, overfills};
@@ -105,14 +105,27 @@ impl World {
         match attachment {
             Attachment::Plain { destination, .. } => self.has_too_many_with(destination, 1),
             Attachment::Bind(bind) => {
-                let tree = self.bind_tree(bind.source, bind.recursive)?;
-                self.has_too_many_with(bind.destination, tree.len())
+                let count = self.bind_count(bind.source, bind.recursive)?;
+                self.has_too_many_with(bind.destination, count)
             }
             Attachment::Move { mount, destination } => self.has_too_many_moved(mount, destination),
         }
     }
 
-    // Whether a namespace has too many mounts once so many are attached at a place, and at the receivers there.
+    // How many mounts a bind copies.
+    fn bind_count(&self, source: Location, recursive: bool) -> Result<usize, AllocError>
+        ensures ok { IfOk result (λ count.
+            length (bind_tree nat_eq (world_of self.now) (location_of source) recursive) ≡ count) }
+    {
+        if !recursive {
+            return Ok(1);
+        }
+        let tree = self.bind_tree(source, recursive)?;
+        Ok(tree.len())
+    }
+
+    // Whether a namespace has too many mounts once so many are attached at a place, and at the receivers there: a mount
+    // that is not shared has none.
     fn has_too_many_with(&self, place: Location, count: usize) -> Result<bool, AllocError>
         ensures ok { IfOk result (λ too_many. (world : Meant ℕ) (new : Copies ℕ) (tree : List (meant.Mount ℕ))
             → mounts_in self.now.mounts ≡ world.mounts → NamespaceInvariants nat_eq world
@@ -121,15 +134,18 @@ impl World {
             → too_many ≡ has_too_many nat_eq (attached_by nat_eq world new (location_of place) false tree)) }
         ensures held { IsHeld self.now }
     {
-        if self.mounts.get(place.mount).is_none() {
+        let Some(parent) = self.mounts.get(place.mount) else {
             return Ok(false);
-        }
-        let parts = self.parts_at(place)?;
+        };
         let load = Load {
             count,
             leaves: None,
         };
-        overfills(self.alloc, &self.mounts, &parts, load)
+        if let Propagation::Shared(_) = parent.propagation {
+            let parts = self.parts_at(place)?;
+            return overfills(self.alloc, &self.mounts, &parts, load);
+        }
+        overfills(self.alloc, &self.mounts, &[parent], load)
     }
 
     // Whether a namespace has too many mounts once a mount is moved with all that is below it.

@@ -101,6 +101,7 @@ fn stepped_up<'a, L: Look>(
         ≡ stepped nat_eq (L.looks world.now) (task_of who.now) (location_of start) DotDot }
     ensures found { IfOk result (λ step. IsFound (L.looks world.now) step.location step.is_found) }
     ensures lent { IfOk result (λ step. IsLent (L.real world.now) step.location (option_copied step.lent)) }
+    ensures ground { IfOk result (λ step. IfSome step.ground (IsGround (L.looks world.now) step.location.mount)) }
 {
     step_up(world, who, start, is_found)
 }
@@ -124,9 +125,13 @@ fn stepped<'a, L: Look>(
         ≡ stepped nat_eq (L.looks world.now) (task_of who.now) (location_of from.entry.location) (last_of word.entry) }
     ensures found { IfOk result (λ step. IsFound (L.looks world.now) step.location step.is_found) }
     ensures lent { IfOk result (λ step. IsLent (L.real world.now) step.location (option_copied step.lent)) }
+    ensures ground { IfOk result (λ step. IfSome step.ground (IsGround (L.looks world.now) step.location.mount)) }
 {
     match word {
-        LastWord::NoWord | LastWord::Dot => Ok(from),
+        LastWord::NoWord | LastWord::Dot => Ok(Step {
+            ground: Some(ground),
+            ..from
+        }),
         LastWord::DotDot => stepped_up(world, who, from.location, from.is_found),
         LastWord::Named(name) => match entry_there(world, from.location, directory, name) {
             Some((entry, object)) => {
@@ -135,6 +140,7 @@ fn stepped<'a, L: Look>(
                         location: entry,
                         is_found: from.is_found,
                         lent: object,
+                        ground: None,
                     });
                 }
                 Ok(entered(world, entry, from.is_found, object))
@@ -183,6 +189,7 @@ fn word_led<'a, L: Look>(
         ≡ word_led (L.looks world.now) (task_of who.now) (location_of from.entry.location) (last_of word.entry) }
     ensures found { IfOk result (λ step. IsFound (L.looks world.now) step.location step.is_found) }
     ensures lent { IfOk result (λ step. IsLent (L.real world.now) step.location (option_copied step.lent)) }
+    ensures ground { IfOk result (λ step. IfSome step.ground (IsGround (L.looks world.now) step.location.mount)) }
 {
     let directory = searched(world, who, ground, from.location, from.lent)?;
     stepped(world, who, from, ground, directory, word)
@@ -237,6 +244,7 @@ pub(crate) fn last_walked<'a, L: Look>(
                 location: here.location,
                 is_found: false,
                 lent: node_here(world, ground, here.location, here.lent),
+                ground: None,
             };
             let next = word_led(world, who, from, ground, last)?;
             Ok(Here {
@@ -344,11 +352,14 @@ fn words_walked_to_link<'a, L: Look>(
             location,
             is_found,
             lent: node,
+            ground: None,
         };
         let next = word_led(world, who, from, ground, LastWord::of(word))?;
         location = next.location;
         is_found = next.is_found;
-        if location.mount != directory.mount {
+        if let Some(entered) = next.ground {
+            ground = entered;
+        } else if location.mount != directory.mount {
             ground = world.ground(location.mount);
         }
         node = node_here(world, ground, location, next.lent);

@@ -1,28 +1,29 @@
 //! Where `..` leads: path_resolution(7), and mount_namespaces(7) for the roots of mounts.
-ghost use Rattle.std.specs.Prelude.{◌≡◌, nat_eq, option_copied, option_map, false, true, IfOk};
+ghost use Rattle.std.specs.Prelude.{◌≡◌, nat_eq, option_copied, option_map, false, true, IfOk, IfSome};
 ghost use Rattle.vt_spec.specs.Lists.{last_or};
 ghost use Rattle.vt_spec.specs.Machine.Mounts.{same_location};
 ghost use Rattle.vt_spec.specs.Machine.Looks.{mount_at, topmost};
 ghost use Rattle.vt_spec.specs.Machine.Walking.{hop, hops, is_lost, is_top, parent_location, stepped};
 ghost use Rattle.vt_spec.specs.Machine.Walking.LastWord.{DotDot};
 ghost use Rattle.vt_location.specs.Locations.{location_of, number_of};
-ghost use Rattle.vt_looks.specs.Looking.{StaysFound};
+ghost use Rattle.vt_looks.specs.Looking.{IsGround, StaysFound};
 ghost use Rattle.vt_tasks.specs.TaskValue.{task_of};
 ghost use Rattle.vt_walk.specs.WalkValue.{IsFound, IsLent, step_result};
 
 use vt_location::{Location, NodeRef};
-use vt_looks::Look;
+use vt_looks::{Ground, Look};
 use vt_node::Node;
 use vt_spec::errors::{Deny, Rule};
 use vt_tasks::Task;
 
 // Where a word led, and whether that is known to be found if it is a directory: then `..` of it is not lost. And the real
-// object there, where an entry led to it.
+// object there, where an entry led to it, and the mount, where one was entered.
 #[derive(Clone, Copy, Debug)]
 pub(crate) struct Step<'a> {
     pub(crate) location: Location,
     pub(crate) is_found: bool,
     pub(crate) lent: Option<&'a Node>,
+    pub(crate) ground: Option<Ground>,
 }
 
 // Where `..` goes on from the root of a mount: its mount point. It stays at the task's root.
@@ -104,13 +105,21 @@ pub(crate) fn entered<'a, L: Look>(
     ensures location { location_of result.location ≡ topmost (L.looks world.now) (location_of place) }
     ensures found { IsFound (L.looks world.now) result.location result.is_found }
     ensures lent { IsLent (L.real world.now) result.location (option_copied result.lent) }
+    ensures ground { IfSome result.ground (IsGround (L.looks world.now) result.location.mount) }
 {
-    let location = world.topmost(place);
-    let same = location.is_same(place);
-    Step {
-        location,
-        is_found: is_found && same,
-        lent: if same { lent } else { None },
+    match world.entered(place) {
+        Some(entered) => Step {
+            location: entered.root,
+            is_found: false,
+            lent: None,
+            ground: Some(entered.ground),
+        },
+        None => Step {
+            location: place,
+            is_found,
+            lent,
+            ground: None,
+        },
     }
 }
 
@@ -128,6 +137,7 @@ pub(crate) fn step_up<'a, L: Look>(
         ≡ stepped nat_eq (L.looks world.now) (task_of who.now) (location_of start) DotDot }
     ensures found { IfOk result (λ step. IsFound (L.looks world.now) step.location step.is_found) }
     ensures lent { IfOk result (λ step. IsLent (L.real world.now) step.location (option_copied step.lent)) }
+    ensures ground { IfOk result (λ step. IfSome step.ground (IsGround (L.looks world.now) step.location.mount)) }
 {
     let here = hopped(world, who, start);
     if is_top(world, who, here) {
@@ -135,6 +145,7 @@ pub(crate) fn step_up<'a, L: Look>(
             location: here,
             is_found: false,
             lent: None,
+            ground: None,
         });
     }
     if is_lost(world, here, start, is_found) {

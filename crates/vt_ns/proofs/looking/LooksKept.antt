@@ -214,6 +214,13 @@ last_of_chain zero next at none = refl
 last_of_chain (suc n) next at none = ap
     (λ o. last_or at (elim o [ None ↦ at ∷ [] | Some b ↦ at ∷ chain n next b ])) none
 
+-- the filesystem that a mount shows, if it is there
+pub shown_there : (number filesystem : ℕ) (o : Option (meant.Mount ℕ))
+    → option_map (λ mount. mount.filesystem) o ≡ Some filesystem
+    → filesystem ≡ (unwrap_or o (no_mount number)).filesystem
+shown_there number filesystem None is = absurd cc
+shown_there number filesystem (Some mount) is = cc
+
 -- where none stands on a mount its locations are topmost
 pub bare_top : (value : WorldValue) (mount : ℕ) → list_any (stands_on nat_eq mount) (mounts_in value.mounts) ≡ false
     → (at : meant.Location ℕ) → at.mount ≡ mount → topmost (looks_of_value value) at ≡ at

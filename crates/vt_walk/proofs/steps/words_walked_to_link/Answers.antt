@@ -1,4 +1,4 @@
-use Rattle.std.proofs.Common.{ap, option_copied, refl, sym, ◌∙◌, ℕ}
+use Rattle.std.proofs.Common.{IfSome, ap, option_copied, refl, subst, sym, ◌∙◌, ℕ}
 use Rattle.vt_spec.proofs.Common.{Here, err_from_is_err_and}
 use Rattle.vt_location.specs.declared.locations.Location.{Location}
 use Rattle.vt_location.specs.Locations.{location_of}
@@ -6,10 +6,11 @@ use Rattle.vt_tasks.specs.TaskValue.{task_of}
 use Rattle.vt_walk.proofs.LeftToRight.{led-refused, led-walked, link-met, no-link, walk-ended, word-refused}
 use Rattle.vt_walk.proofs.NodeLemmas.{same-mount, text-there}
 use Rattle.vt_walk.specs.PlainWalks.{standing, word_walked}
+use Rattle.vt_looks.specs.Looking.{IsGround}
 use Rattle.vt_looks.specs.Places.{last_of}
 use Rattle.vt_walk.specs.WalkValue.{here_of}
 use Rattle.vt_walk.proofs.steps.words_walked_to_link.Goals as goal
-use Rattle.vt_walk.proofs.steps.words_walked_to_link.Goals.{then-ne, else-ne}
+use Rattle.vt_walk.proofs.steps.words_walked_to_link.Goals.{in-Some-ground, in_default-ground+then-ne, in_default-ground+else-ne}
 
 -- where a walk has come to, as the definitions see it
 abbrev here_at : Location → ℕ → Here ℕ
@@ -54,11 +55,14 @@ loop-word-preserved g c =
           ∙ text-there looks (g.L.Look.real c.args.world.now) (g.met.L.Look.alike c.args.world.now)
           c.in_ok-next.next.location (option_copied c.node_here-node-in-Some.result) c.node_here-node-in-Some.ensures
           c.in_ok-next.next.location refl)),
-      elim c.if-ne.branch [
-        | then-ne w ↦ rw w.ground-is w.ground-ground-then-ne.ensures
-        | else-ne w ↦ rw (
+      elim c.match-next-2.branch [
+        | in-Some-ground w ↦ rw w.ground-is (subst
+            (λ ground. IfSome ground (IsGround looks c.in_ok-next.next.location.mount)) w.in-Some-ground.is
+            c.in_ok-next.ensures.ground)
+        | in_default-ground+then-ne w ↦ rw w.ground-is w.ground-ground-then-ne.ensures
+        | in_default-ground+else-ne w ↦ rw (
           w.ground-is,
-          same-mount c.in_ok-next.next.location.mount c.loop-word.location.mount (sym c.ne.ensures ∙ w.if-ne.false),
+          same-mount c.in_ok-next.next.location.mount c.loop-word.location.mount (sym w.ne.ensures ∙ w.if-ne.false),
         ) c.loop-word.invariant.1
       ],
       c.node_here-node-in-Some.ensures,

@@ -1,9 +1,9 @@
-use Rattle.std.proofs.Common.{ap, arith, length, nat_eq, sym, ◌≡◌, ◌∙◌}
-use Rattle.vt_spec.proofs.Common.{IfOk-weaker, bind_tree}
-use Rattle.vt_ns.proofs.Common.{flags_of, location_of, world_of}
+use Rattle.std.proofs.Common.{ap, sym, ◌∙◌}
+use Rattle.vt_spec.proofs.Common.{IfOk-weaker}
+use Rattle.vt_ns.proofs.Common.{flags_of, location_of}
 use Rattle.vt_permits.specs.GrantValue.{attachment_permit}
 use Rattle.vt_mounting.specs.Detach.Looking.{overfills_of}
-use Rattle.vt_ns.proofs.Overfilling.{bind_overfills, plain_overfills, tree_sized}
+use Rattle.vt_ns.proofs.Overfilling.{bind_overfills, plain_overfills}
 use Rattle.vt_ns.proofs.world.World.has_too_many.Goals as goal
 
 pub returns-in-Plain : goal.returns-in-Plain
@@ -15,19 +15,15 @@ returns-in-Plain c = record {
       c.has_too_many_with.ensures.ok;
 }
 
-pub returns-in_ok-tree-in-Bind : goal.returns-in_ok-tree-in-Bind
-returns-in_ok-tree-in-Bind c = record {
+pub returns-in_ok-count-in-Bind : goal.returns-in_ok-count-in-Bind
+returns-in_ok-count-in-Bind c = record {
   ok = let value = c.args.self.now in
       let source = location_of c.in-Bind.bind.source in
       let destination = location_of c.in-Bind.bind.destination in
-      let items = c.in_ok-tree-in-Bind.tree.items in
-      let sized : length (bind_tree nat_eq (world_of value) source c.in-Bind.bind.recursive) ≡ length items =
-      tree_sized items (bind_tree nat_eq (world_of value) source c.in-Bind.bind.recursive) c.in_ok-tree-in-Bind.ensures.ok in
       IfOk-weaker c.has_too_many_with-in-Bind.result _ _ (λ too_many tells.
       bind_overfills value c.has_too_many_with-in-Bind.ensures.held destination too_many source c.in-Bind.bind.recursive
       (λ one copies added same invariants parts size.
-      tells one copies added same invariants parts
-      (omega (arith, size, sized, c.len.ensures, c.in_ok-tree-in-Bind.tree.ok.0)))
+      tells one copies added same invariants parts (size ∙ c.in_ok-count-in-Bind.ensures.ok))
       ∙ ap (λ attachment. overfills_of value (attachment_permit attachment)) (sym c.in-Bind.is))
       c.has_too_many_with-in-Bind.ensures.ok;
 }
