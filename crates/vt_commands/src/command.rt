@@ -1,9 +1,11 @@
-//! The words that the program was started with, and the command that they give.
+//! The words that the program was started with, the command that they give, and what they ask of it.
 ghost use Rattle.std.specs.Prelude.{◌≡◌, IfErr};
 ghost use Rattle.vt_run.specs.Status.{IsOfWords};
 
 use crate::explaining::LineAsked;
 use crate::line::command_line;
+use crate::showing::WorldAsked;
+use crate::tools::Job;
 use clap::error::ErrorKind;
 use clap::{ArgMatches, Error};
 use std::alloc::{AllocError, Global};
@@ -99,116 +101,56 @@ fn refused(alloc: Global, error: &Error) -> Fault
     }
 }
 
-/// What the words ask for.
-#[derive(Clone, Copy)]
-pub enum Asked<'a, 'm> {
-    Run {
-        file: &'a str,
-        version: Version,
-    },
-    Check {
-        files: &'m [&'a str],
-        options: check::Options,
-    },
-    Test {
-        files: &'m [&'a str],
-        version: Version,
-        format: test::Format,
-    },
-    /// The given answers are put into the files.
-    Write {
-        files: &'m [&'a str],
-        version: Version,
-    },
-    Show {
-        file: &'a str,
-        version: Version,
-        /// The line before which the world is shown, or none for that at the end.
-        line: Option<u64>,
-        options: show::Options<'a>,
-    },
-    Explain {
-        file: &'a str,
-        line: LineAsked,
-    },
-    New {
-        name: Option<&'a str>,
-    },
-    Rules {
-        word: Option<&'a str>,
-        /// Whether all rules are written as a page.
-        page: bool,
-    },
-}
-
-// The file that a command is given.
-fn file_of<'a>(given: &ArgMatches<'a>) -> &'a str {
+/// The file that a command is given.
+pub fn file_of<'a>(given: &ArgMatches<'a>) -> &'a str {
     given.get_str("FILE").unwrap_or_default()
 }
 
-// The files that a command is given.
-fn files_of<'a, 'm>(given: &'m ArgMatches<'a>) -> &'m [&'a str] {
+/// The files that a command is given.
+pub fn files_of<'a, 'm>(given: &'m ArgMatches<'a>) -> &'m [&'a str] {
     given.get_strs("FILE").unwrap_or_default()
 }
 
-// The version of the scripts' language that is asked for.
-fn version_asked(given: &ArgMatches<'_>) -> Version {
+/// The version of the scripts' language that is asked for.
+pub fn version_asked(given: &ArgMatches<'_>) -> Version {
     match given.get_str("script") {
         Some("2") => Version::Two,
         _ => Version::One,
     }
 }
 
-// `vtree run`
-fn run_asked<'a, 'm>(given: &'m ArgMatches<'a>) -> Asked<'a, 'm> {
-    Asked::Run {
-        file: file_of(given),
-        version: version_asked(given),
+// Whether JSON is asked for, or else text.
+fn form_asked(given: &ArgMatches<'_>) -> check::Format {
+    match given.get_str("format") {
+        Some("json") => check::Format::Json,
+        _ => check::Format::Text,
     }
 }
 
-// `vtree check`
-fn check_asked<'a, 'm>(given: &'m ArgMatches<'a>) -> Asked<'a, 'm> {
-    Asked::Check {
-        files: files_of(given),
-        options: check::Options {
-            version: version_asked(given),
-            format: match given.get_str("format") {
-                Some("json") => check::Format::Json,
-                _ => check::Format::Text,
-            },
+/// What a command of this name, `check` or `test`, does with its files.
+pub fn job_asked(alloc: Global, name: &str, given: &ArgMatches<'_>) -> Result<Job, Fault>
+    ensures { IfErr result IsOfWords }
+{
+    let version = version_asked(given);
+    if name == "check" {
+        return Ok(Job::Check(check::Options {
+            version,
+            format: form_asked(given),
             strict: given.get_flag("warnings"),
-        },
+        }));
     }
-}
-
-// `vtree test`
-fn test_asked<'a, 'm>(given: &'m ArgMatches<'a>) -> Asked<'a, 'm> {
-    Asked::Test {
-        files: files_of(given),
-        version: version_asked(given),
-        format: match given.get_str("format") {
+    if !given.get_flag("write") {
+        let format = match given.get_str("format") {
             Some("json") => test::Format::Json,
             Some("junit") => test::Format::Junit,
             _ => test::Format::Text,
-        },
+        };
+        return Ok(Job::Test(version, format));
     }
-}
-
-// `vtree test --write`
-fn write_asked<'a, 'm>(alloc: Global, given: &'m ArgMatches<'a>) -> Result<Asked<'a, 'm>, Fault>
-    ensures { IfErr result IsOfWords }
-{
-    let files = files_of(given);
-    for file in files {
-        if *file == "-" {
-            return Err(refusal(alloc, NO_INPUT));
-        }
+    if files_of(given).contains(&"-") {
+        return Err(refusal(alloc, NO_INPUT));
     }
-    Ok(Asked::Write {
-        files,
-        version: version_asked(given),
-    })
+    Ok(Job::Write(version))
 }
 
 // The number of a line, or why the word is none.
@@ -221,42 +163,27 @@ fn number_of(alloc: Global, word: &str, why: &str) -> Result<u64, Fault>
     }
 }
 
-// The number of a line that is asked for, if there is one.
-fn line_asked(alloc: Global, given: &ArgMatches<'_>) -> Result<Option<u64>, Fault>
-    ensures { IfErr result IsOfWords }
-{
-    match given.get_str("at") {
-        Some(word) => Ok(Some(number_of(alloc, word, NO_LINE)?)),
-        None => Ok(None),
-    }
-}
-
-// `vtree explain`
-fn explain_asked<'a, 'm>(alloc: Global, given: &'m ArgMatches<'a>) -> Result<Asked<'a, 'm>, Fault>
+/// The line that `vtree explain` explains.
+pub fn line_asked(alloc: Global, given: &ArgMatches<'_>) -> Result<LineAsked, Fault>
     ensures { IfErr result IsOfWords }
 {
     let word = given.get_str("LINE").unwrap_or_default();
-    let line = number_of(alloc, word, NO_NUMBER)?;
-    Ok(Asked::Explain {
-        file: file_of(given),
-        line: LineAsked {
-            version: version_asked(given),
-            line,
-            format: match given.get_str("format") {
-                Some("json") => check::Format::Json,
-                _ => check::Format::Text,
-            },
-        },
+    Ok(LineAsked {
+        version: version_asked(given),
+        line: number_of(alloc, word, NO_NUMBER)?,
+        format: form_asked(given),
     })
 }
 
-// `vtree show`
-fn show_asked<'a, 'm>(alloc: Global, given: &'m ArgMatches<'a>) -> Result<Asked<'a, 'm>, Fault>
+/// The world that `vtree show` shows.
+pub fn world_asked<'a>(alloc: Global, given: &ArgMatches<'a>) -> Result<WorldAsked<'a>, Fault>
     ensures { IfErr result IsOfWords }
 {
-    let line = line_asked(alloc, given)?;
-    Ok(Asked::Show {
-        file: file_of(given),
+    let line = match given.get_str("at") {
+        Some(word) => number_of(alloc, word, NO_LINE)?,
+        None => u64::MAX,
+    };
+    Ok(WorldAsked {
         version: version_asked(given),
         line,
         options: show::Options {
@@ -269,41 +196,6 @@ fn show_asked<'a, 'm>(alloc: Global, given: &'m ArgMatches<'a>) -> Result<Asked<
             task: given.get_str("task"),
         },
     })
-}
-
-// `vtree new`
-fn new_asked<'a, 'm>(given: &'m ArgMatches<'a>) -> Asked<'a, 'm> {
-    Asked::New {
-        name: given.get_str("NAME"),
-    }
-}
-
-// `vtree rules`
-fn rules_asked<'a, 'm>(given: &'m ArgMatches<'a>) -> Asked<'a, 'm> {
-    Asked::Rules {
-        word: given.get_str("WORD"),
-        page: given.get_flag("markdown"),
-    }
-}
-
-/// What the words of a command ask for.
-pub fn asked_by<'a, 'm>(alloc: Global, matches: &'m ArgMatches<'a>) -> Result<Asked<'a, 'm>, Fault>
-    ensures { IfErr result IsOfWords }
-{
-    let Some((name, given)) = matches.subcommand() else {
-        return Err(Fault::Words(String::new(alloc)));
-    };
-    match name {
-        "run" => Ok(run_asked(given)),
-        "check" => Ok(check_asked(given)),
-        "test" if given.get_flag("write") => write_asked(alloc, given),
-        "test" => Ok(test_asked(given)),
-        "show" => show_asked(alloc, given),
-        "explain" => explain_asked(alloc, given),
-        "new" => Ok(new_asked(given)),
-        "rules" => Ok(rules_asked(given)),
-        _ => Err(Fault::Words(String::new(alloc))),
-    }
 }
 
 /// The words, read as those of a command.

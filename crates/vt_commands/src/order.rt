@@ -2,7 +2,9 @@
 ghost use Rattle.std.specs.Prelude.{◌≡◌, IfErr, true};
 ghost use Rattle.vt_run.specs.Status.{comes_before_output};
 
-use crate::command::{Asked, asked_by, matches_of};
+use crate::command::{
+    file_of, files_of, job_asked, line_asked, matches_of, version_asked, world_asked,
+};
 use crate::explaining::Explainer;
 use crate::{cookbook, rules, showing, tools};
 use clap::ArgMatches;
@@ -12,33 +14,33 @@ use vt_calls::Kernel;
 use vt_run::fault::Fault;
 use vt_run::running::{Pace, run_named};
 
-// Does what the words of a command ask for.
-fn obey_matches<E: Explainer, R: Files + Input + Eprint + AllocGlobal, W: Write>(
+// Does what a command of this name is asked for.
+fn obey_command<E: Explainer, R: Files + Input + Eprint + AllocGlobal, W: Write>(
     rt: &R,
-    matches: &ArgMatches<'_>,
+    name: &str,
+    given: &ArgMatches<'_>,
     pace: Pace,
     output: &mut W,
 ) -> Result<(), Fault>
     ensures { IfErr result (λ fault. comes_before_output fault ≡ true → output.new ≡ output.old) }
 {
-    match asked_by(rt.alloc(), matches)? {
-        Asked::Run { file, version } => run_named::<Kernel, _, _>(rt, version, file, pace, output),
-        Asked::Check { files, options } => tools::check(rt, files, options, output),
-        Asked::Test {
-            files,
-            version,
-            format,
-        } => tools::test(rt, version, files, format, output),
-        Asked::Write { files, version } => tools::write(rt, version, files, output),
-        Asked::Show {
-            file,
-            version,
-            line,
-            options,
-        } => showing::show(rt, version, file, line, options, output),
-        Asked::Explain { file, line } => E::explain(rt, file, line, output),
-        Asked::New { name } => cookbook::write(rt, name, output),
-        Asked::Rules { word, page } => rules::tell(rt.alloc(), word, page, output),
+    let alloc = rt.alloc();
+    match name {
+        "run" => {
+            run_named::<Kernel, _, _>(rt, version_asked(given), file_of(given), pace, output)
+        }
+        "check" | "test" => {
+            let job = job_asked(alloc, name, given)?;
+            tools::work_on_all(rt, files_of(given), job, output)
+        }
+        "show" => showing::show(rt, file_of(given), world_asked(alloc, given)?, output),
+        "explain" => E::explain(rt, file_of(given), line_asked(alloc, given)?, output),
+        "new" => cookbook::write(rt, given.get_str("NAME"), output),
+        "rules" => {
+            let (word, page) = (given.get_str("WORD"), given.get_flag("markdown"));
+            rules::tell(alloc, word, page, output)
+        }
+        _ => Err(Fault::Words(String::new(alloc))),
     }
 }
 
@@ -57,7 +59,10 @@ pub fn obey<E: Explainer, R: Files + Input + Eprint + AllocGlobal, W: Write>(
     ensures { IfErr result (λ fault. comes_before_output fault ≡ true → output.new ≡ output.old) }
 {
     let matches = matches_of(rt.alloc(), words)?;
-    let outcome = obey_matches::<E, _, _>(rt, &matches, pace, output);
+    let outcome = match matches.subcommand() {
+        Some((name, given)) => obey_command::<E, _, _>(rt, name, given, pace, output),
+        None => Err(Fault::Words(String::new(rt.alloc()))),
+    };
     drop(matches);
     outcome
 }

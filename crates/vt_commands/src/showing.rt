@@ -13,6 +13,15 @@ use vt_script::Version;
 use vt_show::show::{Options, show as show_world};
 use vt_test::suite::{Script, scripts};
 
+/// The world that is shown, and how.
+#[derive(Clone, Copy)]
+pub struct WorldAsked<'a> {
+    pub version: Version,
+    /// The line before which it is, by its number in the file, from 1; where there is none, it is the world at the end.
+    pub line: u64,
+    pub options: Options<'a>,
+}
+
 const NO_TASK: &str = "there is no such task; without `--task` all are shown";
 
 /// The text of the script in which a line of the file is, the last one that begins before it, and how many lines of the
@@ -59,23 +68,21 @@ pub fn count_refused<R: Eprint>(rt: &R, name: &str, refused: u64) {
 // Shows the world that a run of the script has before a line.
 fn show_script<R: Eprint + AllocGlobal, W: Write>(
     rt: &R,
-    version: Version,
     name: &str,
     script: &[u8],
-    line: u64,
-    options: Options<'_>,
+    asked: WorldAsked<'_>,
     output: &mut W,
 ) -> Result<(), Fault>
     ensures { IfErr result (λ fault. comes_before_output fault ≡ false) }
 {
     let alloc = rt.alloc();
-    let reached = match reached_before::<Kernel>(version, alloc, script, line) {
+    let reached = match reached_before::<Kernel>(asked.version, alloc, script, asked.line) {
         Ok(reached) => reached,
         Err(fault) => return Err(Fault::Run(fault)),
     };
     count_refused(rt, name, reached.refused);
     let mut shown = Vec::new(alloc);
-    let outcome = show_world(alloc, reached.world.world(), options, &mut shown);
+    let outcome = show_world(alloc, reached.world.world(), asked.options, &mut shown);
     reached.world.end();
     match outcome {
         Ok(true) => hand_on(output, shown.as_slice()),
@@ -103,19 +110,17 @@ pub fn scripts_in<'a, R: Eprint + AllocGlobal>(
 // Shows a world of the content of a file.
 fn show_content<R: Eprint + AllocGlobal, W: Write>(
     rt: &R,
-    version: Version,
     name: &str,
     content: &[u8],
-    line: u64,
-    options: Options<'_>,
+    asked: WorldAsked<'_>,
     output: &mut W,
 ) -> Result<(), Fault>
     ensures { IfErr result (λ fault. comes_before_output fault ≡ false) }
 {
-    let all = scripts_in(rt, version, name, content)?;
-    let (text, before) = script_at(all.as_slice(), line);
-    let line = line.saturating_sub(before);
-    let outcome = show_script(rt, version, name, text, line, options, output);
+    let all = scripts_in(rt, asked.version, name, content)?;
+    let (text, before) = script_at(all.as_slice(), asked.line);
+    let line = asked.line.saturating_sub(before);
+    let outcome = show_script(rt, name, text, WorldAsked { line, ..asked }, output);
     drop(all);
     outcome
 }
@@ -125,10 +130,8 @@ fn show_content<R: Eprint + AllocGlobal, W: Write>(
 /// Of a file of several scripts it is the one that has the line, or the last one.
 pub fn show<R: Files + Input + Eprint + AllocGlobal, W: Write>(
     rt: &R,
-    version: Version,
     name: &str,
-    line: Option<u64>,
-    options: Options<'_>,
+    asked: WorldAsked<'_>,
     output: &mut W,
 ) -> Result<(), Fault>
     ensures { IfErr result (λ fault. comes_before_output fault ≡ false) }
@@ -136,9 +139,7 @@ pub fn show<R: Files + Input + Eprint + AllocGlobal, W: Write>(
     let Some(content) = readable(rt, name) else {
         return Err(Fault::Found);
     };
-    let line = line.unwrap_or(u64::MAX);
-    let bytes = content.as_slice();
-    let outcome = show_content(rt, version, name, bytes, line, options, output);
+    let outcome = show_content(rt, name, content.as_slice(), asked, output);
     drop(content);
     outcome
 }

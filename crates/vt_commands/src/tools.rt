@@ -64,88 +64,6 @@ pub fn hand_on_text<W: Write>(text: Result<String, AllocError>, output: &mut W) 
     }
 }
 
-/// Nothing, or that something was found.
-pub fn verdict(found: bool) -> Result<(), Fault>
-    ensures { IfErr result (λ fault. comes_before_output fault ≡ false) }
-{
-    if found { Err(Fault::Found) } else { Ok(()) }
-}
-
-/// Tells what is wrong with the lines of these files.
-pub fn check<R: Files + Input + Eprint + AllocGlobal, W: Write>(
-    rt: &R,
-    files: &[&str],
-    options: Options,
-    output: &mut W,
-) -> Result<(), Fault>
-    ensures { IfErr result (λ fault. comes_before_output fault ≡ false) }
-{
-    let mut found = false;
-    for name in files {
-        let Some(script) = readable(rt, name) else {
-            found = true;
-            continue;
-        };
-        let mut text = Vec::new(rt.alloc());
-        let is_bad = check_script(
-            rt.alloc(),
-            told(name),
-            script.as_slice(),
-            options,
-            &mut text,
-        )
-        .map_err(out_of_memory)?;
-        found |= is_bad;
-        hand_on(output, text.as_slice())?;
-    }
-    verdict(found)
-}
-
-// The totals of two files together.
-fn together(one: Totals, other: Totals) -> Totals {
-    Totals {
-        passed: one.passed.saturating_add(other.passed),
-        failed: one.failed.saturating_add(other.failed),
-    }
-}
-
-/// Runs the scripts of these files, and tells where their answers are not those that they want.
-pub fn test<R: Files + Input + Eprint + AllocGlobal, W: Write>(
-    rt: &R,
-    version: Version,
-    files: &[&str],
-    format: Format,
-    output: &mut W,
-) -> Result<(), Fault>
-    ensures { IfErr result (λ fault. comes_before_output fault ≡ false) }
-{
-    let mut text = Vec::new(rt.alloc());
-    begin(format, &mut text).map_err(out_of_memory)?;
-    let mut totals = Totals::new();
-    let mut found = false;
-    for name in files {
-        let Some(content) = readable(rt, name) else {
-            found = true;
-            continue;
-        };
-        let content = content.as_slice();
-        let of_file = test_file::<Kernel, _>(
-            version,
-            rt.alloc(),
-            told(name),
-            content,
-            format,
-            &mut text,
-        );
-        totals = together(totals, of_file.map_err(out_of_memory)?);
-        hand_on(output, text.as_slice())?;
-        text.clear();
-    }
-    end(rt.alloc(), format, totals, &mut text).map_err(out_of_memory)?;
-    hand_on(output, text.as_slice())?;
-    verdict(found || totals.failed > 0)
-}
-
 // Writes a new file beside one, with its permissions, and puts it into its place.
 fn replace<R: Files + AllocGlobal>(rt: &R, name: &str, text: &[u8]) -> io::Result<()> {
     let whole = fs::canonicalize(rt, name)?;
@@ -195,33 +113,100 @@ fn write_file<R: Files + Input + Eprint + AllocGlobal>(
     }
 }
 
-/// Puts the answers that are given into these files, through a new file beside each.
-pub fn write<R: Files + Input + Eprint + AllocGlobal, W: Write>(
+/// What is done with each file.
+#[derive(Clone, Copy)]
+pub enum Job {
+    /// Tells what is wrong with its lines.
+    Check(Options),
+    /// Runs its scripts, and tells where their answers are not those that they want.
+    Test(Version, Format),
+    /// Puts the answers that are given into it, through a new file beside it.
+    Write(Version),
+}
+
+// Checks, tests or rewrites a file: appends what is to be said of it, and returns whether something was found.
+fn work_on<R: Files + Input + Eprint + AllocGlobal>(
     rt: &R,
-    version: Version,
+    name: &str,
+    content: &[u8],
+    job: Job,
+    totals: &mut Totals,
+    text: &mut Vec<u8>,
+) -> io::Result<bool> {
+    let alloc = rt.alloc();
+    match job {
+        Job::Check(options) => check_script(alloc, told(name), content, options, text),
+        Job::Test(version, format) => {
+            let of_file = test_file::<Kernel, _>(
+                version,
+                alloc,
+                told(name),
+                content,
+                format,
+                text,
+            )?;
+            totals.passed = totals.passed.saturating_add(of_file.passed);
+            totals.failed = totals.failed.saturating_add(of_file.failed);
+            Ok(of_file.failed > 0)
+        }
+        Job::Write(version) => match write_file(rt, version, name, content) {
+            Ok(changes) => {
+                let said = format!(in alloc; "{name}: {changes} answers written\n")?;
+                text.extend_from_slice(said.as_bytes())?;
+                Ok(false)
+            }
+            Err(said) => {
+                let _ = eprintln!(rt; "vtree: cannot write {name}: {said}; it is as it was");
+                Ok(true)
+            }
+        },
+    }
+}
+
+// Checks, tests or rewrites these files, with one text for what is to be said of each.
+fn work_through<R: Files + Input + Eprint + AllocGlobal, W: Write>(
+    rt: &R,
     files: &[&str],
+    job: Job,
+    text: &mut Vec<u8>,
     output: &mut W,
 ) -> Result<(), Fault>
     ensures { IfErr result (λ fault. comes_before_output fault ≡ false) }
 {
-    let mut failed = false;
+    let mut totals = Totals::new();
+    let mut found = false;
+    if let Job::Test(_, format) = job {
+        begin(format, text).map_err(out_of_memory)?;
+    }
     for name in files {
         let Some(content) = readable(rt, name) else {
-            failed = true;
+            found = true;
             continue;
         };
-        match write_file(rt, version, name, content.as_slice()) {
-            Ok(changes) => {
-                let text = format!(in rt.alloc(); "{name}: {changes} answers written\n").map_err(
-                    out_of_memory,
-                )?;
-                hand_on(output, text.as_bytes())?;
-            }
-            Err(said) => {
-                let _ = eprintln!(rt; "vtree: cannot write {name}: {said}; it is as it was");
-                failed = true;
-            }
-        }
+        let is_bad = work_on(rt, name, content.as_slice(), job, &mut totals, text);
+        drop(content);
+        found |= is_bad.map_err(out_of_memory)?;
+        hand_on(output, text.as_slice())?;
+        text.clear();
     }
-    verdict(failed)
+    if let Job::Test(_, format) = job {
+        end(rt.alloc(), format, totals, text).map_err(out_of_memory)?;
+        hand_on(output, text.as_slice())?;
+    }
+    if found { Err(Fault::Found) } else { Ok(()) }
+}
+
+/// Checks, tests or rewrites these files, and tells what it finds.
+pub fn work_on_all<R: Files + Input + Eprint + AllocGlobal, W: Write>(
+    rt: &R,
+    files: &[&str],
+    job: Job,
+    output: &mut W,
+) -> Result<(), Fault>
+    ensures { IfErr result (λ fault. comes_before_output fault ≡ false) }
+{
+    let mut text = Vec::new(rt.alloc());
+    let outcome = work_through(rt, files, job, &mut text, output);
+    drop(text);
+    outcome
 }

@@ -1,6 +1,6 @@
 -- The filesystems as the map keeps them, and as contracts see them.
 use Rattle.std.proofs.Common.{◌≡◌, refl, sym, ap, ◌∙◌, ℕ, suc, Bool, true, false, T, cond, ◌||◌, ◌&&◌, nat_eq, nat_lt, eq-eqb, List, [], ◌∷◌, ◌++◌, map, filter, not, slice_get, Option, Some, None, option_map, unwrap_or, is_some, length, IsSome, eqb-true}
-use Rattle.vt_spec.proofs.Common.{AllByRecursion, T_and_left, T_and_right, any_pair, keys_of, list_all, list_any, lookup, values_of}
+use Rattle.vt_spec.proofs.Common.{AllByRecursion, T_and_left, T_and_right, any_pair, holds_of, keys_of, list_all, list_any, lookup, values_of}
 use Rattle.std.specs.List.{IsDistinct}
 use Rattle.indexmap.specs.IndexMap.{IndexMap, WritesThrough, get_by, set_value_at}
 use Rattle.vt_location.specs.declared.numbers.FilesystemId.{FilesystemId}
@@ -49,6 +49,12 @@ first_found id first x (e ∷ es) at is =
     (eq-eqb id.count first.count (sym (eqb-true first.count id.count is))))
 
 -- the first filesystem, where it is the one of a number, is what is found, and what is changed
+pub first_is : (id : FilesystemId) (es : List (FilesystemId × Filesystem))
+    → holds_of (λ e. nat_eq e.0.count id.count) (slice_get es 0) ≡ true
+    → option_map (λ e. e.0) (slice_get es 0) ≡ Some id
+first_is id [] same = absurd cc
+first_is id (e ∷ es) same = ap Some (whole e.0 id (eqb-true e.0.count id.count same))
+
 pub found_first : (id : FilesystemId) (x : Filesystem) (es : List (FilesystemId × Filesystem))
     → option_map (λ e. e.0) (slice_get es 0) ≡ Some id → Some x ≡ slice_get (values_of es) 0
     → Some x ≡ lookup (is_key id.count) es

@@ -11,7 +11,7 @@ ghost use Rattle.vt_spec.specs.Inodes.{changed, pinned, unpinned, uses_in};
 ghost use Rattle.vt_spec.specs.Language.Changes.Change.{AddName, Make, Move, Remove, SetAttr, SetBytes, SetMark};
 ghost use Rattle.vt_spec.specs.Language.Limits.{largest_file};
 ghost use Rattle.vt_spec.specs.Laws.Trees.{IsNewIn};
-ghost use Rattle.vt_spec.specs.Lists.{any_pair};
+ghost use Rattle.vt_spec.specs.Lists.{any_pair, holds_of};
 ghost use Rattle.vt_spec.specs.Machine.Descriptors.{overwritten};
 ghost use Rattle.vt_spec.specs.Tree.{bytes_in, entries_in, is_directory_node, names_in};
 ghost use Rattle.vt_spec.specs.TreeInvariant.{IsDirectory, entry_at as number_at};
@@ -99,10 +99,10 @@ fn found_under(
     }
 }
 
-// Whether this is the first filesystem.
+// Whether the first filesystem has this number.
 #[inline(always)]
 fn is_first(by_number: &IndexMap<FilesystemId, Filesystem>, id: FilesystemId) -> bool
-    ensures { result ≡ true → option_map (λ entry. entry.0) (slice_get by_number.now.entries 0) ≡ Some id }
+    ensures { result ≡ holds_of (λ entry. nat_eq entry.0.count id.count) (slice_get by_number.now.entries 0) }
 {
     match by_number.first() {
         Some((first, _)) => *first == id,
@@ -160,7 +160,8 @@ impl Filesystems {
         Some(&found.tree)
     }
 
-    // The tree of a filesystem, for a change. The first one is looked for as by `found_under`.
+    // The tree of a filesystem, to be changed. The first one is compared before a hash is taken, as in `found_under`. No
+    // two filesystems have one number (`apart`).
     fn get_mut(&mut self, filesystem: FilesystemId) -> Option<&mut Tree>
         ensures* writes_back { sem 𝓛 (lends_tree self.entry filesystem.count result) }
         ensures value { option_copied_mut result
@@ -502,7 +503,7 @@ impl Filesystems {
         tree.link(parent, name, linked)
     }
 
-    /// Removes a name of an inode that has no entries: unlink(2), rmdir(2). With its last use the inode is freed. It
+    /// Removes a name of an inode that has no entries: unlink(2), rmdir(2). The inode is freed with its last use. It
     /// does not allocate.
     pub fn unlink(&mut self, directory: NodeRef, name: &[u8], object: NodeRef)
         requires one_filesystem { object.filesystem ≡ directory.filesystem }
@@ -650,7 +651,7 @@ impl Filesystems {
         }
     }
 
-    /// Takes back one use of an inode, as close(2) does: with its last use it is freed. It does not allocate.
+    /// Takes back one use of an inode, as close(2) does: it is freed with its last use. It does not allocate.
     #[inline(always)]
     pub fn unpin(&mut self, object: NodeRef)
         ensures { ChangesInodes object.filesystem.count

@@ -25,8 +25,10 @@ impl Proposal {
         }
     }
 
-    /// The line.
-    pub fn as_str(&self) -> &str {
+    /// The line, which a run takes.
+    pub fn as_str(&self) -> &str
+        ensures { is_refused (version_of self.now.version) result.now ≡ false }
+    {
         self.line.as_str()
     }
 }

@@ -32,7 +32,7 @@ use vt_spec::errors::Deny;
 pub struct Ground {
     /// The filesystem that the mount shows.
     pub filesystem: FilesystemId,
-    /// Whether no mount stands on it.
+    /// If so, no mount stands on it; `false` says nothing.
     pub is_bare: bool,
 }
 
@@ -41,6 +41,7 @@ pub struct Ground {
 pub struct Entered {
     /// The root of the topmost mount.
     pub root: Location,
+    /// What a walk keeps of that mount.
     pub ground: Ground,
 }
 
@@ -76,7 +77,8 @@ pub trait Look {
     fn topmost(&self, at: Location) -> Location
         ensures { location_of result ≡ topmost (looks self.now) (location_of at) };
 
-    /// As `topmost`, with what a walk keeps of the mount that it enters; nothing if no mount stands at the location.
+    /// The root of the topmost mount over a location, and what a walk keeps of that mount. `None` says that no mount
+    /// stands there.
     fn entered(&self, at: Location) -> Option<Entered>
         ensures root { unwrap_or (option_map (λ entered. location_of entered.root) result) (location_of at)
             ≡ topmost (looks self.now) (location_of at) }

@@ -188,7 +188,7 @@ ascending_found (first ∷ rest) rising mount m =
     (ne_eqb mount.number first.number (λ e. absurd (omega (arith, less, e))))
     ∙ ascending_found rest parts.1 mount later) m
 
--- a mount is among those that pass if it is found and among_from_list_all
+-- the mount of a number is among those that pass if it is found, and passes
 pub found_among : (n : ℕ) (p : Mount ℕ → Bool) (mounts : List (Mount ℕ)) → are_ascending mounts ≡ true
     → list_any (λ mount. nat_eq n mount.number) (filter p mounts)
     ≡ holds_of p (find (λ mount. nat_eq n mount.number) mounts)

@@ -68,9 +68,9 @@ is_unused entry = not (is_some entry.mount.namespace) && nat_eq entry.uses 0
 abbrev pub stands_over : ℕ → meant.Mount ℕ → Bool
 stands_over inode mount = holds_of (λ place. nat_eq place.node inode) mount.mount_point
 
--- the mount of a location shows the filesystem of its node
-abbrev pub IsShown : List (meant.Mount ℕ) → Location → Type 0
-IsShown mounts at = option_map (λ mount. mount.filesystem)
+-- the node of a location is in the filesystem that its mount shows
+abbrev pub IsOnItsFilesystem : List (meant.Mount ℕ) → Location → Type 0
+IsOnItsFilesystem mounts at = option_map (λ mount. mount.filesystem)
     (find (λ mount. nat_eq (mount_number at.mount) mount.number) mounts) ≡ Some (filesystem_number at.node.filesystem)
 
 -- Mounts as they are kept

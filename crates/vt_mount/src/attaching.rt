@@ -100,7 +100,7 @@ impl Mounts {
     /// Attaches mounts after all others, with no uses yet, and moves mounts that were there to other mount points, the
     /// last one of that list first: of two for one mount the first one stays. Once no allocation can fail any more, it
     /// takes one more step, which may fail and change something else. It returns what moved, in the order of the moves.
-    /// It costs what each mount costs that comes or moves, however many others there are.
+    /// Linear in the mounts attached and moved.
     ///
     /// If an allocation fails, that step has not been taken.
     pub fn attach_all_then<S, F: FnOnce(&mut S) -> Result<(), AllocError>>(

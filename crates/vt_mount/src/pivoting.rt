@@ -12,8 +12,8 @@ use std::alloc::AllocError;
 use vt_location::{Location, Mount, MountId};
 
 impl Mounts {
-    /// The second mount gets the mount point of the first, or none if that has none; the first one gets this mount
-    /// point: pivot_root(2). Both keep all else, their children too, and no other mount changes.
+    /// The second mount gets the mount point of the first, or none if that has none; the first one gets the mount
+    /// point `put`: pivot_root(2). Both keep all else, their children too, and no other mount changes.
     pub fn pivot(&mut self, root: &Mount, new: &Mount, put: Location) -> Result<(), AllocError>
         ensures ok { OnOk result (self.new
             ≡ map (pivoted_entry (mount_of root.now) (mount_of new.now) (location_of put)) self.old) }

@@ -6,7 +6,7 @@ ghost use Rattle.vt_spec.specs.Machine.Mounts.{child_at, children, root_of, stan
 ghost use Rattle.vt_location.specs.Locations.{location_of, number_of};
 ghost use Rattle.vt_location.specs.Numbers.{mount_number, namespace_number};
 ghost use Rattle.vt_mount.specs.Attached.{AreOf, attached_in};
-ghost use Rattle.vt_mount.specs.MountsValue.{IsShown, are_ascending, mounts_in, stands_over};
+ghost use Rattle.vt_mount.specs.MountsValue.{IsOnItsFilesystem, are_ascending, mounts_in, stands_over};
 
 use crate::mounts::{Mounts, kept_under};
 use vt_location::{Location, MountId, NamespaceId, NodeRef};
@@ -14,6 +14,7 @@ use vt_location::{Location, MountId, NamespaceId, NodeRef};
 /// The topmost mount over a location.
 #[derive(Clone, Copy, Debug)]
 pub struct Top {
+    /// The location of its root, a node of the filesystem that it shows.
     pub root: Location,
     /// Whether no mount stands on it.
     pub is_bare: bool,
@@ -58,12 +59,14 @@ impl Mounts {
         }
     }
 
-    /// The topmost mount over a location, if a mount stands there.
+    /// The topmost mount over a location; `None` if no mount stands there.
     #[inline(always)]
     pub fn top_over(&self, place: Location) -> Option<Top>
+        ensures some { is_some result
+            ≡ is_some (child_at nat_eq (mounts_in self.now) (location_of place)) }
         ensures root { unwrap_or (option_map (λ top. location_of top.root) result) (location_of place)
             ≡ topmost nat_eq (mounts_in self.now) (location_of place) }
-        ensures shown { IfSome result (λ top. IsShown (mounts_in self.now) top.root) }
+        ensures shown { IfSome result (λ top. IsOnItsFilesystem (mounts_in self.now) top.root) }
         ensures bare { IfSome result (λ top. top.is_bare
             ≡ not (list_any (stands_on nat_eq (mount_number top.root.mount)) (mounts_in self.now))) }
     {
@@ -79,9 +82,9 @@ impl Mounts {
     fn top_from(&self, place: Location, root: Location) -> Top
         requires over { option_map root_of (child_at nat_eq (mounts_in self.now) (location_of place))
             ≡ Some (location_of root) }
-        requires shown { IsShown (mounts_in self.now) root }
+        requires shown { IsOnItsFilesystem (mounts_in self.now) root }
         ensures root { location_of result.root ≡ topmost nat_eq (mounts_in self.now) (location_of place) }
-        ensures shown { IsShown (mounts_in self.now) result.root }
+        ensures shown { IsOnItsFilesystem (mounts_in self.now) result.root }
         ensures bare { result.is_bare
             ≡ not (list_any (stands_on nat_eq (mount_number result.root.mount)) (mounts_in self.now)) }
     {
@@ -112,7 +115,7 @@ impl Mounts {
     fn root_over(&self, place: Location) -> Option<Location>
         ensures root { option_map location_of result
             ≡ option_map root_of (child_at nat_eq (mounts_in self.now) (location_of place)) }
-        ensures shown { IfSome result (λ root. IsShown (mounts_in self.now) root) }
+        ensures shown { IfSome result (λ root. IsOnItsFilesystem (mounts_in self.now) root) }
     {
         let child = self.child_at(place)?;
         let kept = kept_under(&self.by_number, child)?;

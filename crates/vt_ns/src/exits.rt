@@ -15,8 +15,8 @@ use vt_store::Store;
 use vt_tasks::OpenFile;
 
 impl World {
-    /// Ends a task, which leaves its root, its working directory, its open files and its namespace: _exit(2). It takes
-    /// no memory.
+    /// Ends a task, which leaves its root, its working directory, its open files and its namespace: _exit(2). It does
+    /// not allocate.
     pub fn exit(&mut self, name: &TaskName)
         requires { Permits self.old name.now ToExit }
         ensures { Becomes self.old name.now ToExit self.new }

@@ -64,8 +64,8 @@ impl World {
             .link(new.directory.node, new.name, new.object)
     }
 
-    /// Takes a name from an inode that is no directory: unlink(2). With its last use the inode goes. It takes no
-    /// memory.
+    /// Takes a name from an inode that is no directory: unlink(2). The inode is freed with its last use. It does
+    /// not allocate.
     #[inline(always)]
     pub fn unlink(&mut self, name: &TaskName, gone: ToUnlink)
         requires { Permits self.old name.now (remove_permit (Unlink gone)) }

@@ -115,7 +115,7 @@ impl World {
     // How many mounts a bind copies.
     fn bind_count(&self, source: Location, recursive: bool) -> Result<usize, AllocError>
         ensures ok { IfOk result (λ count.
-            length (bind_tree nat_eq (world_of self.now) (location_of source) recursive) ≡ count) }
+            count ≡ length (bind_tree nat_eq (world_of self.now) (location_of source) recursive)) }
     {
         if !recursive {
             return Ok(1);
@@ -124,8 +124,9 @@ impl World {
         Ok(tree.len())
     }
 
-    // Whether a namespace has too many mounts once so many are attached at a place, and at the receivers there: a mount
-    // that is not shared has none.
+    // Whether a namespace has too many mounts once so many are attached at a place, and at the receivers there. It is
+    // said of each world with these mounts and parts, since a new mount comes with a filesystem. A mount that is not
+    // shared has no receivers.
     fn has_too_many_with(&self, place: Location, count: usize) -> Result<bool, AllocError>
         ensures ok { IfOk result (λ too_many. (world : Meant ℕ) (new : Copies ℕ) (tree : List (meant.Mount ℕ))
             → mounts_in self.now.mounts ≡ world.mounts → NamespaceInvariants nat_eq world

@@ -17,8 +17,8 @@ use vt_permits::ToRemoveDirectory;
 use vt_request::TaskName;
 
 impl World {
-    /// Removes an empty directory: rmdir(2). Mounts on it are detached with all their descendants. With its last use it
-    /// goes.
+    /// Removes an empty directory: rmdir(2). Mounts on it are detached with all their descendants. It is freed with
+    /// its last use.
     pub fn remove_directory(
         &mut self,
         name: &TaskName,

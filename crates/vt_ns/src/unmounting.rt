@@ -25,8 +25,8 @@ use vt_store::Store;
 
 impl World {
     /// Detaches a mount on which no other stands, and at each receiver of its parent the mount at the same place,
-    /// unless others stand on that one; a single one that covers its root takes its place: umount(2). What is detached
-    /// goes, as nothing is on it. Where the mount is in no peer group and its parent is not shared, it does not allocate.
+    /// unless others stand on that one; a single one that covers its root takes its place: umount(2). Detached
+    /// mounts are freed: none is in use. Where the mount is in no peer group and its parent is not shared, it does not allocate.
     ///
     /// It fails too where an inode would have more than 2^64 - 1 uses.
     pub fn unmount(&mut self, name: &TaskName, mount: MountId) -> Result<(), AllocError>
@@ -73,7 +73,7 @@ impl World {
     }
 
     /// Detaches a mount and all its descendants, in use or not, and what propagation detaches with each of them:
-    /// umount(2) with `MNT_DETACH`. Each goes with its last use. Where none of the tree is in a peer group, and the
+    /// umount(2) with `MNT_DETACH`. Each is freed with its last use. Where none of the tree is in a peer group, and the
     /// top's parent is not shared, it allocates no more than a list of the tree.
     ///
     /// It fails too where an inode would have more than 2^64 - 1 uses.

@@ -123,7 +123,7 @@ pub(crate) fn old_place<'a, L: Look>(
     vt_walk::old_walk(world, who, &PathText::parse(path)?)
 }
 
-/// As `old_place`, and a slash stands behind a directory alone.
+/// As `old_place`; a trailing slash is accepted only if the object is a directory (else W3).
 pub(crate) fn old_leaf_place<'a, L: Look>(
     world: &L,
     who: &Task,

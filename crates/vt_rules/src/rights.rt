@@ -74,7 +74,7 @@ pub fn attr_at<L: Look>(world: &L, at: Location) -> Attr
     }
 }
 
-/// Whether a sticky directory keeps an object from the caller.
+/// Whether the sticky bit of a directory forbids the caller to remove an object.
 pub(crate) fn is_kept<L: Look>(world: &L, who: &Task, directory: Location, object: Location) -> bool
     ensures { result
         ≡ is_kept (L.looks world.now) (task_of who.now) (location_of directory) (location_of object) }

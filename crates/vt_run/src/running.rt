@@ -68,7 +68,8 @@ impl<D: Read> Read for Watched<D> {
 /// Answers the script that a source gives, in a version of its language, and flushes the sink, also before a fault. The
 /// world is given back, to be freed or forgotten.
 ///
-/// `Read` and `Write`: that device failed. `Memory`: an allocation failed before anything was read or written.
+/// `Read` and `Write`: that device failed; what was written then, only `run_as` says. `Memory`: an allocation failed
+/// before anything was read.
 pub fn answer<C: Calls, R: Read + Drop, W: Write + Drop>(
     version: Version,
     alloc: Global,
@@ -85,6 +86,7 @@ pub fn answer<C: Calls, R: Read + Drop, W: Write + Drop>(
     ensures no_read { IsErrOf result RunFault.Read ⊎ (source.new.failures ≡ 0) }
     ensures write { IsErrOf result RunFault.Write → 0 < sink.new.failures }
     ensures no_write { IsErr result ⊎ (sink.new.failures ≡ 0) }
+    ensures memory { IsErrOf result RunFault.Memory → source.new ≡ source.old }
 {
     let outcome = run_as::<C, _, _>(version, alloc, source, sink);
     let flushed = sink.flush();
@@ -154,8 +156,8 @@ fn read_fault(alloc: Global, name: &str, cause: Option<io::Error>) -> Fault
 /// Answers the script in the file of this name, or on the standard input where it is `-`. It is the last that a program
 /// does: the world is not freed.
 ///
-/// What was answered is handed on to the output, also before a fault. What a file holds no clause can say: that it is
-/// what is read, tests show.
+/// What was answered is handed on to the output, also before a fault. No clause says so: this one speaks of faults before
+/// the first output alone, and `answer_named` of what an `Ok` has written. That the file is what is read, tests show.
 pub fn run_named<C: Calls, R: Files + Input + AllocGlobal, W: Write>(
     rt: &R,
     version: Version,

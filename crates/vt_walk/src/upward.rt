@@ -16,8 +16,8 @@ use vt_node::Node;
 use vt_spec::errors::{Deny, Rule};
 use vt_tasks::Task;
 
-// Where a word led, and whether that is known to be found if it is a directory: then `..` of it is not lost. And the real
-// object there, where an entry led to it, and the mount, where one was entered.
+// Where a word led, and whether that is known to be found if it is a directory: then `..` of it is not lost. With it come
+// the real object there, if an entry led to it, and what the walk keeps of the mount, if that needs no further look.
 #[derive(Clone, Copy, Debug)]
 pub(crate) struct Step<'a> {
     pub(crate) location: Location,

@@ -105,8 +105,8 @@ pub(crate) fn write_bytes(
     }
 }
 
-// Takes back a use that an entry was: a directory without a name is its own parent, and with its last use an object
-// goes.
+// Takes back a use that an entry was: a directory without a name is its own parent, and an object is freed with
+// its last use.
 pub(crate) fn remove_object(slots: &mut Slots, object: NodeId)
     ensures removed { (root : ℕ) → inodes_in root slots.new
         ≡ without_replaced nat_eq (inodes_in root slots.old) (Some object) }
@@ -115,7 +115,7 @@ pub(crate) fn remove_object(slots: &mut Slots, object: NodeId)
     release(slots, object);
 }
 
-// Takes back a use: with its last use an object goes.
+// Takes back a use: an object is freed with its last use.
 pub(crate) fn release(slots: &mut Slots, object: NodeId)
     ensures released { (root : ℕ) → inodes_in root slots.new ≡ unpinned nat_eq (inodes_in root slots.old) object }
 {

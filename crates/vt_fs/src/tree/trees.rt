@@ -25,7 +25,7 @@ use std::marker::Model;
 use vt_node::{Attr, NewNode, Node, NodeId, copied_bytes};
 
 /// A tree of directories, files, symlinks and whiteouts, each with a number, and with a count of its uses: the names
-/// that lead to it, and what a caller pins. With its last use an object goes.
+/// that lead to it, and what a caller pins. An object is freed with its last use.
 #[derive(Debug, Drop)]
 pub struct Tree {
     slots: Slots,
@@ -216,7 +216,7 @@ impl Tree {
         Ok(())
     }
 
-    /// Removes a name of an object that has no entries: unlink(2), rmdir(2). With its last use the object goes. It does
+    /// Removes a name of an object that has no entries: unlink(2), rmdir(2). It is freed with its last use. It does
     /// not allocate.
     pub fn unlink(&mut self, directory: NodeId, name: &[u8], object: NodeId)
         requires named { entry_at (tree_of self.old) directory name.now ≡ Some object }
@@ -312,7 +312,7 @@ impl Tree {
         self.slots.acquire(object)
     }
 
-    /// Counts one use less of an object, as close(2) does: with its last use it goes. It does not allocate.
+    /// Counts one use less of an object, as close(2) does: it is freed with its last use. It does not allocate.
     pub fn unpin(&mut self, object: NodeId)
         ensures { inodes_of self.new ≡ unpinned nat_eq (inodes_of self.old) object }
     {

@@ -9,7 +9,7 @@ use Rattle.vt_mounting.proofs.attach.Beside.{IsBeside}
 use Rattle.vt_mounting.proofs.attach.EnteringLemmas.{apart}
 use Rattle.vt_mounting.proofs.detach.FilesSeen.{mount_named}
 
--- what nothing among_from_list_all is none
+-- what no element passes is counted 0 times
 pub times_none : {A : Type 0} (test : A → Bool) (xs : List A) → ((x : A) → Among x xs → test x ≡ false)
     → times test xs ≡ 0
 times_none test [] none = refl

@@ -27,9 +27,3 @@ abbrev pub overfills_of : WorldValue → Permit ℕ → Bool
 overfills_of value permit =
     has_too_many nat_eq (apply nat_eq (counts_from value.next) (world_of value)
     (first_task nat_eq (λ place. place)) permit).world
-
--- the namespace of a mount has too many mounts once it gets so many
-abbrev pub has_too_many_with : WorldValue → ℕ → ℕ → Bool
-has_too_many_with value mount more =
-    holds_of (λ namespace. nat_lt most_mounts (length (mounts_of nat_eq (world_of value) namespace) + more))
-    (mount_numbered nat_eq (world_of value) mount).namespace

@@ -1,7 +1,7 @@
 use Rattle.std.proofs.Common.{Some, None, ap, inl, inr, option_map, refl, sym, ◌∙◌}
 use Rattle.vt_spec.proofs.Common.{option_copied_mut}
 use Rattle.vt_fs.specs.FilesystemsValue.{entry_of, held, held_with_tree}
-use Rattle.vt_fs.proofs.Entries.{first_there, found_first, held_apart, tree_of-held, writes, writes_first}
+use Rattle.vt_fs.proofs.Entries.{first_is, first_there, found_first, held_apart, tree_of-held, writes, writes_first}
 use Rattle.vt_fs.proofs.filesystems.Filesystems.get_mut.Goals as goal
 
 pub returns-in-Some : goal.returns-in-Some
@@ -10,7 +10,7 @@ returns-in-Some c =
     let map = c.self.inside.by_number in
     let found = c.in-Some.found.now in
     let there = ap option_copied_mut (sym c.in-Some.is) ∙ c.get_index_mut.ensures.value in
-    let first = c.is_first.ensures c.if-is_first.true in (
+    let first = first_is c.args.filesystem map.entries (sym c.is_first.ensures ∙ c.if-is_first.true) in (
       λ i. inl (
         c.tree_mut.result.ghost_name,
         λ tree. writes_first c.args.filesystem (λ one. held_with_tree one tree) (λ entry. record entry { tree = tree })
@@ -27,7 +27,7 @@ returns-in-Some c =
 
 pub returns-in-None : goal.returns-in-None
 returns-in-None c = first_there c.args.filesystem c.self.inside.by_number.entries
-    (c.is_first.ensures c.if-is_first.true)
+    (first_is c.args.filesystem c.self.inside.by_number.entries (sym c.is_first.ensures ∙ c.if-is_first.true))
     (ap option_copied_mut (sym c.in-None.is) ∙ c.get_index_mut.ensures.value)
 
 pub returns-in-Some-get_mut : goal.returns-in-Some-get_mut

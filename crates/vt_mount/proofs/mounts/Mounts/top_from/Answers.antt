@@ -1,7 +1,7 @@
 use Rattle.std.proofs.Common.{IfSome, List, Option, Some, [], ap, arith, length, nat_eq, option_map, subst, suc, sym, ℕ, ◌+◌, ◌-◌, ◌≡◌, ◌∙◌, ◌≤◌, ◌∷◌}
 use Rattle.vt_spec.proofs.Common.{Location, Mount, child_at, length-map, root_of}
 use Rattle.vt_location.specs.Locations.{location_of}
-use Rattle.vt_mount.specs.MountsValue.{IsShown, mounts_in}
+use Rattle.vt_mount.specs.MountsValue.{IsOnItsFilesystem, mounts_in}
 use Rattle.vt_mount.proofs.PointLemmas.{end-here, end-more, end_of, none_at}
 use Rattle.vt_mount.proofs.mounts.Mounts.top_from.Goals as goal
 
@@ -35,7 +35,7 @@ loop-preserved c =
       sym (end-more (step (mounts_in c.args.self.now)) _ _ _ is)
           ∙ ap (λ n. end_of (step (mounts_in c.args.self.now)) n (location_of c.loop.here)) (sym one)
           ∙ c.loop.invariant.1,
-      subst (λ root. IfSome root (IsShown (mounts_in c.args.self.now))) c.in-Some.is c.root_over.ensures.shown,
+      subst (λ root. IfSome root (IsOnItsFilesystem (mounts_in c.args.self.now))) c.in-Some.is c.root_over.ensures.shown,
     )
 
 pub returns-then-not-has_child-clause-root : goal.returns-then-not-has_child-clause-root
