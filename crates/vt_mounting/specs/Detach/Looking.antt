@@ -1,12 +1,10 @@
 -- What the code's world shows.
-use Rattle.std.specs.Prelude.{Bool, length, nat_eq, nat_lt, ℕ, ◌+◌}
-use Rattle.vt_spec.specs.Language.Limits.{most_mounts}
-use Rattle.vt_spec.specs.Lists.{holds_of}
+use Rattle.std.specs.Prelude.{Bool, nat_eq, ℕ}
 use Rattle.vt_spec.specs.Machine.Apply.{apply}
 use Rattle.vt_spec.specs.Machine.Attach.{has_too_many}
 use Rattle.vt_spec.specs.Machine.Looks.{Looks, looks_of}
 use Rattle.vt_spec.specs.Machine.Permits.{Permit}
-use Rattle.vt_spec.specs.Machine.World.{first_task, mount_at, mount_numbered, mounts_of}
+use Rattle.vt_spec.specs.Machine.World.{first_task, mount_at}
 use Rattle.vt_location.specs.declared.locations.Location.{Location}
 use Rattle.vt_location.specs.Locations.{location_of}
 use Rattle.vt_location.specs.Numbers.{counted}

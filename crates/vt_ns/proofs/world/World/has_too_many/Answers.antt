@@ -23,7 +23,7 @@ returns-in_ok-count-in-Bind c = record {
       IfOk-weaker c.has_too_many_with-in-Bind.result _ _ (λ too_many tells.
       bind_overfills value c.has_too_many_with-in-Bind.ensures.held destination too_many source c.in-Bind.bind.recursive
       (λ one copies added same invariants parts size.
-      tells one copies added same invariants parts (size ∙ c.in_ok-count-in-Bind.ensures.ok))
+      tells one copies added same invariants parts (size ∙ sym c.in_ok-count-in-Bind.ensures.ok))
       ∙ ap (λ attachment. overfills_of value (attachment_permit attachment)) (sym c.in-Bind.is))
       c.has_too_many_with-in-Bind.ensures.ok;
 }
