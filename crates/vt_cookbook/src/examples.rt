@@ -30,12 +30,12 @@ mod volume_propagation;
 pub const LIST: &str = "\
 docker-volumes         what docker run -v and bind-propagation=rshared show of a disk that the host mounts later\n\
 pods-share-a-volume    two pods share a volume with mountPropagation: Bidirectional\n\
-runc-pivot             runc's root by pivot_root(\".\", \".\"), and the lazy unmount of the old one\n\
-runc-root              the same with --no-pivot: a moved mount and a changed root\n\
+runc-pivot             runc's root by pivot_root(\".\", \".\"), and the lazy unmount of the old one (version 2)\n\
+runc-root              runc's root with --no-pivot: a moved mount and a changed root\n\
 bwrap                  bwrap: read-only /usr, a tmpfs, a work directory, and a user without capabilities\n\
-bwrap-pivots           its two pivots\n\
-nspawn-pivot           systemd-nspawn makes its tree the root by a pivot\n\
-nspawn                 it moves it to / where there is none\n\
+bwrap-pivots           bwrap's two pivots (version 2)\n\
+nspawn-pivot           systemd-nspawn makes its tree the root by a pivot (version 2)\n\
+nspawn                 systemd-nspawn without pivot_root: its tree is moved to /\n\
 unshare-mounts         unshare -m, with --propagation unchanged and with its default\n\
 busy-unmount           why an unmount is busy, and which copy stays behind\n\
 secret-file            who reads a secret of mode 400\n\

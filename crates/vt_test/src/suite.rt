@@ -133,6 +133,18 @@ impl<'a> Script<'a> {
         }
     }
 
+    // Whether it has a line that is neither a comment nor of spaces alone.
+    fn has_call(&self) -> bool {
+        let mut rest = self.text.as_slice();
+        while let Some((line, after)) = first_line(rest) {
+            if !matches!(without_front(line).first(), None | Some(b'#')) {
+                return true;
+            }
+            rest = after;
+        }
+        false
+    }
+
     // Goes on with the script by a line of the file, which is line `number` of the script.
     fn say(
         &mut self,
@@ -178,10 +190,10 @@ impl<'a> Reading<'a> {
         self.end(Script::new(self.script.version, alloc, name, line))
     }
 
-    // Ends a script, where another begins, if it has a name or a line.
+    // Ends a script, where another begins, if it has a name or a call.
     fn end(&mut self, next: Script<'a>) -> Result<(), AllocError> {
         let script = mem::replace(&mut self.script, next);
-        if !script.name.is_empty() || !script.wanted.is_empty() {
+        if !script.name.is_empty() || script.has_call() {
             self.done.push(script)?;
         }
         Ok(())

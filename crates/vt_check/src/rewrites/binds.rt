@@ -2,7 +2,7 @@
 use super::Row;
 
 /// The rows, in the order in which they are tried.
-pub static ROWS: [Row; 19] = [
+pub static ROWS: [Row; 20] = [
     ("mount --bind * *", "bind $2 $3", ""),
     ("mount -B * *", "bind $2 $3", ""),
     ("mount -o bind * *", "bind $3 $4", ""),
@@ -27,6 +27,11 @@ pub static ROWS: [Row; 19] = [
     (
         "mount -o ro,bind * *",
         "bind $3 $4 | remount $4 ro",
+        "a bind has the flags of its source until then",
+    ),
+    (
+        "mount -o rbind,ro * *",
+        "rbind $3 $4 | remount $4 ro",
         "a bind has the flags of its source until then",
     ),
     (

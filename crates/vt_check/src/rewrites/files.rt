@@ -2,7 +2,7 @@
 use super::Row;
 
 /// The rows, in the order in which they are tried.
-pub static ROWS: [Row; 16] = [
+pub static ROWS: [Row; 18] = [
     ("cat *", "read $1", ""),
     ("less *", "read $1", ""),
     ("more *", "read $1", ""),
@@ -17,7 +17,8 @@ pub static ROWS: [Row; 16] = [
         "no call copies; `read` answers the content of a file, and `write` sets it",
     ),
     ("mv * *", "rename $1 $2", ""),
-    ("mv * * *", "rename $2 $3", ""),
+    ("mv -f * *", "rename $2 $3", ""),
+    ("mv ...", "", "`rename OLD NEW` renames one object"),
     ("rm -f *", "unlink $2", ""),
     (
         "rm -r ...",
@@ -42,6 +43,7 @@ pub static ROWS: [Row; 16] = [
     ("rm *", "unlink $1", ""),
     ("cd *", "chdir $1", ""),
     ("cd", "chdir /", ""),
+    ("umask", "", "no call tells the umask; `umask 022` sets it"),
     (
         "pwd",
         "",

@@ -2,7 +2,7 @@
 use super::Row;
 
 /// The rows, in the order in which they are tried.
-pub static ROWS: [Row; 13] = [
+pub static ROWS: [Row; 14] = [
     ("truncate * 0", "write $1 \\e", ""),
     ("truncate -s 0 *", "write $3 \\e", ""),
     (
@@ -11,6 +11,11 @@ pub static ROWS: [Row; 13] = [
         "`write` sets the whole content of a file",
     ),
     ("ln -s * *", "symlink $2 $3", ""),
+    (
+        "ln -s *",
+        "",
+        "`symlink TEXT PATH` makes a symlink with this text",
+    ),
     ("ln * *", "link $1 $2", ""),
     ("test -e *", "stat $2", ""),
     ("test -f *", "stat $2", ""),

@@ -2,7 +2,7 @@
 use super::Row;
 
 /// The rows, in the order in which they are tried.
-pub static ROWS: [Row; 12] = [
+pub static ROWS: [Row; 15] = [
     (
         "unshare -m",
         "unshare",
@@ -12,6 +12,12 @@ pub static ROWS: [Row; 12] = [
         "unshare --mount",
         "unshare",
         "unshare(1) then makes all mounts private, as `rtype / private` does",
+    ),
+    ("unshare -m --propagation unchanged", "unshare", ""),
+    (
+        "unshare -m --propagation *",
+        "unshare | rtype / $3",
+        "it is the type of all its mounts",
     ),
     (
         "unshare -m ...",
@@ -35,7 +41,12 @@ pub static ROWS: [Row; 12] = [
     ("clone ...", "fork", ""),
     ("vfork", "fork", ""),
     (
-        "chroot * ...",
+        "chroot -- * ...",
+        "chroot $2 | chdir /",
+        "a task goes on with `exec`",
+    ),
+    (
+        "chroot /* ...",
         "chroot $1 | chdir /",
         "a task goes on with `exec`",
     ),

@@ -2,8 +2,39 @@
 use super::Row;
 
 /// The rows, in the order in which they are tried.
-pub static ROWS: [Row; 12] = [
+pub static ROWS: [Row; 19] = [
+    ("exec -a ...", "", "it is given a path alone"),
     ("exec * ...", "exec $1", "it is given a path alone"),
+    (
+        "creat *",
+        "open $1 w create 644",
+        "it leaves a descriptor open",
+    ),
+    (
+        "creat * *",
+        "open $1 w create $2",
+        "it leaves a descriptor open",
+    ),
+    (
+        "fstat ...",
+        "",
+        "of descriptors there are `open`, `pread`, `pwrite` and `close`",
+    ),
+    (
+        "fchmod ...",
+        "",
+        "of descriptors there are `open`, `pread`, `pwrite` and `close`",
+    ),
+    (
+        "fchown ...",
+        "",
+        "of descriptors there are `open`, `pread`, `pwrite` and `close`",
+    ),
+    (
+        "fchdir ...",
+        "",
+        "of descriptors there are `open`, `pread`, `pwrite` and `close`",
+    ),
     ("open * O_RDONLY", "open $1 r", ""),
     ("open * O_WRONLY", "open $1 w", ""),
     ("open * O_RDWR", "open $1 rw", ""),

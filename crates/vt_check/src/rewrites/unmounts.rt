@@ -2,10 +2,13 @@
 use super::Row;
 
 /// The rows, in the order in which they are tried.
-pub static ROWS: [Row; 20] = [
+pub static ROWS: [Row; 23] = [
     ("mount -o remount,ro *", "remount $3 ro", ""),
     ("mount -o remount,rw *", "remount $3 rw", ""),
-    ("mount -o remount,bind,ro *", "remount $4 ro", ""),
+    ("mount -o remount,bind,ro *", "remount $3 ro", ""),
+    ("mount -o remount,bind,rw *", "remount $3 rw", ""),
+    ("mount -o bind,remount,ro *", "remount $3 ro", ""),
+    ("mount -o bind,remount,rw *", "remount $3 rw", ""),
     ("mount -o remount,ro,bind *", "remount $3 ro", ""),
     ("mount /*", "mount plain $1", ""),
     ("mount /* *", "mount plain $1 $2", ""),
