@@ -1,5 +1,5 @@
 -- Calls by their names and words.
-use Rattle.std.proofs.Common.{List, None, Option, Some, Result, Err, option_map, refl, false, true, subst, sym, ap, ◌≡◌, ◌∙◌, ◌∷◌, [], ℕ, IsSome, IsSomeAnd}
+use Rattle.std.proofs.Common.{List, None, Option, Some, Result, option_map, refl, false, true, subst, sym, ap, ◌≡◌, ◌∙◌, ◌∷◌, [], ℕ}
 use Rattle.vt_spec.proofs.Common.{Call, One, Two, Version, call_read, no_more, path_word, then_some, word_then}
 use Rattle.vt_spec.specs.Language.Calls as spec
 use Rattle.vt_spec.specs.Language.Script.{names_no_upper, path_alone, two_paths}

@@ -49,10 +49,14 @@ pub fn child_number(text: &[u8]) -> Option<u8>
     ensures value { result ≡ child_number text.now }
     ensures range { IfSome result (λ k. (1 ≤ k) × (k ≤ 64)) }
 {
-    if text.first() == Some(&b'0') {
-        return None;
+    match text {
+        [digit @ b'1'..=b'9'] => Some(*digit - b'0'),
+        [tens @ b'1'..=b'9', ones @ b'0'..=b'9'] => {
+            let number = 10 * (*tens - b'0') + (*ones - b'0');
+            if number <= 64 { Some(number) } else { None }
+        }
+        _ => None,
     }
-    Some(number(10, 2, 64, text)? as u8)
 }
 
 /// A user or a group: at most 4294967294, since -1 of chown(2) is none.

@@ -15,5 +15,6 @@ pub mod SourceLemmas
 mod RisingLemmas
 mod ReservedLemmas
 mod NotedLemmas
+mod MostLemmas
 pub mod EnteringLemmas
 pub mod ListedLemmas

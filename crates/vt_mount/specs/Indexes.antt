@@ -10,17 +10,15 @@ use Rattle.vt_location.specs.Locations.{is_small_node}
 use Rattle.vt_location.specs.SameNodes.{same_node}
 use Rattle.vt_mount.specs.declared.indexes.Indexes.{Indexes}
 use Rattle.vt_mount.specs.Listed.{listed}
+pub use Rattle.vt_mount.specs.Listed.{same_namespace}
 use Rattle.vt_mount.specs.Rising.{inserted, same_id}
-
-abbrev pub same_namespace : NamespaceId → NamespaceId → Bool
-same_namespace a b = nat_eq a.count b.count
 
 abbrev pub same_place : Location → Location → Bool
 same_place a b = same_id a.mount b.mount && same_node a.node b.node
 
 -- the mounts of a namespace, on a mount, at a location and on an inode
 abbrev pub listed_in : Indexes → NamespaceId → List MountId
-listed_in indexes namespace = listed same_namespace namespace indexes.by_namespace
+listed_in indexes namespace = listed same_namespace namespace indexes.by_namespace.lists
 
 abbrev pub listed_on : Indexes → MountId → List MountId
 listed_on indexes parent = listed same_id parent indexes.by_parent

@@ -22,7 +22,7 @@ ReservesBy eq key_of xs lists = (q : _) → count_of (λ x. eq q (key_of x)) xs 
 
 -- there is room for a mount in each of these namespaces, and for one at each of these locations
 pub record Reserves (indexes : Indexes) (namespaces : List NamespaceId) (places : List Location) : Type 0 where
-  pub namespace : ReservesBy same_namespace (λ namespace. namespace) namespaces indexes.by_namespace
+  pub namespace : ReservesBy same_namespace (λ namespace. namespace) namespaces indexes.by_namespace.lists
   pub parent : ReservesBy same_id (λ place. place.mount) places indexes.by_parent
   pub place : ReservesBy same_place (λ place. place) places indexes.by_location
   pub inode : ReservesBy same_node (λ place. place.node) places indexes.by_inode

@@ -15,13 +15,14 @@ ghost use Rattle.vt_mount.specs.Rising.{same_id};
 ghost use Rattle.vt_spec.specs.Lists.{holds_of};
 
 use crate::lists::MountsBy;
+use crate::namespaces::MountsByNamespace;
 use std::alloc::{AllocError, Global};
 use vt_location::{Location, Mount, MountId, NamespaceId, NodeRef};
 
 /// The mounts by their namespace, and by the mount, the location and the inode that they stand on.
 #[derive(Debug, Drop)]
 pub(crate) struct Indexes {
-    pub(crate) by_namespace: MountsBy<NamespaceId>,
+    pub(crate) by_namespace: MountsByNamespace,
     pub(crate) by_parent: MountsBy<MountId>,
     pub(crate) by_location: MountsBy<Location>,
     pub(crate) by_inode: MountsBy<NodeRef>,
@@ -36,7 +37,7 @@ impl Indexes {
         ensures inode { (q : NodeRef) → listed_over result q ≡ [] }
     {
         Indexes {
-            by_namespace: MountsBy::new(alloc),
+            by_namespace: MountsByNamespace::new(alloc),
             by_parent: MountsBy::new(alloc),
             by_location: MountsBy::new(alloc),
             by_inode: MountsBy::new(alloc),
@@ -114,7 +115,7 @@ impl Indexes {
         ensures inode { self.new.by_inode ≡ self.old.by_inode }
     {
         if let Some(namespace) = namespace {
-            self.by_namespace.release(&namespace);
+            self.by_namespace.release(namespace);
         }
     }
 
@@ -167,7 +168,7 @@ impl Indexes {
         ensures inode { self.new.by_inode ≡ self.old.by_inode }
     {
         match namespace {
-            Some(namespace) => self.by_namespace.add_again(namespace, mount),
+            Some(namespace) => self.by_namespace.add(namespace, mount),
             None => Ok(()),
         }
     }
@@ -231,7 +232,7 @@ impl Indexes {
             → Reserves self.old (option_to_list namespace ++ namespaces) places → Reserves self.new namespaces places }
     {
         if let Some(namespace) = namespace {
-            self.by_namespace.put_in(&namespace, mount);
+            self.by_namespace.put_in(namespace, mount);
         }
     }
 
@@ -250,7 +251,7 @@ impl Indexes {
             ≡ taken (stood_over q place) mount (listed_over self.old q) }
     {
         if let Some(namespace) = namespace {
-            self.by_namespace.remove_again(&namespace, mount);
+            self.by_namespace.remove(namespace, mount);
         }
         if let Some(place) = place {
             self.by_parent.remove_again(&place.mount, mount);

@@ -9,6 +9,7 @@ mod lists;
 mod mounted;
 mod mounts;
 mod moving;
+mod namespaces;
 mod pivoting;
 mod places;
 mod trees;

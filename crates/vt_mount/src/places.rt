@@ -1,5 +1,5 @@
 //! Which mounts are at a location, on a mount, on an inode and in a namespace.
-ghost use Rattle.std.specs.Prelude.{IfSome, Some, ◌≡◌, ◌&&◌, filter, find, is_some, map, nat_eq, not, option_map, true, unwrap_or};
+ghost use Rattle.std.specs.Prelude.{IfSome, Some, ◌≡◌, ◌≤◌, ◌&&◌, filter, find, is_some, length, map, nat_eq, not, option_map, true, unwrap_or, ℕ};
 ghost use Rattle.std.specs.List.{list_any};
 ghost use Rattle.vt_spec.specs.Lists.{holds_of};
 ghost use Rattle.vt_spec.specs.Machine.Mounts.{child_at, children, root_of, stands_on, topmost};
@@ -187,6 +187,13 @@ impl Mounts {
         ensures are { AreOf result.now (attached_in (namespace_number namespace) self.now) }
         ensures order { are_ascending (mounts_in self.now) ≡ true }
     {
-        self.indexes.by_namespace.get_again(&namespace)
+        self.indexes.by_namespace.get(namespace)
+    }
+
+    /// The most mounts that a namespace has had: none has more.
+    pub fn most_in_namespace(&self) -> usize
+        ensures { (namespace : ℕ) → length (attached_in namespace self.now) ≤ result }
+    {
+        self.indexes.by_namespace.most()
     }
 }

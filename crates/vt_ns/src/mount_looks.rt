@@ -23,7 +23,7 @@ use vt_layers::{LookAtLayers, Lower};
 use vt_location::{Location, MountId, Propagation};
 use vt_looks::LookAtMounts;
 use vt_permits::Attachment;
-use vt_propagate::{Load, is_busy, overfills};
+use vt_propagate::{Load, has_room_everywhere, is_busy, overfills};
 use vt_spec::errors::Deny;
 use vt_tasks::Task;
 
@@ -135,6 +135,9 @@ impl World {
             → too_many ≡ has_too_many nat_eq (attached_by nat_eq world new (location_of place) false tree)) }
         ensures held { IsHeld self.now }
     {
+        if has_room_everywhere(&self.mounts, count) {
+            return Ok(false);
+        }
         let Some(parent) = self.mounts.get(place.mount) else {
             return Ok(false);
         };

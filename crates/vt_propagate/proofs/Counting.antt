@@ -1,9 +1,9 @@
 -- How many mounts namespaces have once a tree is attached.
-use Rattle.std.proofs.Common.{◌≡◌, ℕ, Bool, true, false, cond, ◌+◌, ◌-◌, ◌*◌, ◌≤◌, ◌||◌, List, [], ◌∷◌, map, filter, length, nat_eq, nat_lt, Option, None, Some, option_map, suc, refl, sym, ap, ◌∙◌, arith, true≢false, inl, ⊎_elim, subst, Contains, option_to_list, unwrap_or, eqb-true, ltb-false, ltb-true}
-use Rattle.vt_spec.proofs.Common.{Among, Copies, Location, Mount, Namespace, NamespaceInvariants, World, among-from_filter, among-from_map, among_from_all, among_from_contains, among_from_list_all, among_numbers, and_parts, any_among, any_from_among, attached_by, has_too_many, holds_of, is_listed, list_all, list_any, most_mounts, mount_at, nat_tests, no_mount, none_among, parts_of, receivers_of, same_truth, takes_part}
+use Rattle.std.proofs.Common.{◌≡◌, ℕ, Bool, true, false, cond, ◌+◌, ◌-◌, ◌*◌, ◌≤◌, ◌||◌, ◌&&◌, List, [], ◌∷◌, map, filter, length, nat_eq, nat_lt, Option, None, Some, option_map, suc, refl, sym, ap, ◌∙◌, arith, true≢false, inl, ⊎_elim, subst, Contains, option_to_list, unwrap_or, eqb-true, le-ltb, ltb-false, ltb-true, find, min, not, ◌<◌}
+use Rattle.vt_spec.proofs.Common.{Among, Copies, Location, Mount, Namespace, NamespaceInvariants, World, among-from_filter, among-from_map, among_from_all, among_from_contains, among_from_list_all, among_numbers, and_parts, any_among, any_from_among, attached_by, common_steps, group_of, has_too_many, holds_of, is_listed, list_all, list_any, most_mounts, mount_at, nat_tests, no_mount, none_among, none_from_among, none_is_some, parts_of, receivers, receivers_of, receives, same_truth, takes_part}
 use Rattle.std.proofs.lemmas.List.Sums.{count_by-le-length, length-filter}
-use Rattle.std.proofs.Math.Nat.{mul-le-mul_right}
-use Rattle.vt_laws_mounts.proofs.Counting.{count-inside, moved_fewer}
+use Rattle.std.proofs.Math.Nat.{le_trans, min-eq_left, min-eq_right, mul-le-mul_right}
+use Rattle.vt_laws_mounts.proofs.Counting.{count-cons, count-inside, moved_fewer}
 pub use Rattle.vt_laws_mounts.proofs.Counting.{absent_counted, added_counted, moved_all}
 use Rattle.vt_location.specs.declared.mounts.Mount.{Mount as Kept}
 use Rattle.vt_location.specs.declared.numbers.NamespaceId.{NamespaceId}
@@ -322,3 +322,118 @@ few_parts mounts load parts none = by (list_any over parts) refl
     by : (b : Bool) → list_any over parts ≡ b → list_any over parts ≡ false
     by true is = absurd (true≢false (sym (any_still over at_most (λ part. still part.namespace) parts is) ∙ none))
     by false is = is
+
+-- A tree on each mount of a namespace
+
+-- what passes two tests is among what passes a third, if the first implies it
+twice-filtered : (first second third : Mount ℕ → Bool)
+    → ((mount : Mount ℕ) → first mount ≡ true → third mount ≡ true) → (mounts : List (Mount ℕ)) (namespace : ℕ)
+    → count_in (filter first (filter second mounts)) namespace ≤ count_in (filter third mounts) namespace
+twice-filtered first second third within [] namespace = omega arith
+twice-filtered first second third within (mount ∷ mounts) namespace =
+    let rest = twice-filtered first second third within mounts namespace in
+    let kept = count-cons mount (filter first (filter second mounts)) namespace in
+    let larger = count-cons mount (filter third mounts) namespace in
+    grind (arith, common_steps, rest, kept, larger, within mount)
+
+filtered_at_most : (test : Mount ℕ → Bool) (mounts : List (Mount ℕ)) (namespace : ℕ)
+    → count_in (filter test mounts) namespace ≤ count_in mounts namespace
+filtered_at_most test [] namespace = omega arith
+filtered_at_most test (mount ∷ mounts) namespace =
+    let rest = filtered_at_most test mounts namespace in
+    let kept = count-cons mount (filter test mounts) namespace in
+    let all = count-cons mount mounts namespace in
+    grind (arith, common_steps, rest, kept, all)
+
+-- a mount that is found, and those that would not be
+found_apart : (test : Mount ℕ → Bool) (found : Mount ℕ) (namespace : ℕ) (mounts : List (Mount ℕ))
+    → find test mounts ≡ Some found → count_in (found ∷ filter (λ mount. not (test mount)) mounts) namespace
+    ≤ count_in mounts namespace
+found_apart test found namespace [] is = none_is_some found is
+found_apart test found namespace (mount ∷ mounts) is =
+    by (test mount) is (found_apart test found namespace mounts)
+  where
+    others : List (Mount ℕ)
+    others = filter (λ one. not (test one)) mounts
+
+    by : (b : Bool) → cond b (Some mount) (find test mounts) ≡ Some found
+        → (find test mounts ≡ Some found → count_in (found ∷ others) namespace ≤ count_in mounts namespace)
+        → count_in (found ∷ cond (not b) (mount ∷ others) others) namespace ≤ count_in (mount ∷ mounts) namespace
+    by true is later =
+        let fewer = filtered_at_most (λ one. not (test one)) mounts namespace in
+        let first = count-cons mount others namespace in
+        let all = count-cons mount mounts namespace in
+        subst (λ one. count_in (one ∷ others) namespace ≤ count_in (mount ∷ mounts) namespace) (ap (λ o. unwrap_or o mount) is)
+        (omega (arith, fewer, first, all))
+    by false is later =
+        let rest = later is in
+        let one = count-cons found others namespace in
+        let two = count-cons found (mount ∷ others) namespace in
+        let three = count-cons mount others namespace in
+        let all = count-cons mount mounts namespace in
+        omega (arith, rest, one, two, three, all)
+
+first_of_four : (a b c d : Bool) → (a && b && c && d) ≡ true → a ≡ true
+first_of_four true b c d is = refl
+first_of_four false true c d is = is
+first_of_four false false c d is = is
+
+-- the parts in a namespace are mounts of it, each once
+pub parts_at_most : (world : World ℕ) (place : Location ℕ) (namespace : ℕ)
+    → count_in (parts_of nat_eq world place) namespace ≤ count_in world.mounts namespace
+parts_at_most world place namespace = by (numbered world.mounts place.mount) refl
+  where
+    others : List (Mount ℕ)
+    others = filter (λ (mount : Mount ℕ). not (nat_eq place.mount mount.number)) world.mounts
+
+    received : Mount ℕ → List (Mount ℕ)
+    received mount = filter (takes_part nat_eq world place) (receivers_of nat_eq world mount)
+
+    few : (mount : Mount ℕ) → count_in (received mount) namespace ≤ count_in others namespace
+    few mount = by_group (group_of mount.propagation)
+      where
+        by_group : (o : Option ℕ) → count_in (filter (takes_part nat_eq world place)
+            (unwrap_or (option_map (receivers nat_eq world) o) [])) namespace ≤ count_in others namespace
+        by_group None = omega arith
+        by_group (Some group) = twice-filtered (takes_part nat_eq world place) (receives nat_eq world group)
+            (λ (mount : Mount ℕ). not (nat_eq place.mount mount.number))
+            (λ mount takes. first_of_four (not (nat_eq place.mount mount.number)) _ _ _ takes) world.mounts namespace
+
+    by : (o : Option (Mount ℕ)) → numbered world.mounts place.mount ≡ o
+        → count_in (parts_of nat_eq world place) namespace ≤ count_in world.mounts namespace
+    by None e = subst (λ one. count_in (one ∷ received one) namespace ≤ count_in world.mounts namespace)
+        (sym (ap (λ found. unwrap_or found (no_mount place.mount)) e)) (omega arith)
+    by (Some mount) e =
+        let apart = found_apart (λ (one : Mount ℕ). nat_eq place.mount one.number) mount namespace world.mounts e in
+        let one = count-cons mount others namespace in
+        let parts = count-cons mount (received mount) namespace in
+        let fewer = few mount in
+        subst (λ one. count_in (one ∷ received one) namespace ≤ count_in world.mounts namespace)
+        (sym (ap (λ found. unwrap_or found (no_mount place.mount)) e)) (omega (arith, apart, one, parts, fewer))
+
+-- where each namespace has room for a tree on each of its mounts, no attachment overfills one
+pub room_everywhere : (world : World ℕ) (place : Location ℕ) (new : Copies ℕ) (tree : List (Mount ℕ)) (most : ℕ)
+    → ((namespace : ℕ) → count_in world.mounts namespace ≤ most) → nat_lt most_mounts (most + most * length tree) ≡ false
+    → has_too_many nat_eq (attached_by nat_eq world new place false tree) ≡ false
+room_everywhere world place new tree most bounded room =
+    none_from_among (λ (one : Namespace ℕ). nat_lt most_mounts
+    (count_in (attached_by nat_eq world new place false tree).mounts one.number)) world.namespaces (λ one m.
+    let all = added_counted world place new tree one.number in
+    let times = mul-le-mul_right (length tree)
+    (le_trans (parts_at_most world place one.number) (bounded one.number)) in
+    let few = bounded one.number in
+    let fits = ltb-false most_mounts (most + most * length tree) room in
+    le-ltb most_mounts _ (omega (arith, all, times, few, fits)))
+
+-- a sum that stops at a greatest number is within a smaller one just if it is without that number
+pub within_cap : (sum cap most : ℕ) → min sum cap ≤ most → most < cap → sum ≤ most
+within_cap sum cap most within small = by (nat_lt cap sum) refl
+  where
+    by : (b : Bool) → nat_lt cap sum ≡ b → sum ≤ most
+    by true is =
+        let over = ltb-true cap sum is in
+        let cut = min-eq_right {n = cap} {m = sum} (omega (arith, over)) in
+        absurd (omega (arith, cut, within, small))
+    by false is =
+        let whole = min-eq_left {n = sum} {m = cap} (ltb-false cap sum is) in
+        omega (arith, whole, within)

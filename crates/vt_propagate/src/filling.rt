@@ -58,6 +58,18 @@ pub fn overfills(
     Ok(is_one_overfilled(mounts, parts, &counts, load))
 }
 
+/// Whether each namespace has room for a tree of so many mounts on each of its mounts. Such a tree overfills none then,
+/// wherever it is attached and whatever receives it.
+pub fn has_room_everywhere(mounts: &Mounts, count: usize) -> bool
+    ensures { result ≡ true → (world : World ℕ) (new : Copies ℕ) (place : meant.Location ℕ)
+        (tree : List (meant.Mount ℕ))
+        → mounts_in mounts.now ≡ world.mounts → length tree ≡ count
+        → has_too_many nat_eq (attached_by nat_eq world new place false tree) ≡ false }
+{
+    let most = mounts.most_in_namespace() as u64;
+    most.saturating_add(most.saturating_mul(count as u64)) <= MOST_MOUNTS
+}
+
 // Whether the namespace of a part has too many mounts if all parts are in it: else they need not be counted.
 fn can_overfill(mounts: &Mounts, parts: &[Mount], load: Load) -> bool
     ensures { result ≡ list_any (λ part. is_overfilled (mounts_in mounts.now) load

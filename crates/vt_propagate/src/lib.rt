@@ -20,7 +20,7 @@ mod unmounting;
 pub use attaching::{Plan, attachment};
 pub use copying::{Counts, Graft};
 pub use detaching::{Detachment, unmount};
-pub use filling::{Load, overfills};
+pub use filling::{Load, has_room_everywhere, overfills};
 pub use lazily::unmount_lazily;
 pub use reach::Reach;
 pub use receiving::parts;

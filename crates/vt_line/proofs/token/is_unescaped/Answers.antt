@@ -1,4 +1,4 @@
-use Rattle.std.proofs.Common.{◌≡◌, ◌&&◌, ◌||◌, ◌-◌, ◌%◌, ◌≤◌, ◌==◌, ℕ, List, Bool, length, take, ap, arith, sym, ◌∙◌}
+use Rattle.std.proofs.Common.{◌&&◌, ◌||◌, ◌-◌, ◌%◌, ◌≤◌, ◌==◌, ℕ, Bool, length, take, ap, arith, ◌∙◌}
 use Rattle.vt_spec.proofs.Common.{is_plain, list_all}
 use Rattle.vt_line.proofs.TokenLemmas.{list_all-covered}
 use Rattle.vt_line.proofs.token.is_unescaped.Goals as goal

@@ -7,5 +7,5 @@ use Rattle.vt_mount.proofs.indexes.Indexes.add.Goals as goal
 pub returns-clause-namespace_rest : goal.returns-clause-namespace_rest
 returns-clause-namespace_rest c q =
     let mount = c.args.mount.now in
-    ap (taken (is_in q mount) mount.number) (ap (listed same_namespace q) c.add_at.ensures.namespace
+    ap (taken (is_in q mount) mount.number) (ap (λ lists. listed same_namespace q lists.lists) c.add_at.ensures.namespace
     ∙ c.in_ok-add_in.ensures.namespace_ok q) ∙ taken-put (is_in q mount) mount.number _

@@ -9,7 +9,7 @@ pub put_in-requires : goal.put_in-requires
 put_in-requires c =
     let has = subst (λ namespace. Reserves c.args.self.now (option_to_list namespace) []) c.in-Some.is c.requires in
     is-reserved same_namespace (λ (namespace : NamespaceId). namespace) c.in-Some.namespace []
-    c.args.self.now.by_namespace (same_namespace-itself c.in-Some.namespace) has.namespace
+    c.args.self.now.by_namespace.lists (same_namespace-itself c.in-Some.namespace) has.namespace
 
 pub returns-in-Some-clause-reserves : goal.returns-in-Some-clause-reserves
 returns-in-Some-clause-reserves c namespaces places has =
@@ -17,7 +17,7 @@ returns-in-Some-clause-reserves c namespaces places has =
     c.in-Some.is has in
     record {
       namespace = reserves-less same_namespace (λ (namespace : NamespaceId). namespace) c.in-Some.namespace namespaces
-          c.args.self.now.by_namespace c.put_in.new.self c.put_in.ensures.reserved has.namespace;
+          c.args.self.now.by_namespace.lists c.put_in.new.self.lists c.put_in.ensures.reserved has.namespace;
       parent = has.parent;
       place = has.place;
       inode = has.inode;

@@ -17,9 +17,9 @@ returns-in-Some-place-clause-parent c =
     taken (holds_of (λ place. same_id q place.mount) point) number (listed_on c.args.self.now q))
     (sym c.in-Some-place.is) in
     elim c.match-namespace.branch [
-      | in-Some w ↦ λ q. c.remove_again-in-Some-place.ensures q
+      | in-Some w ↦ λ q. c.remove_again.ensures q
           ∙ ap (λ self. taken (same_id q place.mount) number (listed_on self q)) w.self-is ∙ at q
-      | in_default w ↦ λ q. c.remove_again-in-Some-place.ensures q
+      | in_default w ↦ λ q. c.remove_again.ensures q
           ∙ ap (λ self. taken (same_id q place.mount) number (listed_on self q)) w.self-is ∙ at q
     ]
 
@@ -30,9 +30,9 @@ returns-in-Some-place-clause-place c =
     let at = λ (q : Location). ap (λ point. taken (holds_of (same_place q) point) number (listed_at c.args.self.now q))
     (sym c.in-Some-place.is) in
     elim c.match-namespace.branch [
-      | in-Some w ↦ λ q. c.remove.ensures q
+      | in-Some w ↦ λ q. c.remove-in-Some-place.ensures q
           ∙ ap (λ self. taken (same_place q place) number (listed_at self q)) w.self-is ∙ at q
-      | in_default w ↦ λ q. c.remove.ensures q
+      | in_default w ↦ λ q. c.remove-in-Some-place.ensures q
           ∙ ap (λ self. taken (same_place q place) number (listed_at self q)) w.self-is ∙ at q
     ]
 
@@ -44,8 +44,8 @@ returns-in-Some-place-clause-inode c =
     taken (holds_of (λ place. same_node q place.node) point) number (listed_over c.args.self.now q))
     (sym c.in-Some-place.is) in
     elim c.match-namespace.branch [
-      | in-Some w ↦ λ q. c.remove-in-Some-place.ensures q
+      | in-Some w ↦ λ q. c.remove-in-Some-place-2.ensures q
           ∙ ap (λ self. taken (same_node q place.node) number (listed_over self q)) w.self-is ∙ at q
-      | in_default w ↦ λ q. c.remove-in-Some-place.ensures q
+      | in_default w ↦ λ q. c.remove-in-Some-place-2.ensures q
           ∙ ap (λ self. taken (same_node q place.node) number (listed_over self q)) w.self-is ∙ at q
     ]

@@ -10,7 +10,7 @@ use Rattle.vt_mount.proofs.mounts.Mounts.attached_in.Goals as goal
 pub returns-clause-are : goal.returns-clause-are
 returns-clause-are c =
     let namespace = c.args.namespace in
-    ap counts (c.get_again.ensures ∙ c.self.invariant.namespace namespace)
+    ap counts (c.get.ensures ∙ c.self.invariant.namespace namespace)
     ∙ numbers-seen (is_in namespace) (λ mount. holds_of (nat_eq (counted namespace.count)) mount.namespace)
     (in-agrees namespace) (in_order c.self.inside.by_number.entries) c.self.invariant.slots
     ∙ ap (λ now. numbers (filter (λ mount. holds_of (nat_eq (counted namespace.count)) mount.namespace)

@@ -4,6 +4,14 @@ use Rattle.vt_ns.proofs.Common.{IsHeld, WorldValue, location_of, mount_of, mount
 use Rattle.vt_ns.proofs.Overfilling.{groupless, nothing_added, only_part}
 use Rattle.vt_ns.proofs.world.World.has_too_many_with.Goals as goal
 
+pub returns-then-has_room_everywhere : goal.returns-then-has_room_everywhere
+returns-then-has_room_everywhere c = record {
+  ok = λ world new tree same invariants parts size.
+      sym (c.has_room_everywhere.ensures c.if-has_room_everywhere.true world new (location_of c.args.place) tree
+      (ap (λ (value : WorldValue). mounts_in value.mounts) c.self.view_is ∙ same) size);
+  held = subst IsHeld c.self.view_is c.self.invariant;
+}
+
 pub returns-in_default : goal.returns-in_default
 returns-in_default c = record {
   ok = λ world new tree same invariants parts size.
