@@ -1,5 +1,5 @@
 //! Events in which mounts leave their namespaces: umount(2).
-ghost use Rattle.std.specs.Prelude.{◌≡◌, ◌&&◌, IsOk, OnErr, OnOk, map, nat_eq, not, true};
+ghost use Rattle.std.specs.Prelude.{◌≡◌, IsOk, OnErr, OnOk, false, map, nat_eq, true};
 ghost use Rattle.std.specs.List.Sorted.{IsPermutation};
 ghost use Rattle.vt_location.specs.MountValue.{propagation_of};
 ghost use Rattle.vt_location.specs.Numbers.{mount_number};
@@ -82,29 +82,24 @@ impl World {
         ensures ok { OnOk result (Becomes self.old name.now (ToUnmountLazily (mount_number mount)) self.new) }
         ensures err { OnErr result (self.new ≡ self.old) }
     {
+        if stands_on_shared(&self.mounts, mount) {
+            return self.unmount_lazily_everywhere(name, mount);
+        }
         let tree = self.mounts.tree(mount)?;
-        if self.is_tree_alone(mount, &tree) {
+        if are_in_no_group(&self.mounts, &tree) {
             self.unmount_tree_alone(name, mount, &tree);
             return Ok(());
         }
         self.unmount_lazily_everywhere(name, mount)
     }
 
-    // Whether no mount of a tree is in a peer group, and the parent of its top is not shared.
-    fn is_tree_alone(&self, top: MountId, tree: &[MountId]) -> bool
-        ensures { result ≡ are_ungrouped (mounts_in self.now.mounts) (map mount_number tree.now)
-            && not (stands_on_shared (mounts_in self.now.mounts) (mount_number top)) }
-    {
-        are_in_no_group(&self.mounts, tree) && !stands_on_shared(&self.mounts, top)
-    }
-
-    // Detaches the mounts of such a tree.
+    // Detaches the mounts of a tree, of which none is in a peer group, and the parent of the top is not shared.
     fn unmount_tree_alone(&mut self, name: &TaskName, mount: MountId, tree: &[MountId])
         requires permitted { Permits self.old name.now (ToUnmountLazily (mount_number mount)) }
         requires tree { map mount_number tree.now
             ≡ tree_numbers (mounts_in self.old.mounts) (mount_number mount) }
-        requires alone { (are_ungrouped (mounts_in self.old.mounts) (map mount_number tree.now)
-            && not (stands_on_shared (mounts_in self.old.mounts) (mount_number mount))) ≡ true }
+        requires ungrouped { are_ungrouped (mounts_in self.old.mounts) (map mount_number tree.now) ≡ true }
+        requires unshared { stands_on_shared (mounts_in self.old.mounts) (mount_number mount) ≡ false }
         ensures { Becomes self.old name.now (ToUnmountLazily (mount_number mount)) self.new }
     {
         detach_each(&mut self.mounts, &mut self.store, tree);

@@ -1,5 +1,5 @@
-use Rattle.std.proofs.Common.{not, map, sym, subst, true, List, ◌&&◌, ◌≡◌, ℕ}
-use Rattle.vt_spec.proofs.Common.{ToUnmountLazily, and_parts, not-true}
+use Rattle.std.proofs.Common.{false, map, sym, subst, true, List, ◌≡◌, ℕ}
+use Rattle.vt_spec.proofs.Common.{ToUnmountLazily}
 use Rattle.vt_ns.proofs.Common.{Becomes, IsDone, LeaveInTurn, Permits, WorldValue, counted, done_in_store, kept, merged_of, mounts_in, tree_numbers, with_store}
 use Rattle.vt_ns.specs.contracts.world.World.{the_view}
 use Rattle.vt_ns.specs.Unmounting.{are_ungrouped, stands_on_shared}
@@ -19,14 +19,16 @@ done c =
     let tree : List ℕ = map (λ id. counted id.count) c.args.tree.now in
     let permits = subst (λ one. Permits one c.args.name.now (ToUnmountLazily number)) (sym c.self.view_is)
     c.requires.permitted in
-    let alone = and_parts _ _ (subst (λ (one : WorldValue). (are_ungrouped (mounts_in one.mounts) tree
-    && not (stands_on_shared (mounts_in one.mounts) number)) ≡ true) (sym c.self.view_is) c.requires.alone) in
+    let ungrouped = subst (λ (one : WorldValue). are_ungrouped (mounts_in one.mounts) tree ≡ true) (sym c.self.view_is)
+    c.requires.ungrouped in
+    let unshared = subst (λ (one : WorldValue). stands_on_shared (mounts_in one.mounts) number ≡ false)
+    (sym c.self.view_is) c.requires.unshared in
     done_in_store value (record value { mounts = c.detach_each.new.mounts }) c.self.inside.store
     c.detach_each.new.store c.self.invariant c.detach_each.ensures.overlays c.args.name.now (ToUnmountLazily number)
     permits (lazy_unmount_is_done value c.args.name.now number tree c.detach_each.new.mounts
     c.detach_each.new.store.plain (map merged_of c.detach_each.new.store.overlays) c.self.invariant permits
     (subst (λ (one : WorldValue). tree ≡ tree_numbers (mounts_in one.mounts) number) (sym c.self.view_is)
-    c.requires.tree) alone.0 (not-true _ alone.1)
+    c.requires.tree) ungrouped unshared
     (subst (λ k. LeaveInTurn tree k (kept c.detach_each.new.mounts c.detach_each.new.store))
     (kept_is value c.self.inside.store) c.detach_each.ensures.left))
 
