@@ -99,7 +99,7 @@ CommitsAreFronts =
     → items_of who (commits sched schedule) ++ queue_of (left_by sched schedule).queues who
     ≡ queue_of sched.queues who
 
--- A turn without a reply leaves the world and the queues.
+-- A turn without a reply leaves the world and the queues as they were.
 abbrev pub UnansweredTurnsChangeNothing : Type 0
 UnansweredTurnsChangeNothing =
     (sched : Sched ℕ) (given : Turn) → (turn nat_eq sched given.0 given.1).reply ≡ None
@@ -113,7 +113,8 @@ is_run Nobody (Calls call) = false
 is_run who (Asks directive) = true
 is_run who (Refused deny) = false
 
--- A turn in which an allocation fails is the last of its call or directive, which answers S5 and leaves the world.
+-- A turn in which an allocation fails is the last of its call or directive, which answers S5 and leaves the world as
+-- it was.
 abbrev pub FailedAllocationsAnswerS5 : Type 0
 FailedAllocationsAnswerS5 =
     (sched : Sched ℕ) (who : Who) (first : Queued) → first_of_list (queue_of sched.queues who) ≡ Some first

@@ -49,7 +49,7 @@ module _ {N : Type 0} where
 
 module _ {N : Type 0} (eq : N → N → Bool) where
   -- the outcome of a call before the last step, to which new numbers are handed in for what it may make: it is judged,
-  -- and what it is permitted is applied. A refused call leaves the world
+  -- and what it is permitted is applied. A refused call leaves the world as it was
   abbrev pub call_outcome : Fresh N → World N → Task N → Call → Outcome N
   call_outcome fresh world task call = after world (judge_in eq fresh world task call) (apply eq fresh world task)
 
