@@ -1,8 +1,8 @@
 -- The world that a granted call leaves which changed a tree: mounts are as they were, and each inode is as the change
 -- left it, or is gone.
 use Rattle.std.proofs.Common.{arith, ◌≡◌, refl, sym, ap, subst, ◌∙◌, inl, inr, ◌⊎◌, ⊎_elim, true≢false, ℕ, nat_eq, eqb-true, Bool, true, false, cond, ◌++◌, List, [], ◌∷◌, map, Some, None, is_some}
-use Rattle.vt_spec.proofs.Common.{cases_Bool, Answer, Call, Change, Credentials, FileTree, Filesystem, Fresh, IsWorld, Location, TaskName, World, apply, changed, common_steps, denial, entries_in, entry_named, files_at, filesystem_numbered, filesystems_changed, folded, is_among, is_directory_node, is_overlay, mount_at, node_allows, node_at, numbers_raised, parent_in, policy, raised, settled, symlink_text, with_change}
-use Rattle.vt_laws_later_calls.proofs.Common.{Deny, FilesBy, Inode, IsFileTree, IsListedTree, IsPlain, MayChange, W6, change_of, changes_keep_numbers, changes_keep_trees, file_changes_let_go, given_changes_are_proper, inodes_lost, is_plain, let_go_all_inodes, let_go_in, let_go_in_of, mounts-with_change, names_lost, namespace_if, number_if, numbered, numbers_raised_are, plain_numbered, raising_numbers_keeps_world, same_files, settling_leaves_a_world, task_if, uppers_of, without_inode_of, worlds_are_settled}
+use Rattle.vt_spec.proofs.Common.{ToChange, cases_Bool, Answer, Call, Change, Credentials, FileTree, Filesystem, Fresh, IsWorld, Location, TaskName, World, apply, changed, common_steps, denial, entries_in, entry_named, files_at, filesystem_numbered, filesystems_changed, folded, is_among, is_directory_node, is_overlay, mount_at, node_allows, node_at, numbers_raised, parent_in, policy, raised, settled, symlink_text, with_change}
+use Rattle.vt_laws_later_calls.proofs.Common.{SeesTo, given_permits_are_seen_to, unsettled_of, file_trees, numbered_all, Deny, FilesBy, Inode, IsFileTree, IsListedTree, IsPlain, MayChange, W6, change_of, changes_keep_numbers, changes_keep_trees, file_changes_let_go, given_changes_are_proper, inodes_lost, is_plain, let_go_all_inodes, let_go_in, let_go_in_of, mounts-with_change, names_lost, namespace_if, number_if, numbered, numbers_raised_are, plain_numbered, raising_numbers_keeps_world, same_files, settling_leaves_a_world, task_if, uppers_of, without_inode_of, worlds_are_settled}
 use Rattle.vt_laws_trees.proofs.calls.inodes.InodesSettled.{settled_holds}
 use Rattle.vt_laws_later_calls.proofs.Changed.{files_changed, files_other}
 use Rattle.vt_laws_later_calls.proofs.Granted.{HasSucceeded}
@@ -60,6 +60,14 @@ pub listed : (number : ℕ) (list : List (Filesystem ℕ)) (object : ℕ)
 listed number [] object there = cc
 listed number (first ∷ rest) object there = grind (arith, common_steps, listed number rest object)
 
+-- where something is, there is a tree
+pub tree_there : (world : World ℕ) → IsWorld nat_eq world → IsPlain world → (location : Location ℕ)
+    → is_some (node_at nat_eq world location) ≡ true → IsFileTree (files_at nat_eq world location)
+tree_there world is plain location something = ⊎_elim (λ tree. tree) (λ missing. absurd (true≢false
+    (sym something ∙ ap (λ (f : Filesystem ℕ). is_some (f.files.tree.node location.node)) missing.0)))
+    (numbered_all (λ (f : Filesystem ℕ). IsFileTree f.files) (mount_at nat_eq world location).filesystem
+    world.filesystems (file_trees world (unsettled_of world is plain)))
+
 -- what is raised shows the same
 pub raised_files : (before : World ℕ) (name : TaskName) (changes : List ℕ) (world : World ℕ) (number : ℕ)
     → (filesystem_numbered nat_eq (numbers_raised nat_eq before name changes world) number).files
@@ -104,6 +112,10 @@ module _ {world : World ℕ} {fresh : Fresh ℕ} {name : TaskName} {call : Call}
   as_spent filesystem number there =
       ⊎_elim (λ same. same) (λ gone. absurd (true≢false (cc))) (or_gone filesystem number)
 
+  pub sees_to : SeesTo world it.did.task it.did.permit
+  sees_to = given_permits_are_seen_to world fresh it.did.task it.did.permit it.is
+      (given_of world fresh name call answer it.serves it.other it.few it.did)
+
   -- A change of a tree, where there is something
   pub record ChangesTree (location : Location ℕ) (change : Change ℕ) (from : Fresh ℕ) : Type 0 where
     pub asks : change_of fresh world it.did.permit ≡ Some (location, change)
@@ -111,6 +123,17 @@ module _ {world : World ℕ} {fresh : Fresh ℕ} {name : TaskName} {call : Call}
     pub something : is_some (node_at nat_eq world location) ≡ true
     pub may : MayChange (files_at nat_eq world location) change
     pub tree : IsFileTree (files_at nat_eq world location)
+
+  pub changes_there : {location : Location ℕ} {change : Change ℕ} → it.did.permit ≡ ToChange location change
+      → is_some (node_at nat_eq world location) ≡ true → MayChange (files_at nat_eq world location) change
+      → ChangesTree location change fresh
+  changes_there {location} permit_is something may = record {
+    asks = ap (change_of fresh world) permit_is;
+    does = ap (λ p. (apply nat_eq fresh world it.did.task p).world) permit_is;
+    something = something;
+    may = may;
+    tree = tree_there world it.is it.plain location something;
+  }
 
   module _ {location : Location ℕ} {change : Change ℕ} {from : Fresh ℕ}
       (changes : ChangesTree location change from) where
@@ -163,8 +186,7 @@ module _ {world : World ℕ} {fresh : Fresh ℕ} {name : TaskName} {call : Call}
     all_stays none number = ap (λ (f : FileTree ℕ). f.tree.node number) (later_files shown)
         ∙ ap (λ w. node_in w shown number) goes
         ∙ ap (λ names. node_in (let_go_all_inodes (with_change nat_eq from world location change) (map (λ inode.
-        (shown, inode)) names)) shown number) none
-        ∙ ap (λ (f : FileTree ℕ). f.tree.node number)
+        (shown, inode)) names)) shown number) none ∙ ap (λ (f : FileTree ℕ). f.tree.node number)
         (files_changed from world it.plain location change changes.something)
 
     -- what holds in the changed filesystem, and in the others, holds
@@ -174,8 +196,7 @@ module _ {world : World ℕ} {fresh : Fresh ℕ} {name : TaskName} {call : Call}
     in_each P here elsewhere number = elim (cases_Bool (nat_eq shown number)) [
       | inl e ↦ rw (← eqb-true shown number e) (subst (P shown) (sym spent_shown) here)
       | inr e ↦ subst (P number)
-          (sym (spent_files number ∙ files_other from world it.plain location change number e))
-          (elsewhere number)
+          (sym (spent_files number ∙ files_other from world it.plain location change number e)) (elsewhere number)
     ]
 
     -- So ways that stay in the changed tree stay in the world.

@@ -1,10 +1,10 @@
 -- Attributes that were set are told.
-use Rattle.std.proofs.Common.{◌≡◌, refl, sym, ap, subst, ◌∙◌, inl, inr, ◌⊎◌, ⊎_elim, true≢false, ℕ, nat_eq, true, List, Option, Some, None, is_some, Ok, Err, Bool}
-use Rattle.vt_spec.proofs.Common.{Call, Change, Chmod, Chown, Done, Filesystem, Fresh, Here, IsWorld, Location, Looks, Node, Permit, SetAttr, Stat, StatLine, Task, TaskName, ToChange, Told, World, attr_in, attr_with_mode, attr_with_owner, changed, denial, files_at, looks_of, mount_at, node_at, node_with_attr, object_walk, policy, raised_task, same_Some, stat_line, task_called, with_change}
-use Rattle.vt_laws_later_calls.proofs.Common.{Attr, Deny, End, Ends, IsFileTree, IsGranted, IsPlain, W4, change_of, changed_node_there, changes_mode, changes_owner, file_trees, numbered_all, object_end, unsettled_of}
+use Rattle.std.proofs.Common.{◌≡◌, refl, sym, ap, subst, ◌∙◌, inl, inr, ◌⊎◌, ⊎_elim, ℕ, nat_eq, true, List, Option, Some, None, is_some, Ok, Err, Bool}
+use Rattle.vt_spec.proofs.Common.{Call, Change, Chmod, Chown, Done, Fresh, Here, IsWorld, Looks, Node, Permit, SetAttr, Stat, StatLine, Task, TaskName, ToChange, Told, World, attr_in, attr_with_mode, attr_with_owner, changed, denial, files_at, looks_of, node_at, node_with_attr, object_walk, policy, raised_task, same_Some, stat_line, task_called}
+use Rattle.vt_laws_later_calls.proofs.Common.{Attr, Deny, End, Ends, IsGranted, W4, changed_node_there, changes_mode, changes_owner, object_end}
 use Rattle.vt_laws_later_calls.specs.LaterPaths.{ChmodThenStat, ChownThenStat, IsAnsweredUnless, IsSeenByAll, reads_all}
 use Rattle.vt_laws_later_calls.specs.Later.{IsAnswered}
-use Rattle.vt_laws_later_calls.proofs.AfterChange.{ChangesTree, spent}
+use Rattle.vt_laws_later_calls.proofs.AfterChange.{ChangesTree, changes_there}
 use Rattle.vt_laws_later_calls.proofs.Granted.{HasSucceeded, has_succeeded}
 use Rattle.vt_laws_later_calls.proofs.Looked.{stat_of, stat_refused}
 use Rattle.vt_laws_later_calls.proofs.MadeSeen.{Never}
@@ -12,16 +12,8 @@ use Rattle.vt_laws_later_calls.proofs.Readers.{KnownToo, all_stands, caller, lea
 use Rattle.vt_laws_later_calls.proofs.Stays.{called_own}
 use Rattle.vt_laws_later_calls.proofs.Ways.{Ends as EndsToo, LeadsToo}
 use Rattle.vt_laws_later_calls.proofs.WaysChanges.{TreeStays, ways_with_attr}
-use Rattle.vt_laws_later_calls.proofs.WaysPlaces.{object_too}
+use Rattle.vt_laws_later_calls.proofs.WaysPlaces.{object_too, EndsSo}
 use Rattle.vt_laws_later_calls.proofs.WaysStay.{StandsAs}
-
--- where something is, there is a tree
-pub tree_there : (world : World ℕ) → IsWorld nat_eq world → IsPlain world → (location : Location ℕ)
-    → is_some (node_at nat_eq world location) ≡ true → IsFileTree (files_at nat_eq world location)
-tree_there world is plain location something = ⊎_elim (λ tree. tree) (λ missing. absurd (true≢false
-    (sym something ∙ ap (λ (f : Filesystem ℕ). is_some (f.files.tree.node location.node)) missing.0)))
-    (numbered_all (λ (f : Filesystem ℕ). IsFileTree f.files) (mount_at nat_eq world location).filesystem
-    world.filesystems (file_trees world (unsettled_of world is plain)))
 
 -- what a walk to an object finds is there
 pub object_there_is : (world : World ℕ) → IsWorld nat_eq world → (task : Task ℕ)
@@ -56,21 +48,10 @@ module _ (path : List ℕ) (set : Attr → Attr) {world : World ℕ} {fresh : Fr
   change = SetAttr here.location.node attr
 
   something : is_some (node_at nat_eq world here.location) ≡ true
-  something = object_there_is world it.is it.did.task
-      (called_own it) path here walked
-
-  tree : IsFileTree (files_at nat_eq world here.location)
-  tree = tree_there world it.is it.plain here.location something
-
-  asks : change_of fresh world it.did.permit ≡ Some (here.location, change)
-  asks = cc
-
-  does : spent it
-      ≡ with_change nat_eq fresh world here.location change
-  does = cc
+  something = object_there_is world it.is it.did.task (called_own it) path here walked
 
   abbrev changes : ChangesTree it here.location change fresh
-  changes = record { asks = asks; does = does; something = something; may = tt; tree = tree }
+  changes = changes_there it permit something tt
 
   stay : (Refused : Deny → Type 0) → TreeStays (files_at nat_eq world here.location).tree
       (changed nat_eq (files_at nat_eq world here.location) change).tree Refused
@@ -94,8 +75,7 @@ module _ (path : List ℕ) (set : Attr → Attr) {world : World ℕ} {fresh : Fr
       by (inl ends) =
           inl (cc (
             stat_of later later_fresh reader called path _ ends.0.1,
-            seen_there changes (stay Refused) reading
-                (own_name later reader reading called) stands ends.1,
+            seen_there changes (stay Refused) reading (own_name later reader reading called) stands ends.1,
             changed_node_there (files_at nat_eq world here.location)
                 here.location.node (node_with_attr attr),
             line_with_attr attr (node_at nat_eq world here.location) something,
@@ -103,8 +83,7 @@ module _ (path : List ℕ) (set : Attr → Attr) {world : World ℕ} {fresh : Fr
       by (inr stop) = inr (stop.0.deny, stop.1, stat_refused later later_fresh reader called path stop.0 stop.2)
 
   caller_there : task_called later name ≡ Some (raised_task name it.did.task)
-  caller_there =
-      caller changes (stay Never)
+  caller_there = caller changes (stay Never)
 
   own_told : (later_fresh : Fresh ℕ) → ((policy nat_eq later_fresh later name (Stat path)).answer
       ≡ Ok (Told (record (stat_line (node_at nat_eq world here.location)) { attr = attr })))

@@ -9,6 +9,7 @@ pub mod OpenedNew
 pub mod Ways
 pub mod WaysPlaces
 pub mod WaysTrees
+pub mod WaysNodes
 pub mod WaysStay
 pub mod WaysChanges
 pub mod AfterChange

@@ -1,5 +1,5 @@
 -- What calls that look answer where their walks end.
-use Rattle.std.proofs.Common.{arith, ◌≡◌, refl, ap, ◌∙◌, ℕ, nat_eq, Bool, true, false, cond, not, ◌||◌, ◌&&◌, List, [], ◌∷◌, Option, Some, Ok, Err, ok_or, Result}
+use Rattle.std.proofs.Common.{inl, inr, ◌⊎◌, arith, ◌≡◌, refl, ap, ◌∙◌, ℕ, nat_eq, Bool, true, false, cond, not, ◌||◌, ◌&&◌, List, [], ◌∷◌, Option, Some, Ok, Err, ok_or, Result}
 use Rattle.vt_spec.proofs.Common.{Answer, Bytes, Call, Content, Credentials, Fresh, Here, Judgement, Ls, Lstat, Names, Node, Outcome, Read, Readlink, Regular, Stat, Stop, Task, TaskName, ToList, Told, World, after, allows, and_then, apply, bytes_in, call_outcome, common_steps, denial, execute_right, filesystems_changed_by, finished, is_directory_node, is_kind_in, judge_in, kind_of, list_permit, lstat_permit, mount_at, mounter_allows, names_in, node_allows, node_at, policy, read_permit, read_right, readlink_permit, stat_line, stat_permit, task_called, unless, walk_end}
 use Rattle.vt_laws_later_calls.proofs.Common.{Attr, B1, C1, Deny, File, IsPlain, S2, Symlink, directory_walk, list_rules, object_walk, plain_numbered, read_rules, symlink_walk}
 use Rattle.vt_laws_later_calls.specs.LaterPaths.{reads_all}
@@ -80,6 +80,20 @@ module _ (world : World ℕ) (fresh : Fresh ℕ) (name : TaskName) {task : Task 
           ≡ cond b (Ok (Names (names_in (node_at nat_eq world here.location)))) (Err (denial C1))
       by true = refl
       by false = refl
+
+  pub listed_or_refused : IsPlain world → (here : Here ℕ) → directory_walk nat_eq world task path ≡ Ok here
+      → (names : List (List ℕ)) → names_in (node_at nat_eq world here.location) ≡ names
+      → ((policy nat_eq fresh world name (Ls path)).answer ≡ Ok (Names names))
+      ⊎ ((policy nat_eq fresh world name (Ls path)).answer ≡ Err (denial C1))
+  listed_or_refused plain here walk names same =
+      by (node_allows task.credentials read_right (node_at nat_eq world here.location)) (list_of plain here walk)
+    where
+      by : (b : Bool) → (policy nat_eq fresh world name (Ls path)).answer
+          ≡ cond b (Ok (Names (names_in (node_at nat_eq world here.location)))) (Err (denial C1))
+          → ((policy nat_eq fresh world name (Ls path)).answer ≡ Ok (Names names))
+          ⊎ ((policy nat_eq fresh world name (Ls path)).answer ≡ Err (denial C1))
+      by true e = inl (e ∙ ap (λ names. Ok (Names names)) same)
+      by false e = inr e
 
   pub list_refused : (stop : Stop ℕ) → directory_walk nat_eq world task path ≡ Err stop
       → (policy nat_eq fresh world name (Ls path)).answer ≡ Err stop.deny

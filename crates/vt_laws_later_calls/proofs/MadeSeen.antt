@@ -1,13 +1,13 @@
 -- A new object is found at its path.
 use Rattle.std.proofs.Common.{◌≡◌, refl, sym, ap, subst, ◌∙◌, inl, inr, ◌⊎◌, true≢false, ℕ, nat_eq, Bool, true, false, cond, not, ◌&&◌, List, [], ◌∷◌, Option, Some, None, is_some, Ok, Err, Result, unwrap_or}
 use Rattle.vt_spec.proofs.Common.{Answer, Bytes, Call, Change, Done, Fresh, Here, LastWord, Location, Looks, Ls, Make, Mkdir, Names, Node, Permit, Place, Readlink, Stop, SymlinkAt, Task, TaskName, ToMake, World, apply, bytes_in, changed, denial, directory_mode, directory_used, entries_in, entry_named, files_at, is_directory_node, is_kind_in, is_special, looks_of, make_permit, mount_at, name_of, names_in, new_attr, new_directory, new_leaf_walk, new_walk, node_allows, node_at, odds, place_walk, policy, raised_task, read_right, same_Some, stepped, symlink_text, task_called, topmost, with_change}
-use Rattle.vt_laws_later_calls.proofs.Common.{C1, Deny, IsFileTree, IsGranted, IsMade, MayBeMade, SeesTo, Symlink, W6, change_of, directory_made, given_permits_are_seen_to, makes_directory, makes_symlink, new_name_rules, symlink_made, tree_here, unused_inode}
+use Rattle.vt_laws_later_calls.proofs.Common.{C1, Deny, IsFileTree, IsGranted, IsMade, MayBeMade, SeesTo, Symlink, W6, change_of, directory_made, makes_directory, makes_symlink, new_name_rules, symlink_made, tree_here, unused_inode}
 use Rattle.vt_laws_later_calls.specs.LaterPaths.{MkdirThenList, SymlinkThenReadlink}
 use Rattle.vt_laws_later_calls.specs.Later.{IsAnswered}
-use Rattle.vt_laws_later_calls.proofs.AfterChange.{ChangesTree, all_stays, later_is, later_mounts, spent}
+use Rattle.vt_laws_later_calls.proofs.AfterChange.{sees_to, ChangesTree, all_stays, later_is, later_mounts, spent}
 use Rattle.vt_laws_later_calls.proofs.Granted.{HasSucceeded, has_succeeded}
 use Rattle.vt_laws_later_calls.proofs.Looked.{list_of, read_all, readlink_of}
-use Rattle.vt_laws_later_calls.proofs.OpenedNew.{given_of, made_node}
+use Rattle.vt_laws_later_calls.proofs.OpenedNew.{made_node}
 use Rattle.vt_laws_later_calls.proofs.Readers.{KnownToo, MayLook, all_stands, caller, leads, own_name, raised_credentials, raised_stands, seen_at, seen_there, stepped_by, uncovered}
 use Rattle.vt_laws_later_calls.proofs.Ways.{EndsAt, LeadsToo, both_walked, walk_passing}
 use Rattle.vt_laws_later_calls.proofs.WaysChanges.{RightsStay, TreeStays, made_entry, rights_made, ways_made}
@@ -57,8 +57,7 @@ module _ {world : World ℕ} {fresh : Fresh ℕ} {name : TaskName} {call : Call}
   change = Make parent.node entry (fresh 0) node
 
   pub may : MayBeMade world parent entry node
-  may = subst (SeesTo world it.did.task) permit (given_permits_are_seen_to world fresh it.did.task it.did.permit it.is
-      (given_of world fresh name call answer it.serves it.other it.few it.did))
+  may = subst (SeesTo world it.did.task) permit (sees_to it)
 
   pub something : is_some (node_at nat_eq world parent) ≡ true
   something = directory_used (files_at nat_eq world parent).tree parent.node may.name_is_free.in_directory
@@ -99,8 +98,7 @@ module _ {world : World ℕ} {fresh : Fresh ℕ} {name : TaskName} {call : Call}
   maker = caller changes stay
 
   module _ (reader : Task ℕ) (called : task_called later reader.name ≡ Some reader)
-      (stands : StandsAs it.did.task reader)
-      (looks : MayLook it.did.task reader) where
+      (stands : StandsAs it.did.task reader) (looks : MayLook it.did.task reader) where
     abbrev pub KnownHere : Location ℕ → Type 0
     KnownHere here = KnownToo changes stay reader called stands here
 
@@ -113,8 +111,7 @@ module _ {world : World ℕ} {fresh : Fresh ℕ} {name : TaskName} {call : Call}
         ∙ made_node (files_at nat_eq world parent) parent.node entry (fresh 0) node may.name_is_free.in_directory new
 
     pub entry_seen : KnownHere parent → entry_named entry (entries_in (node_at nat_eq later parent)) ≡ Some (fresh 0)
-    entry_seen known = ap (λ o. entry_named entry (entries_in o))
-        (seen_there changes stay reader called stands known)
+    entry_seen known = ap (λ o. entry_named entry (entries_in o)) (seen_there changes stay reader called stands known)
         ∙ made_entry (files_at nat_eq world parent) Never parent.node entry
         (fresh 0) may.name_is_free.in_directory may.name_is_free.free node new
 
@@ -185,8 +182,7 @@ mkdir_then_list path mode world fresh name task is plain serves called granted =
     listed reader reading found stands looks later_fresh =
         let own = own_name (policy nat_eq fresh world name (Mkdir path mode)).world reader reading found in
         let seen = node_seen it parts.3 reading own stands looks in
-        let walk = surely _ _ _ (directory_named_too
-        (made_leads it parts.3 reading own stands looks)
+        let walk = surely _ _ _ (directory_named_too (made_leads it parts.3 reading own stands looks)
         path parts.0 parts.2 (named_place (looks_of nat_eq world) it.did.task path parts.0 parts.1 parts.2)
         (new_location it parts.3) (new_stepped it parts.3 reading own stands looks parts.0.last parts.2 refl)
         (ap symlink_text seen) (ap is_directory_node seen)) in

@@ -97,12 +97,20 @@ missing_parts looks task path access mode place permit walk object
 missing_parts looks task path access mode place permit walk object (creates _ _ _ other room end named missing passed) =
     cc (same_end other place (sym end ∙ walk))
 
+-- where a file was made that was not there
+pub record NewFile (looks : Looks ℕ) (task : Task ℕ) (path : List ℕ) (access : Access) (mode : ℕ)
+    (permit : Permit ℕ) : Type 0 where
+  pub place : Place ℕ
+  pub walk : new_walk nat_eq looks task path ≡ Ok place
+  pub named : is_special place.last ≡ false
+  pub no_slash : place.slash ≡ false
+  pub permit_is : permit ≡ open_new_permit task place access mode
+
 pub exclusive_parts : (looks : Looks ℕ) {too_many : Permit ℕ → Bool} (task : Task ℕ) (path : List ℕ) (access : Access)
     (mode : ℕ) (permit : Permit ℕ) → IsGranted nat_eq looks too_many task (OpenFile path access (Exclusive mode)) permit
-    → (place : Place ℕ) × (new_walk nat_eq looks task path ≡ Ok place) × (is_special place.last ≡ false)
-    × (place.slash ≡ false) × (permit ≡ open_new_permit task place access mode)
+    → NewFile looks task path access mode permit
 exclusive_parts looks task path access mode permit (creates_exclusively _ _ _ place room end named passed) =
-    (place, end, named.0, named.1.0, refl)
+    record { place = place; walk = end; named = named.0; no_slash = named.1.0; permit_is = refl }
 
 -- A new inode is as it was asked for
 pub made_node : (files : FileTree ℕ) (directory : ℕ) (name : List ℕ) (number : ℕ) (node : Node ℕ)
@@ -244,9 +252,9 @@ create_then_pread world fresh name task path access mode number place is plain s
 
 pub exclusive_then_pread : ExclusiveThenPread
 exclusive_then_pread world fresh name task path access mode number is plain serves called granted = (
-  parts.0,
-  cc (task_is, parts.1),
-  opens_new_file it called mode parts.0 (cc (parts.4, task_is)),
+  parts.place,
+  cc (task_is, parts.walk),
+  opens_new_file it called mode parts.place (cc (parts.permit_is, task_is)),
 )
   where
     it : HasSucceeded world fresh name (OpenFile path access (Exclusive mode)) (Opened number)
@@ -255,7 +263,5 @@ exclusive_then_pread world fresh name task path access mode number is plain serv
     task_is : it.did.task ≡ task
     task_is = same_Some it.did.task task (cc it.did.called)
 
-    parts : (place : Place ℕ) × (new_walk nat_eq (looks_of nat_eq world) it.did.task path ≡ Ok place)
-        × (is_special place.last ≡ false) × (place.slash ≡ false)
-        × (it.did.permit ≡ open_new_permit it.did.task place access mode)
+    parts : NewFile (looks_of nat_eq world) it.did.task path access mode it.did.permit
     parts = exclusive_parts (looks_of nat_eq world) it.did.task path access mode it.did.permit it.did.granted

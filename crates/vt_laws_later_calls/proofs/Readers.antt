@@ -1,7 +1,7 @@
 -- Who looks after a call that changed a tree, and where walks lead for him: for the caller himself, and for each task
 -- that stands where he does and may search everything.
 use Rattle.std.proofs.Common.{arith, ◌≡◌, refl, ap, ◌∙◌, inl, inr, ◌⊎◌, ℕ, nat_eq, Bool, true, false, ◌∷◌, length, Option, Some, None, is_some, option_map, ok_or, zero, suc, []}
-use Rattle.vt_spec.proofs.Common.{Answer, Call, Change, Dot, DotDot, Fresh, IsWorld, LastWord, Location, Mount, Named, NoWord, Task, TaskName, World, among_from_all, chain, changed, child_at, common_steps, denial, entries_in, entry_named, execute_right, files_at, is_directory_at, is_special, last_or, looks_of, may, mount_at, name_of, node_at, policy, raised_task, root_of, stands_at, task_called, tasks-with_change, topmost}
+use Rattle.vt_spec.proofs.Common.{Credentials, node_allows, Answer, Call, Change, Dot, DotDot, Fresh, IsWorld, LastWord, Location, Mount, Named, NoWord, Task, TaskName, World, among_from_all, chain, changed, child_at, common_steps, denial, entries_in, entry_named, execute_right, files_at, is_directory_at, is_special, last_or, looks_of, may, mount_at, name_of, node_at, policy, raised_task, root_of, stands_at, task_called, tasks-with_change, topmost}
 use Rattle.vt_laws_later_calls.proofs.Common.{cases_Option, Deny, IsPlain, W4, W6, found_in, name_found, stands_there, stepped}
 use Rattle.vt_laws_trees.proofs.trees.TreesOfMounts.{worlds_are_standing}
 use Rattle.vt_laws_later_calls.specs.LaterPaths.{LooksFrom, reads_all}
@@ -66,6 +66,37 @@ uncovered world is location no_directory = elim (cases_Option (child_at nat_eq w
       | Some b ↦ location ∷ chain most (λ here. option_map root_of (child_at nat_eq world.mounts here)) b
     ])) none
 
+-- what was there and still is gives the rights that it gave
+abbrev pub RightsLeft : World ℕ → World ℕ → Type 0
+RightsLeft world later = (filesystem number : ℕ) → is_some (node_in later filesystem number) ≡ true
+    → is_some (node_in world filesystem number) ≡ true → (who : Credentials) (wanted : ℕ)
+    → node_allows who wanted (node_in later filesystem number)
+    ≡ node_allows who wanted (node_in world filesystem number)
+
+-- Where walks lead for who may search what the caller searched, or everything
+module _ {world later : World ℕ} {task reader : Task ℕ} {Refused : Deny → Type 0}
+    (both : SeesLater world later task reader Refused) where
+  there_too : (here : Location ℕ) → Known both here
+      → is_some (node_in later (mount_at nat_eq world here).filesystem here.node) ≡ true
+  there_too here known = cc (node_here both here, known.0.1.1)
+
+  searched_by_all : reads_all reader.credentials ≡ true → (here : Location ℕ) → Known both here
+      → is_directory_at nat_eq world here ≡ true → may (looks_of nat_eq later) reader here execute_right ≡ true
+  searched_by_all all here known directory = search_all reader.credentials all (node_at nat_eq later here) (cc (
+    node_here both here,
+    both.stay.directory (mount_at nat_eq world here).filesystem here.node known.0.0.1 (there_too here known),
+  ))
+
+  pub leads_with : RightsLeft world later → MayLook task reader
+      → LeadsToo (looks_of nat_eq world) (looks_of nat_eq later) task reader Refused (Known both)
+  leads_with rights (inr all) =
+      world_leads both (λ here known directory e. inl (searched_by_all all here known directory))
+  leads_with rights (inl same) = world_leads both (λ here known directory e. inl (cc (
+    node_here both here,
+    rights (mount_at nat_eq world here).filesystem here.node (there_too here known) known.0.0.1 task.credentials
+        execute_right,
+  )))
+
 module _ {world : World ℕ} {fresh : Fresh ℕ} {name : TaskName} {call : Call} {answer : Answer}
     {it : HasSucceeded world fresh name call answer} {location : Location ℕ} {change : Change ℕ} {from : Fresh ℕ}
     (changes : ChangesTree it location change from) {Refused : Deny → Type 0}
@@ -104,53 +135,29 @@ module _ {world : World ℕ} {fresh : Fresh ℕ} {name : TaskName} {call : Call}
 
     pub known_there : (here : Location ℕ) → KnownToo here
         → is_some (node_in left (mount_at nat_eq world here).filesystem here.node) ≡ true
-    known_there here known = cc (node_here both here, known.1.1)
+    known_there = there_too both
 
     -- what is at the location of the change
     pub seen_there : KnownToo location → node_at nat_eq left location
         ≡ (changed nat_eq (files_at nat_eq world location) change).tree.node location.node
-    seen_there known = node_here both location
-        ∙ node_changed it changes location.node (known_there location known)
+    seen_there known = node_here both location ∙ node_changed it changes location.node (known_there location known)
 
     -- and at an inode of that filesystem
     pub seen_at : (number : ℕ) → node_at nat_eq left (record { mount = location.mount; node = number })
         ≡ node_in left (mount_at nat_eq world location).filesystem number
-    seen_at number = node_here both
-        (record { mount = location.mount; node = number })
-
-    leads_by : ((here : Location ℕ) → KnownToo here → is_directory_at nat_eq world here ≡ true
-        → may (looks_of nat_eq world) it.did.task here execute_right ≡ true
-        → (may (looks_of nat_eq left) reader here execute_right ≡ true)
-        ⊎ ((may (looks_of nat_eq left) reader here execute_right ≡ false) × Refused (denial W4)))
-        → LeadsToo (looks_of nat_eq world) (looks_of nat_eq left) it.did.task reader Refused KnownToo
-    leads_by rights = world_leads both rights
-
-    searched_by_all : reads_all reader.credentials ≡ true → (here : Location ℕ) → KnownToo here
-        → is_directory_at nat_eq world here ≡ true → may (looks_of nat_eq left) reader here execute_right ≡ true
-    searched_by_all all here known directory = search_all reader.credentials all (node_at nat_eq left here)
-        (cc (
-          node_here both here,
-          stays.directory (mount_at nat_eq world here).filesystem here.node known.0.1
-              (known_there here known),
-        ))
+    seen_at number = node_here both (record { mount = location.mount; node = number })
 
     -- where rights stay
     pub leads : RightsStay (files_at nat_eq world location).tree
-        (changed nat_eq (files_at nat_eq world location) change).tree
-        → MayLook it.did.task reader → LeadsToo (looks_of nat_eq world)
-        (looks_of nat_eq left) it.did.task reader Refused KnownToo
-    leads rights (inr all) = leads_by (λ here known directory e. inl (searched_by_all all here known directory))
-    leads rights (inl same) = leads_by (λ here known directory e. inl (cc (
-      node_here both here,
-      world_rights it changes
-          rights (mount_at nat_eq world here).filesystem here.node execute_right it.did.task.credentials known.0.1
-          (known_there here known),
-    )))
+        (changed nat_eq (files_at nat_eq world location) change).tree → MayLook it.did.task reader
+        → LeadsToo (looks_of nat_eq world) (looks_of nat_eq left) it.did.task reader Refused KnownToo
+    leads rights = leads_with both (λ filesystem number now was who wanted.
+        world_rights it changes rights filesystem number wanted who was now)
 
     -- where they may be lost, and that is a refusal
     pub leads_or_hides : Refused (denial W4)
         → LeadsToo (looks_of nat_eq world) (looks_of nat_eq left) it.did.task reader Refused KnownToo
-    leads_or_hides hides = leads_by
+    leads_or_hides hides = world_leads both
         (λ here known directory e. by (may (looks_of nat_eq left) reader here execute_right))
       where
         by : (b : Bool) → (b ≡ true) ⊎ ((b ≡ false) × Refused (denial W4))
@@ -159,4 +166,4 @@ module _ {world : World ℕ} {fresh : Fresh ℕ} {name : TaskName} {call : Call}
 
     pub leads_all : reads_all reader.credentials ≡ true
         → LeadsToo (looks_of nat_eq world) (looks_of nat_eq left) it.did.task reader Refused KnownToo
-    leads_all all = leads_by (λ here known directory e. inl (searched_by_all all here known directory))
+    leads_all all = world_leads both (λ here known directory e. inl (searched_by_all both all here known directory))

@@ -20,10 +20,8 @@ written_over offset new old =
     (omega arith) in
     cc (
       append_assoc (take offset (padded offset old)) new (drop (offset + length new) old),
-      drop-append_seam
-          (take offset (padded offset old)) (new ++ drop (offset + length new) old),
-      take-append_seam new
-          (drop (offset + length new) old),
+      drop-append_seam (take offset (padded offset old)) (new ++ drop (offset + length new) old),
+      take-append_seam new (drop (offset + length new) old),
     )
 
 -- a descriptor that is there and may do it is found

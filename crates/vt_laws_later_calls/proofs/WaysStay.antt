@@ -1,24 +1,12 @@
 -- In a world that a call left, in which mounts stay and names stay or are missing, walks lead where they led.
-use Rattle.std.proofs.Common.{arith, ◌≡◌, refl, ap, subst, ◌∙◌, inl, inr, ◌⊎◌, true≢false, ℕ, nat_eq, Bool, true, false, cond, not, ◌||◌, List, [], ◌∷◌, length, Option, Some, None, is_some, option_map, ok_or, Result, Ok, Err}
-use Rattle.vt_spec.proofs.Common.{Dot, DotDot, FileTree, IsWorld, LastWord, Location, Mount, Named, NoWord, Node, Task, Tree, World, among_from_list_all, and_parts, chain, common_steps, denial, directory_used, entries_in, entry_at, entry_named, execute_right, filesystem_numbered, has_its_root, hop, is_among, is_directory_at, is_directory_node, is_directory_under, is_lost, is_removed, last_or, looks_of, may, mount_at, mount_in, mount_numbered, mounter_allows, node_at, none_is_not, not-false, or_parts, parent_in, same_location, symlink_text, task_called, topmost, unless, ⊤}
-use Rattle.vt_laws_later_calls.proofs.Common.{Deny, IsFileTree, IsFound, IsFoundDirectory, IsPlain, W4, W6, W8, chain_ends_at, directory_found, found_there, numbers_of, own_directory_found, place_found, plain_numbered, root_found, step_found, stepped, tree_here}
+pub use Rattle.vt_laws_later_calls.proofs.WaysNodes.{StandsAs, mount_root, node_in, tree_in}
+use Rattle.std.proofs.Common.{arith, ◌≡◌, ap, subst, ◌∙◌, inl, inr, ◌⊎◌, true≢false, ℕ, nat_eq, true, false, cond, not, ◌||◌, List, length, Option, Some, None, is_some, ⊎_elim}
+use Rattle.vt_spec.proofs.Common.{FileTree, IsWorld, Location, Mount, Task, World, chain, common_steps, denial, directory_used, entry_at, execute_right, filesystem_numbered, is_directory_at, is_directory_node, is_directory_under, is_lost, is_removed, last_or, looks_of, may, mount_at, mount_in, mount_numbered, node_at, not-false, or_parts, parent_in, same_location, symlink_text, task_called, topmost, ⊤}
+use Rattle.vt_laws_later_calls.proofs.Common.{Deny, IsFileTree, IsPlain, W4, W6, directory_found, tree_here}
 use Rattle.vt_laws_later_calls.proofs.Ways.{LeadsToo}
 use Rattle.vt_laws_later_calls.proofs.WaysTrees.{DirectoryNamesStay, KeepsNames, present_later, under_later}
-
--- the root of a mount is a directory
-pub mount_root : (world : World ℕ) → IsWorld nat_eq world → (number : ℕ)
-    → is_among nat_eq number (numbers_of world.mounts) ≡ true → is_directory_node ((filesystem_numbered nat_eq world
-    (mount_numbered nat_eq world number).filesystem).files.tree.node (mount_numbered nat_eq world number).root) ≡ true
-mount_root world is number listed =
-    (and_parts _ _ (among_from_list_all (has_its_root nat_eq world) world.mounts is.roots
-    (mount_numbered nat_eq world number) (found_there world.mounts number listed))).0
-
--- an inode of a filesystem, and its tree
-abbrev pub tree_in : World ℕ → ℕ → Tree ℕ
-tree_in world filesystem = (filesystem_numbered nat_eq world filesystem).files.tree
-
-abbrev pub node_in : World ℕ → ℕ → ℕ → Option (Node ℕ)
-node_in world filesystem number = (tree_in world filesystem).node number
+use Rattle.vt_laws_later_calls.proofs.later.WaysLeft.{BothAre, SeesStill, ways_lead}
+use Rattle.vt_laws_later_calls.proofs.later.WaysLeft
 
 -- What was there and still is, is of its kind, and a directory has its parent, a symlink its text. A name leads where
 -- it led, or is missing, and then it was no directory's.
@@ -41,11 +29,6 @@ pub record WorldStays (world later : World ℕ) (Refused : Deny → Type 0) : Ty
       ⊎ ((entry_at (tree_in later filesystem) directory name ≡ None)
       × (is_directory_node (node_in world filesystem number) ≡ false) × Refused (denial W6))
 
--- a task that stands where another did
-pub record StandsAs (task reader : Task ℕ) : Type 0 where
-  pub root : reader.root ≡ task.root
-  pub directory : reader.directory ≡ task.directory
-
 -- a task in a world, and a reader later who stands as it does: what is there in both worlds is as it was, but for what
 -- is refused
 pub record SeesLater (world later : World ℕ) (task reader : Task ℕ) (Refused : Deny → Type 0) : Type 0 where
@@ -60,12 +43,9 @@ pub record SeesLater (world later : World ℕ) (task reader : Task ℕ) (Refused
 
 module _ {world later : World ℕ} {task reader : Task ℕ} {Refused : Deny → Type 0}
     (it : SeesLater world later task reader Refused) where
-  -- a location that is there in both worlds
-  abbrev pub Known : Location ℕ → Type 0
-  Known here = IsFound world it.is task here × IsFound later it.is_later reader here
-
-  abbrev KnownDirectory : Location ℕ → Type 0
-  KnownDirectory here = IsFoundDirectory world it.is task here × IsFoundDirectory later it.is_later reader here
+  -- a directory that is there in both worlds
+  abbrev Both : Location ℕ → Type 0
+  Both = BothAre it.is (it.is_later, it.plain_later) task reader
 
   same_mount : (number : ℕ) → mount_numbered nat_eq later number ≡ mount_numbered nat_eq world number
   same_mount number = cc it.stay.mounts
@@ -74,116 +54,8 @@ module _ {world later : World ℕ} {task reader : Task ℕ} {Refused : Deny → 
       → node_at nat_eq later here ≡ node_in later (mount_at nat_eq world here).filesystem here.node
   node_here here = cc (same_mount here.mount)
 
-  there : (here : Location ℕ) → Known here
-      → is_some (node_in world (mount_at nat_eq world here).filesystem here.node) ≡ true
-  there here known = known.0.1
-
-  there_later : (here : Location ℕ) → Known here
-      → is_some (node_in later (mount_at nat_eq world here).filesystem here.node) ≡ true
-  there_later here known = cc (node_here here, known.1.1)
-
-  directory_too : (here : Location ℕ) → Known here
-      → is_directory_at nat_eq later here ≡ is_directory_at nat_eq world here
-  directory_too here known = ap is_directory_node (node_here here)
-      ∙ it.stay.directory (mount_at nat_eq world here).filesystem here.node (there here known) (there_later here known)
-
-  known_directory : (here : Location ℕ) → Known here → is_directory_at nat_eq world here ≡ true → KnownDirectory here
-  known_directory here known directory = ((known.0.0, directory), (known.1.0, directory_too here known ∙ directory))
-
-  directory_known : (here : Location ℕ) → KnownDirectory here → Known here
-  directory_known here known =
-      (directory_found world it.is task here known.0, directory_found later it.is_later reader here known.1)
-
-  -- a step leads to what is known
-  next_known : (here : Location ℕ) (word : LastWord) (next : Location ℕ) → KnownDirectory here
-      → stepped nat_eq world task here word ≡ Ok next → stepped nat_eq later reader here word ≡ Ok next → Known next
-  next_known here word next known e f = (
-    step_found world it.is task here word next known.0 e,
-    step_found later it.is_later reader here word next
-        known.1 f,
-  )
-
-  -- Names
-  abbrev named_by : List (Mount ℕ) → Location ℕ → Option ℕ → Result (Location ℕ) Deny
-  named_by mounts here o = ok_or (option_map (topmost nat_eq mounts)
-      (option_map (λ object. record { mount = here.mount; node = object }) o)) (denial W6)
-
-  name_too : (here : Location ℕ) (name : List ℕ) (next : Location ℕ) → KnownDirectory here
-      → stepped nat_eq world task here (Named name) ≡ Ok next
-      → ((stepped nat_eq later reader here (Named name) ≡ Ok next) × Known next)
-      ⊎ ((deny : Deny) × Refused deny × (stepped nat_eq later reader here (Named name) ≡ Err deny))
-  name_too here name next known e = by (entry_named name (entries_in (node_at nat_eq world here))) refl e
-    where
-      later_is : (o : Option ℕ) → entry_at (tree_in later (mount_at nat_eq world here).filesystem) here.node name ≡ o
-          → stepped nat_eq later reader here (Named name) ≡ named_by world.mounts here o
-      later_is o f = ap (λ n. named_by later.mounts here (entry_named name (entries_in n))) (node_here here)
-          ∙ ap (named_by later.mounts here) f ∙ ap (λ mounts. named_by mounts here o) it.stay.mounts
-
-      no_answer : (deny : Deny) (a : Location ℕ) → Path (Result (Location ℕ) Deny) (Err deny) (Ok a) → ⊥
-      no_answer deny a f = cc
-
-      inside : (object : ℕ) → named_by world.mounts here (Some object) ≡ Ok next
-          → stepped nat_eq world task here (Named name) ≡ Ok next
-          → (entry_at (tree_in later (mount_at nat_eq world here).filesystem) here.node name ≡ Some object)
-          ⊎ ((entry_at (tree_in later (mount_at nat_eq world here).filesystem) here.node name ≡ None)
-          × (is_directory_node (node_in world (mount_at nat_eq world here).filesystem object) ≡ false)
-          × Refused (denial W6)) → ((stepped nat_eq later reader here (Named name) ≡ Ok next) × Known next)
-          ⊎ ((deny : Deny) × Refused deny × (stepped nat_eq later reader here (Named name) ≡ Err deny))
-      inside object f whole (inl stays) =
-          let now = later_is (Some object) stays ∙ f in inl (now, next_known here (Named name) next known whole now)
-      inside object f whole (inr lost) = inr (denial W6, lost.2, later_is None lost.0)
-
-      by : (o : Option ℕ) → entry_named name (entries_in (node_at nat_eq world here)) ≡ o
-          → named_by world.mounts here (entry_named name (entries_in (node_at nat_eq world here))) ≡ Ok next
-          → ((stepped nat_eq later reader here (Named name) ≡ Ok next) × Known next)
-          ⊎ ((deny : Deny) × Refused deny × (stepped nat_eq later reader here (Named name) ≡ Err deny))
-      by None f g = absurd (no_answer (denial W6) next (cc))
-      by (Some object) f g = inside object (cc) e (it.stay.entry (mount_at nat_eq world here).filesystem here.node name
-          object f (there_later here (directory_known here known)))
-
-  -- Up
-  abbrev hop_by : List (Mount ℕ) → Location ℕ → Location ℕ → Option (Location ℕ)
-  hop_by mounts root here = cond (same_location nat_eq here root) None
-      (cond (nat_eq here.node (mount_in nat_eq mounts here.mount).root)
-      (mount_in nat_eq mounts here.mount).mount_point None)
-
-  abbrev top_by : List (Mount ℕ) → Location ℕ → Location ℕ → Location ℕ
-  top_by mounts root here = last_or here (chain (length mounts) (hop_by mounts root) here)
-
-  hop_known : (a b : Location ℕ) → IsFoundDirectory world it.is task a → hop nat_eq world task a ≡ Some b
-      → IsFoundDirectory world it.is task b
-  hop_known a b found e = place_found world it.is task a.mount b found.0 (grind (arith, common_steps, none_is_not))
-
-  hop_known_later : (a b : Location ℕ) → IsFoundDirectory later it.is_later reader a → hop nat_eq later reader a
-      ≡ Some b
-      → IsFoundDirectory later it.is_later reader b
-  hop_known_later a b found e =
-      place_found later it.is_later reader a.mount b found.0 (grind (arith, common_steps, none_is_not))
-
-  -- where `..` goes on from
-  abbrev top : Location ℕ → Location ℕ
-  top here = top_by world.mounts task.root here
-
-  top_same : (here : Location ℕ) → top_by later.mounts reader.root here ≡ top here
-  top_same here = λ i. top_by (it.stay.mounts i) (it.stands.root i) here
-
-  top_known : (here : Location ℕ) → KnownDirectory here → KnownDirectory (top here)
-  top_known here known = (
-    chain_ends_at (IsFoundDirectory world it.is task) (hop nat_eq world task) hop_known
-        (length world.mounts) here here known.0,
-    subst (IsFoundDirectory later it.is_later reader) (top_same here)
-        (chain_ends_at (IsFoundDirectory later it.is_later reader) (hop nat_eq later reader) hop_known_later
-        (length later.mounts) here here known.1),
-  )
-
-  abbrev up_by : List (Mount ℕ) → Location ℕ → (parent : ℕ) → (lost : Bool) → Location ℕ → Result (Location ℕ) Deny
-  up_by mounts root parent lost here =
-      cond (same_location nat_eq here root || nat_eq here.node (mount_in nat_eq mounts here.mount).root) (Ok here)
-      (unless ((lost, W8) ∷ []) (Ok (topmost nat_eq mounts (record { mount = here.mount; node = parent }))))
-
   -- a directory that is not lost
-  not_lost : (here : Location ℕ) → KnownDirectory here → is_lost nat_eq world here ≡ false
-      → is_lost nat_eq later here ≡ false
+  not_lost : (here : Location ℕ) → Both here → is_lost nat_eq world here ≡ false → is_lost nat_eq later here ≡ false
   not_lost here known e = ap (λ (m : Mount ℕ). is_removed nat_eq (tree_in later m.filesystem) here.node
       || not (is_directory_under nat_eq (filesystem_numbered nat_eq later m.filesystem).files m.root here.node))
       (same_mount here.mount) ∙ ap (λ b. b || not (is_directory_under nat_eq files_later point.root here.node)) present
@@ -236,47 +108,56 @@ module _ {world later : World ℕ} {task reader : Task ℕ} {Refused : Deny → 
       under : is_directory_under nat_eq files_later point.root here.node ≡ true
       under = under_later stays known.0.1 is_directory_later tt parts.0 point.root root_there (not-false _ parts.1)
 
-  up_too : (here next : Location ℕ) → KnownDirectory here → stepped nat_eq world task here DotDot ≡ Ok next
-      → stepped nat_eq later reader here DotDot ≡ Ok next
-  up_too here next known e = (λ i. up_by (it.stay.mounts i) (it.stands.root i)
-      (parent_in (top_same here i).node (node_at nat_eq later (top_same here i)))
-      (is_lost nat_eq later (top_same here i)) (top_same here i))
-      ∙ by (same_location nat_eq (top here) task.root || nat_eq (top here).node (mount_at nat_eq world (top here)).root)
-      (is_lost nat_eq world (top here)) refl e
-    where
-      at_top : KnownDirectory (top here)
-      at_top = top_known here known
+  -- its parent is the one that it was
+  same_parent : (here : Location ℕ) → Both here
+      → parent_in here.node (node_at nat_eq later here) ≡ parent_in here.node (node_at nat_eq world here)
+  same_parent here known =
+      let now = directory_found later it.is_later reader here known.1 in
+      ap (parent_in here.node) (node_here here) ∙ it.stay.parent (mount_at nat_eq world here).filesystem here.node
+      (directory_found world it.is task here known.0).1 (cc (node_here here, now.1))
 
-      same_parent : parent_in (top here).node (node_at nat_eq later (top here))
-          ≡ parent_in (top here).node (node_at nat_eq world (top here))
-      same_parent = ap (parent_in (top here).node) (node_here (top here))
-          ∙ it.stay.parent (mount_at nat_eq world (top here)).filesystem (top here).node
-          (there (top here) (directory_known (top here) at_top))
-          (there_later (top here) (directory_known (top here) at_top))
+  abbrev hop_by : List (Mount ℕ) → Location ℕ → Location ℕ → Option (Location ℕ)
+  hop_by mounts root here = cond (same_location nat_eq here root) None
+      (cond (nat_eq here.node (mount_in nat_eq mounts here.mount).root)
+      (mount_in nat_eq mounts here.mount).mount_point None)
 
-      no_answer : (deny : Deny) (a : Location ℕ) → Path (Result (Location ℕ) Deny) (Err deny) (Ok a) → ⊥
-      no_answer deny a f = cc
+  abbrev top_by : List (Mount ℕ) → Location ℕ → Location ℕ → Location ℕ
+  top_by mounts root here = last_or here (chain (length mounts) (hop_by mounts root) here)
 
-      by : (p q : Bool) → is_lost nat_eq world (top here) ≡ q
-          → cond p (Ok (top here)) (unless ((q, W8) ∷ []) (Ok (topmost nat_eq world.mounts
-          (record { mount = (top here).mount; node = parent_in (top here).node (node_at nat_eq world (top here)) }))))
-          ≡ Ok next
-          → cond p (Ok (top here)) (unless ((is_lost nat_eq later (top here), W8) ∷ []) (Ok (topmost nat_eq world.mounts
-          (record { mount = (top here).mount; node = parent_in (top here).node (node_at nat_eq later (top here)) }))))
-          ≡ Ok next
-      by true q f g = g
-      by false true f g = absurd (no_answer (denial W8) next g)
-      by false false f g = (λ i. unless ((not_lost (top here) at_top f i, W8) ∷ []) (Ok (topmost nat_eq world.mounts
-          (record { mount = (top here).mount; node = same_parent i })))) ∙ g
+  -- So ways stay from everywhere, as they do where mounts of others go
+  pub still : SeesStill it.is (it.is_later, it.plain_later) task reader Refused (λ here. ⊤)
+  still = record {
+    called = it.called;
+    called_later = it.called_later;
+    stands = it.stands;
+    seen = record {
+      own = λ number on there. record {
+        filesystem = ap (λ (m : Mount ℕ). m.filesystem) (same_mount number);
+        root = ap (λ (m : Mount ℕ). m.root) (same_mount number);
+        flags = ap (λ (m : Mount ℕ). m.flags) (same_mount number);
+        mount_point = ap (λ (m : Mount ℕ). m.mount_point) (same_mount number);
+      };
+      topmost_is = λ place on. ap (λ mounts. topmost nat_eq mounts place) it.stay.mounts;
+      top_is = λ here known. (λ i. top_by (it.stay.mounts i) (it.stands.root i) here);
+    };
+    stay = record {
+      directory = it.stay.directory;
+      link = it.stay.link;
+      entry = λ filesystem directory name number e there. ⊎_elim inl (λ lost. inr (lost.0, lost.2))
+          (it.stay.entry filesystem directory name number e there);
+    };
+    fits = record {
+      named = λ here name object known fit e f. tt;
+      over = λ place on fit. tt;
+      hopped = λ here known fit. tt;
+      up = λ here known fit ends found.
+          inl (record { parent = same_parent here known; not_lost = not_lost here known found }, tt);
+    };
+  }
 
-  step_too : (here : Location ℕ) (word : LastWord) (next : Location ℕ) → KnownDirectory here
-      → stepped nat_eq world task here word ≡ Ok next → ((stepped nat_eq later reader here word ≡ Ok next) × Known next)
-      ⊎ ((deny : Deny) × Refused deny × (stepped nat_eq later reader here word ≡ Err deny))
-  step_too here NoWord next known e = inl (e, next_known here NoWord next known e e)
-  step_too here Dot next known e = inl (e, next_known here Dot next known e e)
-  step_too here DotDot next known e =
-      let up = up_too here next known e in inl (up, next_known here DotDot next known e up)
-  step_too here (Named name) next known e = name_too here name next known e
+  -- a location that is there in both worlds
+  abbrev pub Known : Location ℕ → Type 0
+  Known = WaysLeft.Known it.is (it.is_later, it.plain_later) task reader still
 
   -- So walks lead where they led, if what may be searched may be, or that is the refusal.
   pub world_leads : ((here : Location ℕ) → Known here → is_directory_at nat_eq world here ≡ true
@@ -284,25 +165,4 @@ module _ {world later : World ℕ} {task reader : Task ℕ} {Refused : Deny → 
       → (may (looks_of nat_eq later) reader here execute_right ≡ true)
       ⊎ ((may (looks_of nat_eq later) reader here execute_right ≡ false) × Refused (denial W4)))
       → LeadsToo (looks_of nat_eq world) (looks_of nat_eq later) task reader Refused Known
-  world_leads rights = record {
-    root = it.stands.root;
-    working = it.stands.directory;
-    root_known = directory_known task.root (
-      root_found world it.is task it.called,
-      subst (IsFoundDirectory later it.is_later reader) it.stands.root
-          (root_found later it.is_later reader it.called_later),
-    );
-    working_known = directory_known task.directory (
-      own_directory_found world it.is task it.called,
-      subst (IsFoundDirectory later it.is_later reader) it.stands.directory
-          (own_directory_found later it.is_later reader it.called_later),
-    );
-    directory = λ here known directory. directory_too here known ∙ directory;
-    search = rights;
-    mounter = λ here. ap (λ o. mounter_allows o execute_right (node_at nat_eq later here))
-        (plain_numbered later it.plain_later (mount_at nat_eq later here).filesystem);
-    step = λ here word next known directory e. step_too here word next (known_directory here known directory) e;
-    nosymfollow = λ here known. ap (λ (m : Mount ℕ). m.flags.nosymfollow) (same_mount here.mount);
-    link = λ here known. ap symlink_text (node_here here)
-        ∙ it.stay.link (mount_at nat_eq world here).filesystem here.node (there here known) (there_later here known);
-  }
+  world_leads rights = ways_lead it.is (it.is_later, it.plain_later) task reader still rights tt tt

@@ -7,8 +7,7 @@ use Rattle.vt_laws_later_calls.proofs.Common.{IsFileTree, led_directory, not_rem
 module _ (tree : Tree ℕ) (conditions : IsTree tree) where
   by_parent : (d : ℕ) → IsDirectory tree d → IsReached tree d → (p : ℕ) → named_parent nat_eq tree d ≡ Some p
       → (name : List ℕ) × (entry_at tree p name ≡ Some d) × IsDirectory tree p × IsReached tree p
-  by_parent d is reached p e = ⊎_elim (λ root. none_is_not None p refl
-      (cc (eq-eqb d tree.root (sym root)))) (λ named.
+  by_parent d is reached p e = ⊎_elim (λ root. none_is_not None p refl (cc (eq-eqb d tree.root (sym root)))) (λ named.
       let same : named.0 ≡ p = same_Some named.0 p
       (sym (parent_named tree conditions named.0 named.1 d named.2 is) ∙ e) in (
         named.1,

@@ -2,6 +2,7 @@
 pub mod AfterRemoval
 pub mod AfterRename
 pub mod CreatedSeen
+pub mod LeadsStill
 pub mod RemovalFits
 pub mod RenameFits
 pub mod RenameWays

@@ -5,5 +5,8 @@ pub mod AttachedMasters
 pub mod AttachedNowhere
 pub mod AttachedTypes
 pub mod Attaching
-pub mod AttachingPlaces
 pub mod BindsStand
+pub mod Covers
+pub mod Grafted
+pub mod GraftedPlaces
+pub mod TreesCopied

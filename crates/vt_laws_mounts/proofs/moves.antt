@@ -1,6 +1,5 @@
 -- What the proofs of src/moves.rt use.
 pub mod Moving
 pub mod MovingLeaves
-pub mod MovingPlaces
 pub mod MovingRoots
-pub mod MovingStands
+pub mod TreesMoved

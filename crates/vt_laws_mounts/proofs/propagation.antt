@@ -8,3 +8,4 @@ pub mod PropagationImages
 pub mod PropagationPremises
 pub mod PropagationTypes
 pub mod PropagationUp
+pub mod undone

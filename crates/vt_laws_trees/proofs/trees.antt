@@ -24,3 +24,4 @@ pub mod TreesRearranged
 pub mod TreesSizes
 pub mod TreesTasks
 pub mod TreesWalked
+pub mod WalksEnd

@@ -131,8 +131,7 @@ pub only_these_end_other_inodes : OnlyTheseEndOtherInodes
 only_these_end_other_inodes world fresh name call filesystem number is serves only there spared =
     policy_leads (λ w. is_some (inode_in w filesystem number) ≡ true) world fresh name call there
     (λ task permit changed called judged. cc (
-      raised_files world name changed
-          (settled nat_eq (call_outcome nat_eq fresh world task call).world) filesystem,
+      raised_files world name changed (settled nat_eq (call_outcome nat_eq fresh world task call).world) filesystem,
       swept_remains call is serves only
           filesystem number there task called spared
           (call_remains call is serves only filesystem number there task called

@@ -173,8 +173,7 @@ module _ {world : World ℕ} {fresh : Fresh ℕ} {task : Task ℕ} (is : IsWorld
         by : (o : Option (Overlay ℕ)) → merged.overlay ≡ o → LetsGo opens (replaced_over world o made)
         by None e = opened_new_keeps_all fresh world task location name node access settles is.files.one_filesystem
             is.tasks.one_task among_tasks there (cc) made_tree (record {
-              in_directory =
-                  made_well.name_is_free.in_directory;
+              in_directory = made_well.name_is_free.in_directory;
               is_new = made_well.number_is_new;
             }) made_well.name_is_free.free
         by (Some overlay) e = over overlay e overlay.upper refl
@@ -424,5 +423,4 @@ all_types_leave_all_but_masters world fresh task path word recursive is serves c
 
     by : (judgement : Judgement ℕ) → judge_in nat_eq fresh world task call ≡ judgement
         → KeepsAllButMasters (call_outcome nat_eq fresh world task call).world
-    by judgement e = by_judgement is serves called KeepsAllButMasters call judgement e
-        (judged_keeps judgement e)
+    by judgement e = by_judgement is serves called KeepsAllButMasters call judgement e (judged_keeps judgement e)

@@ -143,8 +143,7 @@ module _ (other : ℕ) where
             filesystem_elsewhere world new_merged
                 upper.filesystem (λ e. upper_elsewhere world is number overlay o upper u
                 (e ∙ number_of_filesystem world number)),
-          ))) filesystem (placed_remains world new_merged
-          (at_own later.files both.files) filesystem there)
+          ))) filesystem (placed_remains world new_merged (at_own later.files both.files) filesystem there)
         where
           later : Merge ℕ
           later = merge_changed nat_eq fresh (stack_of nat_eq world overlay upper)

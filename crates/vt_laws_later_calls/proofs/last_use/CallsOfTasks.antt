@@ -112,12 +112,10 @@ pub close_takes_its_inode : CloseTakesItsInode
 close_takes_its_inode fresh world task descriptor whole there is_open plain stays =
     location_takes_its_inode world (with_task world (without_descriptor task descriptor.number)).tasks
     (ahead whole there is_open) (behind whole there is_open)
-    descriptor.location whole plain (located_before whole there is_open)
-    (located_after whole there is_open) stays
+    descriptor.location whole plain (located_before whole there is_open) (located_after whole there is_open) stays
 
 pub close_takes_its_filesystem : CloseTakesItsFilesystem
 close_takes_its_filesystem fresh world task descriptor whole plain there is_open goes last =
     location_takes_its_filesystem world (with_task world (without_descriptor task descriptor.number)).tasks
     (ahead whole there is_open) (behind whole there is_open)
-    descriptor.location whole plain (located_before whole there is_open)
-    (located_after whole there is_open) goes last
+    descriptor.location whole plain (located_before whole there is_open) (located_after whole there is_open) goes last

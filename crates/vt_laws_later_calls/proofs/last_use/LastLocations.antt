@@ -133,8 +133,7 @@ module _ {world : World ℕ} (tasks : List (Task ℕ)) (front back : List (Locat
           cc (
             used_while_counted freed f number,
             moved.same,
-            alike (inode_uses world
-                (filesystem_numbered nat_eq world f.number) number) (inode_uses freed
+            alike (inode_uses world (filesystem_numbered nat_eq world f.number) number) (inode_uses freed
                 (filesystem_numbered nat_eq freed f.number) number) (moved.uses number ∙
                 ap (λ b. inode_uses freed (filesystem_numbered nat_eq freed f.number) number +
                 (cond (b && nat_eq number location.node) 1 0 + (cond (b && nat_eq number its.root) 1 0 + 0))) differs),

@@ -28,8 +28,7 @@ module _ {world : World ℕ} (front back : List (Task ℕ)) (task : Task ℕ) (m
 
   namespace_left : (b : Bool) → is_entered task.namespace ≡ b
       → namespaces_ended nat_eq after ≡ cond b after (without_namespace after task.namespace)
-  namespace_left true has = no_namespace_ends after namespaces.mounts_listed
-      (list_all_from_among _ world.namespaces
+  namespace_left true has = no_namespace_ends after namespaces.mounts_listed (list_all_from_among _ world.namespaces
       (λ namespace m. grind (arith, common_steps, eqb-true, entered_as_before namespace m)))
       ∙ ap (λ lost. regrouped_by nat_eq lost after) (none_lost world mounts)
   namespace_left false none = one_namespace_ends after task.namespace namespaces.mounts_listed none

@@ -23,16 +23,14 @@ given_by_one : {B : Type 0} (give : Filesystem ℕ → List B) (filesystems : Li
     → give f ≡ []) → flat_map give filesystems ≡ give it
 given_by_one give [] one it m none = absurd m
 given_by_one give (first ∷ rest) one it m none = ⊎_elim (λ same. cc (
-  flat_map_none give rest
-      (λ f n. none f (nat_eq-swapped it.number f.number false
+  flat_map_none give rest (λ f n. none f (nat_eq-swapped it.number f.number false
       (ap (λ (x : Filesystem ℕ). nat_eq x.number f.number) same ∙
       none_among (λ (b : Filesystem ℕ). nat_eq first.number b.number) rest parts.0 f n))),
   append-nil (give first),
-))
-    (λ later. cc (
-      none first (none_among (λ (b : Filesystem ℕ). nat_eq first.number b.number) rest parts.0 it later),
-      given_by_one give rest parts.1 it later none,
-    )) m
+)) (λ later. cc (
+  none first (none_among (λ (b : Filesystem ℕ). nat_eq first.number b.number) rest parts.0 it later),
+  given_by_one give rest parts.1 it later none,
+)) m
   where
     parts : (list_any (λ (b : Filesystem ℕ). nat_eq first.number b.number) rest ≡ false)
         × (any_pair (λ (a b : Filesystem ℕ). nat_eq a.number b.number) rest ≡ false)
@@ -160,13 +158,11 @@ module _ (after : World ℕ) (inode : Inode) (overlay : Overlay ℕ)
               → nat_lt 1 (inode_uses world (filesystem_numbered nat_eq world layer.filesystem) object) ≡ still
               → let_go_in is_plain left (layer.filesystem, object)
               ≡ cond still left (without_inode_at left (layer.filesystem, object))
-          by true k = cc (map_same _ left.filesystems
-              (λ g m. of true k g m (nat_eq g.number layer.filesystem) refl ∙
+          by true k = cc (map_same _ left.filesystems (λ g m. of true k g m (nat_eq g.number layer.filesystem) refl ∙
               ap (λ b. cond b (record g { files = without_inode object g.files }) g)
               (and-false (nat_eq g.number layer.filesystem))))
           by false k = cc (map_alike _
-              _ left.filesystems
-              (λ g m. of false k g m (nat_eq g.number layer.filesystem) refl ∙
+              _ left.filesystems (λ g m. of false k g m (nat_eq g.number layer.filesystem) refl ∙
               ap (λ b. cond b (record g { files = without_inode object g.files }) g)
               (and-true (nat_eq g.number layer.filesystem))))
 

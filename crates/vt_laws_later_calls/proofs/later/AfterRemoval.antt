@@ -1,16 +1,16 @@
 -- The world that a granted rmdir leaves: the task's own mounts are seen as they were, the directory has lost its name,
 -- and walks that do not go up from it lead where they led.
 use Rattle.std.proofs.Common.{arith, ◌≡◌, ◌≢◌, refl, sym, ap, subst, ◌∙◌, inl, inr, ◌⊎◌, ⊎_elim, ℕ, nat_eq, eqb-true, true, false, ◌||◌, List, filter, Some, None, is_some}
-use Rattle.vt_spec.proofs.Common.{cases_Bool, Answer, Call, Change, Credentials, FileTree, Filesystem, Fresh, IsWorld, Location, Mount, Remove, Task, TaskName, ToRemoveDirectory, Tree, World, and_parts, apply, changed, common_steps, denial, directory_used, entries_in, entry_at, entry_named, files_at, filesystem_numbered, filesystems-taken_away, is_directory_node, is_going, is_located, is_mount_point_in, looks_of, mount_at, mount_lives, mount_numbered, mounts_on, node_allows, node_at, parent_in, policy, raised_task, symlink_text, task_called, tasks-taken_away, tasks-with_change, with_change, without_mounts_on}
-use Rattle.vt_laws_later_calls.proofs.Common.{AreClosed, Deny, IsOn, IsPlain, IsReached, MayRemove, SeesTo, W6, given_permits_are_seen_to, is_reached, kept_by_number, mounts-with_change, numbers_of_trees, standing_is_computed, taken_plain, trees_closed}
+use Rattle.vt_spec.proofs.Common.{cases_Bool, Answer, Call, Change, FileTree, Filesystem, Fresh, IsWorld, Location, Mount, Remove, Task, TaskName, ToRemoveDirectory, Tree, World, and_parts, apply, changed, common_steps, denial, directory_used, entries_in, entry_at, entry_named, files_at, filesystem_numbered, filesystems-taken_away, is_directory_node, is_going, is_located, is_mount_point_in, looks_of, mount_at, mount_lives, mount_numbered, mounts_on, node_at, parent_in, policy, raised_task, symlink_text, task_called, tasks-taken_away, tasks-with_change, with_change, without_mounts_on}
+use Rattle.vt_laws_later_calls.proofs.Common.{AreClosed, Deny, IsOn, IsPlain, IsReached, MayRemove, SeesTo, W6, is_reached, kept_by_number, mounts-with_change, numbers_of_trees, standing_is_computed, taken_plain, trees_closed}
 use Rattle.vt_laws_worlds.proofs.overlays_let_go.changing.MountsOfOthers.{reached_stays, removal_reached}
-use Rattle.vt_laws_later_calls.proofs.AfterChange.{as_spent, later_files, later_is}
+use Rattle.vt_laws_later_calls.proofs.AfterChange.{sees_to, as_spent, later_files, later_is}
 use Rattle.vt_laws_later_calls.proofs.Changed.{files_changed, files_other}
 use Rattle.vt_laws_later_calls.proofs.Granted.{HasSucceeded}
-use Rattle.vt_laws_later_calls.proofs.OpenedNew.{given_of}
 use Rattle.vt_laws_later_calls.proofs.later.SettledRoots.{root_settled}
 use Rattle.vt_laws_later_calls.proofs.Stays.{called_own, spent_unsettled, still_called}
 use Rattle.vt_laws_later_calls.proofs.WaysChanges.{RightsStay}
+use Rattle.vt_laws_later_calls.proofs.Readers.{RightsLeft}
 use Rattle.vt_laws_later_calls.proofs.later.WaysLeft.{MountsSeen, ObjectsStay}
 use Rattle.vt_laws_later_calls.proofs.later.WaysMounts.{own_mount, top_same, topmost_same}
 use Rattle.vt_laws_later_calls.proofs.later.WaysRemoved.{removed_entry, removed_kind, removed_link, removed_name, removed_parent, removed_rights}
@@ -44,9 +44,7 @@ module _ {world : World ℕ} {fresh : Fresh ℕ} {name : TaskName} {call : Call}
   own_task = called_own it
 
   pub seen_to : SeesTo world it.did.task (ToRemoveDirectory parent word object)
-  seen_to = subst (SeesTo world it.did.task) permit_is
-      (given_permits_are_seen_to world fresh it.did.task it.did.permit it.is
-      (given_of world fresh name call answer it.serves it.other it.few it.did))
+  seen_to = subst (SeesTo world it.did.task) permit_is (sees_to it)
 
   pub may : MayRemove (files_at nat_eq world parent).tree parent.node word object.node
   may = seen_to.1
@@ -73,8 +71,7 @@ module _ {world : World ℕ} {fresh : Fresh ℕ} {name : TaskName} {call : Call}
   closed : AreClosed world gone
   closed =
       trees_closed world it.is.mounts.one_number
-      ((standing_is_computed world it.is.mounts.one_number).0 it.is.mounts.standing)
-      (mounts_on nat_eq world object)
+      ((standing_is_computed world it.is.mounts.one_number).0 it.is.mounts.standing) (mounts_on nat_eq world object)
 
   middle_plain : IsPlain middle
   middle_plain = taken_plain world gone it.plain
@@ -98,8 +95,7 @@ module _ {world : World ℕ} {fresh : Fresh ℕ} {name : TaskName} {call : Call}
     it.did.called,
   ))
 
-  pub mounts_seen : (reader : Task ℕ) → reader.root ≡ it.did.task.root
-      → MountsSeen it.is it.plain is_left.0 is_left.1 it.did.task reader
+  pub mounts_seen : (reader : Task ℕ) → reader.root ≡ it.did.task.root → MountsSeen it.is is_left it.did.task reader
   mounts_seen reader roots = record {
     own = own_mount it.is is_left.0 it.did.task gone closed living attached_live
         stays;
@@ -166,8 +162,7 @@ module _ {world : World ℕ} {fresh : Fresh ℕ} {name : TaskName} {call : Call}
 
   pub node_left : (filesystem number : ℕ) → is_some (node_in left filesystem number) ≡ true
       → node_in left filesystem number ≡ node_in spent filesystem number
-  node_left filesystem number there =
-      as_spent it filesystem number there
+  node_left filesystem number there = as_spent it filesystem number there
 
   pub root_left : (filesystem number : ℕ) → is_some (node_in left filesystem number) ≡ true
       → (tree_in left filesystem).root ≡ (tree_in world filesystem).root
@@ -177,10 +172,7 @@ module _ {world : World ℕ} {fresh : Fresh ℕ} {name : TaskName} {call : Call}
       (spent_unsettled it).files.one_filesystem filesystem
       number (ap (λ (f : FileTree ℕ). is_some (f.tree.node number)) (sym files) ∙ there) ∙ (each filesystem).root
 
-  pub rights_left : (filesystem number : ℕ) → is_some (node_in left filesystem number) ≡ true
-      → is_some (node_in world filesystem number) ≡ true → (who : Credentials) (wanted : ℕ)
-      → node_allows who wanted (node_in left filesystem number)
-      ≡ node_allows who wanted (node_in world filesystem number)
+  pub rights_left : RightsLeft world left
   rights_left filesystem number now was who wanted =
       cc (node_left filesystem number now, (each filesystem).rights who wanted number was)
 

@@ -1,13 +1,12 @@
 -- The world that a granted rename leaves: the object has its new name and what it had, and no mount stands on it.
 use Rattle.std.proofs.Common.{inl, inr, arith, ◌≡◌, ◌≢◌, refl, sym, ap, subst, ◌∙◌, true≢false, ℕ, nat_eq, eq-eqb, ne_eqb, Bool, true, false, cond, List, [], length, filter, find, Option, Some, None, is_some, option_map, unwrap_or}
 use Rattle.vt_spec.proofs.Common.{cases_Bool, Among, Answer, Call, Change, FileTree, Filesystem, Fresh, IsWorld, Location, Mount, Move, TaskName, ToRename, World, among-filter, among-from_filter, among_from_list_all, and_from, any_from_among, apply, bytes_decides, changed, child_at, common_steps, directory_from_entry, directory_used, entries_in, entry_at, entry_named, files_at, filesystem_at, filesystem_numbered, filesystems-without_replaced, is_among, is_directory_node, is_mount_point_anywhere, is_nowhere_or_attached, is_point, list_any, looks_of, mount_at, mount_lives, mount_numbered, mounts_on, no_filesystem, number-mount_in, points_of, policy, root_of, shown-without_replaced, stands_at, topmost, with_change, without_replaced}
-use Rattle.vt_laws_later_calls.proofs.Common.{cases_Option, IsFileTree, IsKept, IsPlain, MayBeRenamed, SeesTo, found_in, found_itself, found_there, given_permits_are_seen_to, is_entry, is_that_entry, mounts-with_change, move_told, no_way_up, nowhere_parts, number_numbered, numbers_of, numbers_of_trees, replaced_plain, standing_is_computed, stands_there, tree_here, trees_closed}
+use Rattle.vt_laws_later_calls.proofs.Common.{cases_Option, change_of, IsFileTree, IsKept, IsPlain, MayBeRenamed, SeesTo, found_in, found_itself, found_there, is_entry, is_that_entry, mounts-with_change, move_told, no_way_up, nowhere_parts, number_numbered, numbers_of, numbers_of_trees, replaced_plain, standing_is_computed, stands_there, tree_here, trees_closed}
 use Rattle.vt_laws_trees.proofs.layers.layers.LowersKept.{kept_both, kept_same, others_stay}
 use Rattle.vt_laws_mounts.proofs.ends.Ending.{replaced_keeps_mounts}
-use Rattle.vt_laws_later_calls.proofs.AfterChange.{as_spent, later_is}
+use Rattle.vt_laws_later_calls.proofs.AfterChange.{ChangesTree, as_spent, later_is, later_mounts, sees_to}
 use Rattle.vt_laws_later_calls.proofs.Changed.{files_changed}
 use Rattle.vt_laws_later_calls.proofs.Granted.{HasSucceeded}
-use Rattle.vt_laws_later_calls.proofs.OpenedNew.{given_of}
 use Rattle.vt_laws_later_calls.proofs.later.WaysMounts.{placed_before, stops}
 use Rattle.vt_laws_later_calls.proofs.WaysStay.{node_in, tree_in}
 
@@ -44,21 +43,30 @@ module _ (world : World ℕ) (is : IsWorld nat_eq world) (object : Location ℕ)
             absurd (none_on_it its.0 place found.0 (stands_there place its.0 found.1) same node)
       ]))
 
-module _ {world : World ℕ} {fresh : Fresh ℕ} {name : TaskName} {call : Call} {answer : Answer}
-    (it : HasSucceeded world fresh name call answer) {from : Location ℕ} {old : List ℕ}
-    {to : Location ℕ} {new : List ℕ} {object : Location ℕ} {replaced : Option (Location ℕ)}
-    (permit_is : it.did.permit ≡ ToRename from old to new object replaced)
-    (uncovered : is_mount_point_anywhere (looks_of nat_eq world) object ≡ false) where
+-- a call has renamed an object on which no mount stands
+pub record HasRenamed (world : World ℕ) (fresh : Fresh ℕ) (name : TaskName) (call : Call) (answer : Answer)
+    (from : Location ℕ) (old : List ℕ) (to : Location ℕ) (new : List ℕ) (object : Location ℕ)
+    (replaced : Option (Location ℕ)) : Type 0 where
+  pub success : HasSucceeded world fresh name call answer
+  pub permit_is : success.did.permit ≡ ToRename from old to new object replaced
+  pub uncovered : is_mount_point_anywhere (looks_of nat_eq world) object ≡ false
+
+module _ {world : World ℕ} {fresh : Fresh ℕ} {name : TaskName} {call : Call} {answer : Answer} {from : Location ℕ}
+    {old : List ℕ} {to : Location ℕ} {new : List ℕ} {object : Location ℕ} {replaced : Option (Location ℕ)}
+    (renamed : HasRenamed world fresh name call answer from old to new object replaced) where
+  abbrev it : HasSucceeded world fresh name call answer
+  it = renamed.success
+
   abbrev pub left : World ℕ
   left = (policy nat_eq fresh world name call).world
 
-  abbrev spent : World ℕ
+  abbrev pub spent : World ℕ
   spent = (apply nat_eq fresh world it.did.task it.did.permit).world
 
-  abbrev middle : World ℕ
+  abbrev pub middle : World ℕ
   middle = without_replaced nat_eq world replaced
 
-  abbrev change : Change ℕ
+  abbrev pub change : Change ℕ
   change = Move from.node old to.node new object.node
 
   abbrev pub shown : ℕ
@@ -68,16 +76,14 @@ module _ {world : World ℕ} {fresh : Fresh ℕ} {name : TaskName} {call : Call}
   is_left = later_is it
 
   pub may : MayBeRenamed world from old to new object replaced
-  may = subst (SeesTo world it.did.task) permit_is
-      (given_permits_are_seen_to world fresh it.did.task it.did.permit it.is
-      (given_of world fresh name call answer it.serves it.other it.few it.did))
+  may = subst (SeesTo world it.did.task) renamed.permit_is (sees_to it)
 
-  from_directory : is_directory_node ((files_at nat_eq world from).tree.node from.node) ≡ true
+  pub from_directory : is_directory_node ((files_at nat_eq world from).tree.node from.node) ≡ true
   from_directory =
       directory_from_entry old object.node ((files_at nat_eq world from).tree.node from.node) may.moves.named
 
-  tree : IsFileTree (files_at nat_eq world from)
-  tree = tree_here world it.is from from_directory
+  pub from_tree : IsFileTree (files_at nat_eq world from)
+  from_tree = tree_here world it.is from from_directory
 
   pub object_shown : (mount_at nat_eq world object).filesystem ≡ shown
   object_shown = cc may.object_mount
@@ -94,8 +100,8 @@ module _ {world : World ℕ} {fresh : Fresh ℕ} {name : TaskName} {call : Call}
       ∙ ap (λ list. (unwrap_or (find (λ (f : Filesystem ℕ). nat_eq shown f.number) list) (no_filesystem shown)).files)
       (filesystems-without_replaced world replaced)
 
-  does : spent ≡ with_change nat_eq fresh middle from change
-  does = cc
+  pub does : spent ≡ with_change nat_eq fresh middle from change
+  does = ap (λ p. (apply nat_eq fresh world it.did.task p).world) renamed.permit_is
 
   spent_shown : (filesystem_numbered nat_eq spent shown).files ≡ changed nat_eq (files_at nat_eq world from) change
   spent_shown = ap (λ w. (filesystem_numbered nat_eq w shown).files) does
@@ -140,17 +146,21 @@ module _ {world : World ℕ} {fresh : Fresh ℕ} {name : TaskName} {call : Call}
       by false e = cc (entry_itself from.node old)
 
   -- and is as it was
-  pub object_left : is_some (node_in left shown object.node) ≡ true
-      → IsKept ((files_at nat_eq world from).tree.node object.node) (node_in left shown object.node)
-  object_left there = kept_both _ _ _ (others_stay (files_at nat_eq world from) change object.node
-      (cc (ne_eqb object.node from.node not_from, ne_eqb object.node to.node not_to)))
-      (kept_same _ _ (node_left object.node there))
+  pub object_kept : IsKept ((files_at nat_eq world from).tree.node object.node)
+      ((changed nat_eq (files_at nat_eq world from) change).tree.node object.node)
+  object_kept = others_stay (files_at nat_eq world from) change object.node
+      (cc (ne_eqb object.node from.node not_from, ne_eqb object.node to.node not_to))
     where
       not_from : object.node ≢ from.node
-      not_from same = no_way_up (files_at nat_eq world from) tree.tree from.node old object.node may.moves.named [] (cc)
+      not_from same =
+          no_way_up (files_at nat_eq world from) from_tree.tree from.node old object.node may.moves.named [] (cc)
 
       not_to : object.node ≢ to.node
       not_to same = may.moves.not_under [] (cc)
+
+  pub object_left : is_some (node_in left shown object.node) ≡ true
+      → IsKept ((files_at nat_eq world from).tree.node object.node) (node_in left shown object.node)
+  object_left there = kept_both _ _ _ object_kept (kept_same _ _ (node_left object.node there))
 
   -- Mounts
   living : left.mounts ≡ filter (mount_lives nat_eq spent) middle.mounts
@@ -190,6 +200,36 @@ module _ {world : World ℕ} {fresh : Fresh ℕ} {name : TaskName} {call : Call}
         | inl e ↦ cc
         | inr its ↦ let found = found_in (stands_at nat_eq place) left.mounts its.0 its.1 in
             let was = placed_in_world its.0 place found.0 (stands_there place its.0 found.1) in
-            absurd (none_on_it world it.is object uncovered was.0 place was.1 was.2
+            absurd (none_on_it world it.is object renamed.uncovered was.0 place was.1 was.2
             (cc (left_mount place.mount listed, object_shown)) node)
       ]))
+
+-- A rename to a free name changes one tree.
+module _ {world : World ℕ} {fresh : Fresh ℕ} {name : TaskName} {call : Call} {answer : Answer} {from : Location ℕ}
+    {old : List ℕ} {to : Location ℕ} {new : List ℕ} {object : Location ℕ}
+    (renamed : HasRenamed world fresh name call answer from old to new object None) where
+  abbrev at : MayBeRenamed world from old to new object None
+  at = may renamed
+
+  pub free_name : entry_at (files_at nat_eq world from).tree to.node new ≡ None
+  free_name = cc (at.to_mount, none_of (entry_at (files_at nat_eq world to).tree to.node new) (sym at.replaces))
+    where
+      none_of : (o : Option ℕ) → option_map {U = Location ℕ} (λ number. record { mount = to.mount; node = number }) o
+          ≡ None → o ≡ None
+      none_of None e = refl
+      none_of (Some x) e = cc
+
+  pub asks : change_of fresh world renamed.success.did.permit ≡ Some (from, change renamed)
+  asks = cc renamed.permit_is
+
+  abbrev pub changes_tree : ChangesTree renamed.success from (change renamed) fresh
+  changes_tree = record {
+    asks = asks;
+    does = does renamed;
+    something = directory_used (files_at nat_eq world from).tree from.node (from_directory renamed);
+    may = record { named = at.moves.named; in_directory = at.moves.in_directory };
+    tree = from_tree renamed;
+  }
+
+  pub mounts_stay : (left renamed).mounts ≡ world.mounts
+  mounts_stay = later_mounts renamed.success changes_tree

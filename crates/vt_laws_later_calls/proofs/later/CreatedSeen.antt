@@ -1,22 +1,20 @@
 -- A name that open made exists.
 use Rattle.std.proofs.Common.{arith, ◌≡◌, refl, sym, ap, subst, ◌∙◌, inl, inr, ◌⊎◌, ℕ, nat_eq, nat_le, length, eqb-true, true, false, List, [], ◌∷◌, Option, Some, None, is_some, option_map, Result, Ok, Err, find, reverse}
-use Rattle.vt_spec.proofs.Common.{Access, Answer, Call, Change, Credentials, Exclusive, FileTree, Fresh, IsWorld, Judgement, Location, Looks, Make, Named, Node, NoneFails, OpenFile, Opened, Place, Rules, Stop, Task, TaskName, World, after, and_then, answer-finished_by, apply, changed, common_steps, contains_from_among, denial, directory_used, ends_in_slash, entries_in, entry_location, entry_named, execute_right, files_at, filesystem_numbered, final_word, found_among, is_directory_at, is_special, last_word, looks_of, most_descriptors, mount_at, name_of, new_file, new_walk, node_allows, node_at, odds, open_new_permit, open_permit, passed, place_walk, placed, policy, raised_task, same_Some, same_name, search_rules, settled, steps_at, stopped_by, task_called, tasks-with_change, then_walk, unless, walk_start, walk_unless, with_descriptor, with_new_inode, with_task, words, words_walked}
-use Rattle.vt_laws_later_calls.proofs.Common.{Deny, E1, IsFileTree, IsListedTree, IsPlain, MayBeMade, SeesTo, W4, change_of, changes_keep_numbers, changes_keep_trees, followed, given_changes_are_proper, given_permits_are_seen_to, mounts-with_change, name_found, new_name_rules, opened_new_keeps_all, plain_numbered, prefix_walked, tree_here, unused_inode, worlds_are_settled}
-use Rattle.vt_spec.specs.Machine.Looks as Look
+use Rattle.vt_spec.proofs.Common.{Access, Answer, Call, Change, Credentials, Exclusive, FileTree, Fresh, IsWorld, Judgement, Location, Looks, Make, Named, Node, NoneFails, OpenFile, Opened, Place, Rules, Stop, Task, TaskName, World, after, and_then, answer-finished_by, apply, changed, common_steps, contains_from_among, denial, directory_used, ends_in_slash, entries_in, entry_location, entry_named, files_at, filesystem_numbered, final_word, found_among, is_special, last_word, looks_of, most_descriptors, mount_at, name_of, new_file, new_walk, node_allows, node_at, odds, open_permit, passed, place_walk, placed, policy, raised_task, same_Some, same_name, search_rules, settled, steps_at, stopped_by, task_called, tasks-with_change, then_walk, unless, walk_start, walk_unless, with_descriptor, with_new_inode, with_task, words, words_walked}
+use Rattle.vt_laws_later_calls.proofs.Common.{Deny, E1, IsFileTree, IsListedTree, IsPlain, MayBeMade, SeesTo, W4, change_of, changes_keep_numbers, changes_keep_trees, followed, given_changes_are_proper, mounts-with_change, name_found, new_name_rules, opened_new_keeps_all, plain_numbered, prefix_walked, tree_here, unused_inode, worlds_are_settled}
 use Rattle.vt_laws_later_calls.specs.LaterPaths.{ExclusiveTwice}
-use Rattle.vt_laws_later_calls.proofs.AfterChange.{later_files, later_is, listed, spent}
+use Rattle.vt_laws_later_calls.proofs.AfterChange.{sees_to, later_files, later_is, listed, spent}
 use Rattle.vt_laws_later_calls.proofs.Changed.{files_changed, files_other}
 use Rattle.vt_laws_later_calls.proofs.Granted.{HasSucceeded, has_succeeded}
-use Rattle.vt_laws_later_calls.proofs.Looked.{search_all}
 use Rattle.vt_laws_later_calls.proofs.MadeSeen.{Never, new_parts}
 use Rattle.vt_laws_later_calls.proofs.Opened.{called_replaced}
-use Rattle.vt_laws_later_calls.proofs.OpenedNew.{given_of, exclusive_parts}
-use Rattle.vt_laws_later_calls.proofs.Readers.{MayLook, all_stands, named_last, own_name, raised_credentials, raised_stands}
+use Rattle.vt_laws_later_calls.proofs.OpenedNew.{NewFile, given_of, exclusive_parts}
+use Rattle.vt_laws_later_calls.proofs.Readers.{RightsLeft, leads_with, MayLook, all_stands, named_last, own_name, raised_credentials, raised_stands}
 use Rattle.vt_laws_later_calls.proofs.Stays.{called_own, still_called}
 use Rattle.vt_laws_later_calls.proofs.Ways.{LeadsToo, Stops, at, search_too}
 use Rattle.vt_laws_later_calls.proofs.WaysChanges.{RightsStay, TreeStays, made_entry, rights_made, ways_made}
 use Rattle.vt_laws_later_calls.proofs.WaysPlaces.{NamedPlace, front_too, named_place, through}
-use Rattle.vt_laws_later_calls.proofs.WaysStay.{Known, SeesLater, StandsAs, WorldStays, node_here, node_in, tree_in, world_leads}
+use Rattle.vt_laws_later_calls.proofs.WaysStay.{Known, SeesLater, StandsAs, WorldStays, node_here, node_in, tree_in}
 
 -- A world in which one filesystem shows another tree
 module _ (world later : World ℕ) (shown : ℕ) {files : FileTree ℕ} (mounts : later.mounts ≡ world.mounts)
@@ -168,9 +166,11 @@ exclusive_refused world fresh name task path access mode place called room walk 
     grind (arith, common_steps, there, answer-finished_by)
 
 module _ {path : List ℕ} {world : World ℕ} {fresh : Fresh ℕ} {name : TaskName} {access : Access} {mode number : ℕ}
-    (it : HasSucceeded world fresh name (OpenFile path access (Exclusive mode)) (Opened number)) {place : Place ℕ}
-    (walk : new_walk nat_eq (looks_of nat_eq world) it.did.task path ≡ Ok place) (named : is_special place.last ≡ false)
-    (no_slash : place.slash ≡ false) (permit : it.did.permit ≡ open_new_permit it.did.task place access mode) where
+    (it : HasSucceeded world fresh name (OpenFile path access (Exclusive mode)) (Opened number))
+    (made : NewFile (looks_of nat_eq world) it.did.task path access mode it.did.permit) where
+  abbrev place : Place ℕ
+  place = made.place
+
   abbrev call : Call
   call = OpenFile path access (Exclusive mode)
 
@@ -199,9 +199,7 @@ module _ {path : List ℕ} {world : World ℕ} {fresh : Fresh ℕ} {name : TaskN
   own = called_own it
 
   may : MayBeMade world parent entry node
-  may = (subst (SeesTo world it.did.task) permit
-      (given_permits_are_seen_to world fresh it.did.task it.did.permit it.is (given_of world fresh name call
-      (Opened number) it.serves refl refl it.did))).0
+  may = (subst (SeesTo world it.did.task) made.permit_is (sees_to it)).0
 
   something : is_some (node_at nat_eq world parent) ≡ true
   something = directory_used (files_at nat_eq world parent).tree parent.node may.name_is_free.in_directory
@@ -217,18 +215,17 @@ module _ {path : List ℕ} {world : World ℕ} {fresh : Fresh ℕ} {name : TaskN
     tree = changes_keep_trees (files_at nat_eq world parent) change tree.tree
         (given_changes_are_proper world fresh it.did.task it.did.permit parent change it.is
         (given_of world fresh name call (Opened number) it.serves refl refl it.did)
-        (ap (change_of fresh world) permit)).0;
+        (ap (change_of fresh world) made.permit_is)).0;
     numbers = changes_keep_numbers (files_at nat_eq world parent) change tree.numbers;
   }
 
   spent_is : spent it ≡ with_task base new_task
-  spent_is = ap (λ p. (apply nat_eq fresh world it.did.task p).world) permit
+  spent_is = ap (λ p. (apply nat_eq fresh world it.did.task p).world) made.permit_is
 
-  settles : settled nat_eq (spent it)
-      ≡ with_task base new_task
-  settles = ap (λ p. settled nat_eq (apply nat_eq fresh world it.did.task p).world) permit ∙ opened_new_keeps_all fresh
-      world it.did.task parent entry node access (worlds_are_settled world it.is) it.is.files.one_filesystem
-      it.is.tasks.one_task (contains_from_among world.tasks it.did.task
+  settles : settled nat_eq (spent it) ≡ with_task base new_task
+  settles = ap (λ p. settled nat_eq (apply nat_eq fresh world it.did.task p).world) made.permit_is
+      ∙ opened_new_keeps_all fresh world it.did.task parent entry node access (worlds_are_settled world it.is)
+      it.is.files.one_filesystem it.is.tasks.one_task (contains_from_among world.tasks it.did.task
       (found_among (λ (t : Task ℕ). same_name name t.name) world.tasks it.did.task it.did.called))
       (listed (mount_at nat_eq world parent).filesystem world.filesystems parent.node something)
       (cc (plain_numbered world it.plain (mount_at nat_eq world parent).filesystem)) after_tree
@@ -239,8 +236,7 @@ module _ {path : List ℕ} {world : World ℕ} {fresh : Fresh ℕ} {name : TaskN
       ∙ mounts-with_change world (odds fresh) parent change
 
   files_stay : (n : ℕ) → (filesystem_numbered nat_eq later n).files ≡ (filesystem_numbered nat_eq base n).files
-  files_stay n = later_files it n
-      ∙ ap (λ w. (filesystem_numbered nat_eq w n).files) settles
+  files_stay n = later_files it n ∙ ap (λ w. (filesystem_numbered nat_eq w n).files) settles
 
   here_files : (filesystem_numbered nat_eq later (mount_at nat_eq world parent).filesystem).files ≡ changed nat_eq
       (files_at nat_eq world parent) change
@@ -273,8 +269,8 @@ module _ {path : List ℕ} {world : World ℕ} {fresh : Fresh ℕ} {name : TaskN
       → (again : Access) (other : ℕ) → (later_fresh : Fresh ℕ)
       → (policy nat_eq later_fresh later reader (OpenFile path again (Exclusive other))).answer ≡ Err (denial E1)
   again_refused reader reading found stands looks room again other later_fresh = by
-      (place_too leads named (named_place (looks_of nat_eq world) it.did.task path place
-      (new_parts (looks_of nat_eq world) it.did.task path place walk) named)
+      (place_too leads made.named (named_place (looks_of nat_eq world) it.did.task path place
+      (new_parts (looks_of nat_eq world) it.did.task path place made.walk) made.named)
       (Some (record { mount = parent.mount; node = fresh 0 })) there)
     where
       self : task_called later reading.name ≡ Some reading
@@ -292,39 +288,20 @@ module _ {path : List ℕ} {world : World ℕ} {fresh : Fresh ℕ} {name : TaskN
         stay = stays;
       }
 
-      at_node : (here : Location ℕ) → node_at nat_eq later here
-          ≡ node_in later (mount_at nat_eq world here).filesystem here.node
-      at_node here =
-          node_here both here
+      rights : RightsLeft world later
+      rights filesystem number now was who wanted =
+          rights_by world later (mount_at nat_eq world parent).filesystem mounts_stay here_files other_files
+          (rights_made (files_at nat_eq world parent) Never parent.node entry (fresh 0) may.name_is_free.in_directory
+          may.name_is_free.free node new) filesystem number wanted who was
 
-      leads : LeadsToo (looks_of nat_eq world) (looks_of nat_eq later) it.did.task reading Never
-          (Known both)
-      leads = world_leads both
-          (λ here known directory e. inl (searched here known directory e looks))
-        where
-          searched : (here : Location ℕ) → Known both here → is_directory_at nat_eq world here ≡ true
-              → Look.may (looks_of nat_eq world) it.did.task here execute_right ≡ true → MayLook it.did.task reading
-              → Look.may (looks_of nat_eq later) reading here execute_right ≡ true
-          searched here known directory e (inr all) = search_all reading.credentials all (node_at nat_eq later here)
-              (cc (
-                at_node here,
-                stays.directory (mount_at nat_eq world here).filesystem here.node known.0.1
-                    (ap is_some (sym (at_node here)) ∙ known.1.1),
-              ))
-          searched here known directory e (inl same) = cc (
-            at_node here,
-            rights_by world later (mount_at nat_eq world parent).filesystem mounts_stay here_files other_files
-                (rights_made (files_at nat_eq world parent) Never parent.node entry (fresh 0)
-                may.name_is_free.in_directory may.name_is_free.free node new) (mount_at nat_eq world here).filesystem
-                here.node execute_right it.did.task.credentials known.0.1,
-          )
+      leads : LeadsToo (looks_of nat_eq world) (looks_of nat_eq later) it.did.task reading Never (Known both)
+      leads = leads_with both rights looks
 
-      there : Known both parent
-          → entry_location nat_eq (looks_of nat_eq later) parent entry
+      there : Known both parent → entry_location nat_eq (looks_of nat_eq later) parent entry
           ≡ Some (record { mount = parent.mount; node = fresh 0 })
       there known = ap (λ o. option_map {U = Location ℕ} (λ object. record { mount = parent.mount; node = object })
           (entry_named entry (entries_in o)))
-          (at_node parent ∙ ap (λ (f : FileTree ℕ). f.tree.node parent.node) here_files)
+          (node_here both parent ∙ ap (λ (f : FileTree ℕ). f.tree.node parent.node) here_files)
           ∙ ap (option_map {U = Location ℕ} (λ object. record { mount = parent.mount; node = object }))
           (made_entry (files_at nat_eq world parent) Never parent.node entry
           (fresh 0) may.name_is_free.in_directory may.name_is_free.free node new)
@@ -339,18 +316,18 @@ module _ {path : List ℕ} {world : World ℕ} {fresh : Fresh ℕ} {name : TaskN
           → (policy nat_eq later_fresh later reader (OpenFile path again (Exclusive other))).answer ≡ Err (denial E1)
       by (inl e) = exclusive_refused later later_fresh reader reading path again other _ found room
           (ap (λ r. then_walk r (λ p. walk_unless p.steps
-          (new_name_rules nat_eq (looks_of nat_eq later) p) p)) e.1) named no_slash refl
+          (new_name_rules nat_eq (looks_of nat_eq later) p) p)) e.1) made.named made.no_slash refl
       by (inr stop) = absurd stop.1
 
 pub exclusive_twice : ExclusiveTwice
 exclusive_twice path world fresh name task access again mode other number is plain serves called granted = (
-  λ now there room later_fresh. again_refused it facts.1 facts.2 facts.3 facts.4
+  λ now there room later_fresh. again_refused it made
       name now there (subst (StandsAs it.did.task) (same_Some _ now (sym caller_here ∙ there)) raised_stands_so)
       (inl (ap (λ (t : Task ℕ). t.credentials) (sym (same_Some _ now (sym caller_here ∙ there)))
       ∙ raised_credentials name (with_descriptor it.did.task
-      (record { mount = facts.0.parent.mount; node = fresh 0 }) access))) room again other later_fresh,
+      (record { mount = made.place.parent.mount; node = fresh 0 }) access))) room again other later_fresh,
   λ reader reading looks room later_fresh.
-      again_refused it facts.1 facts.2 facts.3 facts.4 reader reading looks.called
+      again_refused it made reader reading looks.called
       (subst (λ t. StandsAs t reading) (sym task_is)
       (all_stands _ task reader reading looks)) (inr looks.all) room again other later_fresh,
 )
@@ -361,20 +338,17 @@ exclusive_twice path world fresh name task access again mode other number is pla
     task_is : it.did.task ≡ task
     task_is = same_Some it.did.task task (cc it.did.called)
 
-    facts : (place : Place ℕ) × (new_walk nat_eq (looks_of nat_eq world) it.did.task path ≡ Ok place)
-        × (is_special place.last ≡ false)
-        × (place.slash ≡ false) × (it.did.permit ≡ open_new_permit it.did.task place access mode)
-    facts = exclusive_parts (looks_of nat_eq world) it.did.task path access mode it.did.permit it.did.granted
+    made : NewFile (looks_of nat_eq world) it.did.task path access mode it.did.permit
+    made = exclusive_parts (looks_of nat_eq world) it.did.task path access mode it.did.permit it.did.granted
 
     caller_here : task_called (policy nat_eq fresh world name (OpenFile path access (Exclusive mode))).world name
         ≡ Some (raised_task name (with_descriptor it.did.task
-        (record { mount = facts.0.parent.mount; node = fresh 0 }) access))
-    caller_here =
-        caller_there it facts.1 facts.2 facts.3 facts.4
+        (record { mount = made.place.parent.mount; node = fresh 0 }) access))
+    caller_here = caller_there it made
 
     raised_stands_so : StandsAs it.did.task (raised_task name (with_descriptor it.did.task
-        (record { mount = facts.0.parent.mount; node = fresh 0 }) access))
+        (record { mount = made.place.parent.mount; node = fresh 0 }) access))
     raised_stands_so =
         let raised = raised_stands name
-        (with_descriptor it.did.task (record { mount = facts.0.parent.mount; node = fresh 0 }) access) in
+        (with_descriptor it.did.task (record { mount = made.place.parent.mount; node = fresh 0 }) access) in
         record { root = raised.root; directory = raised.directory }

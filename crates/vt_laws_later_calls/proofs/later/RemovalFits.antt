@@ -30,8 +30,7 @@ module _ {world : World ℕ} {fresh : Fresh ℕ} {name : TaskName} {call : Call}
   tree = (files_at nat_eq world parent).tree
 
   parent_directory : is_directory_node (tree.node parent.node) ≡ true
-  parent_directory = directory_from_entry word object.node (tree.node parent.node)
-      (may it permit_is).named
+  parent_directory = directory_from_entry word object.node (tree.node parent.node) (may it permit_is).named
 
   file_tree : IsFileTree (files_at nat_eq world parent)
   file_tree = tree_here world it.is parent parent_directory
@@ -58,7 +57,7 @@ module _ {world : World ℕ} {fresh : Fresh ℕ} {name : TaskName} {call : Call}
   not_root same = file_tree.tree.root_unnamed parent.node word (cc ((may it permit_is).named))
 
   module _ (here : Location ℕ)
-      (known : BothAre it.is it.plain is_later.0 is_later.1 it.did.task reader here) where
+      (known : BothAre it.is is_later it.did.task reader here) where
     abbrev number : ℕ
     number = (mount_at nat_eq world here).filesystem
 
@@ -95,8 +94,7 @@ module _ {world : World ℕ} {fresh : Fresh ℕ} {name : TaskName} {call : Call}
         ∙ removed_alone (files_at nat_eq world parent) parent.node word object.node (may it permit_is)
         (tree_in later number) (ap (λ n. node_in later number n) (sym removed.1) ∙ as_spent
         ∙ (λ i. node_in spent_world (removed.0 i) (removed.1 i)) ∙ ap (λ (f : FileTree ℕ). f.tree.node object.node)
-        (spent_shown it permit_is))
-        (λ same. not_root (same ∙ root_same ∙ ap (λ n. (tree_in world n).root) removed.0)))
+        (spent_shown it permit_is)) (λ same. not_root (same ∙ root_same ∙ ap (λ n. (tree_in world n).root) removed.0)))
 
     -- from another one it leads where it led
     abbrev Keeps : ℕ → Type 0
@@ -119,8 +117,7 @@ module _ {world : World ℕ} {fresh : Fresh ℕ} {name : TaskName} {call : Call}
         by (inl same) = cc node
         by (inr lost) = absurd (keeps lost.1 lost.2)
 
-    goes_up : Keeps here.node → is_lost nat_eq world here ≡ false
-        → GoesUp it.is it.plain is_later.0 is_later.1 it.did.task reader here
+    goes_up : Keeps here.node → is_lost nat_eq world here ≡ false → GoesUp it.is is_later it.did.task reader here
     goes_up keeps found = record {
       parent = cc (files_here, as_spent, (each it permit_is number).parents here.node keeps);
       not_lost = (λ i. is_removed nat_eq (files_here i).tree here.node
@@ -182,8 +179,7 @@ module _ {world : World ℕ} {fresh : Fresh ℕ} {name : TaskName} {call : Call}
 
         at : here.node ≡ parent.node
         at = sym (file_tree.tree.one_parent here.node any object.node named is_directory)
-            ∙ file_tree.tree.one_parent parent.node word object.node
-            (may it permit_is).named
+            ∙ file_tree.tree.one_parent parent.node word object.node (may it permit_is).named
             is_directory
 
         word_is : any ≡ word
@@ -201,8 +197,7 @@ module _ {world : World ℕ} {fresh : Fresh ℕ} {name : TaskName} {call : Call}
 
   -- no mount of the task's namespace stands on it
   place_outside : (a b : Location ℕ) → IsFoundDirectory world it.is it.did.task a → hop nat_eq world it.did.task a
-      ≡ Some b
-      → IsRemoved b → ⊥
+      ≡ Some b → IsRemoved b → ⊥
   place_outside a b found e removed = true≢false
       (sym (any_from_among (λ (m : Mount ℕ). holds_of (nat_eq it.did.task.namespace) m.namespace)
       (mounts_on nat_eq world object) mount
@@ -238,7 +233,7 @@ module _ {world : World ℕ} {fresh : Fresh ℕ} {name : TaskName} {call : Call}
       own = grind (arith, common_steps, true≢false, at, nowhere_parts, among_from_list_all, there, and_parts)
 
   top_outside : (here : Location ℕ) → IsFoundDirectory world it.is it.did.task here → IsOutside here
-      → IsOutside (top it.is it.plain is_later.0 is_later.1 it.did.task reader here)
+      → IsOutside (top it.is is_later it.did.task reader here)
   top_outside here found outside =
       (chain_ends_at (λ (l : Location ℕ). IsFoundDirectory world it.is it.did.task l × IsOutside l)
       (hop nat_eq world it.did.task) (λ a b both e.
@@ -250,22 +245,19 @@ module _ {world : World ℕ} {fresh : Fresh ℕ} {name : TaskName} {call : Call}
     abbrev pub Fits : Location ℕ → Type 0
     Fits here = Refused (denial W8) ⊎ IsOutside here
 
-    up_fits : (here : Location ℕ) → BothAre it.is it.plain is_later.0 is_later.1 it.did.task reader here
-        → Fits here
-        → ends_at here ≡ false → is_lost nat_eq world here ≡ false
-        → (GoesUp it.is it.plain is_later.0 is_later.1 it.did.task reader here
+    up_fits : (here : Location ℕ) → BothAre it.is is_later it.did.task reader here → Fits here
+        → ends_at here ≡ false → is_lost nat_eq world here ≡ false → (GoesUp it.is is_later it.did.task reader here
         × Fits (parent_location nat_eq world here)) ⊎ (Refused (denial W8) × (is_lost nat_eq later here ≡ true))
     up_fits here known fits not_top found =
         by (nat_eq (mount_at nat_eq world here).filesystem fs) (nat_eq here.node object.node) refl refl
       where
-        at_it : IsRemoved here → Fits here
-            → (GoesUp it.is it.plain is_later.0 is_later.1 it.did.task reader here
+        at_it : IsRemoved here → Fits here → (GoesUp it.is is_later it.did.task reader here
             × Fits (parent_location nat_eq world here)) ⊎ (Refused (denial W8) × (is_lost nat_eq later here ≡ true))
         at_it removed (inl refused) = inr (refused, lost_there here known removed)
         at_it removed (inr outside) = cc (outside removed)
 
         elsewhere : ((mount_at nat_eq world here).filesystem ≡ fs → here.node ≢ object.node)
-            → (GoesUp it.is it.plain is_later.0 is_later.1 it.did.task reader here
+            → (GoesUp it.is is_later it.did.task reader here
             × Fits (parent_location nat_eq world here)) ⊎ (Refused (denial W8) × (is_lost nat_eq later here ≡ true))
         elsewhere keeps = inl (
           goes_up here known keeps found,
@@ -273,13 +265,13 @@ module _ {world : World ℕ} {fresh : Fresh ℕ} {name : TaskName} {call : Call}
         )
 
         by : (p q : Bool) → nat_eq (mount_at nat_eq world here).filesystem fs ≡ p → nat_eq here.node object.node ≡ q
-            → (GoesUp it.is it.plain is_later.0 is_later.1 it.did.task reader here
+            → (GoesUp it.is is_later it.did.task reader here
             × Fits (parent_location nat_eq world here)) ⊎ (Refused (denial W8) × (is_lost nat_eq later here ≡ true))
         by true true e f = at_it (eqb-true _ _ e, eqb-true _ _ f) fits
         by true false e f = elsewhere (λ same same_node. cc (eq-eqb here.node object.node same_node))
         by false q e f = elsewhere (λ same same_node. cc (eq-eqb (mount_at nat_eq world here).filesystem fs same))
 
-    pub fits_ways : FitsWays it.is it.plain is_later.0 is_later.1 it.did.task reader Refused Fits
+    pub fits_ways : FitsWays it.is is_later it.did.task reader Refused Fits
     fits_ways = record {
       named = λ here any next known fits e f. named here any next known e f fits;
       over = λ place own fits. over place fits;
@@ -287,8 +279,7 @@ module _ {world : World ℕ} {fresh : Fresh ℕ} {name : TaskName} {call : Call}
       up = up_fits;
     }
       where
-        named : (here : Location ℕ) (any : List ℕ) (next : ℕ)
-            → BothAre it.is it.plain is_later.0 is_later.1 it.did.task reader here
+        named : (here : Location ℕ) (any : List ℕ) (next : ℕ) → BothAre it.is is_later it.did.task reader here
             → entry_named any (entries_in (node_at nat_eq world here)) ≡ Some next
             → entry_named any (entries_in (node_at nat_eq later here)) ≡ Some next
             → Fits here → Fits (record { mount = here.mount; node = next })
@@ -300,7 +291,7 @@ module _ {world : World ℕ} {fresh : Fresh ℕ} {name : TaskName} {call : Call}
         over place (inl refused) = inl refused
         over place (inr outside) = inr (over_outside place outside)
 
-        hopped : (here : Location ℕ) → BothAre it.is it.plain is_later.0 is_later.1 it.did.task reader here
-            → Fits here → Fits (top it.is it.plain is_later.0 is_later.1 it.did.task reader here)
+        hopped : (here : Location ℕ) → BothAre it.is is_later it.did.task reader here
+            → Fits here → Fits (top it.is is_later it.did.task reader here)
         hopped here known (inl refused) = inl refused
         hopped here known (inr outside) = inr (top_outside here known.0 outside)

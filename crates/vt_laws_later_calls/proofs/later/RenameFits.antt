@@ -1,16 +1,17 @@
 -- After a granted rename of a directory to a free name walks that begin outside of it lead where they led.
-use Rattle.std.proofs.Common.{arith, ◌≡◌, ◌≢◌, refl, sym, ap, ◌∙◌, inl, inr, ◌⊎◌, true≢false, ℕ, nat_eq, eqb-true, eq-eqb, Bool, true, false, cond, List, [], ◌∷◌, ◌++◌, length, Option, Some, None, is_some, option_map, option_to_list}
-use Rattle.vt_spec.proofs.Common.{Among, Answer, Call, Change, Credentials, FileTree, Fresh, IsReached, IsWorld, Location, Move, Node, TaskName, ToRename, Tree, World, allows, among_from_list_all, and_from, and_parts, apply, attr_in, bytes_in, changed, changed_node, child_at, common_steps, contains_from_among, denial, directory_from_entry, directory_used, entry_at, files_at, filesystem_numbered, found, hop, is_directory_node, is_directory_under, is_kind, is_mount_point_anywhere, is_nowhere_or_attached, led, led-append, list_all, looks_of, mount_at, node_allows, node_at, node_with_entry, node_with_parent, node_without_entry, none_is_not, parent-node_with_entry, parent-node_without_entry, parent_in, raised_task, root_of, same_Some, symlink_text, task_called, tasks-with_change, topmost, when, with_change, with_name, without_name, without_parent}
-use Rattle.vt_laws_later_calls.proofs.Common.{Deny, IsFileTree, IsFoundDirectory, IsMoved, IsPlain, MayBeRenamed, Symlink, W6, chain_ends_at, change_of, elsewhere, found_in, found_itself, is_entry, is_that_entry, led_parts, move_told, no_way_up, nowhere_parts, part_stays, placed_among, tree_here, under_seen}
+use Rattle.std.proofs.Common.{arith, ◌≡◌, ◌≢◌, refl, sym, ap, ◌∙◌, inl, inr, ◌⊎◌, true≢false, ℕ, nat_eq, eqb-true, eq-eqb, Bool, true, false, cond, List, [], ◌∷◌, ◌++◌, length, Option, Some, None, is_some, option_map, option_to_list, ⊎_elim}
+use Rattle.vt_spec.proofs.Common.{Among, Answer, Call, Credentials, FileTree, Fresh, IsReached, IsWorld, Location, Move, Node, TaskName, Tree, World, allows, among_from_list_all, and_from, and_parts, apply, attr_in, bytes_in, changed, changed_node, child_at, common_steps, contains_from_among, denial, directory_used, entry_at, files_at, filesystem_numbered, found, hop, is_directory_node, is_directory_under, is_kind, is_nowhere_or_attached, led, led-append, list_all, mount_at, node_allows, node_with_entry, node_with_parent, node_without_entry, none_is_not, parent-node_with_entry, parent-node_without_entry, parent_in, raised_task, root_of, same_Some, symlink_text, task_called, tasks-with_change, topmost, when, with_name, without_name, without_parent, eqb_tells}
+use Rattle.vt_laws_later_calls.proofs.Common.{Deny, IsFileTree, IsFoundDirectory, IsPlain, MayBeRenamed, Symlink, W6, chain_ends_at, elsewhere, found_in, found_itself, is_entry, is_that_entry, led_parts, move_told, no_way_up, nowhere_parts, part_stays, placed_among, under_seen}
 use Rattle.vt_spec.specs.FileTree.{kind_in}
 use Rattle.vt_laws_trees.proofs.layers.layers.CopyingNames.{moved_part}
 use Rattle.vt_laws_later_calls.specs.LaterNames.{StandsOutside, lies_in}
-use Rattle.vt_laws_later_calls.proofs.AfterChange.{ChangesTree, all_stays, as_spent, in_each, later_files, later_mounts}
-use Rattle.vt_laws_later_calls.proofs.later.AfterRename.{is_left, left, may, object_shown, shown}
+use Rattle.vt_laws_later_calls.proofs.AfterChange.{ChangesTree, all_stays, as_spent, in_each, later_files}
+use Rattle.vt_laws_later_calls.proofs.later.AfterRename.{HasRenamed, change, changes_tree, free_name, from_tree, is_left, left, may, object_shown, shown}
 use Rattle.vt_laws_later_calls.proofs.Granted.{HasSucceeded}
 use Rattle.vt_laws_later_calls.proofs.later.SettledRoots.{root_settled}
 use Rattle.vt_laws_later_calls.proofs.Stays.{spent_unsettled, still_called}
-use Rattle.vt_laws_later_calls.proofs.WaysChanges.{RightsStay}
+use Rattle.vt_laws_later_calls.proofs.WaysChanges.{RightsStay, TreeStays, no_parent}
+use Rattle.vt_laws_later_calls.proofs.Readers.{RightsLeft}
 use Rattle.vt_laws_later_calls.proofs.later.WaysLeft.{ObjectsStay}
 use Rattle.vt_laws_later_calls.proofs.later.WaysMounts.{hop_place}
 use Rattle.vt_laws_later_calls.proofs.WaysStay.{node_in, tree_in}
@@ -41,17 +42,34 @@ pub record IsMovedIn (object : ℕ) (own : Type 0) (tree later : Tree ℕ) : Typ
   pub entry : (here : ℕ) (any : List ℕ) (next : ℕ) → entry_at tree here any ≡ Some next
       → (entry_at later here any ≡ Some next) ⊎ ((entry_at later here any ≡ None) × own × (next ≡ object))
 
+-- what is no directory has no parent, so that the ways stay where it is moved
+pub file_stays : {object : ℕ} {own : Type 0} {tree later : Tree ℕ} → IsMovedIn object own tree later
+    → is_directory_node (tree.node object) ≡ false → (Refused : Deny → Type 0) → Refused (denial W6)
+    → TreeStays tree later Refused
+file_stays {object} {own} {tree} {later} moved no_directory Refused missing = record {
+  root = moved.root;
+  directory = λ n is. moved.directory n;
+  parent = λ n is. ⊎_elim (λ same. cc (
+    same.1,
+    no_parent object (tree.node object) no_directory,
+    no_parent object (later.node object) (moved.directory object ∙ no_directory),
+  )) (λ other. moved.parents n (λ itself. other.1)) (eqb_tells n object);
+  link = λ n is. moved.link n;
+  entry = λ here any next e. ⊎_elim inl (λ lost. inr (lost.0, cc (lost.2, no_directory), missing))
+      (moved.entry here any next e);
+}
+
 module _ (files : FileTree ℕ) (from : ℕ) (old : List ℕ) (to : ℕ) (new : List ℕ) {object : ℕ}
     (named : entry_at files.tree from old ≡ Some object) (in_directory : is_directory_node (files.tree.node to) ≡ true)
     (free : entry_at files.tree to new ≡ None) (own : Type 0) (itself : own) where
-  abbrev moved : FileTree ℕ
+  abbrev pub moved : FileTree ℕ
   moved = changed nat_eq files (Move from old to new object)
 
   with_free : Option ℕ → FileTree ℕ
   with_free o = changed_node nat_eq (with_name nat_eq
       (without_name nat_eq (without_parent nat_eq files o) from old) to new object) object (node_with_parent to)
 
-  moved_in : IsMovedIn object own files.tree moved.tree
+  pub moved_in : IsMovedIn object own files.tree moved.tree
   unfolding with_free
   moved_in = record {
     root = ap (λ o. (with_free o).tree.root) free;
@@ -89,69 +107,45 @@ module _ (files : FileTree ℕ) (from : ℕ) (old : List ℕ) (to : ℕ) (new : 
           ∙ (λ i. cond (f i) (Some object) (cond (g i) None (entry_at files.tree here any))) ∙ e
           )
 
-module _ {world : World ℕ} {fresh : Fresh ℕ} {name : TaskName} {call : Call} {answer : Answer}
-    (it : HasSucceeded world fresh name call answer) {from : Location ℕ} {old : List ℕ}
-    {to : Location ℕ} {new : List ℕ} {object : Location ℕ}
-    (permit_is : it.did.permit ≡ ToRename from old to new object None)
-    (uncovered : is_mount_point_anywhere (looks_of nat_eq world) object ≡ false)
-    (is_directory : is_directory_node ((files_at nat_eq world from).tree.node object.node) ≡ true)
-    (outside : StandsOutside world it.did.task object) where
+-- a call has moved a directory to a free name, and its caller stands outside of the directory
+pub record HasMoved (world : World ℕ) (fresh : Fresh ℕ) (name : TaskName) (call : Call) (answer : Answer)
+    (from : Location ℕ) (old : List ℕ) (to : Location ℕ) (new : List ℕ) (object : Location ℕ) : Type 0 where
+  pub renamed : HasRenamed world fresh name call answer from old to new object None
+  pub is_directory : is_directory_node ((files_at nat_eq world from).tree.node object.node) ≡ true
+  pub outside : StandsOutside world renamed.success.did.task object
+
+module _ {world : World ℕ} {fresh : Fresh ℕ} {name : TaskName} {call : Call} {answer : Answer} {from : Location ℕ}
+    {old : List ℕ} {to : Location ℕ} {new : List ℕ} {object : Location ℕ}
+    (moved : HasMoved world fresh name call answer from old to new object) where
+  abbrev it : HasSucceeded world fresh name call answer
+  it = moved.renamed.success
+
   abbrev pub later : World ℕ
-  later =
-      left it permit_is uncovered
+  later = left moved.renamed
 
   abbrev pub spent : World ℕ
   spent = (apply nat_eq fresh world it.did.task it.did.permit).world
 
   abbrev pub fs : ℕ
-  fs = shown it permit_is uncovered
+  fs = shown moved.renamed
 
   abbrev pub tree : Tree ℕ
   tree = (files_at nat_eq world from).tree
 
   abbrev pub left_is : IsWorld nat_eq later × IsPlain later
-  left_is =
-      is_left it permit_is uncovered
+  left_is = is_left moved.renamed
 
   pub seen : MayBeRenamed world from old to new object None
-  seen = may it permit_is uncovered
+  seen = may moved.renamed
 
-  from_directory : is_directory_node ((files_at nat_eq world from).tree.node from.node) ≡ true
-  from_directory =
-      directory_from_entry old object.node ((files_at nat_eq world from).tree.node from.node) seen.moves.named
+  abbrev pub file_tree : IsFileTree (files_at nat_eq world from)
+  file_tree = from_tree moved.renamed
 
-  pub file_tree : IsFileTree (files_at nat_eq world from)
-  file_tree = tree_here world it.is from from_directory
+  abbrev changes : ChangesTree it from (change moved.renamed) fresh
+  changes = changes_tree moved.renamed
 
   free : entry_at (files_at nat_eq world from).tree to.node new ≡ None
-  free = cc (seen.to_mount, none_of (entry_at (files_at nat_eq world to).tree to.node new) (sym seen.replaces))
-    where
-      none_of : (o : Option ℕ) → option_map {U = Location ℕ} (λ number. record { mount = to.mount; node = number }) o
-          ≡ None → o ≡ None
-      none_of None e = refl
-      none_of (Some x) e = cc
-
-  abbrev change : Change ℕ
-  change = Move from.node old to.node new object.node
-
-  does : spent ≡ with_change nat_eq fresh world from change
-  does = ap (λ p. (apply nat_eq fresh world it.did.task p).world) permit_is
-
-  asks : change_of fresh world it.did.permit ≡ Some (from, change)
-  asks = cc
-
-  something : is_some (node_at nat_eq world from) ≡ true
-  something = directory_used (files_at nat_eq world from).tree from.node from_directory
-
-  allowed : IsMoved (files_at nat_eq world from) from.node old to.node object.node
-  allowed = record { named = seen.moves.named; in_directory = seen.moves.in_directory }
-
-  abbrev changes : ChangesTree it from change fresh
-  changes = record { asks = asks; does = does; something = something; may = allowed; tree = file_tree }
-
-  pub mounts_same : later.mounts ≡ world.mounts
-  mounts_same =
-      later_mounts it changes
+  free = free_name moved.renamed
 
   pub each : (number : ℕ) → IsMovedIn object.node (number ≡ fs) (tree_in world number) (tree_in spent number)
   each =
@@ -168,8 +162,7 @@ module _ {world : World ℕ} {fresh : Fresh ℕ} {name : TaskName} {call : Call}
 
   pub node_left : (filesystem number : ℕ) → is_some (node_in later filesystem number) ≡ true
       → node_in later filesystem number ≡ node_in spent filesystem number
-  node_left filesystem number there =
-      as_spent it filesystem number there
+  node_left filesystem number there = as_spent it filesystem number there
 
   -- the object and the caller are there still
   pub object_later : is_some (node_in later fs object.node) ≡ true
@@ -177,14 +170,15 @@ module _ {world : World ℕ} {fresh : Fresh ℕ} {name : TaskName} {call : Call}
       let files = files_at nat_eq world from in
       cc (
         all_stays it changes (ap option_to_list free) object.node,
-        directory_used (changed nat_eq files change).tree
+        directory_used (changed nat_eq files (change moved.renamed)).tree
             object.node ((moved_in files from.node old to.node new seen.moves.named seen.moves.in_directory free
             (fs ≡ fs)
-            refl).directory object.node ∙ is_directory),
+            refl).directory object.node ∙ moved.is_directory),
       )
 
   pub caller : task_called later name ≡ Some (raised_task name it.did.task)
-  caller = still_called it name it.did.task (cc (does, tasks-with_change fresh world from change, it.did.called))
+  caller = still_called it name it.did.task
+      (cc (changes.does, tasks-with_change fresh world from (change moved.renamed), it.did.called))
 
   pub root_left : (filesystem number : ℕ) → is_some (node_in later filesystem number) ≡ true
       → (tree_in later filesystem).root ≡ (tree_in world filesystem).root
@@ -194,10 +188,7 @@ module _ {world : World ℕ} {fresh : Fresh ℕ} {name : TaskName} {call : Call}
       (spent_unsettled it).files.one_filesystem filesystem
       number (ap (λ (f : FileTree ℕ). is_some (f.tree.node number)) (sym files) ∙ there) ∙ (each filesystem).root
 
-  pub rights_left : (filesystem number : ℕ) → is_some (node_in later filesystem number) ≡ true
-      → is_some (node_in world filesystem number) ≡ true → (who : Credentials) (wanted : ℕ)
-      → node_allows who wanted (node_in later filesystem number)
-      ≡ node_allows who wanted (node_in world filesystem number)
+  pub rights_left : RightsLeft world later
   rights_left filesystem number now was who wanted =
       cc (node_left filesystem number now, (each filesystem).rights who wanted number was)
 
@@ -224,7 +215,7 @@ module _ {world : World ℕ} {fresh : Fresh ℕ} {name : TaskName} {call : Call}
   in_further here any next way e = (way.0 ++ any ∷ [], led-append tree object.node way.0 any here next way.1 e)
 
   object_reached : IsReached tree object.node
-  object_reached = file_tree.tree.reached object.node is_directory (from.node, old, seen.moves.named)
+  object_reached = file_tree.tree.reached object.node moved.is_directory (from.node, old, seen.moves.named)
 
   pub in_reached : (n : ℕ) → InIt n → IsReached tree n
   in_reached n way =
@@ -234,8 +225,7 @@ module _ {world : World ℕ} {fresh : Fresh ℕ} {name : TaskName} {call : Call}
       → is_directory_node (tree.node here.node) ≡ true → InIt here.node → lies_in world object here ≡ true
   lies_so here same directory way =
       let shown_is =
-      object_shown it permit_is
-      uncovered in
+      object_shown moved.renamed in
       and_from _ _ (eq-eqb _ _ (same ∙ sym shown_is))
       (ap (λ n. is_directory_under nat_eq (filesystem_numbered nat_eq world n).files object.node here.node) shown_is
       ∙ under_seen (files_at nat_eq world from) file_tree here.node directory
@@ -250,14 +240,13 @@ module _ {world : World ℕ} {fresh : Fresh ℕ} {name : TaskName} {call : Call}
   pub its_entry : (here : ℕ) (any : List ℕ) → entry_at tree here any ≡ Some object.node
       → (here ≡ from.node) × (any ≡ old)
   its_entry here any e =
-      let at : here ≡ from.node = sym (file_tree.tree.one_parent here any object.node e is_directory)
-      ∙ file_tree.tree.one_parent from.node old object.node seen.moves.named is_directory in (
+      let at : here ≡ from.node = sym (file_tree.tree.one_parent here any object.node e moved.is_directory)
+      ∙ file_tree.tree.one_parent from.node old object.node seen.moves.named moved.is_directory in (
         at,
-        file_tree.tree.one_name from.node any old object.node
-            (cc at) seen.moves.named is_directory,
+        file_tree.tree.one_name from.node any old object.node (cc at) seen.moves.named moved.is_directory,
       )
 
-  -- outside, or on a mount whose root is inside
+  -- moved.outside, or on a mount whose root is inside
   abbrev pub Fits : Location ℕ → Type 0
   Fits here =
       (mount_at nat_eq world here).filesystem ≡ fs → is_directory_node (tree.node here.node) ≡ true → InIt here.node
@@ -267,10 +256,10 @@ module _ {world : World ℕ} {fresh : Fresh ℕ} {name : TaskName} {call : Call}
   outside_fits here lies same directory way = cc (lies_so here same directory way)
 
   pub root_fits : Fits it.did.task.root
-  root_fits = outside_fits it.did.task.root outside.root
+  root_fits = outside_fits it.did.task.root moved.outside.root
 
   pub directory_fits : Fits it.did.task.directory
-  directory_fits = outside_fits it.did.task.directory outside.directory
+  directory_fits = outside_fits it.did.task.directory moved.outside.directory
 
   root_of_child : (a b : Location ℕ) → option_map root_of (child_at nat_eq world.mounts a) ≡ Some b → Fits b
   root_of_child a b e same directory way =
@@ -282,11 +271,10 @@ module _ {world : World ℕ} {fresh : Fresh ℕ} {name : TaskName} {call : Call}
 
   -- no mount of the task's namespace stands inside
   pub point_fits : (a b : Location ℕ) → IsFoundDirectory world it.is it.did.task a → hop nat_eq world it.did.task a
-      ≡ Some b
-      → Fits b
+      ≡ Some b → Fits b
   point_fits a b found e = outside_fits b
-      (outside.points (mount_at nat_eq world a) b (contains_from_among world.mounts (mount_at nat_eq world a) there)
-      (own (mount_at nat_eq world a).namespace refl found.0.1) at)
+      (moved.outside.points (mount_at nat_eq world a) b (contains_from_among world.mounts
+      (mount_at nat_eq world a) there) (own (mount_at nat_eq world a).namespace refl found.0.1) at)
     where
       at : (mount_at nat_eq world a).mount_point ≡ Some b
       at = hop_place world it.is it.did.task a b e

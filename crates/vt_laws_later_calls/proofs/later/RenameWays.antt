@@ -1,12 +1,11 @@
 -- After a granted rename of a directory to a free name ways up stay, from wherever a walk that begins outside of it
 -- comes.
 use Rattle.std.proofs.Common.{arith, ◌≡◌, ◌≢◌, refl, sym, ap, subst, ◌∙◌, inl, inr, ◌⊎◌, ⊎_elim, true≢false, ℕ, nat_eq, eqb-true, eq-eqb, Bool, true, false, cond, not, ◌||◌, List, [], ◌∷◌, ◌++◌, length, Option, Some, None, is_some, option_and_then}
-use Rattle.vt_spec.proofs.Common.{Answer, Call, FileTree, Fresh, IsReached, IsWorld, Location, Mount, Task, TaskName, ToRename, Tree, World, chain, common_steps, denial, directory_used, entries_in, entry_at, entry_named, files_at, filesystem_numbered, found, hop, is_directory_node, is_directory_under, is_lost, is_mount_point_anywhere, is_removed, last_or, led, looks_of, mount_at, mount_in, mount_numbered, node_at, none_is_not, not-false, or_parts, parent_in, parent_location, reached_named, same_location, topmost}
+use Rattle.vt_spec.proofs.Common.{Answer, Call, FileTree, Fresh, IsReached, IsWorld, Location, Mount, Task, TaskName, Tree, World, chain, common_steps, denial, directory_used, entries_in, entry_at, entry_named, files_at, filesystem_numbered, found, hop, is_directory_node, is_directory_under, is_lost, is_removed, last_or, led, mount_at, mount_in, mount_numbered, node_at, none_is_not, not-false, or_parts, parent_in, parent_location, reached_named, same_location, topmost}
 use Rattle.vt_laws_later_calls.proofs.Common.{Deny, IsFileTree, IsFoundDirectory, IsPlain, W8, chain_ends_at, last_step, led_parts, not_removed_reached, tree_here, under_seen}
-use Rattle.vt_laws_later_calls.specs.LaterNames.{StandsOutside}
-use Rattle.vt_laws_later_calls.proofs.later.AfterRename.{old_left}
+use Rattle.vt_laws_later_calls.proofs.later.AfterRename.{mounts_stay, old_left}
 use Rattle.vt_laws_later_calls.proofs.Granted.{HasSucceeded}
-use Rattle.vt_laws_later_calls.proofs.later.RenameFits.{Fits, InIt, IsMovedIn, each, file_tree, from_outside, fs, in_further, in_reached, its_entry, later, left_is, mounts_same, node_left, over_fits, point_fits, root_left, seen, spent, tree}
+use Rattle.vt_laws_later_calls.proofs.later.RenameFits.{HasMoved, Fits, InIt, IsMovedIn, each, file_tree, from_outside, fs, in_further, in_reached, its_entry, later, left_is, node_left, over_fits, point_fits, root_left, seen, spent, tree}
 use Rattle.vt_laws_later_calls.proofs.later.WaysLeft.{BothAre, FitsWays, GoesUp, MountsSeen, top}
 use Rattle.vt_laws_later_calls.proofs.later.WaysMounts.{SeenAlike, hop_known}
 use Rattle.vt_laws_later_calls.proofs.WaysStay.{mount_root, node_in, tree_in}
@@ -21,100 +20,71 @@ hop_by mounts root here = cond (same_location nat_eq here root) None
 abbrev top_by : List (Mount ℕ) → Location ℕ → Location ℕ → Location ℕ
 top_by mounts root here = last_or here (chain (length mounts) (hop_by mounts root) here)
 
-module _ {world : World ℕ} {fresh : Fresh ℕ} {name : TaskName} {call : Call} {answer : Answer}
-    (it : HasSucceeded world fresh name call answer) {from : Location ℕ} {old : List ℕ}
-    {to : Location ℕ} {new : List ℕ} {object : Location ℕ}
-    (permit_is : it.did.permit ≡ ToRename from old to new object None)
-    (uncovered : is_mount_point_anywhere (looks_of nat_eq world) object ≡ false)
-    (is_directory : is_directory_node ((files_at nat_eq world from).tree.node object.node) ≡ true)
-    (outside : StandsOutside world it.did.task object) (reader : Task ℕ) (roots : reader.root ≡ it.did.task.root) where
+module _ {world : World ℕ} {fresh : Fresh ℕ} {name : TaskName} {call : Call} {answer : Answer} {from : Location ℕ}
+    {old : List ℕ} {to : Location ℕ} {new : List ℕ} {object : Location ℕ}
+    (moved : HasMoved world fresh name call answer from old to new object) (reader : Task ℕ)
+    (roots : reader.root ≡ moved.renamed.success.did.task.root) where
+  abbrev it : HasSucceeded world fresh name call answer
+  it = moved.renamed.success
+
   abbrev left_world : World ℕ
-  left_world =
-      later it permit_is uncovered
-      is_directory outside
+  left_world = later moved
 
   abbrev own_fs : ℕ
-  own_fs = fs it permit_is uncovered
-      is_directory outside
+  own_fs = fs moved
 
   abbrev is_left : IsWorld nat_eq left_world × IsPlain left_world
-  is_left =
-      left_is it permit_is uncovered
-      is_directory outside
+  is_left = left_is moved
 
   abbrev Inside : ℕ → Type 0
-  Inside = InIt it permit_is uncovered
-      is_directory outside
+  Inside = InIt moved
 
   abbrev FitsIn : Location ℕ → Type 0
-  FitsIn = Fits it permit_is uncovered
-      is_directory outside
+  FitsIn = Fits moved
 
   abbrev BothDirectories : Location ℕ → Type 0
-  BothDirectories = BothAre it.is it.plain is_left.0 is_left.1 it.did.task reader
+  BothDirectories = BothAre it.is is_left it.did.task reader
 
   abbrev Up : Location ℕ → Type 0
-  Up = GoesUp it.is it.plain is_left.0 is_left.1 it.did.task reader
+  Up = GoesUp it.is is_left it.did.task reader
 
   abbrev spent_world : World ℕ
-  spent_world =
-      spent it permit_is uncovered
-      is_directory outside
+  spent_world = spent moved
 
   abbrev whole : Tree ℕ
-  whole = tree it permit_is uncovered
-      is_directory outside
+  whole = tree moved
 
   whole_is : IsFileTree (files_at nat_eq world from)
-  whole_is =
-      file_tree it permit_is uncovered
-      is_directory outside
+  whole_is = file_tree moved
 
   each_in : (number : ℕ) → IsMovedIn object.node (number ≡ own_fs) (tree_in world number) (tree_in spent_world number)
-  each_in = each it permit_is uncovered
-      is_directory outside
+  each_in = each moved
 
   left_node : (filesystem number : ℕ) → is_some (node_in left_world filesystem number) ≡ true
       → node_in left_world filesystem number ≡ node_in spent_world filesystem number
-  left_node =
-      node_left it permit_is uncovered
-      is_directory outside
+  left_node = node_left moved
 
   further : (here : ℕ) (any : List ℕ) (next : ℕ) → Inside here → entry_at whole here any ≡ Some next → Inside next
-  further =
-      in_further it permit_is uncovered
-      is_directory outside
+  further = in_further moved
 
   not_around : Inside from.node → ⊥
-  not_around =
-      from_outside it permit_is uncovered
-      is_directory outside
+  not_around = from_outside moved
 
   reached_in : (n : ℕ) → Inside n → IsReached whole n
-  reached_in =
-      in_reached it permit_is uncovered
-      is_directory outside
+  reached_in = in_reached moved
 
   points_fit : (a b : Location ℕ) → IsFoundDirectory world it.is it.did.task a → hop nat_eq world it.did.task a ≡ Some b
       → FitsIn b
-  points_fit =
-      point_fits it permit_is uncovered
-      is_directory outside
+  points_fit = point_fits moved
 
   places_fit : (place : Location ℕ) → FitsIn place → FitsIn (topmost nat_eq world.mounts place)
-  places_fit =
-      over_fits it permit_is uncovered
-      is_directory outside
+  places_fit = over_fits moved
 
   only_entry : (here : ℕ) (any : List ℕ) → entry_at whole here any ≡ Some object.node → (here ≡ from.node) × (any ≡ old)
-  only_entry =
-      its_entry it permit_is uncovered
-      is_directory outside
+  only_entry = its_entry moved
 
   pub mounts_seen : MountsSeen
-      it.is it.plain
-      (left_is it permit_is uncovered is_directory outside).0
-      (left_is it permit_is uncovered is_directory outside).1 it.did.task reader
+      it.is (left_is moved) it.did.task reader
   mounts_seen = record {
     own = λ number own listed. alike_by number;
     topmost_is = λ place own. cc same;
@@ -122,8 +92,7 @@ module _ {world : World ℕ} {fresh : Fresh ℕ} {name : TaskName} {call : Call}
   }
     where
       same : left_world.mounts ≡ world.mounts
-      same = mounts_same it permit_is
-          uncovered is_directory outside
+      same = mounts_stay moved.renamed
 
       mount_same : (number : ℕ) → mount_numbered nat_eq left_world number ≡ mount_numbered nat_eq world number
       mount_same number = cc same
@@ -154,9 +123,7 @@ module _ {world : World ℕ} {fresh : Fresh ℕ} {name : TaskName} {call : Call}
     tree_before = tree_here world it.is here known.0.1
 
     root_same : (tree_in left_world number).root ≡ (tree_in world number).root
-    root_same =
-        root_left it permit_is uncovered
-        is_directory outside number here.node there
+    root_same = root_left moved number here.node there
 
     now_directory : is_directory_node (node_in left_world number here.node) ≡ true
     now_directory = cc (files_here, known.1.1)
@@ -366,12 +333,12 @@ module _ {world : World ℕ} {fresh : Fresh ℕ} {name : TaskName} {call : Call}
           let was = only_entry here.node any (at_fs_now ∙ ap Some (sym leads)) in
           none_is_not (entry_named any (entries_in (node_at nat_eq left_world here))) next
           (ap (λ (t : FileTree ℕ). entry_named any (entries_in (t.tree.node here.node))) (files_here here known)
-          ∙ (λ i. entry_at (tree_in left_world (same i)) (was.0 i) (was.1 i)) ∙ old_left it permit_is uncovered
-          (seen it permit_is uncovered is_directory outside).moves.replaced_other
+          ∙ (λ i. entry_at (tree_in left_world (same i)) (was.0 i) (was.1 i)) ∙ old_left moved.renamed
+          (seen moved).moves.replaced_other
           ((λ i. is_some (node_in left_world (sym same i) (sym was.0 i))) ∙ there here known)) f
 
   top_fits : (here : Location ℕ) → IsFoundDirectory world it.is it.did.task here → FitsIn here
-      → FitsIn (top it.is it.plain is_left.0 is_left.1 it.did.task reader here)
+      → FitsIn (top it.is is_left it.did.task reader here)
   top_fits here found_here fits =
       (chain_ends_at (λ (l : Location ℕ). IsFoundDirectory world it.is it.did.task l × FitsIn l)
       (hop nat_eq world it.did.task)
@@ -379,10 +346,7 @@ module _ {world : World ℕ} {fresh : Fresh ℕ} {name : TaskName} {call : Call}
       (length world.mounts) here here (found_here, fits)).1
 
   pub fits_ways : (Refused : Deny → Type 0) → FitsWays
-      it.is it.plain
-      (left_is it permit_is uncovered is_directory outside).0
-      (left_is it permit_is uncovered is_directory outside).1 it.did.task reader Refused
-      (Fits it permit_is uncovered is_directory outside)
+      it.is (left_is moved) it.did.task reader Refused (Fits moved)
   fits_ways Refused = record {
     named = λ here any next known fits e f. named_fits here any next known fits e f;
     over = λ place own fits. places_fit place fits;

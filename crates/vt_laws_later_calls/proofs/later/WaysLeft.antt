@@ -5,7 +5,7 @@ use Rattle.vt_spec.proofs.Common.{Dot, DotDot, IsWorld, LastWord, Location, Moun
 use Rattle.vt_laws_later_calls.proofs.Common.{Deny, IsFound, IsFoundDirectory, IsOn, IsPlain, W4, W6, W8, directory_found, numbers_of, own_directory_found, plain_numbered, root_found, step_found, stepped}
 use Rattle.vt_laws_later_calls.proofs.Ways.{LeadsToo}
 use Rattle.vt_laws_later_calls.proofs.later.WaysMounts.{SeenAlike, top_known}
-use Rattle.vt_laws_later_calls.proofs.WaysStay.{StandsAs, node_in, tree_in}
+use Rattle.vt_laws_later_calls.proofs.WaysNodes.{StandsAs, node_in, tree_in}
 
 -- What was there and still is, is of its kind, and a symlink has its text. A name leads where it led, or is missing.
 pub record ObjectsStay (world later : World ℕ) (Refused : Deny → Type 0) : Type 0 where
@@ -21,8 +21,11 @@ pub record ObjectsStay (world later : World ℕ) (Refused : Deny → Type 0) : T
       → (entry_at (tree_in later filesystem) directory name ≡ Some number)
       ⊎ ((entry_at (tree_in later filesystem) directory name ≡ None) × Refused (denial W6))
 
-module _ {world later : World ℕ} (is : IsWorld nat_eq world) (plain : IsPlain world) (is_later : IsWorld nat_eq later)
-    (plain_later : IsPlain later) (task reader : Task ℕ) where
+module _ {world later : World ℕ} (is : IsWorld nat_eq world) (left : IsWorld nat_eq later × IsPlain later)
+    (task reader : Task ℕ) where
+  abbrev is_later : IsWorld nat_eq later
+  is_later = left.0
+
   abbrev pub BothFound : Location ℕ → Type 0
   BothFound here = IsFound world is task here × IsFound later is_later reader here
 
@@ -250,7 +253,7 @@ module _ {world later : World ℕ} (is : IsWorld nat_eq world) (plain : IsPlain 
       directory = λ here known directory. directory_too here known.0 ∙ directory;
       search = rights;
       mounter = λ here. ap (λ o. mounter_allows o execute_right (node_at nat_eq later here))
-          (plain_numbered later plain_later (mount_at nat_eq later here).filesystem);
+          (plain_numbered later left.1 (mount_at nat_eq later here).filesystem);
       step = λ here word next known directory e. step_too here word next (both_are here known.0 directory) known.1 e;
       nosymfollow = λ here known. ap (λ flags. flags.nosymfollow) (alike here known.0).flags;
       link = λ here known. ap symlink_text (node_here here known.0)

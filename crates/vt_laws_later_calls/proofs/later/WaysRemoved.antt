@@ -1,8 +1,8 @@
--- What the removal of an empty directory leaves of the ways through its tree.
+-- What the removal of a name leaves of the ways through its tree: of an empty directory, or of what is none.
 use Rattle.std.proofs.Common.{arith, ◌≡◌, ◌≢◌, refl, ap, ◌∙◌, inl, inr, ◌⊎◌, ⊎_elim, true≢false, ℕ, nat_eq, Bool, true, false, cond, not, ne_eqb, List, [], Option, Some, None, bytes_eq}
-use Rattle.vt_spec.proofs.Common.{Content, Credentials, Directory, FileTree, Node, Regular, Remove, Symlink, Tree, Whiteout, allows, bytes_decides, changed, common_steps, content_with_parent, entries-node_with_parent, entries-node_without_entry, entries_in, entry_at, entry_named, entry_named-without_entry, eqb_tells, is_directory-node_with_parent, is_directory-node_without_entry, is_directory_node, is_removed, kind_of, node_allows, node_with_parent, node_without_entry, parent-node_without_entry, parent_in, same_Some, symlink_text, without_name}
-use Rattle.vt_laws_later_calls.proofs.Common.{MayRemove, changed_node_there, elsewhere, own_parent-node_with_parent, part_stays}
-use Rattle.vt_laws_later_calls.proofs.WaysChanges.{RightsStay, allows_without, link_without}
+use Rattle.vt_spec.proofs.Common.{denial, Content, Credentials, Directory, FileTree, Node, Regular, Remove, Symlink, Tree, Whiteout, allows, bytes_decides, changed, common_steps, content_with_parent, entries-node_with_parent, entries-node_without_entry, entries_in, entry_at, entry_named, entry_named-without_entry, eqb_tells, is_directory-node_with_parent, is_directory-node_without_entry, is_directory_node, is_removed, kind_of, node_allows, node_with_parent, node_without_entry, parent-node_without_entry, parent_in, same_Some, symlink_text, without_name}
+use Rattle.vt_laws_later_calls.proofs.Common.{Deny, W6, MayRemove, changed_node_there, elsewhere, own_parent-node_with_parent, part_stays}
+use Rattle.vt_laws_later_calls.proofs.WaysChanges.{RightsStay, TreeStays, no_parent, allows_without, link_without}
 
 link_with_parent : (parent : ℕ) (o : Option (Node ℕ)) → symlink_text (node_with_parent parent o) ≡ symlink_text o
 link_with_parent parent o = grind (arith, common_steps)
@@ -77,6 +77,21 @@ module _ (files : FileTree ℕ) (directory : ℕ) (name : List ℕ) (object : �
           let name_is : other ≡ name = (bytes_decides other name).0 same in
           inr (now, same_Some next object (cc may.named))
       by false same now was = inl (cc)
+
+  pub ways_removed : is_directory_node (files.tree.node object) ≡ false → (Refused : Deny → Type 0)
+      → Refused (denial W6) → TreeStays files.tree removed.tree Refused
+  ways_removed no_directory Refused missing = record {
+    root = refl;
+    directory = λ n is. removed_kind n;
+    parent = λ n is. ⊎_elim (λ same. cc (
+      same.1,
+      no_parent object (files.tree.node object) no_directory,
+      no_parent object (removed.tree.node object) (removed_kind object ∙ no_directory),
+    )) (λ other. removed_parent n other.1) (eqb_tells n object);
+    link = λ n is. removed_link n;
+    entry = λ here other next e. ⊎_elim inl (λ lost. inr (lost.0, cc (lost.1, no_directory), missing))
+        (removed_entry here other next e);
+  }
 
   -- the directory is empty, and stands alone
   pub nothing_in_it : (other : List ℕ) (next : ℕ) → entry_at files.tree object other ≡ Some next → ⊥

@@ -132,8 +132,7 @@ module _ {world : World ℕ} {name : TaskName} {path word : List ℕ} (one : Has
           (stands_there (root_of new) its.0 found.1) in
           cc (
             eq-eqb new.number new.number refl,
-            other_number fresh world stack.top flags serves new.number
-                (attached_is_mount world new.number attached),
+            other_number fresh world stack.top flags serves new.number (attached_is_mount world new.number attached),
           )
     ]
 

@@ -20,14 +20,12 @@ module _ {world : World ℕ} {name : TaskName} {path word : List ℕ} (one : Has
   stacked = stacked_world one stack fresh flags serves room
 
   -- its stack
-  abbrev grown : IsStack (stacked_world one stack fresh flags serves room) name word
-      (suc count)
+  abbrev grown : IsStack (stacked_world one stack fresh flags serves room) name word (suc count)
   grown = grown_stack one stack fresh flags serves room
 
   -- tasks use the locations that they used
   same_locations : all_locations (record world { tasks = stacked.tasks }) ≡ all_locations world
-  same_locations =
-      flat_map-map (raised_task name) locations_of world.tasks (λ task. grind (arith, common_steps))
+  same_locations = flat_map-map (raised_task name) locations_of world.tasks (λ task. grind (arith, common_steps))
 
   -- the world before, with the tasks and namespaces of now
   abbrev pub world_given_back : World ℕ
@@ -84,8 +82,7 @@ module _ {world : World ℕ} {name : TaskName} {path word : List ℕ} (one : Has
   judged_unmount =
       ap (λ b. unless ((b, K1) ∷ []) (and_then (walk_end (directory_walk nat_eq stacked grown.task path)) judged_at))
       grown.admin ∙ ap (λ walk. and_then (walk_end walk) judged_at) (directory_is_walked grown.task path
-      (end_of_one stacked grown.task one grown.way)
-      (one_word_leads stacked grown.task one grown.way) grown.destination)
+      (end_of_one stacked grown.task one grown.way) (one_word_leads stacked grown.task one grown.way) grown.destination)
       ∙ ap (λ namespace. judged_by namespace grown.top) grown.inside ∙ ap (judged_by (Some grown.task.namespace))
       (grown_top one stack fresh flags serves room)
       ∙ (λ i. unless ((not (eq-eqb grown.task.namespace grown.task.namespace refl i), M2)

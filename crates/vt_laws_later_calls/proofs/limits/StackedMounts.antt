@@ -81,8 +81,7 @@ module _ {world : World ℕ} {name : TaskName} {path word : List ℕ} (one : Has
   judged_by_room =
       ap (λ b. unless ((b, K1) ∷ []) (and_then (walk_end (destination_walk nat_eq world stack.task path)) judged_at))
       stack.admin ∙ ap (λ walk. and_then (walk_end walk) judged_at) (destination_is_walked stack.task path
-      (end_of_one world stack.task one stack.way)
-      (one_word_leads world stack.task one stack.way) stack.destination)
+      (end_of_one world stack.task one stack.way) (one_word_leads world stack.task one stack.way) stack.destination)
       ∙ ap (λ namespace. unless ((not (holds_of (nat_eq stack.task.namespace) namespace), M2)
       ∷ (overfills nat_eq fresh world stack.task permit, M9) ∷ []) (Ok permit)) stack.inside
       ∙ (λ i. unless ((not (eq-eqb stack.task.namespace stack.task.namespace refl i), M2)

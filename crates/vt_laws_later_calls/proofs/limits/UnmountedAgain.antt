@@ -27,8 +27,7 @@ module _ {world : World ℕ} {fresh : Fresh ℕ} (place : Location ℕ) (flags :
   other_filesystem : (filesystem : Filesystem ℕ) → Among filesystem world.filesystems
       → nat_eq added.number filesystem.number ≡ false
   other_filesystem filesystem m =
-      none_among (nat_eq added.number) (numbers_in_use world) (serves.unused _) filesystem.number
-      (among-append_left _
+      none_among (nat_eq added.number) (numbers_in_use world) (serves.unused _) filesystem.number (among-append_left _
       (map (λ (namespace : Namespace ℕ). namespace.number) world.namespaces) filesystem.number
       (among-append_right (flat_map used_by_mount world.mounts) _
       filesystem.number
@@ -95,8 +94,7 @@ module _ {world : World ℕ} {fresh : Fresh ℕ} (place : Location ℕ) (flags :
 
     -- the mount alone is detached
     placed_nowhere : without_place (with_new new) new.number ≡ with_new (detached new)
-    placed_nowhere = ap (λ mounts. record (with_new new) { mounts = mounts })
-        (map-append _ world.mounts (new ∷ []) ∙
+    placed_nowhere = ap (λ mounts. record (with_new new) { mounts = mounts }) (map-append _ world.mounts (new ∷ []) ∙
         (λ i. (map_alike (detached_if new.number) (λ mount. mount) world.mounts (λ mount m. cc (other_mount mount m)) ∙
         map-id world.mounts) i ++ ap (λ b. cond b (detached new) new ∷ []) (eq-eqb new.number new.number refl) i))
 
@@ -150,8 +148,7 @@ module _ {world : World ℕ} {fresh : Fresh ℕ} (place : Location ℕ) (flags :
     -- the sweep leaves the mounts that were there
     mounts_left : filter (mount_lives nat_eq (with_new (detached new))) (world.mounts ++ (detached new ∷ []))
         ≡ world.mounts
-    mounts_left = filter-append _ world.mounts (detached new ∷ [])
-        ∙ (λ i. filter_all _ world.mounts
+    mounts_left = filter-append _ world.mounts (detached new ∷ []) ∙ (λ i. filter_all _ world.mounts
         (among_from_list_all _ world.mounts in_use.mounts) i
         ++ cond (located_elsewhere i) (detached new ∷ []) []) ∙ append-nil world.mounts
 

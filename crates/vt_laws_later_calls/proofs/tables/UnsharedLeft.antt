@@ -82,8 +82,7 @@ module _ {world : World ℕ} {fresh : Fresh ℕ} {task : Task ℕ} (is : IsWorld
   not_ended namespace other mount m n e f = ap ended_by f ∙ ap not (any_from_among (is_kept namespace.number)
       base.namespaces namespace m (cc (
         eq-eqb namespace.number namespace.number refl,
-        any_from_among
-            (λ (t : Task ℕ). nat_eq namespace.number t.namespace) base.tasks other n
+        any_from_among (λ (t : Task ℕ). nat_eq namespace.number t.namespace) base.tasks other n
             (eq-eqb namespace.number other.namespace e),
       )))
     where
@@ -463,13 +462,11 @@ module _ {world : World ℕ} {fresh : Fresh ℕ} {task : Task ℕ} (is : IsWorld
           of_copy below.parent below_copied place below.number,
         )
     | inr isnt ↦ let below_stays : is_going nat_eq ended below.parent.number ≡ false =
-        stays_if below.parent (old_there below.parent below.there)
-        (cc (below.namespace, outside isnt)) in
+        stays_if below.parent (old_there below.parent below.there) (cc (below.namespace, outside isnt)) in
         let in_one = inside mount.namespace refl in (
           place,
           point_place mount (old_there mount m) (lives_in mount isnt in_one) place
-              (MountingTaken.same_place base ended lasting false mount place e isnt
-              (cc below.number)),
+              (MountingTaken.same_place base ended lasting false mount place e isnt (cc below.number)),
           refl,
           of_itself below.parent below.there
               (lives_in below.parent below_stays (cc below.namespace)) place below.number,

@@ -193,8 +193,7 @@ module _ {world : World ℕ} {fresh : Fresh ℕ} {task : Task ℕ} (is : IsWorld
                   (sym on.namespace ∙ e)),
             )
 
-    lives : (mount : Mount ℕ) → Among mount base.mounts → IsInside mount
-        → UnsharedLeft.Alive is serves called mount
+    lives : (mount : Mount ℕ) → Among mount base.mounts → IsInside mount → UnsharedLeft.Alive is serves called mount
     lives mount m e = UnsharedLeft.lives_in is serves called mount (stays mount m e) (cc)
 
     mounts_same : mounts_of nat_eq last namespace.number ≡ mounts_of nat_eq base namespace.number
@@ -294,8 +293,7 @@ module _ {world : World ℕ} {fresh : Fresh ℕ} {task : Task ℕ} (is : IsWorld
     lines_stay t m =
         ⊎_elim (λ e. cc (
           namespace_of_caller t e,
-          reads_so new moved (UnsharedLeft.new_there is serves called)
-              (UnsharedLeft.moved_there is serves called) refl,
+          reads_so new moved (UnsharedLeft.new_there is serves called) (UnsharedLeft.moved_there is serves called) refl,
           lists_caller world fresh task serves is.mounts
               (new_namespace_is_empty world fresh serves is.namespaces.mounts_listed),
           UnsharedLeft.that_task is serves called

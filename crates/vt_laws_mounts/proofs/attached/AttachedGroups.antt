@@ -43,8 +43,7 @@ shared_source new Unbindable source e = same_Some new source e
 
 module _ {world : World ℕ} {new : Copies ℕ} (place : Location ℕ) (moves : Bool) {mounts : List (Mount ℕ)}
     (serve : ServeAsImages world (parts_of nat_eq world place) mounts new) (own : OneNumberAMount mounts)
-    (live : GroupsLive world)
-    (sourced : (origin : Mount ℕ) → Among origin mounts → (source : ℕ)
+    (live : GroupsLive world) (sourced : (origin : Mount ℕ) → Among origin mounts → (source : ℕ)
     → source_of origin.propagation ≡ Some source → LivesIn world source)
     (stay : MembersStay world new place moves mounts) (copied : HasCopies world new place moves mounts) where
   abbrev tree : Graft ℕ
@@ -79,8 +78,7 @@ module _ {world : World ℕ} {new : Copies ℕ} (place : Location ℕ) (moves : 
       has_master it next (stay it has) (old_master place moves serve own it has ∙ e) (still_lives next later)
 
   destination_lives : (source : ℕ) → source_of destination.propagation ≡ Some source → LivesIn world source
-  destination_lives source e = ⊎_elim (λ there. lives_in world live _ there source e)
-      (λ none. absurd cc)
+  destination_lives source e = ⊎_elim (λ there. lives_in world live _ there source e) (λ none. absurd cc)
       (found_or_none _ _)
 
   part_lives : (part : Mount ℕ) → Among part parts → (source : ℕ) → source_of part.propagation ≡ Some source
@@ -105,8 +103,7 @@ module _ {world : World ℕ} {new : Copies ℕ} (place : Location ℕ) (moves : 
   image_in : (origin : Mount ℕ) (group : ℕ) → group_of destination.propagation ≡ Some group → image_of origin group
       ≡ unwrap_or (group_of (type_on_shared (new.image group origin.number) origin.propagation))
       (new.image group origin.number)
-  image_in origin group e =
-      cc (member_by_group place moves serve own destination group e, twig_in origin group e)
+  image_in origin group e = cc (member_by_group place moves serve own destination group e, twig_in origin group e)
 
   has_copy : (part origin : Mount ℕ) → Among part parts → Among origin mounts → (group : ℕ)
       → kind_at world new place moves mounts part origin ≡ Shared group → has_members nat_eq after.mounts group ≡ true

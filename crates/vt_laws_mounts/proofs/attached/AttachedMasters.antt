@@ -114,17 +114,14 @@ module _ {world : World ℕ} {new : Copies ℕ} (place : Location ℕ) (moves : 
       let origin = among-from_map twig mounts from.0 from.1 in (
         origin.0,
         origin.1,
-        by at.0 at.1 origin.0 (is_destination nat_eq tree at.0.number) refl
-            (cc (origin.2, from.2)),
+        by at.0 at.1 origin.0 (is_destination nat_eq tree at.0.number) refl (cc (origin.2, from.2)),
       )
     where
       by : (part : Mount ℕ) → Among part parts → (origin : Mount ℕ) (b : Bool)
           → is_destination nat_eq tree part.number ≡ b
           → group_made nat_eq world new tree parts part (twig origin) ≡ Some entry → IsImage origin entry
-      by part n origin true f e = image_there origin entry
-          (cc)
-      by part n origin false f e = image_at_part part origin entry n
-          (cc)
+      by part n origin true f e = image_there origin entry (cc)
+      by part n origin false f e = image_at_part part origin entry n (cc)
 
   -- groups that had members keep their masters
   pub old_master : (group : ℕ) → has_members nat_eq world.mounts group ≡ true → after.master group ≡ world.master group
@@ -176,8 +173,7 @@ module _ {world : World ℕ} {new : Copies ℕ} (place : Location ℕ) (moves : 
   -- a member of another group than the destination's is elsewhere
   pub is_elsewhere : (part : Mount ℕ) (group : ℕ) → Among part parts → is_member_of nat_eq group part ≡ true
       → is_member_of nat_eq group destination ≡ false → is_destination nat_eq tree part.number ≡ false
-  is_elsewhere part group m has lacks = ⊎_elim
-      (λ same. absurd cc) (λ later.
+  is_elsewhere part group m has lacks = ⊎_elim (λ same. absurd cc) (λ later.
       nat_eq_false_turned place.mount part.number (taker_elsewhere world place part
       (among-from_filter (takes_part nat_eq world place) (receivers_of nat_eq world destination) part later).1)) m
 

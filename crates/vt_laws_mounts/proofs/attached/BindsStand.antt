@@ -1,13 +1,16 @@
 -- Binds, new mounts and moves: each mount goes on standing, with a number of its own.
 use Rattle.std.proofs.Common.{arith, ◌≡◌, refl, sym, ap, subst, true, false, nat_eq, ℕ, Bool, List, [], eq-eqb, eqb-true, filter, flat_map, inl, inr, length, suc, true≢false, zero, ⊎_elim, ◌∷◌, ◌⊎◌}
-use Rattle.vt_spec.proofs.Common.{Among, Filesystem, Location, Mount, Stands, World, all_from_among, among-flat_map, among-from_filter, among-from_flat_map, among_from_all, at_root, bind_tree, bindable_children, bindable_tree, bound, children, common_steps, moved_tree, new_mount, number-mount_in, on_parent, parts_of, stands_under, with_new_filesystem}
+use Rattle.vt_spec.proofs.Common.{Among, Filesystem, Location, Mount, Stands, World, all_from_among, among-flat_map, among-from_filter, among-from_flat_map, among_from_all, at_root, bind_tree, bindable_children, bindable_tree, bound, children, common_steps, moved_tree, new_mount, number-mount_in, on_parent, parts_of, stands_under, with_new_filesystem, Fresh, Serves, MountFlags}
+use Rattle.vt_laws_mounts.specs.Mounts.Invariants.{OneNumberEach, NowhereOrAttached}
 use Rattle.vt_laws_mounts.specs.Mounts.Standing.{AllStand, BindsKeepNumbers, BindsKeepMountPoints, BindsKeepStanding, MovesKeepNumbers, NewMountsKeepNumbers, NewMountsKeepMountPoints, NewMountsKeepStanding}
-use Rattle.vt_laws_mounts.proofs.attached.Attaching.{Hangs, all_stand_after}
+use Rattle.vt_laws_mounts.proofs.attached.Attaching.{Hangs}
 use Rattle.vt_laws_mounts.proofs.attached.Attaching.Hangs.{from_parent, from_top}
-use Rattle.vt_laws_mounts.proofs.attached.AttachingPlaces.{places_after, two_of}
+use Rattle.vt_laws_mounts.proofs.attached.GraftedPlaces.{two_of}
+use Rattle.vt_laws_mounts.proofs.attached.TreesCopied.{CanCopy, copied_apart, copied_stand}
 use Rattle.vt_laws_mounts.proofs.mounts.MountsAttached.{supplied}
 use Rattle.vt_laws_mounts.proofs.mounts.MountsNumbered.{attach_keeps_numbers, supplies_serve_as_copies}
 use Rattle.vt_laws_mounts.proofs.mounts.Standing.{bindable_child, binds_take_each_once, trees_have_each_once}
+use Rattle.vt_laws_mounts.specs.Mounts.Attaching.{is_mount}
 
 -- What a bind takes hangs together
 module _ (world : World ℕ) (whole : List (Mount ℕ)) where
@@ -67,14 +70,28 @@ bind_top world source true = (
   refl,
 )
 
+bind_can_copy : (world : World ℕ) (fresh : Fresh ℕ) (source place : Location ℕ) (recursive : Bool)
+    → Serves nat_eq world fresh → OneNumberEach world → NowhereOrAttached world → AllStand world
+    → is_mount world place.mount ≡ true → CanCopy world
+    (supplied world fresh place (bind_tree nat_eq world source recursive)) place
+    (bind_tree nat_eq world source recursive)
+bind_can_copy world fresh source place recursive serves one nowhere all there = record {
+  serve = supplies_serve_as_copies world fresh (parts_of nat_eq world place) (bind_tree nat_eq world source recursive)
+      serves;
+  own = binds_take_each_once world source recursive one all;
+  top = bound nat_eq world source;
+  rest = (bind_top world source recursive).0;
+  is_tree = (bind_top world source recursive).1;
+  hangs = bind_hangs world source recursive;
+  one = one;
+  nowhere = nowhere;
+  stand = all;
+  there = there;
+}
+
 pub binds_keep_standing : BindsKeepStanding
 binds_keep_standing world fresh source place recursive serves one nowhere all there =
-    let mounts = bind_tree nat_eq world source recursive in
-    let top = bind_top world source recursive in
-    all_stand_after world (supplied world fresh place mounts) place mounts
-    (supplies_serve_as_copies world fresh (parts_of nat_eq world place) mounts serves)
-    (binds_take_each_once world source recursive one all) one there (bind_hangs world source recursive)
-    (bound nat_eq world source) top.0 top.1 nowhere all
+    copied_stand (bind_can_copy world fresh source place recursive serves one nowhere all there)
 
 pub binds_keep_numbers : BindsKeepNumbers
 binds_keep_numbers world fresh source place recursive serves one all =
@@ -99,13 +116,31 @@ all_stand_with_filesystem world filesystem all =
     let larger = with_new_filesystem world filesystem in
     grind (arith, common_steps, all_from_among, stands_with_filesystem, among_from_all)
 
-pub new_mounts_keep_standing : NewMountsKeepStanding
-new_mounts_keep_standing world fresh place filesystem flags serves one nowhere all there =
+new_mount_can_copy : (world : World ℕ) (fresh : Fresh ℕ) (place : Location ℕ) (filesystem : Filesystem ℕ)
+    (flags : MountFlags) → Serves nat_eq (with_new_filesystem world filesystem) fresh → OneNumberEach world
+    → NowhereOrAttached world → AllStand world → is_mount world place.mount ≡ true
+    → CanCopy (with_new_filesystem world filesystem) (supplied (with_new_filesystem world filesystem) fresh place
+    (new_mount filesystem.number filesystem.files.tree.root flags ∷ [])) place
+    (new_mount filesystem.number filesystem.files.tree.root flags ∷ [])
+new_mount_can_copy world fresh place filesystem flags serves one nowhere all there =
     let larger = with_new_filesystem world filesystem in
     let mount = new_mount filesystem.number filesystem.files.tree.root flags in
-    all_stand_after larger (supplied larger fresh place (mount ∷ [])) place (mount ∷ [])
-    (supplies_serve_as_copies larger fresh (parts_of nat_eq larger place) (mount ∷ []) serves) refl one there
-    (one_hangs mount) mount [] refl nowhere (all_stand_with_filesystem world filesystem all)
+    record {
+      serve = supplies_serve_as_copies larger fresh (parts_of nat_eq larger place) (mount ∷ []) serves;
+      own = refl;
+      top = mount;
+      rest = [];
+      is_tree = refl;
+      hangs = one_hangs mount;
+      one = one;
+      nowhere = nowhere;
+      stand = all_stand_with_filesystem world filesystem all;
+      there = there;
+    }
+
+pub new_mounts_keep_standing : NewMountsKeepStanding
+new_mounts_keep_standing world fresh place filesystem flags serves one nowhere all there =
+    copied_stand (new_mount_can_copy world fresh place filesystem flags serves one nowhere all there)
 
 pub new_mounts_keep_numbers : NewMountsKeepNumbers
 new_mounts_keep_numbers world fresh place filesystem flags serves one =
@@ -147,21 +182,15 @@ bind_there world source recursive x m differ = ⊎_elim (λ e. absurd (not_itsel
     (λ l. l) (bind_there_or_source world source _ x m)
 
 pub binds_keep_places : BindsKeepMountPoints
+unfolding bind_can_copy
 binds_keep_places world fresh source place recursive serves one nowhere all there free places =
-    let mounts = bind_tree nat_eq world source recursive in
-    let top = bind_top world source recursive in
-    places_after world (supplied world fresh place mounts) place mounts
-    (supplies_serve_as_copies world fresh (parts_of nat_eq world place) mounts serves)
-    (binds_take_each_once world source recursive one all) one there (bind_hangs world source recursive) _ top.0 top.1
-    nowhere all (λ a b m n not_top nor_top differ. two_of _ places a b (bind_there world source _ a m not_top)
-    (bind_there world source _ b n nor_top) differ) places free
+    copied_apart (bind_can_copy world fresh source place recursive serves one nowhere all there)
+    (λ a b m n not_top nor_top. two_of _ places a b (bind_there world source _ a m not_top)
+    (bind_there world source _ b n nor_top)) places free
 
 pub new_mounts_keep_places : NewMountsKeepMountPoints
+unfolding new_mount_can_copy
 new_mounts_keep_places world fresh place filesystem flags serves one nowhere all there free places =
-    let larger = with_new_filesystem world filesystem in
-    let mount = new_mount filesystem.number filesystem.files.tree.root flags in
-    places_after larger (supplied larger fresh place (mount ∷ [])) place (mount ∷ [])
-    (supplies_serve_as_copies larger fresh (parts_of nat_eq larger place) (mount ∷ []) serves) refl one there
-    (one_hangs mount) mount [] refl nowhere (all_stand_with_filesystem world filesystem all)
-    (λ a b m n not_top nor_top differ. ⊎_elim (λ e. absurd (not_itself a mount not_top e)) (λ none. absurd none) m)
+    copied_apart (new_mount_can_copy world fresh place filesystem flags serves one nowhere all there)
+    (λ a b m n not_top nor_top differ. ⊎_elim (λ e. absurd (not_itself a _ not_top e)) (λ none. absurd none) m)
     places free

@@ -49,8 +49,7 @@ module _ (world : World ℕ) (gone : List ℕ) where
   taken_has_no_more namespace = le-leb _ _
       (subst (λ mounts. length (filter (is_in namespace) mounts) ≤ length (filter (is_in namespace) world.mounts))
       (sym mounts_after) (no_higher_count (is_in namespace) (is_in namespace) after_it world.mounts (λ mount e.
-      ⊎_elim (λ none. absurd cc)
-      (λ same. cc) (namespace_after mount))))
+      ⊎_elim (λ none. absurd cc) (λ same. cc) (namespace_after mount))))
 
   pub taken_takes_none_in : TakesNoMountsIn world (taken_away nat_eq world gone)
   taken_takes_none_in = all_from_among _ _ (λ mount m.
@@ -108,8 +107,7 @@ unmount_keeps_roots world one each placed namespace =
     taken_keeps_roots world _ _ (λ mount m goes. inl (⊎_elim (λ same. cc (
       found_itself world.mounts each mount m,
       number-mount_in world.mounts one,
-    )) (λ t. cc (same_mount world each mount t.0 m t.1 t.3, t.4))
-    (goes_or_may world itself _ goes)))
+    )) (λ t. cc (same_mount world each mount t.0 m t.1 t.3, t.4)) (goes_or_may world itself _ goes)))
 
 -- what lies in a tree is its top, or stands at a place
 pub tree_placed : (depth : ℕ) (mounts : List (Mount ℕ)) (top x : Mount ℕ) → Among x (tree_from nat_eq depth mounts top)

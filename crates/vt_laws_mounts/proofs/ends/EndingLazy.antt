@@ -87,9 +87,7 @@ module _ (start : World ℕ) (at_first : MountInvariants nat_eq start) (one : �
             (subst (λ k. LiesIn start k x.number) (sym same) over.0) in
             ⊎_elim (λ later.
             let low = no_deeper mount left way.order way.itself _ later in
-            absurd (omega (arith, low, high, equal)))
-            (λ gone. cc found)
-            (way.done x.number lies)
+            absurd (omega (arith, low, high, equal))) (λ gone. cc found) (way.done x.number lies)
 
     abbrev gone : List ℕ
     gone = going nat_eq world (mount_numbered nat_eq world mount.number)

@@ -1,6 +1,7 @@
--- Mounts keep standing where others are taken away.
-use Rattle.std.proofs.Common.{◌≡◌, refl, sym, ap, subst, ◌∙◌, true, false, nat_eq, ℕ, Bool, List, Some, is_some, true≢false}
-use Rattle.vt_spec.proofs.Common.{Among, Location, Mount, Stands, World, all_from_among, at_root, is_going, mount_at, mount_numbered, number-mount_in, on_parent, same_Some, taken_away}
+-- Mounts keep standing where others are taken away. A mount that stays falls from mount point to mount point, through
+-- the mounts that go, until it rests on one that stays.
+use Rattle.std.proofs.Common.{◌≡◌, refl, ap, true, false, nat_eq, ℕ, Bool, List, Some, inl, inr, is_some, None}
+use Rattle.vt_spec.proofs.Common.{Among, Location, Mount, Stands, World, all_from_among, at_root, is_going, mount_at, mount_numbered, cases_Bool, number-mount_in, on_parent, taken_away}
 use Rattle.vt_laws_mounts.specs.Mounts.Invariants.{OneNumberEach}
 use Rattle.vt_laws_mounts.specs.Mounts.Standing.{AllStand}
 use Rattle.vt_laws_mounts.specs.Mounts.Unmounting.{FallsTo}
@@ -14,91 +15,97 @@ module _ (world : World ℕ) (gone : List ℕ) where
   abbrev later : World ℕ
   later = taken_away nat_eq world gone
 
-  abbrev before_it : ℕ → Mount ℕ
-  before_it number = mount_numbered nat_eq world number
+  abbrev before : ℕ → Mount ℕ
+  before number = mount_numbered nat_eq world number
 
-  rest_stays : (place rest : Location ℕ) → FallsTo world gone place rest → is_going nat_eq gone rest.mount ≡ false
-  rest_stays place rest (rests at stays) = stays
-  rest_stays place rest (falls at below end goes under more) = rest_stays below end more
+  abbrev goes : ℕ → Bool
+  goes = is_going nat_eq gone
 
-  -- what stays is left on a mount that stays
+  -- each mount that stays falls to a mount that stays
   abbrev AllLand : Type 0
-  AllLand = (number : ℕ) (place : Location ℕ) → is_going nat_eq gone number ≡ false
-      → (before_it number).mount_point ≡ Some place → (rest : Location ℕ) × FallsTo world gone place rest
+  AllLand = (number : ℕ) (place : Location ℕ) → goes number ≡ false → (before number).mount_point ≡ Some place
+      → (rest : Location ℕ) × FallsTo world gone place rest
 
-  -- a place stands on in the namespace of a mount
+  goes-rest : (place rest : Location ℕ) → FallsTo world gone place rest → goes rest.mount ≡ false
+  goes-rest place rest (rests at stays) = stays
+  goes-rest place rest (falls at below end goes under more) = goes-rest below end more
+
+  -- What comes to rest from a mount stands later, in the namespace of that mount
   abbrev LandsOn : ℕ → Location ℕ → Type 0
-  LandsOn number rest =
-      Stands nat_eq later rest.mount × ((before_it number).namespace ≡ (before_it rest.mount).namespace)
+  LandsOn number rest = Stands nat_eq later rest.mount × ((before number).namespace ≡ (before rest.mount).namespace)
 
-  fallen : (number : ℕ) (place rest : Location ℕ) → place.mount ≡ number → FallsTo world gone place rest
-      → Stands nat_eq later number
-      → ((below : Location ℕ) → (before_it number).mount_point ≡ Some below → FallsTo world gone below rest
-      → LandsOn number rest) → LandsOn number rest
-  fallen number place rest same (rests at stays) itself deeper =
-      (subst (Stands nat_eq later) (sym same) itself, ap (λ n. (before_it n).namespace) (sym same))
-  fallen number place rest same (falls at below end goes under more) itself deeper =
-      deeper below (ap (λ n. (before_it n).mount_point) (sym same) ∙ under) more
+  record StandsStill (number : ℕ) : Type 0 where
+    itself : Stands nat_eq later number
+    lands : (place rest : Location ℕ) → place.mount ≡ number → FallsTo world gone place rest → LandsOn number rest
+
+  at_root_still : (number : ℕ) → (before number).mount_point ≡ None → StandsStill number
+  at_root_still number e = record { itself = itself; lands = lands }
+    where
+      itself : Stands nat_eq later number
+      itself = at_root number (root_stays world gone number e)
+
+      lands : (place rest : Location ℕ) → place.mount ≡ number → FallsTo world gone place rest → LandsOn number rest
+      lands place rest same (rests at stays) = (rw same itself, cc)
+      lands place rest same (falls at below end goes under more) = cc
 
   module _ (one : OneNumberEach world) (all : AllStand world) (land : AllLand) where
-    stands_later : (number : ℕ) → Stands nat_eq world number → Stands nat_eq later number
-        × ((place rest : Location ℕ) → place.mount ≡ number → FallsTo world gone place rest → LandsOn number rest)
-    stands_later number (at_root it e) =
-        let itself : Stands nat_eq later it = at_root it (root_stays world gone it e) in (
-          itself,
-          λ place rest same fall. fallen it place rest same fall itself (λ below f more. absurd cc),
-        )
-    stands_later number (on_parent it on e f stands) =
-        let deeper = stands_later _ stands in
-        let itself : Stands nat_eq later it = by _ refl deeper.1 in (
-          itself,
-          λ place rest same fall. fallen it place rest same fall itself (λ below g more.
-              let l = deeper.1 below rest (ap (λ (p : Location ℕ). p.mount) (same_Some below on (sym g ∙ e))) more in
-              (l.0, f ∙ l.1)),
-        )
+    on_parent_still : (number : ℕ) (on : Location ℕ) → (before number).mount_point ≡ Some on
+        → (before number).namespace ≡ (before on.mount).namespace → StandsStill on.mount → StandsStill number
+    on_parent_still number on e f parent = record { itself = itself; lands = lands }
       where
-        by : (b : Bool) → is_going nat_eq gone it ≡ b
-            → ((place rest : Location ℕ) → place.mount ≡ on.mount → FallsTo world gone place rest
-            → LandsOn on.mount rest) → Stands nat_eq later it
-        by true goes deeper = at_root it (ap (λ m. m.mount_point) (detached_by_number world gone it goes))
-        by false stays deeper =
-            let landed = land it on stays e in
-            let l = deeper on landed.0 refl landed.1 in
-            on_parent it landed.0 (place_fallen world gone ((standing_is_computed world one).0 all) it on _ stays e
-            landed.1) ((kept_by_number world gone it stays).namespace ∙ f ∙ l.1 ∙ sym
-            (kept_by_number world gone _ (rest_stays on _ landed.1)).namespace) l.0
+        itself : Stands nat_eq later number
+        itself = elim (cases_Bool (goes number)) [
+          | inl leaves ↦ at_root number (ap (λ m. m.mount_point) (detached_by_number world gone number leaves))
+          | inr stays ↦
+              let rest = land number on stays e in
+              let landed = parent.lands on rest.0 refl rest.1 in
+              let ends = (standing_is_computed world one).0 all in
+              on_parent number rest.0 (place_fallen world gone ends number on rest.0 stays e rest.1) (cc (
+                (kept_by_number world gone number stays).namespace,
+                f,
+                landed.1,
+                (kept_by_number world gone rest.0.mount (goes-rest on rest.0 rest.1)).namespace,
+              )) landed.0
+        ]
+
+        lands : (place rest : Location ℕ) → place.mount ≡ number → FallsTo world gone place rest → LandsOn number rest
+        lands place rest same (rests at stays) = (rw same itself, cc)
+        lands place rest same (falls at below end goes under more) =
+            let here : below.mount ≡ on.mount = cc in
+            let landed = parent.lands below end here more in
+            (landed.0, cc (f, landed.1))
+
+    stands_still : (number : ℕ) → Stands nat_eq world number → StandsStill number
+    stands_still number (at_root it e) = at_root_still it e
+    stands_still number (on_parent it on e f stands) = on_parent_still it on e f (stands_still on.mount stands)
 
     pub taken_stand : AllStand later
     taken_stand = all_from_among (λ (mount : Mount ℕ). Stands nat_eq later mount.number) later.mounts
-        (λ mount m. (stands_later mount.number (stand world one all mount.number)).0)
+        (λ mount m. (stands_still mount.number (stand world one all mount.number)).itself)
 
-  -- it is so where what goes has a place, or nothing stands on it
+  -- All land where each mount that goes, and has another on it, has a mount point,
   pub lands_by_places : OneNumberEach world → AllStand world
       → ((x : Mount ℕ) (place : Location ℕ) → Among x world.mounts → x.mount_point ≡ Some place
-      → is_going nat_eq gone place.mount ≡ true → is_some (mount_at nat_eq world place).mount_point ≡ true) → AllLand
-  lands_by_places one all placed number place stays e = from _ (stand world one all _) number place e refl
+      → goes place.mount ≡ true → is_some (mount_at nat_eq world place).mount_point ≡ true) → AllLand
+  lands_by_places one all placed number place stays e = comes_to_rest place.mount (stand world one all _) number place e
+      refl
     where
-      from : (below : ℕ) → Stands nat_eq world below → (above : ℕ) (at : Location ℕ)
-          → (before_it above).mount_point ≡ Some at
-          → at.mount ≡ below → (rest : Location ℕ) × FallsTo world gone at rest
-      from below (at_root it f) above at g same = by _ refl
-        where
-          by : (b : Bool) → is_going nat_eq gone at.mount ≡ b → (rest : Location ℕ) × FallsTo world gone at rest
-          by true goes = absurd (cc (placed (before_it above) at (placed_among _ above at g) g goes, same, f))
-          by false rest = (at, rests at rest)
-      from below (on_parent it on f same_namespace stands) above at g same = by _ refl
-          (from _ stands _ on (ap (λ n. (before_it n).mount_point) same ∙ f) refl)
-        where
-          by : (b : Bool) → is_going nat_eq gone at.mount ≡ b → ((rest : Location ℕ) × FallsTo world gone on rest)
-              → (rest : Location ℕ) × FallsTo world gone at rest
-          by true goes l = (l.0, falls at on l.0 goes (ap (λ n. (before_it n).mount_point) same ∙ f) l.1)
-          by false rest l = (at, rests at rest)
+      comes_to_rest : (below : ℕ) → Stands nat_eq world below → (above : ℕ) (at : Location ℕ)
+          → (before above).mount_point ≡ Some at → at.mount ≡ below → (rest : Location ℕ) × FallsTo world gone at rest
+      comes_to_rest below (at_root it f) above at g same = elim (cases_Bool (goes at.mount)) [
+        | inl leaves ↦ cc (placed (before above) at (placed_among _ above at g) g leaves)
+        | inr rest ↦ (at, rests at rest)
+      ]
+      comes_to_rest below (on_parent it on f inside stands) above at g same =
+          let l = comes_to_rest on.mount stands it on f refl in
+          elim (cases_Bool (goes at.mount)) [
+            | inl leaves ↦ (l.0, falls at on l.0 leaves (cc) l.1)
+            | inr rest ↦ (at, rests at rest)
+          ]
 
-  -- and where what goes takes all that stands on it with it
+  -- and where each mount that goes takes with it all that stand on it.
   pub lands_by_closed : AreClosed world gone → AllLand
-  lands_by_closed closed number place stays e = by _ refl
-    where
-      by : (b : Bool) → is_going nat_eq gone place.mount ≡ b → (rest : Location ℕ) × FallsTo world gone place rest
-      by true goes = absurd (true≢false (sym (closed (before_it number) place (placed_among _ number place e) e goes)
-          ∙ ap (is_going nat_eq gone) (number-mount_in _ number) ∙ stays))
-      by false rest = (place, rests place rest)
+  lands_by_closed closed number place stays e = elim (cases_Bool (goes place.mount)) [
+    | inl leaves ↦ cc (closed (before number) place (placed_among _ number place e) e leaves, number-mount_in _ number)
+    | inr rest ↦ (place, rests place rest)
+  ]

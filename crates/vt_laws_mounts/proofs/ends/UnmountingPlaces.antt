@@ -100,8 +100,7 @@ module _ (world : World ℕ) (gone : List ℕ) (apart_all : AreApart world)
       (placed_among world.mounts at.mount rest under) (placed_among world.mounts at_too.mount end under_too) rest under
       (cc) in
       let number : at_too.mount ≡ at.mount =
-      cc (number-mount_in world.mounts at_too.mount, on_one)
-      ∙ number-mount_in world.mounts at.mount in
+      cc (number-mount_in world.mounts at_too.mount, on_one) ∙ number-mount_in world.mounts at.mount in
       let x = stander a at m fall in
       let y = stander b at_too n fall_too in
       one_falls a b m n stays also at fall at_too fall_too

@@ -39,8 +39,7 @@ module _ {A : Type 0} where
       by others true e n next = ⊎_elim (λ same. sym same) (λ later. absurd (true≢false
           (sym (eq-eqb (number first) (number x) (sym (eqb-true (number x) (number first) e)))
           ∙ none_among _ rest others x later))) n
-      by others false e n next =
-          ⊎_elim (λ same. absurd (cc (eq-eqb (number x) (number first) (ap number same)))) next n
+      by others false e n next = ⊎_elim (λ same. absurd (cc (eq-eqb (number x) (number first) (ap number same)))) next n
 
   -- a filter that nothing passes leaves nothing
   pub nothing_passes : (p : A → Bool) (xs : List A) → ((x : A) → Among x xs → p x ≡ false) → filter p xs ≡ []
@@ -92,8 +91,7 @@ module _ {A B : Type 0} where
   pub flat_map_alike : (f g : A → List B) (xs : List A) → ((x : A) → Among x xs → f x ≡ g x)
       → flat_map f xs ≡ flat_map g xs
   flat_map_alike f g [] h = refl
-  flat_map_alike f g (y ∷ ys) h =
-      cc (h y (inl refl), flat_map_alike f g ys (λ x m. h x (inr m)))
+  flat_map_alike f g (y ∷ ys) h = cc (h y (inl refl), flat_map_alike f g ys (λ x m. h x (inr m)))
 
 module _ {A B C : Type 0} where
   pub flat_map-of_map : (g : B → List C) (f : A → B) (xs : List A) → flat_map g (map f xs) ≡ flat_map (λ x. g (f x)) xs

@@ -10,4 +10,5 @@ pub mod Retyped
 pub mod TaskCalls
 pub mod TreesChanged
 pub mod TreesWithOverlays
+pub mod UsedBefore
 pub mod UsesKept

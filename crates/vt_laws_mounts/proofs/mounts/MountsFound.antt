@@ -25,9 +25,7 @@ found_there (first ∷ rest) number h = grind (arith, common_steps, found_there 
 -- a mount that has a place is one of the list
 pub placed_among : (mounts : List (Mount ℕ)) (number : ℕ) (place : Location ℕ)
     → (mount_in nat_eq mounts number).mount_point ≡ Some place → Among (mount_in nat_eq mounts number) mounts
-placed_among mounts number place e = ⊎_elim (λ m. m)
-    (λ none. absurd cc)
-    (found_or_none mounts number)
+placed_among mounts number place e = ⊎_elim (λ m. m) (λ none. absurd cc) (found_or_none mounts number)
 
 -- what a test finds is in the list, and passes it
 pub found_in : (test : Mount ℕ → Bool) (mounts : List (Mount ℕ)) (found : Mount ℕ) → find test mounts ≡ Some found

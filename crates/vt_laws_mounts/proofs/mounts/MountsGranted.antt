@@ -18,8 +18,7 @@ locations_raised name task = grind (arith, common_steps)
 all_locations_raised : (name : TaskName) (tasks : List (Task ℕ))
     → flat_map locations_of (map (raised_task name) tasks) ≡ flat_map locations_of tasks
 all_locations_raised name [] = refl
-all_locations_raised name (task ∷ tasks) =
-    cc (locations_raised name task, all_locations_raised name tasks)
+all_locations_raised name (task ∷ tasks) = cc (locations_raised name task, all_locations_raised name tasks)
 
 -- what lives after a call lives as its outcome leaves it
 lives_then : (before world : World ℕ) (name : TaskName) (changed : List ℕ) (mount : Mount ℕ)

@@ -234,8 +234,7 @@ module _ (world : World ℕ) (one : OneNumberEach world) (all : AllStand world) 
       by : Stands nat_eq world number
           → (mount_numbered nat_eq world number).namespace ≡ (mount_numbered nat_eq world place.mount).namespace
       by (at_root it f) = cc
-      by (on_parent it at f g x) =
-          cc (g, same_Some at place (sym f ∙ e))
+      by (on_parent it at f g x) = cc (g, same_Some at place (sym f ∙ e))
 
   -- how deep a mount lies is counted so
   pub depth_by_rank : (number : ℕ) → depth_of nat_eq world (mount_numbered nat_eq world number) ≡ suc (rank number)

@@ -9,8 +9,7 @@ use Rattle.vt_laws_mounts.proofs.attached.BindsStand.{child_hangs}
 use Rattle.vt_laws_mounts.proofs.mounts.MountsNumbered.{is_one_of, supplies_serve_as_copies}
 use Rattle.vt_laws_mounts.proofs.mounts.MountsReplaced.{found_itself}
 use Rattle.vt_laws_mounts.proofs.moves.MovingLeaves.{MayMove}
-use Rattle.vt_laws_mounts.proofs.moves.MovingPlaces.{places_moved}
-use Rattle.vt_laws_mounts.proofs.moves.MovingStands.{all_after}
+use Rattle.vt_laws_mounts.proofs.moves.TreesMoved.{moved_apart, moved_stand}
 use Rattle.vt_laws_mounts.proofs.mounts.Standing.{standing_is_computed, trees_have_each_once}
 use Rattle.vt_laws_mounts.proofs.ends.UnmountingTrees.{AreClosed, trees_closed}
 
@@ -26,9 +25,7 @@ top_among_tree fuel mounts top = let t = tree_top fuel mounts top in subst (Amon
 -- a number of a mount that has a place, or is in a namespace, is that of one that is there
 pub placed_there : (mounts : List (Mount ℕ)) (number : ℕ) → is_some (mount_in nat_eq mounts number).mount_point ≡ true
     → Among (mount_in nat_eq mounts number) mounts
-placed_there mounts number placed = ⊎_elim (λ l. l)
-    (λ none. absurd cc)
-    (found_or_none mounts number)
+placed_there mounts number placed = ⊎_elim (λ l. l) (λ none. absurd cc) (found_or_none mounts number)
 
 attached_there : (mounts : List (Mount ℕ)) (number : ℕ) → is_some (mount_in nat_eq mounts number).namespace ≡ true
     → is_among nat_eq number (numbers_of mounts) ≡ true
@@ -120,11 +117,11 @@ module _ (world : World ℕ) where
 pub moves_keep_standing : MovesKeepStanding
 moves_keep_standing world fresh source place serves invariants can =
     let mounts = moved_tree nat_eq world source.mount in
-    all_after (may_move world invariants source place can)
+    moved_stand (may_move world invariants source place can)
     (supplies_serve_as_copies world fresh (parts_of nat_eq world place) mounts serves)
 
 pub moves_keep_places : MovesKeepMountPoints
 moves_keep_places world fresh source place serves invariants can free =
     let mounts = moved_tree nat_eq world source.mount in
-    places_moved (may_move world invariants source place can)
+    moved_apart (may_move world invariants source place can)
     (supplies_serve_as_copies world fresh (parts_of nat_eq world place) mounts serves) invariants.one_child free

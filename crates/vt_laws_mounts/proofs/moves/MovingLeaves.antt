@@ -5,8 +5,8 @@ use Rattle.vt_laws_mounts.specs.Mounts.Attaching.{OneNumberAMount, is_mount, num
 use Rattle.vt_laws_mounts.specs.Mounts.Invariants.{NowhereOrAttached}
 use Rattle.vt_laws_mounts.specs.Mounts.Standing.{AllStand}
 use Rattle.vt_laws_mounts.specs.Mounts.MountPoints.{OneMountAMountPoint}
-use Rattle.vt_laws_mounts.proofs.attached.AttachingPlaces.{beside, one_place, test, two_of}
-use Rattle.vt_laws_mounts.proofs.mounts.MountsPlaces.{stands_at_its_place}
+use Rattle.vt_laws_mounts.proofs.attached.GraftedPlaces.{beside, share, two_of}
+use Rattle.vt_laws_mounts.proofs.mounts.MountsPlaces.{place_of_both, stands_at_its_place}
 use Rattle.vt_laws_mounts.proofs.attached.Attaching.{Hangs, hanging}
 use Rattle.vt_laws_mounts.proofs.attached.Attaching.Hangs.{from_parent, from_top}
 use Rattle.vt_laws_mounts.proofs.mounts.MountsAttached.{arriving, found-folded_other, keeps_number, moved_ones, numbers_moved, stays_put}
@@ -126,8 +126,7 @@ module _ (world : World ℕ) (new : Copies ℕ) (place : Location ℕ) (mounts :
       by : (b : Bool) → is_moved mounts mount.number ≡ b → LeftCase mount
       by true e =
           let origin = mover _ e in
-          came origin.0 origin.1
-          (cc (itself, origin.2, found_arrived origin.0 origin.1))
+          came origin.0 origin.1 (cc (itself, origin.2, found_arrived origin.0 origin.1))
       by false e = stayed (subst (λ x. Among x world.mounts) (sym (found_stayed _ e) ∙ itself)
           (found_there _ _ (cc (same_numbers, is_one_of left.mounts mount m))))
 
@@ -146,8 +145,7 @@ module _ (world : World ℕ) (new : Copies ℕ) (place : Location ℕ) (mounts :
 
   placed : (origin : Mount ℕ) (b : Bool) → nat_eq origin.number may.top.number ≡ b
       → (arrived origin).mount_point ≡ Some (landing origin.mount_point b)
-  placed origin b e = ap (λ c. Some (landing origin.mount_point c))
-      (cc (may.is_tree))
+  placed origin b e = ap (λ c. Some (landing origin.mount_point c)) (cc (may.is_tree))
 
   top_place : (origin : Mount ℕ) → nat_eq origin.number may.top.number ≡ true
       → (arrived origin).mount_point ≡ Some place
@@ -166,8 +164,7 @@ module _ (world : World ℕ) (new : Copies ℕ) (place : Location ℕ) (mounts :
       eq-eqb number may.top.number (cc)
 
   same_mover : (a b : Mount ℕ) → Among a mounts → Among b mounts → a.number ≡ b.number → a ≡ b
-  same_mover a b m n same =
-      cc (found_itself mounts may.own a m, same, found_itself mounts may.own b n)
+  same_mover a b m n same = cc (found_itself mounts may.own a m, same, found_itself mounts may.own b n)
 
   data ArrivedPlace (origin : Mount ℕ) : Type 0 where
     at_place : nat_eq origin.number may.top.number ≡ true → (arrived origin).mount_point ≡ Some place
@@ -190,8 +187,7 @@ module _ (world : World ℕ) (new : Copies ℕ) (place : Location ℕ) (mounts :
 
   -- Standing
   stayed_stands : (number : ℕ) → Stands nat_eq world number → is_moved mounts number ≡ false → Stands nat_eq left number
-  stayed_stands number (at_root it e) other =
-      at_root it (cc (found_stayed it other))
+  stayed_stands number (at_root it e) other = at_root it (cc (found_stayed it other))
   stayed_stands number (on_parent it on e f stands) other = by _ refl (stayed_stands _ stands)
     where
       by : (b : Bool) → is_moved mounts on.mount ≡ b
@@ -208,8 +204,7 @@ module _ (world : World ℕ) (new : Copies ℕ) (place : Location ℕ) (mounts :
 
   top_stands : (origin : Mount ℕ) → Among origin mounts → nat_eq origin.number may.top.number ≡ true
       → Stands nat_eq left origin.number
-  top_stands origin m e = on_parent origin.number place
-      (cc (found_arrived origin m, top_place origin e))
+  top_stands origin m e = on_parent origin.number place (cc (found_arrived origin m, top_place origin e))
       (cc (found_arrived origin m, found_stayed place.mount may.outside)) destination_stands
 
   moved_stands : (number : ℕ) → Hangs mounts number → (origin : Mount ℕ) → Among origin mounts
@@ -262,29 +257,26 @@ module _ (world : World ℕ) (new : Copies ℕ) (place : Location ℕ) (mounts :
       number = cc (arrived_number (twig origin))
 
       by : ArrivedPlace origin → LeftPlace mount
-      by (at_place f g) =
-          at_destination (cc number) (cc e)
-      by (as_before on f g) =
-          as_it_was origin (may.inside origin m) (sym number) (cc e)
+      by (at_place f g) = at_destination (cc number) (cc e)
+      by (as_before on f g) = as_it_was origin (may.inside origin m) (sym number) (cc e)
 
   pub places_left : OneMountAMountPoint world.mounts → child_at nat_eq world.mounts place ≡ None
       → OneMountAMountPoint left.mounts
-  places_left places free = pair_by test _ one_left (λ a b m n differ.
+  places_left places free = pair_by share _ one_left (λ a b m n differ.
       by a b (left_place a (left_case a m)) (left_place b (left_case b n)) differ)
     where
       -- none stood at the place
       not_there : (old : Mount ℕ) → Among old world.mounts → old.mount_point ≡ Some place → ⊥
-      not_there old m e =
-          cc (stands_at_its_place place old e, unfound (stands_at nat_eq place) world.mounts free old m)
+      not_there old m e = cc (stands_at_its_place place old e, unfound (stands_at nat_eq place) world.mounts free old m)
 
-      by : (a b : Mount ℕ) → LeftPlace a → LeftPlace b → same_number a b ≡ false → test a b ≡ false
+      by : (a b : Mount ℕ) → LeftPlace a → LeftPlace b → same_number a b ≡ false → share a b ≡ false
       by a b (at_destination e f) (at_destination g h) differ = absurd (true≢false (sym (eq-eqb a.number b.number
           (eqb-true a.number may.top.number e ∙ sym (eqb-true b.number may.top.number g))) ∙ differ))
       by a b (at_destination e f) (as_it_was old m g h) differ = false_from_ne_true _ (λ both.
-          let t = one_place a b both in
+          let t = place_of_both a b both in
           not_there old m (cc (t.2, same_Some place t.0 (sym f ∙ t.1))))
       by a b (as_it_was old m g h) (at_destination e f) differ = false_from_ne_true _ (λ both.
-          let t = one_place a b both in
+          let t = place_of_both a b both in
           not_there old m (cc (t.1, same_Some place t.0 (sym f ∙ t.2))))
       by a b (as_it_was old m e f) (as_it_was other n g h) differ =
           ap (beside b.mount_point) f ∙ ap (λ p. beside p old.mount_point) h ∙ two_of _ places old other m n

@@ -123,9 +123,7 @@ module _ (world : World ℕ) (new : Copies ℕ) (place : Location ℕ) (moves : 
       (λ taker. (part, contains_from_among _ part (taker_there world place part taker), e)) m
     where
       there : destination.namespace ≡ Some namespace → HasOne world namespace
-      there f = ⊎_elim (λ l. (destination, contains_from_among _ _ l, f))
-          (λ none. absurd cc)
-          (found_or_none _ _)
+      there f = ⊎_elim (λ l. (destination, contains_from_among _ _ l, f)) (λ none. absurd cc) (found_or_none _ _)
 
   attached_namespaces : ((x : Mount ℕ) → Among x left → (namespace : ℕ) → x.namespace ≡ Some namespace
       → HasOne world namespace) → StaysInNamespaces world after

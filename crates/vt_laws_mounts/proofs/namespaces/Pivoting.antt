@@ -102,12 +102,10 @@ module _ {world : World ℕ} {namespace : ℕ} {root new : Mount ℕ} {put : Loc
 
   -- a mount with the number of one of them is it
   pub is_new : (mount : Mount ℕ) → Among mount world.mounts → nat_eq mount.number new.number ≡ true → mount ≡ new
-  is_new mount m e =
-      cc (found_itself _ mounts.one_number mount m, eqb-true mount.number new.number e, may.new_there)
+  is_new mount m e = cc (found_itself _ mounts.one_number mount m, eqb-true mount.number new.number e, may.new_there)
 
   pub is_root : (mount : Mount ℕ) → Among mount world.mounts → nat_eq mount.number root.number ≡ true → mount ≡ root
-  is_root mount m e =
-      cc (found_itself _ mounts.one_number mount m, eqb-true mount.number root.number e, may.root_there)
+  is_root mount m e = cc (found_itself _ mounts.one_number mount m, eqb-true mount.number root.number e, may.root_there)
 
   -- what becomes of each
   abbrev moved_if : Bool → Bool → Mount ℕ → Mount ℕ

@@ -133,8 +133,7 @@ each_is_copied it part origin can c d = record {
 }
 
 pub copies_are_new : CopiesAreNew
-copies_are_new it part origin can c d e =
-    cc (e, number_new it can part origin c d)
+copies_are_new it part origin can c d e = cc (e, number_new it can part origin c d)
 
 pub first_stands_on_its_part : FirstStandsOnItsPart
 first_stands_on_its_part it part first rest can c e = first_stands it can part first rest c e

@@ -95,8 +95,7 @@ module _ {it : Attachment} {group : ℕ} {origin : Mount ℕ} (at : AtSharedMoun
         source = one;
         near = one;
         of_part = ap source_of e;
-        nearest =
-            itself one (any_from_among (is_member_of nat_eq one) (parts at) part m (shared_member one part e));
+        nearest = itself one (any_from_among (is_member_of nat_eq one) (parts at) part m (shared_member one part e));
         of_copy = ap source_of (copy_shared it at.can part origin one c of_tree e);
       }
       by (Slave master) e =
@@ -174,8 +173,7 @@ module _ {it : Attachment} {group : ℕ} {origin : Mount ℕ} (at : AtSharedMoun
             ∙ up_among it.world at.can.groups source one (sourced it at.can origin at.of_tree source e) way
 
         back : receives nat_eq after one (copy part) ≡ true → receives nat_eq it.world one origin ≡ true
-        back r = ⊎_elim
-            (λ t. ⊎_elim (λ own. from_beyond (one, cc (own.1, t.3), here one))
+        back r = ⊎_elim (λ t. ⊎_elim (λ own. from_beyond (one, cc (own.1, t.3), here one))
             (λ new. absurd (cc (lived, t.3, new.unused))) (image_is at t.0 t.2))
             from_beyond (copy_heard one r)
 

@@ -140,8 +140,7 @@ module _ {it : Attachment} {group : ℕ} {origin : Mount ℕ} (at : AtSharedMoun
       same = image_in it.mount_point it.moves serve at.can.each_once origin group at.shared
 
       new : image group ≡ new_image group → (kind : Propagation ℕ) → origin.propagation ≡ kind
-          → up (new_image group) ≡ source_of kind
-          → IsOwnGroup group ⊎ IsNewUnderSource
+          → up (new_image group) ≡ source_of kind → IsOwnGroup group ⊎ IsNewUnderSource
       new e kind f g = inr (
         record {
           made = e;
@@ -153,8 +152,7 @@ module _ {it : Attachment} {group : ℕ} {origin : Mount ℕ} (at : AtSharedMoun
         cc (e, f, g),
       )
 
-      by : (kind : Propagation ℕ) → origin.propagation ≡ kind
-          → IsOwnGroup group ⊎ IsNewUnderSource
+      by : (kind : Propagation ℕ) → origin.propagation ≡ kind → IsOwnGroup group ⊎ IsNewUnderSource
       by (Shared old) e = inl (refl, cc (same, e))
       by (Slave master) e = new (cc (same, e)) _ e
           (master_there it.mount_point it.moves serve at.can.each_once origin at.of_tree group at.shared _ e refl)
@@ -183,8 +181,7 @@ module _ {it : Attachment} {group : ℕ} {origin : Mount ℕ} (at : AtSharedMoun
 
   -- two groups have two images
   pub same_image : (one other : ℕ) → has one ≡ true → has other ≡ true → image one ≡ image other → one ≡ other
-  same_image one other h h_other e = ⊎_elim
-      (λ own. ⊎_elim (λ own_too. cc (own.0, own_too.0))
+  same_image one other h h_other e = ⊎_elim (λ own. ⊎_elim (λ own_too. cc (own.0, own_too.0))
       (λ new. absurd (cc (own_lives _ _ own.1 (here (image one)), e, new.unused))) (image_is other h_other))
       (λ new. ⊎_elim (λ own. absurd (cc (own_lives _ _ own.1 (here (image other)), e, new.unused)))
       (λ new_too. (serve.apart one origin.number other origin.number h of_tree h_other of_tree
@@ -277,8 +274,7 @@ module _ {it : Attachment} {group : ℕ} {origin : Mount ℕ} (at : AtSharedMoun
   above_image from one (here top) near h p = inl (near, here near, h, p)
   above_image from one (above same next end e way) near h p = ⊎_elim
       (λ same. ⊎_elim (λ is. inl (near, here near, h, cc (same, is))) inr
-      (above_group end (above (image group) next end (cc (e, p, same)) way)))
-      (λ lower.
+      (above_group end (above (image group) next end (cc (e, p, same)) way))) (λ lower.
       let t = next_image near lower.0 h lower.1 lower.2 in
       image_further near lower.0 t.0 end lower.1 t.1 (above_image next end way t.0
       (nearest_passes _ has lower.0 t.0 t.1) (same_Some next (image t.0) (cc (e, p, t.2)))))

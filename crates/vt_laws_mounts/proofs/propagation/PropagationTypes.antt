@@ -40,8 +40,7 @@ module _ {world : World ℕ} {new : Copies ℕ} (place : Location ℕ) (moves : 
   nearest_group group = find (has_members nat_eq all_parts) (groups_up world group)
 
   part_itself : (part : Mount ℕ) → Among part all_parts → nat_eq part.number place.mount ≡ true → part ≡ there
-  part_itself part m same = ⊎_elim (λ e. e)
-      (λ rest. absurd (cc (not_there world new place moves mounts part rest))) m
+  part_itself part m same = ⊎_elim (λ e. e) (λ rest. absurd (cc (not_there world new place moves mounts part rest))) m
 
   pub kind_there : (origin : Mount ℕ) → kind there origin ≡ (of_tree origin).propagation
   kind_there origin = ap (λ b. if b then (of_tree origin).propagation
@@ -73,8 +72,7 @@ module _ {world : World ℕ} {new : Copies ℕ} (place : Location ℕ) (moves : 
   pub slave_kind : (part origin : Mount ℕ) (master group : ℕ) → nat_eq part.number place.mount ≡ false
       → part.propagation ≡ Slave master → nearest_group master ≡ Some group
       → kind part origin ≡ Slave (image_of origin group)
-  slave_kind part origin master group f e near =
-      cc (kind_away part origin f, e, near)
+  slave_kind part origin master group f e near = cc (kind_away part origin f, e, near)
 
   -- the image of another group than the destination's is new
   pub image_new : (origin : Mount ℕ) → Among origin mounts → (group : ℕ) → has_members nat_eq all_parts group ≡ true

@@ -90,8 +90,7 @@ climb world mount group other (above it next end e way) r =
 
 from_source : (world : World ℕ) (mount : Mount ℕ) (source : ℕ) → source_of mount.propagation ≡ Some source
     → Receives world source mount
-from_source world mount source e =
-    grind (arith, common_steps, member, slave)
+from_source world mount source e = grind (arith, common_steps, member, slave)
 
 -- a mount hears of each group up from its source,
 pub hears : (world : World ℕ) → GroupsLive world → (mount : Mount ℕ) → Among mount world.mounts → (source group : ℕ)

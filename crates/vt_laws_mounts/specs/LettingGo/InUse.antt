@@ -57,7 +57,7 @@ UppersArePlain world =
     All (λ filesystem. is_overlay filesystem ≡ true
     → All (λ merged. has_upper_in filesystem.number merged ≡ false) world.filesystems) world.filesystems
 
--- Where all is in use the sweep leaves the world: a call that took no use away leaves all.
+-- Where all is in use the sweep leaves the world as it was: a call that took no use away leaves all.
 abbrev pub NothingGoes : Type 0
 NothingGoes = (world : World ℕ) → AllInUse world → settled nat_eq world ≡ world
 

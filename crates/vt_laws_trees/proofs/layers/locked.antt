@@ -3,5 +3,6 @@ pub mod Apart
 pub mod Change
 pub mod EachCall
 pub mod EveryCall
+pub mod Layers
 pub mod Paths
 pub mod Walks

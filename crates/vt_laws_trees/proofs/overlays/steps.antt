@@ -1,6 +1,7 @@
 -- What the proofs of src/steps.rt use.
 pub mod WholeAttributes
 pub mod WholeCopied
+pub mod WholeFree
 pub mod WholeGrown
 pub mod WholeLeft
 pub mod WholeLines

@@ -4,6 +4,7 @@ pub mod ApartLater
 pub mod ApartPairs
 pub mod ApartPaths
 pub mod ApartReached
+pub mod ApartThere
 pub mod UpperGoes
 pub mod UpperLimits
 pub mod UpperMade

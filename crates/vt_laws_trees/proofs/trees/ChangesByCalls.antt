@@ -41,8 +41,7 @@ pub more_filesystems : (world after_call : World ℕ) (filesystem : Filesystem �
     → after_call.filesystems ≡ world.filesystems ++ (filesystem ∷ [])
     → is_overlay filesystem ≡ false → IsFileTree filesystem.files → IsWorldOfTrees world → IsWorldOfTrees after_call
 more_filesystems world after_call filesystem same plain tree conditions = record {
-  plain = subst (All (λ f. is_overlay f ≡ false)) (sym same)
-      (new_is_plain world filesystem plain conditions.plain);
+  plain = subst (All (λ f. is_overlay f ≡ false)) (sym same) (new_is_plain world filesystem plain conditions.plain);
   trees = subst (All (λ f. IsFileTree f.files)) (sym same) (All-append (λ f. IsFileTree f.files) world.filesystems
       (filesystem ∷ []) conditions.trees (All-cons (λ f. IsFileTree f.files) filesystem [] tree (All-nil _)));
 }

@@ -69,8 +69,7 @@ module _ (files : FileTree ℕ) {directory : ℕ} {name : List ℕ} {object : �
         ∙ ⊎_elim (λ new. cc (new.2, may.is_there)) (λ old. conditions.alive d n k old.0) (linked_told d n k e);
     kept = λ d n k e is. ⊎_elim (λ same. none_is_not _ k may.name_is_free.free (cc (same.0, same.1)))
         inr (given_kept files directory name object may.name_is_free.in_directory d n k e);
-    told = λ d n k e is. ⊎_elim
-        (λ new. absurd (cc (new.2, may.no_directory)))
+    told = λ d n k e is. ⊎_elim (λ new. absurd (cc (new.2, may.no_directory)))
         (λ old. inr (old.0, λ nobody. nobody)) (linked_told d n k e);
     decided = λ k. inr (λ nobody. nobody);
     arrives_entry = λ d n k nobody. absurd nobody;
@@ -150,8 +149,7 @@ module _ (files : FileTree ℕ) {directory : ℕ} {name : List ℕ} {object : �
     in_order = λ d. cc (removed_entries d, untaken_in_order files directory name conditions.in_order d);
     alive = λ d n k e. removed_used k ∙ conditions.alive d n k (removed_told d n k e).0;
     kept = λ d n k e is. ⊎_elim (λ same. inl (same_Some k object (cc (same.0, same.1, may.named))))
-        (λ entry. inr (removed_entry d n ∙ entry))
-        (untaken_kept files directory name d n k e);
+        (λ entry. inr (removed_entry d n ∙ entry)) (untaken_kept files directory name d n k e);
     told = λ d n k e is.
         let old = removed_told d n k e in
         inr (

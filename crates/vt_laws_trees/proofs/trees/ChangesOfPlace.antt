@@ -83,8 +83,7 @@ module _ (files : FileTree ℕ) {from : ℕ} {old : List ℕ} {to : ℕ} {new : 
   -- each entry stays, but for those of the old and the new name
   moved_kept : (d : ℕ) (n : List ℕ) (k : ℕ) → entry_at files.tree d n ≡ Some k
       → LeavesName k ⊎ (entry_at moved.tree d n ≡ Some k)
-  moved_kept d n k e = ⊎_elim (λ same. inl
-      (inl (same_Some k object (cc (same.0, same.1, may.named))))) (λ first. ⊎_elim
+  moved_kept d n k e = ⊎_elim (λ same. inl (inl (same_Some k object (cc (same.0, same.1, may.named))))) (λ first. ⊎_elim
       (λ same. inl (inr (cc (same.0, same.1))))
       (λ second. inr (moved_entry d n ∙ second)) (given_kept untaken to new object to_there d n k first))
       (untaken_kept unparented from old d n k (first_entry d n ∙ e))
@@ -133,8 +132,7 @@ module _ (files : FileTree ℕ) {from : ℕ} {old : List ℕ} {to : ℕ} {new : 
     was_empty = may.replaced_empty k gone;
     is_empty = moved_empty k (λ same. no_entries files.tree k new k (may.replaced_empty k gone)
         (cc)) (may.replaced_empty k gone);
-    own_parent = moved_first_parent k (λ same. may.replaced_other (cc))
-        ∙ unparented_own files replaced k gone;
+    own_parent = moved_first_parent k (λ same. may.replaced_other (cc)) ∙ unparented_own files replaced k gone;
   }
 
   moved_decided : (k : ℕ) → LeavesName k ⊎ (¬ (LeavesName k))
@@ -147,8 +145,7 @@ module _ (files : FileTree ℕ) {from : ℕ} {old : List ℕ} {to : ℕ} {new : 
     in_order = λ d. ap (is_sorted name_cmp) (moved_entries d) ∙ given_in_order untaken to new object to_there
         (untaken_in_order unparented from old (λ m. ap (is_sorted name_cmp) (entries-without_parent files replaced m)
         ∙ conditions.in_order m)) d;
-    alive = λ d n k e. moved_used k ∙ ⊎_elim
-        (λ arrives. cc (arrives.2, conditions.alive from old object may.named))
+    alive = λ d n k e. moved_used k ∙ ⊎_elim (λ arrives. cc (arrives.2, conditions.alive from old object may.named))
         (λ before. conditions.alive d n k before.0) (moved_told d n k e);
     kept = λ d n k e is. moved_kept d n k e;
     told = λ d n k e is. ⊎_elim inl (λ before. inr (
@@ -157,8 +154,7 @@ module _ (files : FileTree ℕ) {from : ℕ} {old : List ℕ} {to : ℕ} {new : 
           (λ gone. before.2 (only_name files.tree conditions to new k gone d n k before.0 is refl)),
     )) (moved_told d n k e);
     decided = moved_decided;
-    arrives_entry =
-        λ d n k arrives. cc (arrives.0, arrives.1, moved_new, arrives.2);
+    arrives_entry = λ d n k arrives. cc (arrives.0, arrives.1, moved_new, arrives.2);
     arrives_leaves = λ d n k arrives. inl arrives.2;
     arrives_once = λ d other n again k arrives once. arrives.1 ∙ sym once.1;
     arrives_reached = λ d n k arrives. subst (IsReached moved.tree) (sym arrives.0) to_reached;

@@ -181,8 +181,7 @@ module _ (world : World ℕ) (trees : All (λ (f : Filesystem ℕ). IsTree f.fil
         (λ here. walk_unless here.steps (slash_rules nat_eq world path here.location) here)
         (λ here. ends_unless (λ h. is_some (node_at nat_eq world h.location) ≡ true) here.steps
         (slash_rules nat_eq world path here.location) here (λ passed. directory_there here.location
-        (not-false (is_directory_at nat_eq world here.location)
-        (cc (passed.0)))))
+        (not-false (is_directory_at nat_eq world here.location) (cc (passed.0)))))
     link_there_by path false slash = ends_then (λ text. (ends_in_slash text ≡ false) × (is_empty text ≡ false))
         (λ here. is_some (node_at nat_eq world here.location) ≡ true) (path_text path)
         (λ text. then_walk (prefix_walked nat_eq world task (followed nat_eq world task) (walk_start task text)

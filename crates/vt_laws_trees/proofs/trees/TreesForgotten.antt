@@ -13,8 +13,7 @@ among_flat_map f (z ∷ zs) x y h k = by (nat_eq x z) refl (λ e. among_flat_map
   where
     by : (b : Bool) → nat_eq x z ≡ b → (list_any (nat_eq x) zs ≡ true → is_among nat_eq y (flat_map f zs) ≡ true)
         → (b || list_any (nat_eq x) zs) ≡ true → is_among nat_eq y (f z ++ flat_map f zs) ≡ true
-    by true same rest e = is_among_left y (f z) (flat_map f zs)
-        (cc (eqb-true x z same))
+    by true same rest e = is_among_left y (f z) (flat_map f zs) (cc (eqb-true x z same))
     by false differ rest e = is_among_right y (f z) (flat_map f zs) (rest e)
 
 -- the named ones are those that have a name
@@ -56,8 +55,7 @@ module _ (used : List ℕ) (files : FileTree ℕ) (holds : HoldsTree used files)
 
   entry_kept : (directory : ℕ) (name : List ℕ) (number : ℕ) → entry_at files.tree directory name ≡ Some number
       → entry_at kept directory name ≡ Some number
-  entry_kept directory name number e =
-      cc (kept_node directory (entry_used directory name number e), e)
+  entry_kept directory name number e = cc (kept_node directory (entry_used directory name number e), e)
 
   entry_was : (directory : ℕ) (name : List ℕ) (number : ℕ) → entry_at kept directory name ≡ Some number
       → entry_at files.tree directory name ≡ Some number

@@ -52,8 +52,7 @@ found_within world name (first ∷ list) task h e = by (same_name name first.nam
 fork_given : (words : Option ForkWords) → names_few_groups (Fork words) ≡ true → (given : ForkWords)
     → words ≡ Some given → nat_le (length given.groups) 32 ≡ true
 fork_given None few given e = none_is_not None given refl e
-fork_given (Some words) few given e =
-    cc (e, few)
+fork_given (Some words) few given e = cc (e, few)
 
 module _ (fresh : Fresh ℕ) (world : World ℕ) (task : Task ℕ) (small : HasSmallTasks world)
     (is : is_within_limits task ≡ true) where

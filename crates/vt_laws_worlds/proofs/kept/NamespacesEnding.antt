@@ -159,8 +159,7 @@ module _ (world : World ℕ) (fresh : Fresh ℕ) (task : Task ℕ) (serves : Ser
 
   unshared_roots : HaveRoots after
   unshared_roots namespace m = ⊎_elim (λ old. cc (
-    unshare_leaves_namespaces world fresh task namespace.number
-        (another namespace old),
+    unshare_leaves_namespaces world fresh task namespace.number (another namespace old),
     are.roots namespace old,
   )) (λ last. ⊎_elim (λ e.
       let own = are.listed.of_tasks task there in

@@ -155,8 +155,7 @@ pub writers_alike : (one other : World ℕ) → ((location : Location ℕ) → h
 writers_alike one other layers tasks well = tasks (list_all (writes_to_a_layer other))
     ∙ (λ i. list_all (λ (task : Task ℕ). list_all
     (λ (descriptor : Descriptor ℕ). not (descriptor.writes && layers descriptor.location i)) task.descriptors)
-    one.tasks)
-    ∙ well
+    one.tasks) ∙ well
 
 pub same_worlds_have_layers_alike : SameWorldsHaveLayersAlike
 same_worlds_have_layers_alike one other same = writers_alike one other layers tasks

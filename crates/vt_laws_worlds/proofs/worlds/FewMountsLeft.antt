@@ -126,8 +126,7 @@ module _ (fresh : Fresh ℕ) (world : World ℕ) (whole : IsWorld nat_eq world) 
   unshared_few : has_too_many nat_eq (unshared nat_eq world fresh task) ≡ false
   unshared_few = none_from_among (λ (n : Namespace ℕ). nat_lt most_mounts (count_in (world.mounts ++ copies) n.number))
       (world.namespaces ++ (record { number = new; change = 0 } ∷ [])) (λ namespace m.
-      by _ _ refl
-      (among-append world.namespaces (record { number = new; change = 0 } ∷ []) namespace m))
+      by _ _ refl (among-append world.namespaces (record { number = new; change = 0 } ∷ []) namespace m))
     where
       by : (namespace : Namespace ℕ) (b : Bool) → nat_eq namespace.number new ≡ b
           → Among namespace world.namespaces ⊎ Among namespace (record { number = new; change = 0 } ∷ [])

@@ -233,8 +233,7 @@ module _ {world : World ℕ} {fresh : Fresh ℕ} {task : Task ℕ} (is : IsWorld
 module _ (world : World ℕ) (fresh : Fresh ℕ) (task : Task ℕ) (permit : Permit ℕ) (is : IsWorld nat_eq world)
     (serves : Serves nat_eq world fresh) (called : task_called world task.name ≡ Some task)
     (fits : IsFitPermit fresh world task permit) (writes : HasLayerToWrite world permit) where
-  placed_later : ArePlaced (after is serves called permit)
-      (after is serves called permit).tasks
+  placed_later : ArePlaced (after is serves called permit) (after is serves called permit).tasks
   placed_later = permits_keep_tasks_placed is serves called permit fits.names writes
 
   pub locations_stay : LocationsAreThere (after is serves called permit)

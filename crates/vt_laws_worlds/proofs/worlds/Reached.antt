@@ -126,8 +126,7 @@ module _ (world : World ℕ) (whole : IsWorld nat_eq world) (task : Task ℕ) wh
               (number-mount_in world.mounts place.mount)
               (is_one_of world.mounts (mount_numbered nat_eq world place.mount) found))
               (λ none. absurd (placed_inside world whole.mounts mount there place e
-              (below ∙ ap (λ (m : Mount ℕ). m.namespace) none)))
-              (found_or_none world.mounts place.mount),
+              (below ∙ ap (λ (m : Mount ℕ). m.namespace) none))) (found_or_none world.mounts place.mount),
           ap (λ o. list_all (nat_eq task.namespace) (option_to_list o)) (sym below) ∙ on.1,
         ),
         among_from_all (λ (m : Mount ℕ). (at : Location ℕ) → m.mount_point ≡ Some at

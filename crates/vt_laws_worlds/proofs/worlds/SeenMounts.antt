@@ -48,8 +48,7 @@ attached_seen world fresh place mounts =
     let new = supplied world fresh place mounts in
     seen_by_mounts world _ refl (λ number is. cc (
       numbers_attached world new place false mounts,
-      is_among_left number
-          (numbers_of world.mounts) (numbers_of (others world new place false mounts)) is,
+      is_among_left number (numbers_of world.mounts) (numbers_of (others world new place false mounts)) is,
     )) (λ number is.
     let kept = attach_keeps_mounts world fresh place mounts number is in
     record {

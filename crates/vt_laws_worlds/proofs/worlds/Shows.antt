@@ -1,14 +1,16 @@
 -- What mounts show, and where they stand, stays there when mounts are taken away, changed or copied.
-use Rattle.std.proofs.Common.{arith, ◌≡◌, refl, sym, ap, subst, ◌∙◌, ⊎_elim, ℕ, nat_eq, eqb-true, eq-eqb, Bool, true, false, true≢false, List, [], ◌∷◌, Option, Some, None, is_some, length, map, option_map, if◌then◌else◌, option_to_list}
-use Rattle.vt_spec.proofs.Common.{Among, Fresh, IsWorld, Location, Mount, MountFlags, Serves, Stands, Task, TypeWord, World, after_going, among-append, among-filter, among-from_filter, among-from_map, among_from_all, among_from_list_all, and_from, and_parts, at_root, common_steps, copied_mount, deepest_first, detached, directory_is_there, evens, folded, has_its_root, holds_of, inheriting, is_directory_at, is_directory_node, lazily_unmounted, list_all, list_all_from_among, location_on_copy, mount_at, mount_numbered, mount_point_left, mount_point_of_parent, mount_tree, mounts_of, named_mounts, namespaces_ended, node_at, number-mount_in, numbers_by, odds, on_parent, pivoted, pivoted_mount, replaced_if_same, same_Some, taken_away, unmounted, unmounted_if_there, unshared, with_mount, with_mounts, with_type}
+use Rattle.std.proofs.Common.{◌≡◌, refl, sym, ap, subst, ◌∙◌, ⊎_elim, ℕ, nat_eq, eqb-true, eq-eqb, Bool, true, false, List, [], ◌∷◌, Option, Some, None, is_some, length, map, option_map, if◌then◌else◌, option_to_list}
+use Rattle.vt_spec.proofs.Common.{Among, Fresh, IsWorld, Location, Mount, MountFlags, Serves, Task, TypeWord, World, after_going, among-append, among-filter, among-from_filter, among-from_map, among_from_list_all, and_from, and_parts, copied_mount, deepest_first, detached, directory_is_there, evens, folded, has_its_root, holds_of, inheriting, is_directory_at, is_directory_node, lazily_unmounted, list_all, list_all_from_among, location_on_copy, mount_at, mount_numbered, mount_point_left, mount_point_of_parent, mount_tree, mounts_of, named_mounts, namespaces_ended, node_at, number-mount_in, numbers_by, odds, pivoted, pivoted_mount, replaced_if_same, same_Some, taken_away, unmounted, unmounted_if_there, unshared, with_mount, with_mounts, with_type}
 use Rattle.vt_laws_mounts.specs.Mounts.Attaching.{is_mount}
 use Rattle.vt_laws_mounts.proofs.Groups.{mounts-regrouped}
 use Rattle.vt_laws_mounts.proofs.mounts.MountsFound.{found_there}
 use Rattle.vt_laws_mounts.proofs.mounts.MountsRetyped.{between, groups_by, retype, retype_keeps}
 use Rattle.vt_laws_mounts.proofs.ends.Unmounting.{middle}
+use Rattle.vt_laws_mounts.proofs.letting_go.mounting.MountsSwept.{beside_parent}
+use Rattle.vt_laws_mounts.proofs.namespaces.Unsharing.{stands_on_mount}
 use Rattle.vt_laws_worlds.specs.Worlds.Kept.{MountsShow}
 use Rattle.vt_laws_worlds.proofs.worlds.PermitsSeen.{unshared_seen}
-use Rattle.vt_laws_worlds.proofs.worlds.Roots.{copy_stands, in_own, is_numbered, itself, last_has, own_there}
+use Rattle.vt_laws_worlds.proofs.worlds.Roots.{copy_stands, in_own, last_has, own_there}
 use Rattle.vt_laws_worlds.proofs.worlds.Seen.{KeepsWhatIsSeen, directory_after, directory_kept, seen_alike}
 use Rattle.vt_laws_worlds.proofs.worlds.SeenMounts.{flags_seen, pivoted_seen, retyped_seen, taken_seen}
 use Rattle.vt_laws_trees.specs.Trees.Settling.{inode_in}
@@ -63,33 +65,6 @@ mounts_show world shows = list_all_from_among (has_its_root nat_eq world) world.
     by (Some place) h = and_from _ true (h place refl) refl
 
 module _ (world : World ℕ) (is : IsWorld nat_eq world) where
-  -- where a mount stands is on a mount of its namespace
-  pub parent_namespace : (mount : Mount ℕ) → Among mount world.mounts → (place : Location ℕ)
-      → mount.mount_point ≡ Some place → mount.namespace ≡ (mount_at nat_eq world place).namespace
-  parent_namespace mount m place at =
-      by (among_from_all (λ (x : Mount ℕ). Stands nat_eq world x.number) world.mounts is.mounts.standing mount m)
-      (itself world is mount m)
-    where
-      by : Stands nat_eq world mount.number → mount_numbered nat_eq world mount.number ≡ mount
-          → mount.namespace ≡ (mount_at nat_eq world place).namespace
-      by (at_root number e) same = cc
-      by (on_parent number other e namespace later) same =
-          let it : Some other ≡ Some place = cc in
-          cc
-
-  placed_is_attached : (mount : Mount ℕ) → Among mount world.mounts → (place : Location ℕ)
-      → mount.mount_point ≡ Some place → is_some mount.namespace ≡ true
-  placed_is_attached mount m place at = grind (arith, common_steps, true≢false, among_from_list_all)
-
-  pub place_listed : (mount : Mount ℕ) → Among mount world.mounts → (place : Location ℕ)
-      → mount.mount_point ≡ Some place → is_mount world place.mount ≡ true
-  place_listed mount m place at = by _ refl
-    where
-      by : (o : Option ℕ) → (mount_at nat_eq world place).namespace ≡ o → is_mount world place.mount ≡ true
-      by None e = absurd (cc (placed_is_attached mount m place at, parent_namespace mount m place at))
-      by (Some own) e = subst (λ n. is_mount world n ≡ true) (number-mount_in _ _)
-          (is_numbered world is _ (own_there world is _ own e))
-
   pub world_shows : AllShow world
   world_shows mount m =
       let parts = and_parts (is_directory_node (inode_in world mount.filesystem mount.root))
@@ -98,7 +73,7 @@ module _ (world : World ℕ) (is : IsWorld nat_eq world) where
       record {
         root = parts.0;
         mount_point = λ place at. record {
-          listed = place_listed mount m place at;
+          listed = stands_on_mount world is.mounts mount m place at;
           directory = (and_parts (is_directory_at nat_eq world place) true
               (sym (ap (λ o. list_all (is_directory_at nat_eq world) (option_to_list o)) at) ∙ parts.1)).0;
         };
@@ -236,7 +211,7 @@ module _ (world : World ℕ) (fresh : Fresh ℕ) (task : Task ℕ) (is : IsWorld
       let parent = mount_at nat_eq world place in
       let on = (world_shows world is mount there.0).mount_point place at in
       let namespace : parent.namespace ≡ Some task.namespace =
-      sym (parent_namespace world is mount there.0 place at) ∙ is_own mount.namespace there.1 in
+      sym (beside_parent world is.mounts mount there.0 place at) ∙ is_own mount.namespace there.1 in
       let parent_copied : Among parent copied =
       among-filter (λ (x : Mount ℕ). holds_of (nat_eq task.namespace) x.namespace) world.mounts parent
       (found_there world.mounts place.mount on.listed)

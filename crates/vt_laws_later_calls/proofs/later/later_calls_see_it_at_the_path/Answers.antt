@@ -1,7 +1,8 @@
 mod Unlinked
+mod RenameParts
+mod FoundByName
 mod RenamedSeen
 mod RemovedSeen
-mod FoundByName
 mod DirectorySeen
 mod WaysFiles
 mod WrittenSeen

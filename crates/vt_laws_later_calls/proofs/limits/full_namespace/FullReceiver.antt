@@ -254,8 +254,7 @@ module _ (version : Version) where
 
     -- the last mount is granted
     line_4101 : policy nat_eq (numbers_for 4101) world (1 ∷ []) stacking ≡ granted Done full
-    line_4101 = stack_grows path_has_one_word filled.stack
-        (numbers_for 4101) plain_flags serves_4101 room
+    line_4101 = stack_grows path_has_one_word filled.stack (numbers_for 4101) plain_flags serves_4101 room
 
     -- the namespace has 4,096 mounts
     full_count : mount_count full 39 ≡ 4096
@@ -275,8 +274,7 @@ module _ (version : Version) where
 
     -- one mount is unmounted
     line_4103 : policy nat_eq (numbers_for 4103) full (1 ∷ []) (Umount (codes "/q")) ≡ granted Done left
-    line_4103 =
-        top_is_unmounted path_has_one_word filled.stack plain_flags serves_4101 room (numbers_for 4103)
+    line_4103 = top_is_unmounted path_has_one_word filled.stack plain_flags serves_4101 room (numbers_for 4103)
 
     -- the mount on the shared one is granted
     line_4104 : (policy nat_eq (numbers_for 4104) left [] mounting).answer ≡ Ok Done

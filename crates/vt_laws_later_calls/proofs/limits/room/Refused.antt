@@ -53,8 +53,7 @@ new_mount_needs_room world fresh name task path flags here is called admin walk 
 pub bind_needs_room : BindNeedsRoom
 unfolding bind_permit
 bind_needs_room world fresh name task source path recursive from here called admin from_walk walk none =
-    answered_by_table fresh name (Bind source path recursive) called refl
-    (ToBind from.location here.location recursive)
+    answered_by_table fresh name (Bind source path recursive) called refl (ToBind from.location here.location recursive)
     (take 2 (bind_rules nat_eq (looks_of nat_eq world) task from.location here.location false)) []
     (lacks_room world here.location (length (bind_tree nat_eq world from.location recursive)))
     (ap (λ b. unless ((b, K1) ∷ []) (and_then (walk_end (source_walk nat_eq world task source)) judged_from)) admin
@@ -76,8 +75,7 @@ bind_needs_room world fresh name task source path recursive from here called adm
 pub move_needs_room : MoveNeedsRoom
 unfolding move_permit
 move_needs_room world fresh name task source path from here is called admin from_walk walk none =
-    answered_by_table fresh name (MoveMount source path) called refl
-    (ToMove from.location.mount here.location)
+    answered_by_table fresh name (MoveMount source path) called refl (ToMove from.location.mount here.location)
     (take 5 (move_rules nat_eq (looks_of nat_eq world) task from.location here.location false))
     (drop 6 (move_rules nat_eq (looks_of nat_eq world) task from.location here.location false))
     (lacks_room_for_moved world here.location (tree_of world from.location.mount))

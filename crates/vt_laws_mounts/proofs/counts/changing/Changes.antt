@@ -51,8 +51,7 @@ module _ (base : ℕ → ℕ) (files : FileTree ℕ) (inodes : Inodes ℕ) (root
       (λ n gone. absurd (omega arith))
   moves from old to new object leads is (Some gone) finds may =
       Names.moved base node files.numbers inodes start from old to new object (Some gone) leads is finds
-      (other_if object gone (λ e. may.0 (sym e))) (λ n some. ⊎_elim
-      (λ t. cc (t.1, is_bare gone may.2))
+      (other_if object gone (λ e. may.0 (sym e))) (λ n some. ⊎_elim (λ t. cc (t.1, is_bare gone may.2))
       (λ t. absurd (let none : one_if n gone ≡ 0 = ap (λ b. cond b 1 0) t.0 in omega arith)) (eqb_tells n gone))
 
   tallied : (change : Change ℕ) → Fits inodes change → LinksWhatIsThere inodes change

@@ -108,8 +108,7 @@ module _ {base : ℕ → ℕ} {node : ℕ → Option (Node ℕ)} {numbers : List
 
 module _ {base : ℕ → ℕ} {node : ℕ → Option (Node ℕ)} {numbers : List ℕ} {inodes : Inodes ℕ}
     (start : IsStart base node numbers inodes) (directory : ℕ) (name : List ℕ) (object : ℕ)
-    (leads : entry_named name (entries_in (node directory)) ≡ Some object)
-    (empty : entries_in (node object) ≡ []) where
+    (leads : entry_named name (entries_in (node directory)) ≡ Some object) (empty : entries_in (node object) ≡ []) where
   abbrev uses_r : ℕ → ℕ
   uses_r = uses_of base node numbers
 
@@ -139,8 +138,7 @@ module _ {base : ℕ → ℕ} {node : ℕ → Option (Node ℕ)} {numbers : List
   one_less : (n : ℕ) → one_if n object + uses_of base node_removed numbers n ≡ uses_r n
   one_less n =
       let names = named_changed n node directory (node_without_entry name (node directory)) numbers
-      (once_directory base node numbers inodes start directory
-      (is_directory_off start directory name object leads)) in
+      (once_directory base node numbers inodes start directory (is_directory_off start directory name object leads)) in
       let same : times_in n (named_by node_removed numbers) ≡ times_in n (named_by node_less numbers) = ap (times_in n)
       (named_same numbers) in
       let off = off_targets start directory name object leads n in

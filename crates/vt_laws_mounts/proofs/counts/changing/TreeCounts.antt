@@ -56,8 +56,7 @@ changed_counts uses node inodes place change counted same none some = by _ refl
         node_kept n = ⊎_elim (λ t. ap node t.1 ∙ no_node ∙ sym (ap change no_node ∙ none)
             ∙ sym (ap (λ b. cond b (change (node place)) (node n)) t.0))
             (λ t. sym (ap (λ b. cond b (change (node place)) (node n)) t.0)) (eqb_tells n place)
-    by (Some inode) is = counted_changed counted place is change (some inode.node).0
-        (some inode.node).1
+    by (Some inode) is = counted_changed counted place is change (some inode.node).0 (some inode.node).1
 
 -- the nodes of inodes that are changed
 pub changed_same : (node : ℕ → Option (Node ℕ)) (inodes : Inodes ℕ) (place : ℕ)

@@ -126,8 +126,7 @@ at_place node place change = changed_at node place (change (node place))
 pub part_at : {A : Type 0} (part : Option (Node ℕ) → A) (node : ℕ → Option (Node ℕ)) (place : ℕ)
     (change : Option (Node ℕ) → Option (Node ℕ)) → part (change (node place)) ≡ part (node place) → (n : ℕ)
     → part (at_place node place change n) ≡ part (node n)
-part_at part node place change same n = ⊎_elim
-    (λ t. cc (t.0, t.1))
+part_at part node place change same n = ⊎_elim (λ t. cc (t.0, t.1))
     (λ t. ap (λ b. part (cond b (change (node place)) (node n))) t.0) (eqb_tells n place)
 
 pub at_other : (node : ℕ → Option (Node ℕ)) (place : ℕ) (change : Option (Node ℕ) → Option (Node ℕ)) (n : ℕ) → n ≢ place

@@ -11,8 +11,7 @@ use Rattle.vt_laws_mounts.specs.Counts.Going.{FilesystemGoesAtZero, MountGoesAtZ
 use Rattle.vt_laws_mounts.proofs.counts.using.Swept.{plain_of}
 
 pub mount_goes_at_zero : MountGoesAtZero
-mount_goes_at_zero world number one =
-    cc (mount_is_looked_up world number one, located_while_counted world number)
+mount_goes_at_zero world number one = cc (mount_is_looked_up world number one, located_while_counted world number)
 
 pub filesystem_goes_at_zero : FilesystemGoesAtZero
 filesystem_goes_at_zero world number plain = filesystem_is_looked_up world number

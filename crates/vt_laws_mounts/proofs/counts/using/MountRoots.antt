@@ -21,8 +21,7 @@ pub places_stand : PlacesStand
 places_stand world stand locations =
     list_all_from_among (is_on world.mounts) (all_locations world ++ places_of world.mounts) (λ location m.
     ⊎_elim (λ here. among_from_list_all (is_on world.mounts) (all_locations world) locations location here)
-    (λ places. ⊎_elim
-    (λ root. let from = among-from_map root_of world.mounts location root in
+    (λ places. ⊎_elim (λ root. let from = among-from_map root_of world.mounts location root in
     ap (is_on world.mounts) from.2 ∙ is_among_numbers from.0.number (map (λ mount. mount.number) world.mounts)
     (among-map (λ mount. mount.number) world.mounts from.0 from.1))
     (λ point. let from = among-from_filter_map (λ (mount : Mount ℕ). mount.mount_point) world.mounts location point in

@@ -92,11 +92,6 @@ module _ (world : World ℕ) (all : List (Mount ℕ)) (tasks : List (Task ℕ)) 
       (⊎_elim (among_from_list_all is_nowhere_or_attached world.mounts stand.nowhere mount)
       (λ in_one. or_left (is_some mount.namespace) _ in_one) (new mount m))
 
-  -- what a mount stands on is in a namespace
-  stands_in_one : (mount : Mount ℕ) → Among mount world.mounts → (at : Location ℕ) → mount.mount_point ≡ Some at
-      → is_some (mount_at nat_eq world at).namespace ≡ true
-  stands_in_one = place_attached world stand
-
   on_attached : (number : ℕ) → is_some (mount_numbered nat_eq world number).namespace ≡ true
       → is_going nat_eq ended number ≡ false
       → (other : Mount ℕ) → Among other last.mounts → other.number ≡ number → is_some other.namespace ≡ true
@@ -118,7 +113,7 @@ module _ (world : World ℕ) (all : List (Mount ℕ)) (tasks : List (Task ℕ)) 
           among-map change all mount (kept mount m),
           (
             same_place base ended lasting b mount at p parts.0 on,
-            inr (on_attached at.mount (stands_in_one mount m at p) on),
+            inr (on_attached at.mount (place_attached world stand mount m at p) on),
           ),
         ),
       )) (cases_Bool (loses_its_place ended mount))
@@ -242,8 +237,7 @@ module _ (world : World ℕ) (name : TaskName) where
       let from = among-from_flat_map locations_of world.tasks location m in
       ⊎_elim (λ is. inr (of_named from.0 from.1 is location from.2))
       (λ isnt. inl (among-flat_map locations_of (map (replaced_if_called task) world.tasks) from.0 location
-      (subst (λ t. Among t (map (replaced_if_called task) world.tasks))
-      (cc)
+      (subst (λ t. Among t (map (replaced_if_called task) world.tasks)) (cc)
       (among-map (replaced_if_called task) world.tasks from.0 from.1)) from.2))
       (cases_Bool (same_name name from.0.name))
 

@@ -254,8 +254,7 @@ module _ (files : FileTree ℕ) (listed : IsListedTree files) where
 
     new_is_named : is_among nat_eq number (named_in named) ≡ true
     new_is_named =
-        let has = node_has name number (with_it.tree.node directory)
-        (cc (of_directory, made.in_directory)) in
+        let has = node_has name number (with_it.tree.node directory) (cc (of_directory, made.in_directory)) in
         ap (λ n. is_among nat_eq n (named_in named)) (sym has.2)
         ∙ named_by named directory has.0 (inr (there directory made.in_directory))
         (subst (λ o. Among has.0 (entries_in o))
@@ -266,19 +265,15 @@ module _ (files : FileTree ℕ) (listed : IsListedTree files) where
       tree = after;
       root = refl;
       inodes = list_all_from_among (λ k. is_among nat_eq k files.numbers || is_among nat_eq k (named_in named))
-          named.numbers
-          (λ k m.
+          named.numbers (λ k m.
           ⊎_elim (λ new. or_right (is_among nat_eq k files.numbers) (is_among nat_eq k (named_in named))
-          (cc new_is_named))
-          (λ old. or_left (is_among nat_eq k files.numbers) (is_among nat_eq k (named_in named))
+          (cc new_is_named)) (λ old. or_left (is_among nat_eq k files.numbers) (is_among nat_eq k (named_in named))
           (is_among_numbers k files.numbers old)) m);
       names = all_names files named (option_to_list (entry_at files.tree directory name)) (λ d m e n.
           ⊎_elim (λ still. inl (d, e, inr m, still, refl))
-          (λ lost. inr (some_lost (entry_at files.tree directory name) e.1
-          (cc (of_directory, lost.1))))
+          (λ lost. inr (some_lost (entry_at files.tree directory name) e.1 (cc (of_directory, lost.1))))
           (one_changed with_it directory name (node_with_entry name number)
-          (node_keeps_given name number (with_it.tree.node directory))
-          (cc (of_directory, sorted directory)) d e
+          (node_keeps_given name number (with_it.tree.node directory)) (cc (of_directory, sorted directory)) d e
           (subst (λ o. Among e (entries_in o)) (sym (others d (has_some (files.tree.node d) e n))) n)));
     }
 
@@ -360,8 +355,7 @@ module _ (files : FileTree ℕ) (listed : IsListedTree files) where
         (λ lost. inr (some_lost replaced e.1 (was_there e.1 lost.1)))
         (one_changed left to new (node_with_entry new object)
         (node_keeps_given new object (left.tree.node to)) sorted_left d e still))
-        (λ gone. object_named e.1 (same_Some e.1 object
-        (cc (gone.1, same_apart from, moves.named))))
+        (λ gone. object_named e.1 (same_Some e.1 object (cc (gone.1, same_apart from, moves.named))))
         (one_changed apart from old (node_without_entry old) (node_keeps_taken old (apart.tree.node from))
         (cc (same_apart from, sorted from)) d e (subst (Among e) (sym (same_apart d)) n))
 

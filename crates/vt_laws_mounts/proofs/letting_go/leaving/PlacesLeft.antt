@@ -132,8 +132,7 @@ module _ (world : World ℕ) (tasks : List (Task ℕ)) (left : List (Location �
   dead_was_left mount m dead =
       let parts = or_parts (is_some mount.namespace) (is_located nat_eq after mount.number) dead in
       let lived = among_from_list_all (mount_lives nat_eq world) world.mounts in_use.mounts mount m in
-      let t = any_among (λ l. nat_eq mount.number l.mount) (all_locations world)
-      (cc (parts.0, lived)) in
+      let t = any_among (λ l. nat_eq mount.number l.mount) (all_locations world) (cc (parts.0, lived)) in
       let same : mount.number ≡ t.0.mount = eqb-true mount.number t.0.mount t.2 in
       ⊎_elim (λ stays. absurd (cc (located_lives mount t.0 stays same)))
       (λ gone. (t.0, gone, same)) (stays_or_left t.0 t.1)
@@ -150,8 +149,7 @@ module _ (world : World ℕ) (tasks : List (Task ℕ)) (left : List (Location �
   only_one : (mount : Mount ℕ) → Among mount world.mounts → mount_lives nat_eq after mount ≡ true
       → (other : Mount ℕ) → Among other world.mounts → other.number ≡ mount.number
       → mount_lives nat_eq after other ≡ true
-  only_one mount m lives other n e =
-      cc (found_mount other n, e, found_mount mount m, lives)
+  only_one mount m lives other n e = cc (found_mount other n, e, found_mount mount m, lives)
 
   -- the filesystem of a mount that went was left
   pub filesystem_left : (mount : Mount ℕ) → Among mount world.mounts → (location : Location ℕ) → Among location left
@@ -245,8 +243,7 @@ module _ (world : World ℕ) (tasks : List (Task ℕ)) (left : List (Location �
         (filter_map (λ x. x.mount_point) mounted.mounts) (root_of mount)
         (among-append_right (all_locations after) (map root_of mounted.mounts) (root_of mount)
         (among-map root_of mounted.mounts mount (among-filter (mount_lives nat_eq after) world.mounts mount m lives))))
-        (cc (found_still mount.number (only_one mount m lives)))))
-        (λ dead. let gone = dead_was_left mount m dead in
+        (cc (found_still mount.number (only_one mount m lives))))) (λ dead. let gone = dead_was_left mount m dead in
         may_go gone.0 gone.1 (cc (gone.2)) mount.root
         (inr (ap (λ x. x.root) (sym (filesystem_left mount m gone.0 gone.1 gone.2)))))
         (cases_Bool (mount_lives nat_eq after mount))

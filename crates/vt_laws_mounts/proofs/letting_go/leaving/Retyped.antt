@@ -26,10 +26,8 @@ old_masters group (mount ∷ rest) master one none = old_masters group rest _ on
 -- each mount of a tree whose top is in a namespace is in one
 tree_attached : (world : World ℕ) → MountsStand world → (depth : ℕ) (top : Mount ℕ) → is_some top.namespace ≡ true
     → (mount : Mount ℕ) → Among mount (tree_from nat_eq depth world.mounts top) → is_some mount.namespace ≡ true
-tree_attached world stand zero top is mount m =
-    ⊎_elim (λ e. cc) (λ none. absurd none) m
-tree_attached world stand (suc depth) top is mount m = ⊎_elim (λ e. cc)
-    (λ later.
+tree_attached world stand zero top is mount m = ⊎_elim (λ e. cc) (λ none. absurd none) m
+tree_attached world stand (suc depth) top is mount m = ⊎_elim (λ e. cc) (λ later.
     let under = among-from_flat_map _ _ mount later in
     let child = among-from_filter _ _ _ under.1 in
     tree_attached world stand depth _ (placed _ child.0 child.1) mount under.2) m

@@ -71,8 +71,7 @@ more_tasks world tasks more only =
 
 pub forks_keep_all : ForksKeepAll
 forks_keep_all credentials fresh world task settles one there =
-    staying_keeps_overlays world (with_child world task (child_of task credentials)).tasks settles
-    (more_tasks world _ _
+    staying_keeps_overlays world (with_child world task (child_of task credentials)).tasks settles (more_tasks world _ _
     (replaced_leaves world task _ [] one (among_from_contains _ task there) refl (λ location m. inl m)))
   where
     counted : Task ℕ

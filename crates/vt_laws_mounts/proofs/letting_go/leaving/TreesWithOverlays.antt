@@ -34,8 +34,7 @@ module _ (world : World ℕ) (change : Filesystem ℕ → Filesystem ℕ)
     → of_overlay [] layers_of (change f) ≡ of_overlay [] layers_of f) where
   same_layers_on : (number : ℕ) (f : Filesystem ℕ) → Among f world.filesystems
       → has_layer_on nat_eq number (change f) ≡ has_layer_on nat_eq number f
-  same_layers_on number f m =
-      cc (layers_on world number (change f), layers_kept f m, layers_on world number f)
+  same_layers_on number f m = cc (layers_on world number (change f), layers_kept f m, layers_on world number f)
 
   pub lives_alike : (f : Filesystem ℕ) → Among f world.filesystems
       → filesystem_lives nat_eq (with_filesystems world change) (change f) ≡ filesystem_lives nat_eq world f
@@ -166,8 +165,7 @@ module _ (world : World ℕ) (losers : Losers) (but : AllInUseBut losers world) 
         (is_among nat_eq number (named_in now.files)) still)) (may_go number)
         (or_cases (is_among nat_eq number (named_in now.files)) (is_inode_among f.number number lost)
         (among_from_list_all (λ k. is_among nat_eq k (named_in now.files) || is_inode_among f.number k lost)
-        (named_in f.files)
-        (ChangesFilesystem.names so) number (among_numbers number (named_in f.files) name))))
+        (named_in f.files) (ChangesFilesystem.names so) number (among_numbers number (named_in f.files) name))))
         (or_cases (nat_eq number f.files.tree.root) (is_among nat_eq number (named_in f.files)) named))
         (λ at. used number (is_among_left number (names ++ located ++ layers) (upper_objects last now.number)
         (is_among_left number (names ++ located) layers (is_among_right number names located
@@ -220,8 +218,7 @@ module _ (world : World ℕ) (losers : Losers) (but : AllInUseBut losers world) 
 
 module _ {world : World ℕ} (change : Filesystem ℕ → Filesystem ℕ) (lost : List Inode)
     (settles : IsSettled world) (trees : HasTrees (with_filesystems world change))
-    (uppers : UppersArePlain (with_filesystems world change))
-    (reals : RealsAreThere (with_filesystems world change))
+    (uppers : UppersArePlain (with_filesystems world change)) (reals : RealsAreThere (with_filesystems world change))
     (changes : All (λ filesystem. ChangesFilesystem (with_filesystems world change) lost filesystem
     (change filesystem)) world.filesystems) where
   abbrev changed : World ℕ

@@ -27,8 +27,7 @@ copies_with : (world : World ℕ) (filesystems : List (Filesystem ℕ)) (new : C
     ≡ attached_by nat_eq (record world { filesystems = filesystems }) new place false (first ∷ rest)
 copies_with world filesystems new place first rest in_use stand located at_attached come =
     nothing_lost world after.mounts after.master filesystems in_use stand
-    (attached_loses world filesystems new place false first rest in_use stand located at_attached
-    (λ e. absurd cc))
+    (attached_loses world filesystems new place false first rest in_use stand located at_attached (λ e. absurd cc))
     (attached_groups world filesystems new place false first rest in_use stand located at_attached
     (λ e. absurd cc)) come
   where
@@ -75,8 +74,7 @@ new_filesystems_keep_all fresh world place filesystem flags in_use stand located
     shown : (x : Mount ℕ) × (Among x after.mounts
         × ((mount_lives nat_eq after x ≡ true) × (x.filesystem ≡ filesystem.number)))
     shown = first_shown world (world.filesystems
-        ++ (filesystem ∷ [])) new place false mount [] in_use stand located at_attached
-        (λ e. absurd cc) refl
+        ++ (filesystem ∷ [])) new place false mount [] in_use stand located at_attached (λ e. absurd cc) refl
 
 pub new_mounts_of_trees_keep_all : NewMountsOfTreesKeepAll
 new_mounts_of_trees_keep_all fresh world task place flags in_use stand located at_attached =

@@ -23,8 +23,7 @@ pub places_stand : (world : World ℕ) → MountsStand world → LocationsStand 
 places_stand world stand located_well location m = ⊎_elim (λ front. ⊎_elim
     (λ at. among_from_list_all (λ l. is_among nat_eq l.mount numbers) (all_locations world) located_well location at)
     (λ root. let t = among-from_map root_of world.mounts location root in
-    cc (t.2, numbered t.0 t.1))
-    (among-append (all_locations world) (map root_of world.mounts) location front)) (λ at.
+    cc (t.2, numbered t.0 t.1)) (among-append (all_locations world) (map root_of world.mounts) location front)) (λ at.
     let t = among-from_filter_map (λ x. x.mount_point) world.mounts location at in
     let on = place_attached world stand t.0 t.1 location t.2 in
     ap (λ n. is_among nat_eq n numbers) (sym (number-mount_in world.mounts location.mount))
@@ -202,8 +201,7 @@ module _ (world : World ℕ) (mounts : List (Mount ℕ)) (master : ℕ → Optio
         (among-append_right (all_locations after) (map root_of mounted.mounts) location
         (subst (λ l. Among l (map root_of mounted.mounts)) is (among-map root_of mounted.mounts mount
         (among-filter (mount_lives nat_eq after) mounts mount n (loses.live mount n isnt))))))
-        (e ∙ sym (found_still location (was_a_place location m)
-        (stays_there location.mount (cc))))
+        (e ∙ sym (found_still location (was_a_place location m) (stays_there location.mount (cc))))
 
     by_location : (location : Location ℕ) → Among location (all_locations world)
         → filesystem.number ≡ (mount_at nat_eq world location).filesystem

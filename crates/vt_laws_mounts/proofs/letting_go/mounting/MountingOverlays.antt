@@ -47,8 +47,7 @@ module _ (world : World ℕ) (mounts : List (Mount ℕ)) (master : ℕ → Optio
       let parts = and_parts (has_layer_on nat_eq f.number t.0) (is_mounted nat_eq world t.0.number) t.2 in
       ⊎_elim (λ lives. or_right (is_among nat_eq f.number losing) (filesystem_lives nat_eq now f)
       (or_right (is_mounted nat_eq now f.number) _ (any_from_among (λ merged. has_layer_on nat_eq f.number merged
-      && is_mounted nat_eq now merged.number) filesystems t.0 (come.kept t.0 t.1)
-      (cc (parts.0)))))
+      && is_mounted nat_eq now merged.number) filesystems t.0 (come.kept t.0 t.1) (cc (parts.0)))))
       (λ gone_with. or_left (is_among nat_eq f.number losing) (filesystem_lives nat_eq now f)
       (is_among_numbers f.number losing
       (among-flat_map (filesystems_of_mount world) gone gone_with.0 f.number gone_with.1
@@ -115,8 +114,7 @@ module _ (world : World ℕ) (mounts : List (Mount ℕ)) (master : ℕ → Optio
   inodes_but : InodesInUseBut lost now
   inodes_but = all_from_among (λ f. list_all (is_used_or_among lost now f) f.files.numbers ≡ true) filesystems
       (λ f m. list_all_from_among (is_used_or_among lost now f) f.files.numbers
-      (λ number n. ⊎_elim (λ was. use_left f number
-      (among_from_list_all (is_inode_used world f) f.files.numbers
+      (λ number n. ⊎_elim (λ was. use_left f number (among_from_list_all (is_inode_used world f) f.files.numbers
       (among_from_all (λ x. list_all (is_inode_used world x) x.files.numbers
       ≡ true) world.filesystems in_use.inodes f was) number n))
       (λ new. by_a_name world mounts master filesystems namespaces tasks gone left groups in_use stand loses hears come

@@ -114,8 +114,7 @@ module _ (world : World ℕ) (gone : List ℕ) (namespaces : List (Namespace ℕ
           )) (cases_Bool (loses_its_place gone mount));
       nowhere = list_all_from_among is_nowhere_or_attached (map (change b) world.mounts) (λ last m.
           let from = among-from_map (change b) world.mounts last m in
-          ap is_nowhere_or_attached from.2
-          ∙ nowhere_after b from.0
+          ap is_nowhere_or_attached from.2 ∙ nowhere_after b from.0
           (among_from_list_all is_nowhere_or_attached world.mounts stand.nowhere from.0 from.1));
     }
 

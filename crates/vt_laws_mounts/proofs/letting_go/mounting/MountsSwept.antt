@@ -1,25 +1,20 @@
 -- What the sweep leaves of mounts: those in namespaces stay, with all their groups, and those outside are private.
-use Rattle.std.proofs.Common.{◌≡◌, refl, sym, ap, subst, ◌∙◌, ℕ, nat_eq, true, false, not, ◌&&◌, List, ◌≤◌, filter, length, map, true≢false, Option, Some, None, is_some, unwrap_or, arith, option_to_list}
-use Rattle.vt_spec.proofs.Common.{Lives, Location, Mount, MountInvariants, Stands, World, at_root, common_steps, group_of, has_master, has_members, has_no_master, is_private, length-filter_both, list_all, mount_at, mount_in, mount_lives, mount_numbered, number-mount_in, on_parent, or_parts, same_Some, settled}
+use Rattle.std.proofs.Common.{◌≡◌, refl, sym, ap, subst, ◌∙◌, ℕ, nat_eq, true, false, not, ◌&&◌, List, ◌≤◌, filter, length, map, Option, Some, None, is_some, unwrap_or, arith, option_to_list}
+use Rattle.vt_spec.proofs.Common.{Lives, Location, Mount, MountInvariants, Stands, World, group_of, has_master, has_members, has_no_master, is_private, length-filter_both, list_all, mount_at, mount_in, mount_lives, number-mount_in, or_parts, settled}
 use Rattle.vt_laws_mounts.specs.LettingGo.Leaving.{MountsStand, stands_on_attached}
 use Rattle.vt_laws_mounts.proofs.letting_go.Chains.{Way}
 use Rattle.vt_laws_mounts.proofs.letting_go.Chains.Way.{ends, goes_on}
 use Rattle.vt_laws_mounts.proofs.letting_go.Lists.{Among, list_all_from_among, among-filter, among-from_filter, among-map, among_from_all, any-filter, any_among, or_left, among_from_list_all, held_number}
+use Rattle.vt_laws_mounts.proofs.namespaces.Unsharing.{parent_of}
 use Rattle.vt_laws_mounts.proofs.letting_go.leaving.PlacesLeft.{found_in_filter, found_is_there, found_itself, nowhere_parts, placed_is_attached, private_is_no_member}
 
 -- By their invariants mounts stand, each on one of its namespace.
 module _ (world : World ℕ) (kept : MountInvariants nat_eq world) where
-  parent : (mount : Mount ℕ) → (place : Location ℕ) → mount.mount_point ≡ Some place
-      → (number : ℕ) → Stands nat_eq world number → mount_numbered nat_eq world number ≡ mount
-      → mount.namespace ≡ (mount_at nat_eq world place).namespace
-  parent mount place p number (at_root it e) itself = grind (arith, common_steps, true≢false)
-  parent mount place p number (on_parent it below e same rest) itself = grind (arith, common_steps, same_Some)
-
   pub beside_parent : (mount : Mount ℕ) → Among mount world.mounts → (place : Location ℕ)
       → mount.mount_point ≡ Some place → mount.namespace ≡ (mount_at nat_eq world place).namespace
-  beside_parent mount m place p = parent mount place p mount.number
-      (among_from_all (λ x. Stands nat_eq world x.number) world.mounts kept.standing mount m)
-      (found_itself world.mounts kept.one_number mount m)
+  beside_parent mount m place p =
+      let parent = parent_of world kept mount m place p in
+      cc (parent.namespace, parent.number, found_itself world.mounts kept.one_number parent.parent parent.there)
 
   on : (mount : Mount ℕ) → Among mount world.mounts → (o : Option (Location ℕ)) → mount.mount_point ≡ o
       → list_all (λ place. is_some (mount_at nat_eq world place).namespace) (option_to_list o) ≡ true

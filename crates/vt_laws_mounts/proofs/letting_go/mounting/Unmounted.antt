@@ -67,8 +67,7 @@ module _ (world : World ℕ) (gone : List ℕ) where
       → is_member_of nat_eq group mount ≡ true → is_member_of nat_eq group (change b mount) ≡ true
   stays_member true mount isnt group is =
       grind (arith, common_steps, stays_there world gone world.namespaces mount isnt, true≢false)
-  stays_member false mount isnt group is =
-      cc (stays_there world gone world.namespaces mount isnt, is)
+  stays_member false mount isnt group is = cc (stays_there world gone world.namespaces mount isnt, is)
 
   masters_end : (b : Bool) (group : ℕ) → world.master group ≡ None → masters b group ≡ None
   masters_end true group e = ap (heir nat_eq without) e
@@ -208,10 +207,6 @@ module _ (world now : World ℕ) (in_use : AllInUse world) (stand : MountsStand 
       → is_some mount.namespace ≡ true
   placed_in_one mount m at p = placed_is_attached mount (among_from_list_all _ _ stand.nowhere mount m) at p
 
-  stands_in_one : (mount : Mount ℕ) → Among mount world.mounts → (at : Location ℕ) → mount.mount_point ≡ Some at
-      → is_some (mount_at nat_eq world at).namespace ≡ true
-  stands_in_one = place_attached world stand
-
   member_is_in_one : (mount : Mount ℕ) → Among mount world.mounts → (group : ℕ) → is_member_of nat_eq group mount ≡ true
       → is_some mount.namespace ≡ true
   member_is_in_one mount m group is = ⊎_elim (λ in_one. in_one) (λ out. absurd
@@ -230,7 +225,7 @@ module _ (world now : World ℕ) (in_use : AllInUse world) (stand : MountsStand 
       (λ keeps. let parts = or_parts _ _ keeps in
       let on : is_going nat_eq lost at.mount ≡ false =
       cc (p, parts.1) in
-      let parent = stands_in_one mount m at p in
+      let parent = place_attached world stand mount m at p in
       inl (
         faded.change mount,
         (

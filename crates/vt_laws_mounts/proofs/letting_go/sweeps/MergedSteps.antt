@@ -87,8 +87,7 @@ module _ (chosen : Filesystem ℕ → Bool)
     objects_step apart filesystem m is =
         flat_map-step step _ _ (λ other n. ⊎_elim (λ e. cc (
           one_step other,
-          apart filesystem other m is n e
-              (here other),
+          apart filesystem other m is n e (here other),
         )) (λ e. ap (objects_of_overlay nat_eq filesystem.number) (other_stays other e)) (cases_Bool _))
 
     used_step : Apart world → (filesystem : Filesystem ℕ) → Among filesystem world.filesystems

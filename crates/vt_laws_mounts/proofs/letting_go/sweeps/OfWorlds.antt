@@ -1,12 +1,11 @@
 -- What a world is by its conditions.
-use Rattle.std.proofs.Common.{arith, ◌≡◌, refl, sym, ap, subst, ◌∙◌, inl, ℕ, nat_eq, eqb-true, Bool, true, false, not, ◌&&◌, List, find, map, true≢false, Option, Some, None, is_some, option_to_list, unwrap_or, All}
-use Rattle.vt_spec.proofs.Common.{Filesystem, IsTree, IsWorld, Layer, ListsNumbers, Location, Mount, Overlay, Stands, World, all_locations, and_parts, any_pair, at_root, common_steps, filesystem_numbered, holds_of, is_among, is_overlay, is_plain_layer, layers_of, list_all, mount_at, mount_numbered, no_filesystem, not-true, on_parent, overlay_or, same_Some}
+use Rattle.std.proofs.Common.{arith, ◌≡◌, refl, sym, ap, subst, ◌∙◌, inl, ℕ, nat_eq, eqb-true, Bool, true, false, not, List, find, map, true≢false, Option, Some, None, option_to_list, unwrap_or, All}
+use Rattle.vt_spec.proofs.Common.{Filesystem, IsTree, IsWorld, Layer, ListsNumbers, Mount, Overlay, World, all_locations, and_parts, any_pair, common_steps, filesystem_numbered, holds_of, is_among, is_overlay, is_plain_layer, layers_of, list_all, no_filesystem, not-true, overlay_or}
 use Rattle.vt_laws_mounts.specs.LettingGo.InUse.{AllInUse, IsListedTree, has_upper_in}
-use Rattle.vt_laws_mounts.specs.LettingGo.Leaving.{stands_on_attached}
 use Rattle.vt_laws_mounts.specs.LettingGo.Worlds.{LocationsOfWorldsStand, MountsOfWorldsStand, PlainWorldsAreSettled, RealsOfWorldsAreThere, UppersOfWorldsArePlain, WorldsAreSettled, WorldsHaveTrees}
 use Rattle.vt_laws_mounts.proofs.letting_go.sweeps.InUse.{what_is_left_is_in_use}
 use Rattle.vt_laws_mounts.proofs.letting_go.Lists.{found_by, Among, all_from_among, list_all_from_among, among-append_left, among_from_all, among_from_list_all}
-use Rattle.vt_laws_mounts.proofs.letting_go.leaving.PlacesLeft.{found_itself, nowhere_parts}
+use Rattle.vt_laws_mounts.proofs.letting_go.mounting.MountsSwept.{mounts_stand}
 
 pub worlds_have_trees : WorldsHaveTrees
 worlds_have_trees world is = all_from_among (λ f. IsListedTree f.files) world.filesystems (λ f m. record {
@@ -14,35 +13,8 @@ worlds_have_trees world is = all_from_among (λ f. IsListedTree f.files) world.f
   numbers = among_from_all (λ g. ListsNumbers nat_eq g.files) world.filesystems is.files.numbers f m;
 })
 
-module _ (world : World ℕ) (is : IsWorld nat_eq world) where
-  -- a mount with a place is in a namespace
-  attached : (mount : Mount ℕ) → Among mount world.mounts → is_some mount.mount_point ≡ true
-      → is_some mount.namespace ≡ true
-  attached mount m placed = grind (arith, common_steps, true≢false, nowhere_parts, among_from_list_all)
-
-  on_attached : (mount : Mount ℕ) → Among mount world.mounts → (place : Location ℕ) → mount.mount_point ≡ Some place
-      → is_some (mount_at nat_eq world place).namespace ≡ true
-  on_attached mount m place p =
-      by (among_from_all (λ (x : Mount ℕ). Stands nat_eq world x.number) world.mounts is.mounts.standing mount m)
-      (found_itself world.mounts is.mounts.one_number mount m)
-    where
-      by : Stands nat_eq world mount.number → mount_numbered nat_eq world mount.number ≡ mount
-          → is_some (mount_at nat_eq world place).namespace ≡ true
-      by (at_root number e) itself = grind (arith, common_steps, true≢false)
-      by (on_parent number at e same stands) itself = grind (arith, common_steps, same, same_Some, attached)
-
 pub mounts_of_worlds_stand : MountsOfWorldsStand
-mounts_of_worlds_stand world is = record {
-  one_number = is.mounts.one_number;
-  nowhere = is.mounts.nowhere;
-  on_attached = list_all_from_among (stands_on_attached world) world.mounts
-      (λ mount m. by mount m mount.mount_point refl);
-}
-  where
-    by : (mount : Mount ℕ) → Among mount world.mounts → (o : Option (Location ℕ)) → mount.mount_point ≡ o
-        → list_all (λ place. is_some (mount_at nat_eq world place).namespace) (option_to_list o) ≡ true
-    by mount m None e = refl
-    by mount m (Some place) e = ap (λ b. b && true) (on_attached world is mount m place e)
+mounts_of_worlds_stand world is = mounts_stand world is.mounts
 
 -- Filesystems by their numbers
 pub found_filesystem : (filesystems : List (Filesystem ℕ))

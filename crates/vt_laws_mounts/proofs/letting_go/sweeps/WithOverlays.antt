@@ -136,8 +136,7 @@ module _ (world : World ℕ) (losers : List Inode) (trees : HasTrees world) (rea
           (subst (λ x. Among object (objects_of_overlay nat_eq number x)) (sym itself)
           (object_there number object (without_all gone g) (reals_without gone overlay) layer
           (ap (option_map (reals_without gone)) e) d c k
-          (among-filter (λ x. not (gone x)) g.files.numbers k l (ap (λ b. not (not b)) used))
-          (cc))))
+          (among-filter (λ x. not (gone x)) g.files.numbers k l (ap (λ b. not (not b)) used)) (cc))))
         where
           gone : ℕ → Bool
           gone = λ x. not (is_among nat_eq x (used_in nat_eq world g))

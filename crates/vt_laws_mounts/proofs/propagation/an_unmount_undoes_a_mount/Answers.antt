@@ -1,5 +1,4 @@
 mod Undo
-mod Undone
 use Rattle.vt_laws_mounts.proofs.propagation.an_unmount_undoes_a_mount.Answers.Undo.{unmount_undoes_bind, unmount_undoes_new_mount}
 use Rattle.vt_laws_mounts.proofs.propagation.an_unmount_undoes_a_mount.Goals as goal
 

@@ -49,8 +49,7 @@ module _ (world : World ℕ) (task : Task ℕ) where
       searched_unless _ (λ place. (place.slash && not directory, W3) ∷ []) (searched_new_walk path)
 
   pub searched_old_walk : (path : List ℕ) → Ends IsSearched (old_walk nat_eq world task path)
-  searched_old_walk path =
-      searched_unless _ (λ place. (not (is_some place.object), W6) ∷ []) (searched_place_walk path)
+  searched_old_walk path = searched_unless _ (λ place. (not (is_some place.object), W6) ∷ []) (searched_place_walk path)
 
   pub searched_old_leaf_walk : (path : List ℕ) → Ends IsSearched (old_leaf_walk nat_eq world task path)
   searched_old_leaf_walk path =

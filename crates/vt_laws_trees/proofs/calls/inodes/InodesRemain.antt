@@ -75,15 +75,13 @@ module _ (other : ℕ) where
     made_left : (made : Option (Location ℕ × Change ℕ))
         → MadeBy (Remains Was) filesystem other fresh world plain (λ there. there) made
     made_left None = tt
-    made_left (Some made) = λ same there. changed_remains (files_at nat_eq world made.0) made.1
-        (cc)
+    made_left (Some made) = λ same there. changed_remains (files_at nat_eq world made.0) made.1 (cc)
 
     left : (task : Task ℕ) (call : Call) → mounts_overlay call ≡ false → (permit : Permit ℕ)
         → IsFor (looks_of nat_eq world) task call permit
         → LeftBy (Remains Was) filesystem other fresh world plain (λ there. there) permit
     left task call no_overlay (ToMountPlain place flags) for = λ same is there. refl
-    left task call no_overlay (ToMountOverlay place overlay flags) for =
-        cc (for.2, no_overlay)
+    left task call no_overlay (ToMountOverlay place overlay flags) for = cc (for.2, no_overlay)
     left task call no_overlay permit for = made_left (change_of fresh world permit)
 
 pub only_unused_inodes_end : OnlyUnusedInodesEnd

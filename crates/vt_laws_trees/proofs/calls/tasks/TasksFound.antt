@@ -51,8 +51,7 @@ others_left name other apart (first ∷ rest) = by _ refl _ refl (others_left na
         let same : name ≡ other = same_task_name name first.name e ∙ sym (same_task_name other first.name f) in
         absurd (cc (same_name_itself name, same, apart))
     by true e false f later = later
-    by false e c f later =
-        cc (f, later)
+    by false e c f later = cc (f, later)
 
 -- one more at the end is found where nobody was
 pub find_appended : (B : Found → Type 0) (name : TaskName) (new : Task ℕ) (tasks : List (Task ℕ))

@@ -1,106 +1,79 @@
 -- The laws of tasks.
-use Rattle.std.proofs.Common.{arith, ◌≡◌, refl, sym, ap, subst, inl, inr, ◌⊎◌, ⊎_elim, ℕ, Contains, true, Some, None}
+use Rattle.std.proofs.Common.{arith, ◌≡◌, refl, sym, ap, subst, ◌∙◌, inl, inr, ◌⊎◌, ⊎_elim, ℕ, Contains, true, Some, None}
 use Rattle.vt_spec.proofs.Common.{Call, CapabilityWord, Credentials, Descriptor, Drop, Exit, Fresh, Location, Task, TaskName, Umask, World, among_from_contains, common_steps, contains_from_among, task_called}
 use Rattle.vt_laws_trees.proofs.calls.tasks.TasksFound.{Found}
-use Rattle.vt_laws_trees.proofs.calls.tasks.TasksOwn.{Becomes, BecomesTask, IsRaised, becomes, stays_or_changed}
+use Rattle.vt_laws_trees.proofs.calls.tasks.TasksOwn.{Becomes, Changed, IsRaised, becomes, stays_or_changed}
 use Rattle.vt_laws_trees.specs.Calls.Tasks.{IsForked, IsNoMore, NewTasksAreChildren, OnlyDropTakesRights, OnlyExitLeaves, OnlyOpenGivesDescriptors, OnlyTheseMoveDirectories, OnlyTheseMoveNamespaces, OnlyTheseMoveRoots, OnlyUmaskSetsUmask, Opens, OtherTasksStay, Pivots, RightsOnlyShrink, StaysOrIsPivoted, moves_directory, moves_namespace, moves_root, task_after}
 
 itself_is_no_more : (was now : Credentials) → now ≡ was → IsNoMore was now
 itself_is_no_more was now same = subst (IsNoMore was) (sym same) (refl, refl, refl, λ capability held. held)
 
-module _ (fresh : Fresh ℕ) (world : World ℕ) (name : TaskName) (call : Call) (other : TaskName)
-    {was now : Task ℕ} (is : task_called world other ≡ Some was)
-    (then_is : task_after fresh world name call other ≡ Some now) where
-  -- A law of a part of a task other than its change number: it holds where the part stays, where the caller is changed,
-  -- and where a pivot leaves it
-  abbrev unraised : Task ℕ
-  unraised = (stays_or_changed fresh world name call other was now is then_is).0
-
-  abbrev turned : BecomesTask fresh world name call other was unraised
-  turned = (stays_or_changed fresh world name call other was now is then_is).1
-
-  same_part : {A : Type 0} (part : Task ℕ → A) → part now ≡ part (record unraised { change = now.change })
-  same_part part = ap part (stays_or_changed fresh world name call other was now is then_is).2
-
-  rights : IsNoMore was.credentials unraised.credentials
-  rights = ⊎_elim (λ same. itself_is_no_more was.credentials unraised.credentials (ap (λ t. t.credentials) same))
-      (⊎_elim (λ changed. ⊎_elim (λ same. itself_is_no_more was.credentials _ same) (λ dropped. dropped.2) changed.1.0)
-      (λ pivot. itself_is_no_more was.credentials unraised.credentials (ap (λ t. t.credentials) pivot.2))) turned
-
-  drops : (unraised.credentials ≡ was.credentials) ⊎ ((other ≡ name) × (which : CapabilityWord) × (call ≡ Drop which))
-  drops = ⊎_elim (λ same. inl (ap (λ t. t.credentials) same))
-      (⊎_elim (λ changed. ⊎_elim inl (λ dropped. inr (changed.0, dropped.0, dropped.1)) changed.1.0)
-      (λ pivot. inl (ap (λ t. t.credentials) pivot.2))) turned
-
-  umasks : (unraised.umask ≡ was.umask) ⊎ ((other ≡ name) × (mode : ℕ) × (call ≡ Umask mode))
-  umasks = ⊎_elim (λ same. inl (ap (λ t. t.umask) same))
-      (⊎_elim (λ changed. ⊎_elim inl (λ set. inr (changed.0, set.0, set.1)) changed.1.1)
-      (λ pivot. inl (ap (λ t. t.umask) pivot.2))) turned
-
-  descriptors : (descriptor : Descriptor ℕ) → Contains unraised.descriptors descriptor
-      → Contains was.descriptors descriptor ⊎ ((other ≡ name) × Opens call descriptor)
-  descriptors descriptor contains = ⊎_elim (λ same. inl (subst (λ t. Contains t.descriptors descriptor) same contains))
-      (⊎_elim (λ changed. ⊎_elim (λ among. inl (contains_from_among was.descriptors descriptor among))
-      (λ opens. inr (changed.0, opens)) (changed.1.2 descriptor (among_from_contains _ descriptor contains)))
-      (λ pivot. inl (subst (λ t. Contains t.descriptors descriptor) pivot.2 contains))) turned
-
-  directories : ((other ≡ name) × (moves_directory call ≡ true))
-      ⊎ StaysOrIsPivoted fresh world name call was.namespace was.directory unraised.directory
-  directories = ⊎_elim (λ same. inr (inl (ap (λ t. t.directory) same)))
-      (⊎_elim (λ changed. ⊎_elim (λ moves. inl (changed.0, moves)) (λ same. inr (inl same)) changed.1.3)
-      (λ pivot. inr (inr (pivot.0, pivot.1, ap (λ t. t.directory) pivot.2)))) turned
-
-  roots : ((other ≡ name) × (moves_root call ≡ true))
-      ⊎ StaysOrIsPivoted fresh world name call was.namespace was.root unraised.root
-  roots = ⊎_elim (λ same. inr (inl (ap (λ t. t.root) same)))
-      (⊎_elim (λ changed. ⊎_elim (λ moves. inl (changed.0, moves)) (λ same. inr (inl same)) changed.1.4)
-      (λ pivot. inr (inr (pivot.0, pivot.1, ap (λ t. t.root) pivot.2)))) turned
-
-  namespaces : ((other ≡ name) × (moves_namespace call ≡ true)) ⊎ (unraised.namespace ≡ was.namespace)
-  namespaces = ⊎_elim (λ same. inr (ap (λ t. t.namespace) same))
-      (⊎_elim (λ changed. ⊎_elim (λ moves. inl (changed.0, moves)) inr changed.1.5)
-      (λ pivot. inr (ap (λ t. t.namespace) pivot.2))) turned
+-- What holds of a part of a task where it stays, where its own call changes it, and where a pivot leaves it, holds of
+-- that part after the call: only the change number is raised besides
+part_later : (fresh : Fresh ℕ) (world : World ℕ) (name : TaskName) (call : Call) (other : TaskName) (was now : Task ℕ)
+    → task_called world other ≡ Some was → task_after fresh world name call other ≡ Some now
+    → {A : Type 0} (part : Task ℕ → A) (Holds : A → Type 0) → Holds (part was)
+    → ((left : Task ℕ) → other ≡ name → Changed call was left → Holds (part left))
+    → ((moved : Location ℕ → Location ℕ) → Pivots fresh world name call was.namespace moved
+    → Holds (part (record was { root = moved was.root; directory = moved was.directory })))
+    → ((left : Task ℕ) → part (record left { change = now.change }) ≡ part left) → Holds (part now)
+part_later fresh world name call other was now is then_is part Holds stays changed pivoted raised =
+    let t = stays_or_changed fresh world name call other was now is then_is in
+    subst Holds (sym (ap part t.2 ∙ raised t.0)) (⊎_elim (λ same. subst (λ task. Holds (part task)) (sym same) stays)
+    (⊎_elim (λ own. changed t.0 own.0 own.1)
+    (λ pivot. subst (λ task. Holds (part task)) (sym pivot.2) (pivoted pivot.0 pivot.1))) t.1)
 
 pub rights_only_shrink : RightsOnlyShrink
-rights_only_shrink fresh world name call other was now is then_is = subst (IsNoMore was.credentials)
-    (sym (same_part fresh world name call other is then_is (λ t. t.credentials)))
-    (rights fresh world name call other is then_is)
+rights_only_shrink fresh world name call other was now is then_is =
+    part_later fresh world name call other was now is then_is
+    (λ t. t.credentials) (IsNoMore was.credentials) (itself_is_no_more _ _ refl)
+    (λ left own so. ⊎_elim (itself_is_no_more was.credentials _) (λ dropped. dropped.2) so.0)
+    (λ moved pivot. itself_is_no_more _ _ refl) (λ left. refl)
 
 pub only_drop_takes_rights : OnlyDropTakesRights
 only_drop_takes_rights fresh world name call other was now is then_is =
-    subst (λ c. (c ≡ was.credentials) ⊎ ((other ≡ name) × (which : CapabilityWord) × (call ≡ Drop which)))
-    (sym (same_part fresh world name call other is then_is (λ t. t.credentials)))
-    (drops fresh world name call other is then_is)
+    part_later fresh world name call other was now is then_is (λ t. t.credentials)
+    (λ c. (c ≡ was.credentials) ⊎ ((other ≡ name) × (which : CapabilityWord) × (call ≡ Drop which))) (inl refl)
+    (λ left own so. ⊎_elim inl (λ dropped. inr (own, dropped.0, dropped.1)) so.0) (λ moved pivot. inl refl)
+    (λ left. refl)
 
 pub only_umask_sets_umask : OnlyUmaskSetsUmask
 only_umask_sets_umask fresh world name call other was now is then_is =
-    subst (λ u. (u ≡ was.umask) ⊎ ((other ≡ name) × (mode : ℕ) × (call ≡ Umask mode)))
-    (sym (same_part fresh world name call other is then_is (λ t. t.umask)))
-    (umasks fresh world name call other is then_is)
+    part_later fresh world name call other was now is then_is
+    (λ t. t.umask) (λ u. (u ≡ was.umask) ⊎ ((other ≡ name) × (mode : ℕ) × (call ≡ Umask mode))) (inl refl)
+    (λ left own so. ⊎_elim inl (λ set. inr (own, set.0, set.1)) so.1) (λ moved pivot. inl refl) (λ left. refl)
 
 pub only_open_gives_descriptors : OnlyOpenGivesDescriptors
-only_open_gives_descriptors fresh world name call other was now is then_is descriptor contains =
-    descriptors fresh world name call other is then_is descriptor (subst (λ list. Contains list descriptor)
-    (same_part fresh world name call other is then_is (λ t. t.descriptors)) contains)
+only_open_gives_descriptors fresh world name call other was now is then_is =
+    part_later fresh world name call other was now is then_is
+    (λ t. t.descriptors) (λ list. (descriptor : Descriptor ℕ) → Contains list descriptor
+    → Contains was.descriptors descriptor ⊎ ((other ≡ name) × Opens call descriptor))
+    (λ descriptor contains. inl contains) (λ left own so descriptor contains. ⊎_elim
+    (λ among. inl (contains_from_among was.descriptors descriptor among)) (λ opens. inr (own, opens))
+    (so.2 descriptor (among_from_contains left.descriptors descriptor contains)))
+    (λ moved pivot descriptor contains. inl contains) (λ left. refl)
 
 pub only_these_move_directories : OnlyTheseMoveDirectories
-only_these_move_directories fresh world name call other was now is then_is = subst
-    (λ d. ((other ≡ name) × (moves_directory call ≡ true))
-    ⊎ StaysOrIsPivoted fresh world name call was.namespace was.directory d)
-    (sym (same_part fresh world name call other is then_is (λ t. t.directory)))
-    (directories fresh world name call other is then_is)
+only_these_move_directories fresh world name call other was now is then_is =
+    part_later fresh world name call other was now is then_is
+    (λ t. t.directory) (λ d. ((other ≡ name) × (moves_directory call ≡ true))
+    ⊎ StaysOrIsPivoted fresh world name call was.namespace was.directory d) (inr (inl refl))
+    (λ left own so. ⊎_elim (λ moves. inl (own, moves)) (λ same. inr (inl same)) so.3)
+    (λ moved pivot. inr (inr (moved, pivot, refl))) (λ left. refl)
 
 pub only_these_move_roots : OnlyTheseMoveRoots
-only_these_move_roots fresh world name call other was now is then_is = subst
-    (λ d. ((other ≡ name) × (moves_root call ≡ true)) ⊎ StaysOrIsPivoted fresh world name call was.namespace was.root d)
-    (sym (same_part fresh world name call other is then_is (λ t. t.root)))
-    (roots fresh world name call other is then_is)
+only_these_move_roots fresh world name call other was now is then_is =
+    part_later fresh world name call other was now is then_is
+    (λ t. t.root) (λ d. ((other ≡ name) × (moves_root call ≡ true))
+    ⊎ StaysOrIsPivoted fresh world name call was.namespace was.root d) (inr (inl refl))
+    (λ left own so. ⊎_elim (λ moves. inl (own, moves)) (λ same. inr (inl same)) so.4)
+    (λ moved pivot. inr (inr (moved, pivot, refl))) (λ left. refl)
 
 pub only_these_move_namespaces : OnlyTheseMoveNamespaces
 only_these_move_namespaces fresh world name call other was now is then_is =
-    subst (λ n. ((other ≡ name) × (moves_namespace call ≡ true)) ⊎ (n ≡ was.namespace))
-    (sym (same_part fresh world name call other is then_is (λ t. t.namespace)))
-    (namespaces fresh world name call other is then_is)
+    part_later fresh world name call other was now is then_is
+    (λ t. t.namespace) (λ n. ((other ≡ name) × (moves_namespace call ≡ true)) ⊎ (n ≡ was.namespace)) (inr refl)
+    (λ left own so. ⊎_elim (λ moves. inl (own, moves)) inr so.5) (λ moved pivot. inr refl) (λ left. refl)
 
 -- what becomes of a task that was there, and of one that was not
 module _ (fresh : Fresh ℕ) (world : World ℕ) (name : TaskName) (call : Call) (other : TaskName) where

@@ -17,8 +17,7 @@ module _ {A : Type 0} where
 
   none_pass : (test : A → Bool) (list : List A) → ((a : A) → Among list a → test a ≡ false) → list_any test list ≡ false
   none_pass test [] h = refl
-  none_pass test (first ∷ list) h =
-      cc (h first (inl refl), none_pass test list (λ a among. h a (inr among)))
+  none_pass test (first ∷ list) h = cc (h first (inl refl), none_pass test list (λ a among. h a (inr among)))
 
   pub each_passes : (test : A → Bool) (list : List A) → list_all test list ≡ true → (a : A) → Among list a
       → test a ≡ true

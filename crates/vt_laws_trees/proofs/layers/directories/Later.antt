@@ -1,10 +1,10 @@
 -- The layers of a newly mounted overlay lie apart from those of live ones, and what lies under a layer is as it was.
 use Rattle.std.proofs.Common.{arith, ◌≡◌, inl, inr, refl, sym, ap, ◌∙◌, true≢false, ℕ, nat_eq, eqb-true, Bool, true, false, cond, not, ◌&&◌, ◌||◌, List, [], ◌∷◌, ◌++◌, map, Option, Some, None, is_some, unwrap_or, find, option_to_list}
-use Rattle.vt_spec.proofs.Common.{Filesystem, Fresh, IsTree, IsWorld, Layer, ListsNumbers, Lower, Overlay, Real, Upper, World, and_true_left, and_true_right, common_steps, counts_in_layer, evens, filesystem_numbered, filter-append, holds_of, inode_count, is_among, is_directory_node, is_directory_under, is_file_under, is_overlay, is_plain_layer, is_real_upper, is_under, led, lies_in_layer, lies_or_counts_under, list_all, list_any, list_any-append, no_filesystem, none_is_some, odds, odds-distinct, open_layer, overlaps_one_of, overlay_filesystem, overlays, real_of, same_Some, shown_layers, upper_real, with_new_filesystem}
+use Rattle.vt_spec.proofs.Common.{Filesystem, Fresh, IsTree, IsWorld, Layer, ListsNumbers, Lower, Overlay, Real, Upper, World, and_true_left, and_true_right, common_steps, counts_in_layer, evens, filesystem_numbered, filter-append, holds_of, is_among, is_directory_node, is_directory_under, is_file_under, is_overlay, is_plain_layer, is_real_upper, is_under, led, lies_in_layer, lies_or_counts_under, list_all, list_any, list_any-append, no_filesystem, none_is_some, odds-distinct, overlaps_one_of, overlay_filesystem, overlays, real_of, same_Some, upper_real, with_new_filesystem}
 use Rattle.vt_laws_trees.specs.Layers.Layers.Mounted.{AreLayers}
 use Rattle.vt_laws_trees.proofs.layers.directories.Lower.{led_below}
 use Rattle.vt_laws_trees.proofs.layers.layers.ShownMerged.{inodes}
-use Rattle.vt_laws_trees.proofs.layers.layers.ShownMounted.{are_open, bounded}
+use Rattle.vt_laws_trees.proofs.layers.layers.ShownMounted.{can_merge, are_open, bounded}
 use Rattle.vt_laws_trees.proofs.layers.layers.ShownObjects.{Among}
 use Rattle.vt_laws_trees.proofs.layers.layers.ShownWhole.{has_real}
 use Rattle.vt_laws_trees.proofs.layers.layers.UpperWorld.{all_found}
@@ -83,9 +83,7 @@ module _ (world : World ℕ) (conditions : IsWorld nat_eq world) (overlay : Over
   abbrev made : Overlay ℕ
   made = record overlay {
     real = real_of nat_eq
-        (inodes (map (open_layer nat_eq world) (shown_layers overlay)) (are_open world conditions overlay are_layers)
-        (inode_count world) (bounded world conditions overlay are_layers) (odds fresh)
-        (odds-distinct fresh distinct) (is_some overlay.upper));
+        (inodes (can_merge world conditions overlay are_layers fresh distinct) (is_some overlay.upper));
   }
 
   upper_in : Real ℕ → Option ℕ
@@ -97,10 +95,8 @@ module _ (world : World ℕ) (conditions : IsWorld nat_eq world) (overlay : Over
       (filesystem_numbered nat_eq world upper.filesystem).files.tree upper.directory path ≡ Some object)
   unfolding upper_in
   upper_led upper is number object e =
-      let real = has_real (map (open_layer nat_eq world) (shown_layers overlay))
-      (are_open world conditions overlay are_layers) (inode_count world)
-      (bounded world conditions overlay are_layers) (odds fresh)
-      (odds-distinct fresh distinct) (is_some overlay.upper) number (Upper object) e in
+      let real = has_real (can_merge world conditions overlay are_layers fresh distinct)
+      (is_some overlay.upper) number (Upper object) e in
       grind (arith, common_steps, are_open, bounded, odds-distinct, same_Some, none_is_some)
 
   new_counts : (fs object : ℕ) (layer : Layer ℕ) → IsOld layer

@@ -8,8 +8,7 @@ use Rattle.vt_spec.proofs.Trees.{found}
 passes_here : (test : ℕ → Bool) (list : List ℕ) (n : ℕ) → is_among nat_eq n list ≡ true → test n ≡ true
     → list_any test list ≡ true
 passes_here test [] n a t = absurd (true≢false (sym a))
-passes_here test (first ∷ list) n a t =
-    grind (arith, common_steps, or_right, passes_here test list n)
+passes_here test (first ∷ list) n a t = grind (arith, common_steps, or_right, passes_here test list n)
 
 module _ (files : FileTree ℕ) (tree : IsTree files.tree) (listed : ListsNumbers nat_eq files) where
   -- as many steps as lead there are enough

@@ -1,10 +1,10 @@
 -- The merged tree of layers is a tree.
-use Rattle.std.proofs.Common.{arith, ◌≡◌, ◌≢◌, ◌≤◌, ◌⊎◌, inl, inr, refl, sym, ap, subst, ◌∙◌, ℕ, ◌+◌, nat_eq, eqb-true, Bool, true, false, not, ◌||◌, List, [], ◌∷◌, ◌++◌, filter, length, map, Option, Some, None, is_some, unwrap_or, filter_map, find, option_map}
+use Rattle.std.proofs.Common.{arith, ◌≡◌, ◌≢◌, ◌⊎◌, inl, inr, refl, sym, ap, subst, ◌∙◌, ℕ, ◌+◌, nat_eq, eqb-true, Bool, true, false, not, ◌||◌, List, [], ◌∷◌, ◌++◌, filter, map, Option, Some, None, is_some, unwrap_or, filter_map, find, option_map}
 use Rattle.vt_spec.proofs.Common.{Content, Directory, Fresh, HasName, HasOwnParents, IsDirectory, IsTree, ListsNumbers, Merged, MergedInode, OpenLayer, Regular, Shown, Symlink, Tree, Whiteout, common_steps, each_once, entries_in, entries_in-no_directory, entries_of, entry_at, entry_in_directory, entry_named, index_from, inode_of, is_among, is_directory, is_directory_node, is_one_inode, is_sorted, kind_of, last_or, led, list_any, merged_content, name_cmp, none_is_some, parent_in, parent_of, same_Some, same_path, same_truth, shown, without_last}
 use Rattle.vt_spec.specs.Machine.Merging.{number_at, tree_of}
 use Rattle.vt_laws_trees.proofs.layers.directories.Order.{entries_in_order}
-use Rattle.vt_laws_trees.proofs.layers.layers.ShownDirectories.{AreOpen, last_of, longer_is_not_empty, shown_in_directory}
-use Rattle.vt_laws_trees.proofs.layers.layers.ShownMerged.{InLayer, LeadsTo, entry_leads, in_layer, inodes, layer_node_of, number, objects, one_number}
+use Rattle.vt_laws_trees.proofs.layers.layers.ShownDirectories.{last_of, longer_is_not_empty, shown_in_directory}
+use Rattle.vt_laws_trees.proofs.layers.layers.ShownMerged.{CanMerge, InLayer, LeadsTo, entry_leads, in_layer, inodes, layer_node_of, number, objects, one_number}
 use Rattle.vt_laws_trees.proofs.layers.layers.ShownObjects.{Among, is_object, is_one, object_is, one_itself, path_itself, path_same}
 use Rattle.vt_laws_trees.proofs.layers.layers.ShownPaths.{last_of_longer, not_empty, one_path, last_step}
 use Rattle.vt_laws_trees.proofs.layers.layers.ShownTree.{Arrives, arrives, directory_above, inode_at, merged_tree, object_at, root_number}
@@ -46,50 +46,46 @@ numbered_found number (first ∷ list) = grind (arith, common_steps, numbered_fo
 pub merged_lists_numbers : (root : ℕ) (made : List (MergedInode ℕ)) → ListsNumbers nat_eq (tree_of nat_eq root made)
 merged_lists_numbers root made number = still_among number _ ∙ numbered_found number made
 
-module _ (layers : List (OpenLayer ℕ)) (are_open : AreOpen layers) (longest : ℕ)
-    (bounded : (path : List (List ℕ)) (seen : Shown ℕ) → shown layers path ≡ Some seen → length path ≤ longest)
-    (fresh : Fresh ℕ) (distinct : (j k : ℕ) → fresh j ≡ fresh k → j ≡ k) (has_upper : Bool)
-    (top : Shown ℕ) (is_top : shown layers [] ≡ Some top) where
+module _ {layers : List (OpenLayer ℕ)} {longest : ℕ} {fresh : Fresh ℕ} (can : CanMerge layers longest fresh)
+    (has_upper : Bool) (top : Shown ℕ) (is_top : shown layers [] ≡ Some top) where
   abbrev tree : Tree ℕ
-  tree = merged_tree layers are_open longest bounded fresh distinct has_upper top is_top
+  tree = merged_tree can has_upper top is_top
 
   abbrev num : Merged ℕ → ℕ
-  num = number layers are_open longest bounded fresh distinct has_upper
+  num = number can has_upper
 
   abbrev all : List (Merged ℕ)
-  all = objects layers are_open longest bounded fresh distinct has_upper
+  all = objects can has_upper
 
   abbrev at : List (List ℕ) → Shown ℕ → Merged ℕ
-  at path seen = object_at layers are_open longest bounded fresh distinct has_upper top is_top path seen
+  at path seen = object_at can has_upper top is_top path seen
 
   abbrev Lies : Merged ℕ → Type 0
-  Lies object = InLayer layers are_open longest bounded fresh distinct has_upper object
+  Lies object = InLayer can has_upper object
 
   among_all : (object : Merged ℕ) → shown layers object.path ≡ Some object.seen → Among all object
-  among_all object s = is_object layers are_open longest bounded object.path object.seen s
+  among_all object s = is_object layers can.opens longest can.bounded object.path object.seen s
 
   -- a directory that is shown at two paths is shown at one
   one_place : (a b : Merged ℕ) → shown layers a.path ≡ Some a.seen → shown layers b.path ≡ Some b.seen
       → a.seen ≡ b.seen → (found : Lies a) → is_directory (kind_of found.node.content) ≡ true → a.path ≡ b.path
   one_place a b s t same found d =
-      let other = in_layer layers are_open longest bounded fresh distinct has_upper b t in
-      let layer = same_Some other.layer found.layer
-      (cc (other.there, found.there)) in
+      let other = in_layer can has_upper b t in
+      let layer = same_Some other.layer found.layer (cc (other.there, found.there)) in
       one_path found.layer.tree
-      (are_open a.seen.layer found.layer found.there).0 found.layer.directory a.path b.path a.seen.object found.at
-      (cc (other.at))
-      (cc (found.is))
+      (can.opens a.seen.layer found.layer found.there).0 found.layer.directory a.path b.path a.seen.object found.at
+      (cc (other.at)) (cc (found.is))
 
   numbered_place : (a b : Merged ℕ) → shown layers a.path ≡ Some a.seen → shown layers b.path ≡ Some b.seen
       → num a ≡ num b → (found : Lies a) → is_directory (kind_of found.node.content) ≡ true → a.path ≡ b.path
   numbered_place a b s t e found d = one_place a b s
-      t (one_number layers are_open longest bounded fresh distinct _ a b (among_all a s) (among_all b t) e).seen found d
+      t (one_number can _ a b (among_all a s) (among_all b t) e).seen found d
 
   -- the number of a directory is that of its path
   path_number : (path : List (List ℕ)) (seen : Shown ℕ) → shown layers path ≡ Some seen → (found : Lies (at path seen))
       → is_directory (kind_of found.node.content) ≡ true → number_at fresh has_upper all path ≡ num (at path seen)
   path_number path seen s found d = ap (λ o. fresh (unwrap_or o 0)) (same_place (λ object. same_path path object.path) _
-      0 all (λ other among. agree other (object_is layers are_open longest bounded other among)))
+      0 all (λ other among. agree other (object_is layers can.opens longest can.bounded other among)))
     where
       agree : (other : Merged ℕ) → shown layers other.path ≡ Some other.seen
           → same_path path other.path ≡ is_one_inode nat_eq has_upper (at path seen) other
@@ -136,20 +132,19 @@ module _ (layers : List (OpenLayer ℕ)) (are_open : AreOpen layers) (longest : 
     parent : parent_in n (tree.node n) ≡ number_at fresh has_upper all (without_last path)
 
   of_directory : (n : ℕ) → IsDirectory tree n → IsShownDirectory n
-  of_directory n d = by (inode_of (inodes layers are_open longest bounded fresh distinct has_upper) n nat_eq) refl d
+  of_directory n d = by (inode_of (inodes can has_upper) n nat_eq) refl d
     where
-      by : (o : Option (MergedInode ℕ))
-          → inode_of (inodes layers are_open longest bounded fresh distinct has_upper) n nat_eq ≡ o
+      by : (o : Option (MergedInode ℕ)) → inode_of (inodes can has_upper) n nat_eq ≡ o
           → is_directory_node (option_map (λ inode. inode.node) o) ≡ true → IsShownDirectory n
       by None e d = cc
       by (Some inode) e d =
-          let is = is_of_object layers are_open longest bounded fresh distinct has_upper n inode e in
+          let is = is_of_object can has_upper n inode e in
           let directory = sym (merged_kind _ _) ∙ ap (λ m. is_directory (kind_of m.content)) (sym is.node) ∙ d in
           let node : tree.node n ≡ Some inode.node = ap (option_map (λ i. i.node)) e in
           record {
             path = is.object.path;
             seen = is.object.seen;
-            is_shown = object_is layers are_open longest bounded is.object is.among;
+            is_shown = object_is layers can.opens longest can.bounded is.object is.among;
             found = is.layer;
             directory = directory;
             numbered = is.numbered;
@@ -162,9 +157,8 @@ module _ (layers : List (OpenLayer ℕ)) (are_open : AreOpen layers) (longest : 
       → (found : Lies (at path seen)) → is_directory (kind_of found.node.content) ≡ true
       → IsDirectory tree (num (at path seen))
   shown_directory path seen s found d =
-      let inode = inode_at layers are_open longest bounded fresh distinct has_upper top is_top path seen s in
-      let node = same_Some inode.node found.node
-      (sym inode.seen ∙ layer_node_of layers are_open longest bounded fresh distinct has_upper (at path seen) found) in
+      let inode = inode_at can has_upper top is_top path seen s in
+      let node = same_Some inode.node found.node (sym inode.seen ∙ layer_node_of can has_upper (at path seen) found) in
       grind (arith, common_steps, merged_kind)
 
   -- an entry of the tree leads to what is shown under its name
@@ -177,10 +171,10 @@ module _ (layers : List (OpenLayer ℕ)) (are_open : AreOpen layers) (longest : 
   is_entry : (directory : ℕ) (name : List ℕ) (n : ℕ) → entry_at tree directory name ≡ Some n → IsEntry directory name n
   is_entry directory name n e =
       let above = of_directory directory (has_entries tree directory name n e) in
-      by above _ refl (entry_leads layers are_open longest bounded fresh distinct has_upper _ name) (cc (above.entries))
+      by above _ refl (entry_leads can has_upper _ name) (cc (above.entries))
     where
       by : (above : IsShownDirectory directory) (o : Option (Shown ℕ)) → shown layers (above.path ++ name ∷ []) ≡ o
-          → LeadsTo layers are_open longest bounded fresh distinct has_upper above.path name o
+          → LeadsTo can has_upper above.path name o
           (entry_named name (filter_map (entry_in_directory nat_eq fresh has_upper all above.path) all))
           → entry_named name (filter_map (entry_in_directory nat_eq fresh has_upper all above.path) all) ≡ Some n
           → IsEntry directory name n
@@ -191,13 +185,13 @@ module _ (layers : List (OpenLayer ℕ)) (are_open : AreOpen layers) (longest : 
   -- The root
   root_found : (found : Lies (at [] top)) → is_directory (kind_of found.node.content) ≡ true
   root_found found = ap is_directory_node (sym found.is) ∙ ap (λ o. is_directory_node (found.layer.tree.node o))
-      (sym (same_Some found.layer.directory top.object found.at)) ∙ (are_open top.layer found.layer found.there).1
+      (sym (same_Some found.layer.directory top.object found.at)) ∙ (can.opens top.layer found.layer found.there).1
 
   root_lies : Lies (at [] top)
-  root_lies = in_layer layers are_open longest bounded fresh distinct has_upper (at [] top) is_top
+  root_lies = in_layer can has_upper (at [] top) is_top
 
   root_is : num (at [] top) ≡ fresh 0
-  root_is = root_number layers are_open longest bounded fresh distinct has_upper top is_top
+  root_is = root_number can has_upper top is_top
 
   root_is_directory : IsDirectory tree (fresh 0)
   root_is_directory = subst (IsDirectory tree) root_is (shown_directory [] top is_top root_lies (root_found root_lies))
@@ -217,9 +211,9 @@ module _ (layers : List (OpenLayer ℕ)) (are_open : AreOpen layers) (longest : 
 
   -- a directory is the root, or has a name in a directory
   is_led : (n : ℕ) (directory : IsShownDirectory n) → led tree (fresh 0) directory.path ≡ Some n
-  is_led n directory = subst (λ o. Arrives layers are_open longest bounded
-      fresh distinct has_upper top is_top o directory.path (led tree (fresh 0) directory.path)) directory.is_shown
-      (arrives layers are_open longest bounded fresh distinct has_upper top is_top _) ∙ ap Some (sym directory.numbered)
+  is_led n directory = subst (λ o. Arrives can has_upper top is_top o directory.path (led tree
+      (fresh 0) directory.path)) directory.is_shown
+      (arrives can has_upper top is_top _) ∙ ap Some (sym directory.numbered)
 
   root_or_named : (n : ℕ) → IsShownDirectory n → (n ≡ fresh 0) ⊎ HasName tree n
   root_or_named n directory = by directory.path (is_led n directory)
@@ -237,16 +231,15 @@ module _ (layers : List (OpenLayer ℕ)) (are_open : AreOpen layers) (longest : 
       above : (front : List (List ℕ)) (name : List ℕ) (seen : Shown ℕ) → shown layers (front ++ name ∷ []) ≡ Some seen
           → IsDirectory tree (number_at fresh has_upper all front)
       above front name seen s =
-          let shows = shown_in_directory layers are_open 0 front name seen s in
+          let shows = shown_in_directory layers can.opens 0 front name seen s in
           let over : Shown ℕ = record { layer = 0 + shows.place; object = shows.object } in
           let inode =
-          inode_at layers are_open longest bounded fresh distinct has_upper top is_top front over shows.is in
-          let found = in_layer layers are_open longest bounded fresh distinct has_upper (at front over) shows.is in
-          let node = same_Some inode.node found.node
-          (sym inode.seen ∙ layer_node_of layers are_open longest bounded fresh distinct has_upper
+          inode_at can has_upper top is_top front over shows.is in
+          let found = in_layer can has_upper (at front over) shows.is in
+          let node = same_Some inode.node found.node (sym inode.seen ∙ layer_node_of can has_upper
           (at front over) found) in
           let d = ap (λ m. is_directory (kind_of m.content)) (sym node)
-          ∙ directory_above layers are_open longest bounded fresh distinct has_upper top is_top front name over shows.is
+          ∙ directory_above can has_upper top is_top front name over shows.is
           inode seen s in
           subst (IsDirectory tree) (sym (path_number front over shows.is found d))
           (shown_directory front over shows.is found d)
@@ -276,7 +269,7 @@ module _ (layers : List (OpenLayer ℕ)) (are_open : AreOpen layers) (longest : 
     in_order = λ directory. ordered directory (is_directory_node (tree.node directory)) refl;
     alive = λ directory name n e.
         let entry = is_entry directory name n e in
-        let inode = inode_at layers are_open longest bounded fresh distinct has_upper top is_top _ _ entry.is_shown in
+        let inode = inode_at can has_upper top is_top _ _ entry.is_shown in
         ap (λ k. is_some (tree.node k)) entry.numbered ∙ ap is_some inode.is;
     one_parent = λ directory name n e d.
         let entry = is_entry directory name n e in
@@ -300,7 +293,7 @@ module _ (layers : List (OpenLayer ℕ)) (are_open : AreOpen layers) (longest : 
           → is_sorted name_cmp (entries_in (tree.node directory)) ≡ true
       ordered directory true d =
           let own = of_directory directory d in
-          ap (is_sorted name_cmp) own.entries ∙ entries_in_order layers are_open longest bounded fresh distinct _ _
+          ap (is_sorted name_cmp) own.entries ∙ entries_in_order can _ _
       ordered directory false d = ap (is_sorted name_cmp) (entries_in-no_directory (tree.node directory) d)
 
       neither : (n : ℕ) → (n ≡ fresh 0) ⊎ HasName tree n → n ≢ fresh 0 → ¬ (HasName tree n)

@@ -1,9 +1,9 @@
 -- The names of a merged directory stand in their order.
-use Rattle.std.proofs.Common.{arith, ◌≡◌, ◌≤◌, ◌⊎◌, inl, inr, ⊎_elim, refl, sym, ap, subst, ◌∙◌, ℕ, zero, suc, nat_eq, Bool, true, T, List, [], ◌∷◌, ◌++◌, filter, flat_map, length, map, Option, Some, filter_map, is_lt, append-nil}
-use Rattle.vt_spec.proofs.Common.{Entries, Fresh, Merged, OpenLayer, T_and, T_and_left, T_and_right, View, below_all, common_steps, entries_in, entry_in_directory, folded, is_sorted, is_sorted-put, merged_at, merged_objects, name_cmp, names_at, nat_list_cmp_total, node_led, none_is_some, passes, same_Some, shown, tied_itself, view_of, with_entry, ⊤}
-use Rattle.vt_spec.specs.Machine.Views.{Shown, names_shown, paths_from}
-use Rattle.vt_laws_trees.proofs.layers.layers.ShownDirectories.{AreOpen, append_assoc}
-use Rattle.vt_laws_trees.proofs.layers.layers.ShownMerged.{entry_is_here}
+use Rattle.std.proofs.Common.{arith, ◌≡◌, ◌⊎◌, inl, inr, ⊎_elim, refl, sym, ap, subst, ◌∙◌, ℕ, zero, suc, nat_eq, Bool, true, T, List, [], ◌∷◌, ◌++◌, filter, flat_map, map, Option, Some, filter_map, is_lt, append-nil}
+use Rattle.vt_spec.proofs.Common.{Entries, Fresh, Merged, OpenLayer, T_and, T_and_left, T_and_right, View, below_all, common_steps, entries_in, entry_in_directory, folded, is_sorted, is_sorted-put, merged_at, merged_objects, name_cmp, names_at, nat_list_cmp_total, node_led, none_is_some, passes, same_Some, tied_itself, view_of, with_entry, ⊤}
+use Rattle.vt_spec.specs.Machine.Views.{names_shown, paths_from}
+use Rattle.vt_laws_trees.proofs.layers.layers.ShownDirectories.{append_assoc}
+use Rattle.vt_laws_trees.proofs.layers.layers.ShownMerged.{CanMerge, entry_is_here}
 use Rattle.vt_laws_trees.proofs.layers.layers.ShownObjects.{Among, from_filter_map}
 
 module _ {A : Type 0} where
@@ -150,16 +150,15 @@ module _ (views : List (View ℕ)) where
           grind (arith, common_steps, pairwise_append, under_name, from_flat_map, below_beside, each rise names p.1)
 
 -- so do the entries of a merged directory
-module _ (layers : List (OpenLayer ℕ)) (are_open : AreOpen layers) (longest : ℕ)
-    (bounded : (path : List (List ℕ)) (seen : Shown ℕ) → shown layers path ≡ Some seen → length path ≤ longest)
-    (fresh : Fresh ℕ) (distinct : (j k : ℕ) → fresh j ≡ fresh k → j ≡ k) (has_upper : Bool) where
+module _ {layers : List (OpenLayer ℕ)} {longest : ℕ} {fresh : Fresh ℕ} (can : CanMerge layers longest fresh)
+    (has_upper : Bool) where
   pub entries_in_order : (path : List (List ℕ))
       → is_sorted name_cmp (filter_map (entry_in_directory nat_eq fresh has_upper (merged_objects layers longest) path)
       (merged_objects layers longest)) ≡ true
   entries_in_order path = passes _ (rising_sorted _ (pairwise_filter_map (λ a b. PathBelow a.path b.path)
       (λ a b. NameBelow a.0 b.0) _ (λ a b x y e f h. last_parent path x.0 y.0 (subst (PathBelow (path ++ x.0 ∷ []))
-      (entry_is_here layers are_open longest bounded fresh distinct has_upper path y.0 b y f).0 (subst
-      (λ p. PathBelow p b.path) (entry_is_here layers are_open longest bounded fresh distinct _ path x.0 a x e).0 h))) _
+      (entry_is_here can has_upper path y.0 b y f).0 (subst
+      (λ p. PathBelow p b.path) (entry_is_here can _ path x.0 a x e).0 h))) _
       (pairwise_filter_map PathBelow _ (merged_at layers) (λ a b x y e f h. subst (λ p. PathBelow x.path p)
       (path_of b y f) (subst (λ p. PathBelow p b) (path_of a x e) h)) _ (paths_rise (map view_of layers) longest []))))
     where

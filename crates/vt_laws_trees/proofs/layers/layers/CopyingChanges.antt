@@ -172,8 +172,7 @@ module _ {files : FileTree ℕ} (tree : IsTree files.tree) {first : ℕ → Opti
         ∙ ap (λ n. entry_at files.tree n old) (sound.one found.0 from seen_from
         (found.2 ∙ ap Some (same ∙ upper_of_is here from seen_from has_from)) has_from) ∙ e) in
         let not_to : replaced ≢ upper_of here to = λ same. no_loop files tree to name
-        (found.1 ∙ ap Some (sound.one found.0 to seen_to
-        (cc (found.2, upper_of_is here to seen_to has_to)) has_to)) in
+        (found.1 ∙ ap Some (sound.one found.0 to seen_to (cc (found.2, upper_of_is here to seen_to has_to)) has_to)) in
         let base = without_name nat_eq
         (without_parent nat_eq freed (entry_named name (entries_in (freed.tree.node (upper_of here to)))))
         (upper_of here from) old in

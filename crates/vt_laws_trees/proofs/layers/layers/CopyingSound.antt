@@ -73,8 +73,7 @@ module _ (files : FileTree ℕ) (first : ℕ → Option (Real ℕ)) (spare : ℕ
     told_later number seen e = ⊎_elim (λ t. inl (
       t.1,
       sym (same_Some copy seen (cc (t.0))),
-    )) (λ t. inr (cc (t.0)))
-        (eqb_tells number object)
+    )) (λ t. inr (cc (t.0))) (eqb_tells number object)
 
     directory_named : (named : Option (ℕ × List ℕ)) (inode : ℕ)
         → is_directory_node ((copy_named nat_eq (State real upper) copy named with_copy).tree.node inode)

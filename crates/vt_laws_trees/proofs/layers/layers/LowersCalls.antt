@@ -45,8 +45,7 @@ module _ (world : World ℕ) (filesystem inode : ℕ) where
     elsewhere_stays away = kept_same (inode_in world filesystem inode) _ (ap (λ f. f.files.tree.node inode)
         (others_elsewhere fresh before location change filesystem away
         (λ overlay upper is has. own.no_upper mounted overlay upper
-        (cc (same_filesystem world before mounted same)) has)
-        ∙ same_filesystem world before filesystem same))
+        (cc (same_filesystem world before mounted same)) has) ∙ same_filesystem world before filesystem same))
 
     pub change_stays : (filesystem ≡ mounted → is_among nat_eq inode (inodes_changed change) ≡ false)
         → Stays (with_change nat_eq fresh before location change)

@@ -65,8 +65,7 @@ module _ (layer : OpenLayer ℕ) (lower : List (OpenLayer ℕ)) (path : List (Li
   }
     where
       by : (higher object : ℕ) → higher < suc seen.layer → ¬ (HasUncut (layer ∷ lower) higher path object)
-      by zero object h has = none_is_some object
-          (cc (same_Some layer has.0.0 has.0.1, has.0.2))
+      by zero object h has = none_is_some object (cc (same_Some layer has.0.0 has.0.1, has.0.2))
       by (suc higher) object h has =
           is.highest higher object (omega arith) (has.0, λ cut. has.1 (cut_by_lower higher cut))
 
@@ -81,8 +80,7 @@ module _ (layer : OpenLayer ℕ) (lower : List (OpenLayer ℕ)) (path : List (Li
     where
       by : (inode : Option (Node ℕ)) → layer.tree.node object ≡ inode → is_kind_in White inode ≡ false
       by None is = refl
-      by (Some node) is = is_no_whiteout node.content
-          (none node (layer, refl, cc))
+      by (Some node) is = is_no_whiteout node.content (none node (layer, refl, cc))
 
   top_has_none : (depth object : ℕ) → IsShown (layer ∷ lower) path (record { layer = suc depth; object = object })
       → at_path layer path ≡ None

@@ -9,9 +9,14 @@ use Rattle.vt_laws_trees.proofs.layers.layers.ShownObjects.{Among, Found, IsOne,
 use Rattle.vt_laws_trees.proofs.layers.layers.ShownPaths.{last_of_longer, not_empty, one_path, root_of_longer}
 use Rattle.vt_laws_trees.proofs.layers.layers.UpperShown.{without_last_of_longer}
 
-module _ (layers : List (OpenLayer ℕ)) (are_open : AreOpen layers) (longest : ℕ)
-    (bounded : (path : List (List ℕ)) (seen : Shown ℕ) → shown layers path ≡ Some seen → length path ≤ longest)
-    (fresh : Fresh ℕ) (distinct : (j k : ℕ) → fresh j ≡ fresh k → j ≡ k) (has_upper : Bool) where
+-- layers that are merged are open, show nothing at a path that is longer, and get numbers that differ
+pub record CanMerge (layers : List (OpenLayer ℕ)) (longest : ℕ) (fresh : Fresh ℕ) : Type 0 where
+  pub opens : AreOpen layers
+  pub bounded : (path : List (List ℕ)) (seen : Shown ℕ) → shown layers path ≡ Some seen → length path ≤ longest
+  pub distinct : (j k : ℕ) → fresh j ≡ fresh k → j ≡ k
+
+module _ {layers : List (OpenLayer ℕ)} {longest : ℕ} {fresh : Fresh ℕ} (can : CanMerge layers longest fresh)
+    (has_upper : Bool) where
   abbrev pub objects : List (Merged ℕ)
   objects = merged_objects layers longest
 
@@ -25,7 +30,7 @@ module _ (layers : List (OpenLayer ℕ)) (are_open : AreOpen layers) (longest : 
   node_of n = option_map (λ inode. inode.node) (inode_of inodes n nat_eq)
 
   abbrev is_shown : (object : Merged ℕ) → Among objects object → shown layers object.path ≡ Some object.seen
-  is_shown object among = object_is layers are_open longest bounded object among
+  is_shown object among = object_is layers can.opens longest can.bounded object among
 
   -- what is shown is there in its layer
   pub record InLayer (object : Merged ℕ) : Type 0 where
@@ -38,7 +43,7 @@ module _ (layers : List (OpenLayer ℕ)) (are_open : AreOpen layers) (longest : 
   pub in_layer : (object : Merged ℕ) → shown layers object.path ≡ Some object.seen → InLayer object
   in_layer object s =
       let shows = (computed layers object.path object.seen).0 s in let has = shows.has_uncut.0 in let open_layer =
-      are_open object.seen.layer has.0 has.1 in grind (
+      can.opens object.seen.layer has.0 has.1 in grind (
         arith,
         common_steps,
         led_is_there has.0 open_layer.0 open_layer.1 object.path object.seen.object has.2,
@@ -53,11 +58,9 @@ module _ (layers : List (OpenLayer ℕ)) (are_open : AreOpen layers) (longest : 
   one_number a b in_a in_b e =
       let first = placed_among (is_one_inode nat_eq has_upper a) 0 objects a in_a (one_itself has_upper a) in
       let second = placed_among (is_one_inode nat_eq has_upper b) 0 objects b in_b (one_itself has_upper b) in
-      let places = distinct (0 + first.place) (0 + second.place)
-      (cc (first.is, second.is)) in
+      let places = can.distinct (0 + first.place) (0 + second.place) (cc (first.is, second.is)) in
       let same_place : first.place ≡ second.place = omega arith in
-      let same = same_Some first.element second.element
-      (cc (first.there, same_place, second.there)) in
+      let same = same_Some first.element second.element (cc (first.there, same_place, second.there)) in
       let one = is_one layers has_upper a first.element (is_shown a in_a)
       (is_shown first.element first.among) first.passes in
       let two = is_one layers has_upper b second.element (is_shown b in_b)
@@ -101,12 +104,10 @@ module _ (layers : List (OpenLayer ℕ)) (are_open : AreOpen layers) (longest : 
           → merged_inode nat_eq fresh has_upper layers objects other ≡ Some found.element → InLayer other
           → HasInode object
       by own own_node found other among_other made there =
-          let element = same_Some (inode_made other there.node) found.element
-          (cc (layer_node_of other there)) in
+          let element = same_Some (inode_made other there.node) found.element (cc (layer_node_of other there)) in
           let one = one_number object other among among_other
           (cc (eqb-true (number object) found.element.number found.passes, element)) in
-          let same_node = same_Some there.node own.node
-          (cc (layer_node_of other there, one.seen)) in
+          let same_node = same_Some there.node own.node (cc (layer_node_of other there, one.seen)) in
           grind (arith, common_steps)
 
   -- an inode of a directory is that of one path
@@ -115,9 +116,8 @@ module _ (layers : List (OpenLayer ℕ)) (are_open : AreOpen layers) (longest : 
   one_directory object among inode d =
       let here = in_layer object (is_shown object among) in
       let there = in_layer inode.other (is_shown inode.other inode.among) in
-      let same_layer = same_Some there.layer here.layer
-      (cc (there.there, inode.one.seen, here.there)) in
-      let open_here = are_open object.seen.layer here.layer here.there in
+      let same_layer = same_Some there.layer here.layer (cc (there.there, inode.one.seen, here.there)) in
+      let open_here = can.opens object.seen.layer here.layer here.there in
       let node = same_Some here.node inode.node (sym (layer_node_of object here) ∙ inode.seen) in
       grind (arith, common_steps, one_path)
 
@@ -210,8 +210,7 @@ module _ (layers : List (OpenLayer ℕ)) (are_open : AreOpen layers) (longest : 
       where
         by : (o : Option (Shown ℕ)) → shown layers (path ++ name ∷ []) ≡ o
             → LeadsTo o (entry_named name (filter_map entry objects))
-        by None s = named_none objects
-            (λ object a e. none_is_some object.seen (cc (is_shown object a)))
+        by None s = named_none objects (λ object a e. none_is_some object.seen (cc (is_shown object a)))
         by (Some seen) s =
             named_some objects (record { path = path ++ name ∷ []; seen = seen }) (λ object a. is_shown object a)
-            (is_object layers are_open longest bounded (path ++ name ∷ []) seen s) refl
+            (is_object layers can.opens longest can.bounded (path ++ name ∷ []) seen s) refl

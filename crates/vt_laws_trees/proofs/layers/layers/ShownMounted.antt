@@ -6,6 +6,7 @@ use Rattle.vt_laws_trees.proofs.layers.layers.ShownAlike.{shown_alike}
 use Rattle.vt_laws_trees.proofs.layers.layers.ShownAtPath.{computed}
 use Rattle.vt_laws_trees.proofs.layers.layers.ShownDirectories.{AreOpen}
 use Rattle.vt_laws_trees.proofs.layers.layers.ShownPaths.{length-led}
+use Rattle.vt_laws_trees.proofs.layers.layers.ShownMerged.{CanMerge}
 use Rattle.vt_laws_trees.proofs.layers.layers.ShownTree.{real_shown_there, shows_layers}
 use Rattle.vt_laws_trees.proofs.layers.layers.ShownWhole.{behind, merged_is_real, merged_no_mark, merged_no_whiteout, merged_one_to_one, merged_real_there, merged_upper}
 use Rattle.vt_laws_trees.proofs.layers.layers.UpperWorld.{all_found, overlay_layers}
@@ -113,6 +114,10 @@ module _ (world : World ℕ) (conditions : IsWorld nat_eq world) (overlay : Over
   behind_is_real None = refl
   behind_is_real (Some real) = grind (arith, common_steps, in_lower)
 
+  pub can_merge : (fresh : Fresh ℕ) → ((j k : ℕ) → fresh j ≡ fresh k → j ≡ k)
+      → CanMerge layers (inode_count world) (odds fresh)
+  can_merge fresh distinct = record { opens = are_open; bounded = bounded; distinct = odds-distinct fresh distinct }
+
   module _ (fresh : Fresh ℕ) (distinct : (j k : ℕ) → fresh j ≡ fresh k → j ≡ k) where
     abbrev pub made : Overlay ℕ
     made = record overlay {
@@ -122,27 +127,19 @@ module _ (world : World ℕ) (conditions : IsWorld nat_eq world) (overlay : Over
 
     pub made_merged : IsMerged nat_eq world (overlay_filesystem nat_eq fresh world overlay) made
     made_merged = record {
-      shows = shows_layers layers are_open (inode_count world) bounded (odds fresh) (odds-distinct fresh distinct)
-          (is_some overlay.upper) root_shown.0 root_shown.1;
-      names = real_shown_there layers are_open (inode_count world) bounded (odds fresh) (odds-distinct fresh distinct)
-          (is_some overlay.upper) root_shown.0 root_shown.1;
+      shows = shows_layers (can_merge fresh distinct) (is_some overlay.upper) root_shown.0 root_shown.1;
+      names = real_shown_there (can_merge fresh distinct) (is_some overlay.upper) root_shown.0 root_shown.1;
       real_objects = λ number.
           subst (SameObject ((overlay_filesystem nat_eq fresh world overlay).files.tree.node number))
-          (behind_is_real (made.real number))
-          (merged_is_real layers are_open (inode_count world) bounded (odds fresh) (odds-distinct fresh distinct)
+          (behind_is_real (made.real number)) (merged_is_real (can_merge fresh distinct)
           (is_some overlay.upper) number);
-      real_there = λ number none. merged_real_there layers are_open (inode_count world) bounded
-          (odds fresh) (odds-distinct fresh distinct) (is_some overlay.upper) number none;
-      no_whiteout = merged_no_whiteout layers are_open (inode_count world) bounded (odds fresh)
-          (odds-distinct fresh distinct) (is_some overlay.upper);
-      no_mark = merged_no_mark layers are_open (inode_count world) bounded (odds fresh) (odds-distinct fresh distinct)
-          (is_some overlay.upper);
+      real_there = λ number none. merged_real_there (can_merge fresh distinct) (is_some overlay.upper) number none;
+      no_whiteout = merged_no_whiteout (can_merge fresh distinct) (is_some overlay.upper);
+      no_mark = merged_no_mark (can_merge fresh distinct) (is_some overlay.upper);
       upper_there = λ number object e.
-          let up = merged_upper layers are_open (inode_count world) bounded (odds fresh) (odds-distinct fresh distinct)
-          (is_some overlay.upper) number object e in
+          let up = merged_upper (can_merge fresh distinct) (is_some overlay.upper) number object e in
           by object overlay.upper up.0 (λ layer f. up.1 layer f);
-      one_to_one = merged_one_to_one layers are_open (inode_count world) bounded (odds fresh)
-          (odds-distinct fresh distinct) (is_some overlay.upper);
+      one_to_one = merged_one_to_one (can_merge fresh distinct) (is_some overlay.upper);
     }
       where
         by : (object : ℕ) (o : Option (Layer ℕ)) → is_some o ≡ true

@@ -3,31 +3,29 @@ use Rattle.std.proofs.Common.{◌≡◌, ◌≢◌, ◌≤◌, refl, sym, ap, su
 use Rattle.vt_spec.proofs.Common.{Content, Directory, Fresh, Merged, MergedInode, Node, OpenLayer, Regular, SameObject, Shown, Symlink, Tree, Whiteout, common_steps, entries_of, entry_at, entry_in_directory, entry_named, is_directory, kind_of, layer_node, led, merged_at, merged_content, none_is_some, paths_from, real_object, real_of, same_Some, shown, then_some}
 use Rattle.vt_spec.specs.Machine.Merging.{tree_of}
 use Rattle.vt_laws_trees.proofs.layers.layers.ShownAtPath.{computed}
-use Rattle.vt_laws_trees.proofs.layers.layers.ShownDirectories.{AreOpen, last_of, shown_in_directory}
-use Rattle.vt_laws_trees.proofs.layers.layers.ShownMerged.{HasInode, LeadsTo, entry_leads, has_inode, in_layer, inodes, layer_node_of, node_of, number, objects, one_directory}
+use Rattle.vt_laws_trees.proofs.layers.layers.ShownDirectories.{last_of, shown_in_directory}
+use Rattle.vt_laws_trees.proofs.layers.layers.ShownMerged.{CanMerge, HasInode, LeadsTo, entry_leads, has_inode, in_layer, inodes, layer_node_of, node_of, number, objects, one_directory}
 use Rattle.vt_laws_trees.proofs.layers.layers.ShownNames.{last_name}
 use Rattle.vt_laws_trees.proofs.layers.layers.ShownObjects.{is_object, one_itself}
 use Rattle.vt_laws_trees.proofs.layers.layers.ShownPaths.{length_longer, not_empty}
 use Rattle.vt_laws_trees.proofs.layers.layers.ShownWhole.{same_merged}
 
-module _ (layers : List (OpenLayer ℕ)) (are_open : AreOpen layers) (longest : ℕ)
-    (bounded : (path : List (List ℕ)) (seen : Shown ℕ) → shown layers path ≡ Some seen → length path ≤ longest)
-    (fresh : Fresh ℕ) (distinct : (j k : ℕ) → fresh j ≡ fresh k → j ≡ k) (has_upper : Bool)
-    (top : Shown ℕ) (is_top : shown layers [] ≡ Some top) where
+module _ {layers : List (OpenLayer ℕ)} {longest : ℕ} {fresh : Fresh ℕ} (can : CanMerge layers longest fresh)
+    (has_upper : Bool) (top : Shown ℕ) (is_top : shown layers [] ≡ Some top) where
   abbrev pub object_at : List (List ℕ) → Shown ℕ → Merged ℕ
   object_at path seen = record { path = path; seen = seen }
 
   abbrev num : Merged ℕ → ℕ
-  num = number layers are_open longest bounded fresh distinct has_upper
+  num = number can has_upper
 
   abbrev nodes : ℕ → Option (Node ℕ)
-  nodes = node_of layers are_open longest bounded fresh distinct has_upper
+  nodes = node_of can has_upper
 
   abbrev all : List (Merged ℕ)
-  all = objects layers are_open longest bounded fresh distinct has_upper
+  all = objects can has_upper
 
   abbrev made : List (MergedInode ℕ)
-  made = inodes layers are_open longest bounded fresh distinct has_upper
+  made = inodes can has_upper
 
   abbrev pub merged_tree : Tree ℕ
   merged_tree = (tree_of nat_eq (fresh 0) made).tree
@@ -41,9 +39,9 @@ module _ (layers : List (OpenLayer ℕ)) (are_open : AreOpen layers) (longest : 
   root_number = grind (arith, common_steps, first_path, one_itself)
 
   pub inode_at : (path : List (List ℕ)) (seen : Shown ℕ) → shown layers path ≡ Some seen
-      → HasInode layers are_open longest bounded fresh distinct has_upper (object_at path seen)
-  inode_at path seen s = has_inode layers are_open longest bounded fresh distinct has_upper (object_at path seen)
-      (is_object layers are_open longest bounded path seen s)
+      → HasInode can has_upper (object_at path seen)
+  inode_at path seen s = has_inode can has_upper (object_at path seen)
+      (is_object layers can.opens longest can.bounded path seen s)
 
   -- names lead to what is shown
   abbrev pub Arrives : Option (Shown ℕ) → List (List ℕ) → Option ℕ → Type 0
@@ -57,11 +55,11 @@ module _ (layers : List (OpenLayer ℕ)) (are_open : AreOpen layers) (longest : 
 
   -- what is shown under a name is shown in a directory
   pub directory_above : (path : List (List ℕ)) (name : List ℕ) (seen : Shown ℕ) → shown layers path ≡ Some seen
-      → (inode : HasInode layers are_open longest bounded fresh distinct has_upper (object_at path seen))
+      → (inode : HasInode can has_upper (object_at path seen))
       → (below : Shown ℕ) → shown layers (path ++ name ∷ []) ≡ Some below
       → is_directory (kind_of inode.node.content) ≡ true
   directory_above path name seen s inode below t =
-      let shows = shown_in_directory layers are_open 0 path name below t in let same = same_Some seen (record {
+      let shows = shown_in_directory layers can.opens 0 path name below t in let same = same_Some seen (record {
         layer = 0 + shows.place;
         object = shows.object;
       }) (sym s ∙ shows.is) in let place : 0 + shows.place ≡ shows.place = omega arith in grind (arith, common_steps)
@@ -72,19 +70,17 @@ module _ (layers : List (OpenLayer ℕ)) (are_open : AreOpen layers) (longest : 
       (sym (last_name merged_tree (fresh 0) path name)) (by (shown layers path) refl before)
     where
       from_directory : (seen : Shown ℕ) (s : shown layers path ≡ Some seen)
-          (inode : HasInode layers are_open longest bounded fresh distinct has_upper (object_at path seen))
-          (content : Content ℕ) → inode.node.content ≡ content
+          (inode : HasInode can has_upper (object_at path seen)) (content : Content ℕ) → inode.node.content ≡ content
           → Arrives (shown layers (path ++ name ∷ [])) (path ++ name ∷ [])
           (entry_named name (entries_of (merged_content nat_eq fresh has_upper all inode.other.path content)))
       from_directory seen s inode (Directory parent entries opaque) e =
           subst (λ p. Arrives (shown layers (path ++ name ∷ []))
           (path ++ name ∷ []) (entry_named name (filter_map (entry_in_directory nat_eq fresh has_upper all p) all)))
-          (sym (one_directory layers are_open longest bounded fresh distinct has_upper (object_at path seen)
-          (is_object layers are_open longest bounded path seen s) inode (ap (λ c. is_directory (kind_of c)) e)))
-          (as_arrives _ _ (entry_leads layers are_open longest bounded fresh distinct has_upper path name))
+          (sym (one_directory can has_upper (object_at path seen)
+          (is_object layers can.opens longest can.bounded path seen s) inode (ap (λ c. is_directory (kind_of c)) e)))
+          (as_arrives _ _ (entry_leads can has_upper path name))
         where
-          as_arrives : (o : Option (Shown ℕ)) (found : Option ℕ)
-              → LeadsTo layers are_open longest bounded fresh distinct has_upper path name o found
+          as_arrives : (o : Option (Shown ℕ)) (found : Option ℕ) → LeadsTo can has_upper path name o found
               → Arrives o (path ++ name ∷ []) found
           as_arrives None found leads = leads
           as_arrives (Some below) found leads = leads
@@ -103,9 +99,9 @@ module _ (layers : List (OpenLayer ℕ)) (are_open : AreOpen layers) (longest : 
           (option_and_then (λ directory. entry_at merged_tree directory name) (led merged_tree (fresh 0) path))
       by None s arrives = no_entry path name _
           (ap (option_and_then (λ directory. entry_at merged_tree _ name)) arrives) (λ seen t. none_is_some (record {
-            layer = 0 + (shown_in_directory layers are_open 0 path name seen t).place;
-            object = (shown_in_directory layers are_open 0 path name seen t).object;
-          }) (sym s ∙ (shown_in_directory layers are_open 0 path name seen t).is))
+            layer = 0 + (shown_in_directory layers can.opens 0 path name seen t).place;
+            object = (shown_in_directory layers can.opens 0 path name seen t).object;
+          }) (sym s ∙ (shown_in_directory layers can.opens 0 path name seen t).is))
       by (Some seen) s arrives =
           let inode = inode_at path seen s in
           subst (Arrives (shown layers (path ++ name ∷ [])) (path ++ name ∷ []))
@@ -126,13 +122,12 @@ module _ (layers : List (OpenLayer ℕ)) (are_open : AreOpen layers) (longest : 
 
   -- the object there
   no_white : (path : List (List ℕ)) (seen : Shown ℕ) → shown layers path ≡ Some seen
-      → (inode : HasInode layers are_open longest bounded fresh distinct has_upper (object_at path seen))
-      → inode.node.content ≢ Whiteout
+      → (inode : HasInode can has_upper (object_at path seen)) → inode.node.content ≢ Whiteout
   no_white path seen s inode =
       let shows = (computed layers path seen).0 s in
-      let here = in_layer layers are_open longest bounded fresh distinct has_upper (object_at path seen) s in
+      let here = in_layer can has_upper (object_at path seen) s in
       let node = same_Some here.node
-      inode.node (sym (layer_node_of layers are_open longest bounded fresh distinct has_upper _ here) ∙ inode.seen) in
+      inode.node (sym (layer_node_of can has_upper _ here) ∙ inode.seen) in
       shows.no_whiteout inode.node (
         here.layer,
         here.there,
@@ -154,7 +149,7 @@ module _ (layers : List (OpenLayer ℕ)) (are_open : AreOpen layers) (longest : 
             content = merged_content nat_eq fresh has_upper all inode.other.path inode.node.content;
           }))) (sym inode.seen) (
             refl,
-            same_merged layers are_open longest bounded fresh distinct has_upper _ _ (no_white path seen s inode),
+            same_merged can has_upper _ _ (no_white path seen s inode),
           )))
 
   -- with its real object

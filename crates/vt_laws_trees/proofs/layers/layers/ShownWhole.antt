@@ -1,11 +1,10 @@
 -- A merged tree has no whiteout and no mark, and two inodes of it have two real objects, which are there.
-use Rattle.std.proofs.Common.{arith, ◌≡◌, ◌≢◌, ◌≤◌, refl, sym, ap, subst, ◌∙◌, true≢false, ℕ, suc, nat_eq, eqb-true, Bool, true, false, List, [], ◌∷◌, length, Option, Some, None, is_some, slice_get, unwrap_or, find, option_map}
-use Rattle.vt_spec.proofs.Common.{Content, Directory, Fresh, Lower, Merged, MergedInode, Node, OpenLayer, Real, Regular, SameObject, Shown, Symlink, Upper, Whiteout, bytes_eq_itself, common_steps, index_from, inode_of, is_kind, is_kind_in, is_opaque_in, kind_of, merged_content, merged_inode, node_at_path, none_is_some, opaque_of, real_object, real_of, same_Some, same_content, shown, then_some}
+use Rattle.std.proofs.Common.{arith, ◌≡◌, ◌≢◌, refl, sym, ap, subst, ◌∙◌, true≢false, ℕ, suc, nat_eq, eqb-true, Bool, true, false, List, [], ◌∷◌, Option, Some, None, is_some, slice_get, unwrap_or, find, option_map}
+use Rattle.vt_spec.proofs.Common.{Content, Directory, Fresh, Lower, Merged, MergedInode, Node, OpenLayer, Real, Regular, SameObject, Symlink, Upper, Whiteout, bytes_eq_itself, common_steps, index_from, inode_of, is_kind, is_kind_in, is_opaque_in, kind_of, merged_content, merged_inode, node_at_path, none_is_some, opaque_of, real_object, real_of, same_Some, same_content, then_some}
 use Rattle.vt_spec.specs.declared.attributes.Kind.TheVariants.{White}
 use Rattle.vt_spec.specs.Machine.Merging.{same_real}
 use Rattle.vt_laws_trees.proofs.layers.layers.ShownAtPath.{computed}
-use Rattle.vt_laws_trees.proofs.layers.layers.ShownDirectories.{AreOpen}
-use Rattle.vt_laws_trees.proofs.layers.layers.ShownMerged.{InLayer, in_layer, inodes, layer_node_of, node_of, number, objects}
+use Rattle.vt_laws_trees.proofs.layers.layers.ShownMerged.{CanMerge, InLayer, in_layer, inodes, layer_node_of, node_of, number, objects}
 use Rattle.vt_laws_trees.proofs.layers.layers.ShownObjects.{Among, from_filter_map, object_is}
 
 -- what is found is in the list, and passes
@@ -21,26 +20,25 @@ behind layers false (Upper object) = None
 behind layers true (Lower layer path) = then_some (slice_get layers (suc layer)) (λ lower. node_at_path lower path)
 behind layers false (Lower layer path) = then_some (slice_get layers layer) (λ lower. node_at_path lower path)
 
-module _ (layers : List (OpenLayer ℕ)) (are_open : AreOpen layers) (longest : ℕ)
-    (bounded : (path : List (List ℕ)) (seen : Shown ℕ) → shown layers path ≡ Some seen → length path ≤ longest)
-    (fresh : Fresh ℕ) (distinct : (j k : ℕ) → fresh j ≡ fresh k → j ≡ k) (has_upper : Bool) where
+module _ {layers : List (OpenLayer ℕ)} {longest : ℕ} {fresh : Fresh ℕ} (can : CanMerge layers longest fresh)
+    (has_upper : Bool) where
   abbrev nodes : ℕ → Option (Node ℕ)
-  nodes = node_of layers are_open longest bounded fresh distinct has_upper
+  nodes = node_of can has_upper
 
   abbrev all : List (Merged ℕ)
-  all = objects layers are_open longest bounded fresh distinct has_upper
+  all = objects can has_upper
 
   abbrev made : List (MergedInode ℕ)
-  made = inodes layers are_open longest bounded fresh distinct has_upper
+  made = inodes can has_upper
 
   abbrev num : Merged ℕ → ℕ
-  num = number layers are_open longest bounded fresh distinct has_upper
+  num = number can has_upper
 
   -- an inode is that of an object
   pub record IsOfObject (n : ℕ) (inode : MergedInode ℕ) : Type 0 where
     pub object : Merged ℕ
     pub among : Among all object
-    pub layer : InLayer layers are_open longest bounded fresh distinct has_upper object
+    pub layer : InLayer can has_upper object
     pub numbered : n ≡ num object
     pub node : inode.node ≡ record {
       attr = layer.node.attr;
@@ -52,8 +50,8 @@ module _ (layers : List (OpenLayer ℕ)) (are_open : AreOpen layers) (longest : 
   is_of_object n inode e =
       let found = found_in_list (λ i. nat_eq n i.number) made inode e in
       let from = from_filter_map (merged_inode nat_eq fresh has_upper layers all) all inode found.0 in
-      by from.0 from.1 from.2 (in_layer layers are_open longest bounded fresh distinct has_upper from.0
-      (object_is layers are_open longest bounded from.0 from.1)) found.1
+      by from.0 from.1 from.2 (in_layer can has_upper from.0
+      (object_is layers can.opens longest can.bounded from.0 from.1)) found.1
     where
       of : Merged ℕ → Node ℕ → MergedInode ℕ
       of object node = record {
@@ -64,11 +62,10 @@ module _ (layers : List (OpenLayer ℕ)) (are_open : AreOpen layers) (longest : 
       }
 
       by : (object : Merged ℕ) → Among all object → merged_inode nat_eq fresh has_upper layers all object ≡ Some inode
-          → InLayer layers are_open longest bounded fresh distinct has_upper object → nat_eq n inode.number ≡ true
-          → IsOfObject n inode
+          → InLayer can has_upper object → nat_eq n inode.number ≡ true → IsOfObject n inode
       by object among m layer passes =
           let same = same_Some (of object layer.node) inode (sym (ap (option_map (of object))
-          (layer_node_of layers are_open longest bounded fresh distinct has_upper object layer)) ∙ m) in
+          (layer_node_of can has_upper object layer)) ∙ m) in
           record {
             object = object;
             among = among;
@@ -79,11 +76,10 @@ module _ (layers : List (OpenLayer ℕ)) (are_open : AreOpen layers) (longest : 
           }
 
   -- no whiteout and no mark
-  not_white : (object : Merged ℕ) → Among all object
-      → (layer : InLayer layers are_open longest bounded fresh distinct has_upper object)
+  not_white : (object : Merged ℕ) → Among all object → (layer : InLayer can has_upper object)
       → layer.node.content ≢ Whiteout
   not_white object among layer =
-      let shows = (computed layers object.path _).0 (object_is layers are_open longest bounded object among) in
+      let shows = (computed layers object.path _).0 (object_is layers can.opens longest can.bounded object among) in
       shows.no_whiteout layer.node (
         layer.layer,
         layer.there,
@@ -134,7 +130,7 @@ module _ (layers : List (OpenLayer ℕ)) (are_open : AreOpen layers) (longest : 
   -- the real object of an inode
   pub record HasReal (n : ℕ) (real : Real ℕ) : Type 0 where
     pub object : Merged ℕ
-    pub layer : InLayer layers are_open longest bounded fresh distinct has_upper object
+    pub layer : InLayer can has_upper object
     pub numbered : n ≡ num object
     pub is : real ≡ real_object has_upper object.seen.layer object
 
@@ -154,7 +150,7 @@ module _ (layers : List (OpenLayer ℕ)) (are_open : AreOpen layers) (longest : 
           }
 
   -- it is what the merged one shows
-  behind_object : (object : Merged ℕ) (found : InLayer layers are_open longest bounded fresh distinct has_upper object)
+  behind_object : (object : Merged ℕ) (found : InLayer can has_upper object)
       (upper : Bool) (layer : ℕ) → object.seen.layer ≡ layer
       → behind layers upper (real_object upper layer object) ≡ Some found.node
   behind_object object found upper layer e = grind (arith, common_steps)

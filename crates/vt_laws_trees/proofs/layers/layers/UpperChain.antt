@@ -121,8 +121,7 @@ module _ (files : FileTree ℕ) (tree : IsTree files.tree) where
   length_up : (steps directory : ℕ) → ReachedIn files.tree steps directory
       → length (chain steps (named_parent nat_eq files.tree) directory) ≡ suc steps
   length_up zero directory r = refl
-  length_up (suc steps) directory r =
-      cc (up_from steps steps directory r, length_up steps r.0 r.2)
+  length_up (suc steps) directory r = cc (up_from steps steps directory r, length_up steps r.0 r.2)
 
   -- so the steps from the root are fewer than the inodes
   pub depth_below : ListsNumbers nat_eq files → (steps directory : ℕ) → ReachedIn files.tree steps directory

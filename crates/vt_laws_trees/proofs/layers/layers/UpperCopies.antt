@@ -124,8 +124,7 @@ module _ (files : FileTree ℕ) (tree : IsTree files.tree) (numbers : ListsNumbe
           → ArrivesWithParent real (copied_each nat_eq fresh 0 (MergeOf real upper)
           (line_by nat_eq files object named)) object
       by None e = record {
-        arrives = copy_arrives real upper fine object (fresh 0) (new 0) there
-            (λ name is. absurd cc);
+        arrives = copy_arrives real upper fine object (fresh 0) (new 0) there (λ name is. absurd cc);
         parent = λ name is. absurd cc;
       }
       by (Some name) e =

@@ -1,9 +1,10 @@
 -- Objects of an upper layer lie under no other layer of a live overlay.
-use Rattle.std.proofs.Common.{arith, ◌≡◌, ◌≢◌, refl, sym, ap, subst, ◌∙◌, true≢false, ℕ, nat_eq, eq-eqb, eqb-true, Bool, true, false, not, ◌&&◌, List, [], ◌∷◌, ◌++◌, Option, Some, None, is_some, unwrap_or, inl, inr, ◌⊎◌, ⊎_elim, find, flat_map, option_to_list}
-use Rattle.vt_spec.proofs.Common.{Among, FileTree, Filesystem, IsWorld, Layer, ListsNumbers, Overlay, World, among-append_right, among-filter, among-flat_map, among_from_list_all, among_numbers, and_from, and_true_left, and_true_right, any_among, any_from_among, any_pair, common_steps, filesystem_numbered, holds_of, is_directory_node, is_object_of, is_overlay, is_plain_layer, is_there, is_under, layers_of, lies_in_layer, lies_or_counts_under, list_all, live_lowers, no_filesystem, none_among, none_is_some, of_overlay, or_false_left, or_false_right, or_left, or_right, overlap, overlay_or, overlays, upper_and_work}
+use Rattle.std.proofs.Common.{arith, ◌≡◌, ◌≢◌, refl, sym, ap, subst, ◌∙◌, true≢false, ℕ, nat_eq, eq-eqb, eqb-true, Bool, true, false, not, ◌&&◌, List, [], ◌∷◌, ◌++◌, Some, None, is_some, inl, inr, ◌⊎◌, ⊎_elim, find, flat_map, option_to_list}
+use Rattle.vt_spec.proofs.Common.{Among, FileTree, Filesystem, IsWorld, Layer, Overlay, World, among-append_right, among-filter, among-flat_map, and_from, and_true_left, and_true_right, any_among, any_from_among, any_pair, common_steps, filesystem_numbered, holds_of, is_directory_node, is_object_of, is_overlay, is_plain_layer, is_there, is_under, layers_of, lies_in_layer, lies_or_counts_under, live_lowers, none_among, none_is_some, of_overlay, or_false_left, or_false_right, or_left, or_right, overlap, overlay_or, overlays, upper_and_work}
 use Rattle.vt_laws_trees.proofs.layers.layers.LowersWorld.{number_of_filesystem}
 use Rattle.vt_laws_trees.specs.Layers.Layers.Upper.{IsUpperObject}
-use Rattle.vt_laws_trees.proofs.layers.layers.UpperWorld.{all_found, overlay_found, overlay_merges}
+use Rattle.vt_laws_trees.proofs.layers.locked.Layers.{are_trees, inode_listed, plain_layer}
+use Rattle.vt_laws_trees.proofs.layers.layers.UpperWorld.{overlay_found, overlay_merges}
 use Rattle.vt_laws_trees.specs.Trees.Settling.{inode_in}
 
 pub never_both : (a b : Bool) → (a && b) ≡ false → a ≡ true → b ≡ true → ⊥
@@ -63,27 +64,11 @@ module _ (world : World ℕ) where
       layer (merged_among number overlay is) (subst (λ o. Among layer (overlay_or [] layers o)) (sym is) m)
 
 module _ (world : World ℕ) (conditions : IsWorld nat_eq world) where
-  -- what is there has its number beside the tree
-  listed : (number inode : ℕ) → is_some (inode_in world number inode) ≡ true
-      → Among inode (filesystem_numbered nat_eq world number).files.numbers
-  listed number inode there = by (find (λ f. nat_eq number f.number) world.filesystems) refl there
-    where
-      by : (o : Option (Filesystem ℕ)) → find (λ f. nat_eq number f.number) world.filesystems ≡ o
-          → is_some ((unwrap_or o (no_filesystem number)).files.tree.node inode) ≡ true
-          → Among inode (unwrap_or o (no_filesystem number)).files.numbers
-      by None e h = absurd (true≢false (sym h))
-      by (Some filesystem) e h = among_numbers _ inode (all_found (λ f. ListsNumbers nat_eq f.files)
-          (λ f. nat_eq number f.number) world.filesystems conditions.files.numbers filesystem e inode ∙ h)
-
   -- layers are in plain trees
   pub layer_plain : (number : ℕ) (overlay : Overlay ℕ)
       → (filesystem_numbered nat_eq world number).overlay ≡ Some overlay
       → (layer : Layer ℕ) → Among layer (layers_of overlay) → is_plain_layer nat_eq world layer ≡ true
-  layer_plain number overlay is layer m = among_from_list_all (is_plain_layer nat_eq world)
-      (layers_of overlay) (sym (ap (overlay_or true (λ o. list_all (is_plain_layer nat_eq world) (layers_of o))) is)
-      ∙ among_from_list_all (of_overlay true (λ o. list_all (is_plain_layer nat_eq world) (layers_of o)))
-      world.filesystems conditions.overlays.plain_layers (filesystem_numbered nat_eq world number)
-      (found_among (λ f. nat_eq number f.number) world.filesystems _ (overlay_found world number overlay is))) layer m
+  layer_plain = plain_layer world conditions.overlays
 
   pub no_overlay_in : (layer : Layer ℕ) → is_plain_layer nat_eq world layer ≡ true
       → (filesystem_numbered nat_eq world layer.filesystem).overlay ≡ None
@@ -109,7 +94,8 @@ module _ (world : World ℕ) (conditions : IsWorld nat_eq world) where
       -- an object of the upper layer counts under its directory
       is_of : is_object_of nat_eq upper.filesystem object (filesystem_numbered nat_eq world number) overlay ≡ true
       is_of = and_from _ _ (cc (has, eq-eqb upper.filesystem upper.filesystem refl))
-          (any_from_among _ _ is_object.0 (listed number _ shown_there) (cc (is_object.1, eq-eqb object object refl)))
+          (any_from_among _ _ is_object.0 (inode_listed world
+          (are_trees world conditions.files) number _ shown_there) (cc (is_object.1, eq-eqb object object refl)))
 
       directory_lies : lies_in_layer nat_eq world upper.filesystem upper.directory upper ≡ true
       directory_lies = and_from _ _ (eq-eqb upper.filesystem upper.filesystem refl)
@@ -122,7 +108,7 @@ module _ (world : World ℕ) (conditions : IsWorld nat_eq world) where
           grind (arith, common_steps, or_right, any_from_among, merged_among, and_from, directory_lies, is_of)
 
       pub object_listed : Among object (filesystem_numbered nat_eq world upper.filesystem).files.numbers
-      object_listed = listed upper.filesystem object object_there
+      object_listed = inode_listed world (are_trees world conditions.files) upper.filesystem object object_there
 
       -- and under no lower layer of a live overlay
       pub no_lower : (lower : Layer ℕ) → Among lower (live_lowers nat_eq world)

@@ -55,8 +55,7 @@ module _ (world : World ℕ) (conditions : IsWorld nat_eq world) (layer : Layer 
 -- what is there has no new number
 pub no_new : (fresh : Fresh ℕ) (world : World ℕ) (filesystem inode : ℕ) → AreNoInodes fresh world filesystem
     → is_some (inode_in world filesystem inode) ≡ true → (k : ℕ) → inode ≢ fresh k
-no_new fresh world filesystem inode none there k e =
-    cc (there, e, none k)
+no_new fresh world filesystem inode none there k e = cc (there, e, none k)
 
 pub lower_paths_are_locked : LowerPathsAreLocked
 lower_paths_are_locked fresh world task call number overlay lower conditions called c is contains none =

@@ -117,8 +117,7 @@ module _ (world : World ℕ) (conditions : IsWorld nat_eq world) (fresh : Fresh 
           (no_pair (λ a b. nat_eq a.number b.number) world.filesystems conditions.files.one_filesystem)
           (λ b among. absurd among, tt) (λ a b in_old in_new. Rattle.std.proofs.Common.⊎_elim
           (λ e. cc (none_equal (evens (evens fresh) 0) world.filesystems unused a in_old))
-          (λ none. absurd none) in_new))
-          (λ a b l r. refl);
+          (λ none. absurd none) in_new)) (λ a b l r. refl);
       fit_filesystems = pushed is_fit_filesystem conditions.files.fit_filesystems
           (new_overlay_is_fit (evens fresh) world overlay conditions are_layers
           (evens-distinct fresh are_new.distinct));
@@ -155,8 +154,7 @@ module _ (world : World ℕ) (conditions : IsWorld nat_eq world) (fresh : Fresh 
         by true t =
             let same : filesystem_numbered nat_eq later number ≡ new =
             ap (λ o. unwrap_or o (no_filesystem number)) (find_new (λ f. nat_eq number f.number) world.filesystems new
-            (not_found number world.filesystems
-            (cc (eqb-true number new.number t, unused))) t) in
+            (not_found number world.filesystems (cc (eqb-true number new.number t, unused))) t) in
             let own = own_upper upper (ap (upper_in overlay) (sym (ap (λ (f : Filesystem ℕ). f.overlay) same) ∙ e)
             ∙ has) in
             reached_later upper (Lists.among_from_list_all (is_plain_layer nat_eq world) (layers_of overlay)

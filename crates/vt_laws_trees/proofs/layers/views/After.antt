@@ -25,8 +25,7 @@ fails false not_so = refl
 -- a test that fails at all fronts of a path fails at each, and at all fronts of each
 front_fails : (test : List (List ℕ) → Bool) (path front : List (List ℕ)) → IsFrontOf front path
     → list_any test (prefixes path) ≡ false → test front ≡ false
-front_fails test path front is none =
-    fails (test front) (λ e. cc (prefix_passes test path front is.0 is.1 is.2 e))
+front_fails test path front is none = fails (test front) (λ e. cc (prefix_passes test path front is.0 is.1 is.2 e))
 
 pub prefixes_fail : (test : List (List ℕ) → Bool) (path front : List (List ℕ)) → IsFrontOf front path
     → list_any test (prefixes path) ≡ false → list_any test (prefixes front) ≡ false

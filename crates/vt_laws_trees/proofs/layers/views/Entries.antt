@@ -8,8 +8,7 @@ is_entry directory name other word = nat_eq other directory && bytes_eq word nam
 
 pub is_that_entry : (directory : ℕ) (name : List ℕ) (other : ℕ) (word : List ℕ)
     → is_entry directory name other word ≡ true → (other ≡ directory) × (word ≡ name)
-is_that_entry directory name other word e = ⊎_elim
-    (λ t. (t.1, (bytes_decides word name).0 (cc (t.0))))
+is_that_entry directory name other word e = ⊎_elim (λ t. (t.1, (bytes_decides word name).0 (cc (t.0))))
     (λ t. absurd (cc (t.0))) (eqb_tells other directory)
 
 module _ (files : FileTree ℕ) (directory : ℕ) (name : List ℕ) where

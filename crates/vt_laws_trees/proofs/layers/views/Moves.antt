@@ -51,8 +51,7 @@ pub no_way_up : (files : FileTree ℕ) → IsTree files.tree → (from : ℕ) (o
 no_way_up files tree from old object named names e =
     let d = has_entries files.tree from old object named in
     let reached = is_reached_in files tree from old object named in
-    let again = steps_on files.tree (old ∷ names) reached.0 from from reached.1
-    (cc) d in
+    let again = steps_on files.tree (old ∷ names) reached.0 from from reached.1 (cc) d in
     let same : after_steps (old ∷ names) reached.0
     ≡ reached.0 = one_depth files tree (after_steps (old ∷ names) reached.0) reached.0 from again reached.1 in
     let more : suc reached.0 ≤ after_steps (old ∷ names) reached.0 = more_steps names (suc reached.0) in

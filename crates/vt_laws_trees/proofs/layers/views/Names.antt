@@ -50,8 +50,7 @@ alike_after files number change keeps inode = grind (arith, common_steps, alike_
 pub inode_entries : (files : FileTree ℕ) (number : ℕ) (node : Node ℕ) → files.tree.node number ≡ None
     → entries_of node.content ≡ [] → (other : ℕ)
     → entries_in ((with_inode nat_eq files number node).tree.node other) ≡ entries_in (files.tree.node other)
-inode_entries files number node vacant bare other = ⊎_elim
-    (λ t. cc (t.1, node_set files.tree number (Some node)))
+inode_entries files number node vacant bare other = ⊎_elim (λ t. cc (t.1, node_set files.tree number (Some node)))
     (λ t. ap entries_in (node_other files.tree number (Some node) other t.1)) (eqb_tells other number)
 
 -- A new inode, and its name
@@ -106,8 +105,7 @@ make_ends_paths files top directory number name node is vacant bare not_back pat
 pub add_name_adds_path : AddNameAddsPath
 add_name_adds_path files top directory object name is file path =
     given_led files.tree (with_name nat_eq files directory name object).tree directory name object
-    (given files directory name object is.in_directory)
-    (λ same. cc (is.in_directory))
+    (given files directory name object is.in_directory) (λ same. cc (is.in_directory))
     (entries_in-no_directory (files.tree.node object) file) is.bare top path
 
 -- A name taken away

@@ -21,8 +21,7 @@ led_where before after (word ∷ rest) start same = cc (same [] start refl word,
         → entry_at after inode word ≡ entry_at before inode word) → led after next rest ≡ led before next rest)
         → option_and_then (λ next. led after next rest) o ≡ option_and_then (λ next. led before next rest) o
     by None e later = refl
-    by (Some next) e later =
-        later next (λ way inode l. same (word ∷ way) inode (cc))
+    by (Some next) e later = later next (λ way inode l. same (word ∷ way) inode (cc))
 
 -- a change of one inode that keeps its entries
 stays_led : (files : FileTree ℕ) (number : ℕ) (change : Option (Node ℕ) → Option (Node ℕ))

@@ -191,6 +191,5 @@ hidden_stays_hidden fresh stack merge change path layer object whole distinct un
     let same : layer + 1 ≡ suc layer = omega arith in
     shown_before stack merge (merge_changed nat_eq fresh stack merge change) whole
     (changes_keep_shown fresh stack merge change whole distinct unused asked)
-    (uncovers fresh stack merge whole distinct unused change asked) path layer object
-    (cc)
+    (uncovers fresh stack merge whole distinct unused change asked) path layer object (cc)
     ∙ ap (λ n. Some (record { layer = n; object = object })) (sym same)

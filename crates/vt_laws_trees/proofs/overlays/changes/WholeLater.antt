@@ -51,8 +51,7 @@ pub record ChangesMerge (fresh : Fresh ℕ) (world : World ℕ) (location : Loca
 pub changing : (fresh : Fresh ℕ) (world : World ℕ) (location : Location ℕ) (change : Change ℕ) (overlay : Overlay ℕ)
     (upper : Layer ℕ) → IsWorld nat_eq world → (filesystem_at nat_eq world location).overlay ≡ Some overlay
     → overlay.upper ≡ Some upper → ((j k : ℕ) → fresh j ≡ fresh k → j ≡ k)
-    → ((filesystem : ℕ) → AreNoInodes fresh world filesystem)
-    → IsAskedWell (stack_of nat_eq world overlay upper)
+    → ((filesystem : ℕ) → AreNoInodes fresh world filesystem) → IsAskedWell (stack_of nat_eq world overlay upper)
     (merge_of nat_eq world (filesystem_at nat_eq world location) overlay upper) change
     → ChangesMerge fresh world location change overlay upper
 changing fresh world location change overlay upper conditions is has distinct none asked = record {
@@ -142,8 +141,7 @@ module _ {fresh : Fresh ℕ} {world : World ℕ} {location : Location ℕ} {chan
           (upper_filesystem_keeps fresh world location change overlay upper inode it.conditions it.is it.has
           (spoken (stack_of nat_eq world overlay upper) before change
           (Rattle.vt_laws_trees.proofs.layers.layers.UpperWorld.overlay_tree world it.conditions number overlay it.is)
-          it.asked)
-          (no_new fresh world upper.filesystem inode (it.none upper.filesystem)
+          it.asked) (no_new fresh world upper.filesystem inode (it.none upper.filesystem)
           (subst (λ n. is_some (inode_in world n inode) ≡ true) same there))
           (λ object. no_lower world it.conditions number overlay it.is upper it.has inode object lower
           (layer_among world (λ o. o.lowers) number overlay it.is lower m)

@@ -25,8 +25,7 @@ use Rattle.vt_spec.proofs.Trees.{found}
 -- an object copied by even numbers
 module _ (fresh : Fresh ℕ) {stack : Stack ℕ} {merge : Merge ℕ} (whole : IsWhole stack merge)
     (distinct : (j k : ℕ) → fresh j ≡ fresh k → j ≡ k)
-    (unused : (k : ℕ) → merge.upper.tree.node (fresh k) ≡ None) (object : ℕ)
-    (there : IsThere merge.files object) where
+    (unused : (k : ℕ) → merge.upper.tree.node (fresh k) ≡ None) (object : ℕ) (there : IsThere merge.files object) where
   abbrev pub copied : Merge ℕ
   copied = copied_up nat_eq (evens fresh) merge object
 
@@ -100,8 +99,7 @@ pub record IsReadyToMove (fresh : Fresh ℕ) (stack : Stack ℕ) (merge : Merge 
 pub ready_above : {fresh : Fresh ℕ} {stack : Stack ℕ} {merge : Merge ℕ} {f : ℕ} {old : List ℕ} {t : ℕ}
     {new : List ℕ} {o : ℕ} {two : Merge ℕ} → IsReadyToMove fresh stack merge f old t new o two
     → IsMoveAbove (odds (odds fresh)) stack two f old t new o
-ready_above m =
-    record { whole = m.whole; from = m.from; to = m.to; object = m.object; may = m.may; vacant = m.vacant }
+ready_above m = record { whole = m.whole; from = m.from; to = m.to; object = m.object; may = m.may; vacant = m.vacant }
 
 pub twice : (fresh : Fresh ℕ) (stack : Stack ℕ) (merge : Merge ℕ) → IsWhole stack merge
     → ((j k : ℕ) → fresh j ≡ fresh k → j ≡ k)
@@ -124,13 +122,11 @@ twice fresh stack merge whole distinct unused f old t new o may =
     let own = second.copied.grows o (stands_now fresh whole distinct unused o o_there) in
     record {
       whole = second.copied.whole;
-      from = stands_above stack two second.copied.whole f old o
-          (cc (both, may.named)) own;
+      from = stands_above stack two second.copied.whole f old o (cc (both, may.named)) own;
       to = stands_copied stack (evens (odds fresh))
           (evens-distinct (odds fresh) (odds-distinct fresh distinct)) one t first.copied.whole spare t_there;
       object = own;
-      vacant = second.copied.vacant (odds (odds fresh) 0)
-          (still_unused fresh whole distinct unused o o_there 1)
+      vacant = second.copied.vacant (odds (odds fresh) 0) (still_unused fresh whole distinct unused o o_there 1)
           (λ j. odds-no_evens (odds fresh) (odds-distinct fresh distinct) 0 j);
       may = subst (λ files. MayMove files.tree f old t new o) (sym both) may;
       was_directory = λ d. subst (λ files. IsDirectory files.tree o) both d;

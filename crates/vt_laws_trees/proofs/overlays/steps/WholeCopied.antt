@@ -1,12 +1,11 @@
 -- One object is copied up: the tree is still what the layers show.
 use Rattle.std.proofs.Common.{arith, ◌≡◌, ◌≢◌, refl, sym, ap, subst, ◌∙◌, true≢false, eq-eqb, ne_eqb, ◌⊎◌, ⊎_elim, inl, inr, ℕ, nat_eq, Bool, true, false, not, cond, List, [], ◌∷◌, ◌++◌, map, Option, Some, None, is_some}
-use Rattle.vt_spec.proofs.Common.{Content, Directory, FileTree, HasOwnParents, IsDirectory, IsNewIn, IsReached, IsTree, Make, Merge, Node, Real, Regular, SameObject, Stack, Symlink, Upper, View, Whiteout, a_name, bytes_eq_itself, changed, common_steps, copied_content, copy_named, copy_of_node, copy_parent, cuts, directory_no_whiteout, directory_used, entries_in, entries_in-no_directory, entries_of, entries_of-copied_content, entry_at, entry_named, eqb_tells, hides, is_directory, is_directory_node, is_kind, is_kind_in, kind_of, led, led-append, name_cmp, node_led, node_other, node_set, none_is_some, number_at_path, parent_in, parent_of, same_Some, same_content, shown, shown_from, then_some, upper_object, upper_of, view_of, when, with_inode, with_real}
+use Rattle.vt_spec.proofs.Common.{Content, Directory, FileTree, HasOwnParents, IsDirectory, IsNewIn, IsReached, IsTree, Make, Merge, Node, Real, Regular, SameObject, Stack, Symlink, Upper, View, Whiteout, a_name, bytes_eq_itself, changed, common_steps, copied_content, copy_named, copy_of_node, copy_parent, cuts, directory_no_whiteout, directory_used, entries_in, entries_in-no_directory, entries_of-copied_content, entry_at, entry_named, eqb_tells, hides, is_directory, is_directory_node, is_kind, is_kind_in, kind_of, led, led-append, name_cmp, node_led, node_other, node_set, none_is_some, number_at_path, parent_in, parent_of, same_Some, same_content, shown, shown_from, then_some, upper_object, upper_of, view_of, when, with_inode, with_real}
 use Rattle.vt_spec.specs.declared.attributes.Kind.TheVariants.{White}
 use Rattle.vt_laws_trees.specs.Trees.{MayMake}
 use Rattle.vt_laws_trees.proofs.trees.ChangesKeepTrees.{changes_keep_trees, numbers_with_inode}
 use Rattle.vt_laws_trees.specs.Layers.Layers.ChangesUpper.{StandsInUpper}
-use Rattle.vt_laws_trees.specs.Layers.Layers.Mounted.{IsAlike}
-use Rattle.vt_laws_trees.specs.Layers.Layers.Views.{TakesName, goes_through, names_entry, view_in}
+use Rattle.vt_laws_trees.specs.Layers.Layers.Views.{goes_through, names_entry, view_in}
 use Rattle.vt_laws_trees.specs.Overlays.WhatIsShown.{CopyKeepsWhole, IsWhole, layers_under, real_seen}
 use Rattle.vt_laws_trees.proofs.layers.layers.ShownAlike.{white_alike}
 use Rattle.vt_laws_trees.proofs.layers.layers.ShownDirectories.{led_is_there}
@@ -14,15 +13,16 @@ use Rattle.vt_laws_trees.proofs.layers.layers.ShownFronts.{prefix_found, prefix_
 use Rattle.vt_laws_trees.proofs.layers.layers.UpperLine.{has_entries, is_reached_in, named_so}
 use Rattle.vt_laws_trees.proofs.layers.layers.UpperShown.{below_is_at, has_a_name, way_to}
 use Rattle.vt_laws_trees.proofs.layers.views.After.{new_name_is_shown, on_top, shown_elsewhere_stays}
-use Rattle.vt_laws_trees.proofs.layers.views.Fronts.{prefixes_agree, hides_so, hiding_alike}
+use Rattle.vt_laws_trees.proofs.layers.views.Fronts.{prefixes_agree}
 use Rattle.vt_laws_trees.proofs.layers.views.Moves.{led_parts}
 use Rattle.vt_laws_trees.proofs.layers.layers.ShownPaths.{not_empty, last_step}
-use Rattle.vt_laws_trees.proofs.layers.views.Names.{alike_same, inode_entries, make_adds_inode, make_adds_path, make_is_seen, no_entries}
+use Rattle.vt_laws_trees.proofs.layers.views.Names.{alike_same, inode_entries, make_adds_path, no_entries}
 use Rattle.vt_laws_trees.proofs.layers.views.Stay.{inode_moves_no_path}
 use Rattle.vt_laws_trees.proofs.overlays.whole.UpperGoes.{Goes, goes_by}
-use Rattle.vt_laws_trees.proofs.overlays.steps.WholeAttributes.{top_open, upper_real}
+use Rattle.vt_laws_trees.proofs.overlays.steps.WholeAttributes.{top_open}
 use Rattle.vt_laws_trees.proofs.overlays.steps.WholeGrown.{directory_alike, grown_is_fine}
-use Rattle.vt_laws_trees.proofs.overlays.steps.WholeNames.{above_named, cut_shows_none, named_led, through_bare, through_free, whole_again, directory_stands, entry_named_so, is_fine, named_above, over_same, same_entry, same_through, top_good}
+use Rattle.vt_laws_trees.proofs.overlays.steps.WholeNew.{IsNewName, hides_at, leads_same, new_there, others_alike}
+use Rattle.vt_laws_trees.proofs.overlays.steps.WholeNames.{IsAbove, stands_above, above_named, cut_shows_none, named_led, through_bare, through_free, whole_again, entry_named_so, is_fine, named_above, over_same, same_entry, same_through, top_good}
 use Rattle.vt_laws_trees.proofs.overlays.steps.WholeParts.{IsFine, real_by, real_by_none}
 use Rattle.vt_spec.proofs.NodeChanges.{kind_of-copied_content}
 
@@ -257,18 +257,15 @@ module _ {stack : Stack ℕ} {merge : Merge ℕ} (whole : IsWhole stack merge) (
     abbrev above : Merge ℕ
     above = record merge { real = real_later; upper = with_copy }
 
-    real_d : merge.real d ≡ Some (Upper ud)
-    real_d = upper_real merge d stands
-
-    ud_directory : is_directory_node (merge.upper.tree.node ud) ≡ true
-    ud_directory = directory_stands stack merge whole d ud real_d ∙ has_entries merge.files.tree d w object has
+    in_upper : IsAbove stack merge d ud
+    in_upper = stands_above d whole stands (has_entries merge.files.tree d w object has)
 
     way : (q : List (List ℕ)) × (number_at_path merge.files q ≡ Some d)
     way = let reached = is_reached_in merge.files whole.tree d w object has in
         way_to merge.files.tree reached.0 d reached.1
 
     up_way : led merge.upper.tree stack.directory way.0 ≡ Some ud
-    up_way = named_above stack merge whole way.0 d ud way.1 real_d
+    up_way = named_above stack merge whole way.0 d ud way.1 in_upper.real
 
     here : number_at_path merge.files (way.0 ++ w ∷ []) ≡ Some object
     here = led-append merge.files.tree merge.files.tree.root way.0 w d object way.1 has
@@ -290,37 +287,18 @@ module _ {stack : Stack ℕ} {merge : Merge ℕ} (whole : IsWhole stack merge) (
         by None e = e
         by (Some r) e = absurd (seen r e (is_kind_in White (merge.upper.tree.node r)) refl)
 
-    takes : TakesName merge.upper.tree ud w
-    takes = record { in_directory = ud_directory; bare = λ r e. none_is_some r (sym free ∙ e) }
-
-    bare : entries_of (copied_content ud node.content) ≡ []
-    bare = entries_of-copied_content ud node.content
-
-    leads_same : (path : List (List ℕ)) → names_entry before ud w path ≡ false
-        → led with_copy.tree stack.directory path ≡ led merge.upper.tree stack.directory path
-    leads_same path e = make_adds_path merge.upper stack.directory ud copy w (copy_node ud) takes vacant bare path
-        ∙ ap (λ b. cond b (Some copy) (led merge.upper.tree stack.directory path)) e
-
-    others_alike : (u : ℕ) → u ≢ copy → IsAlike (merge.upper.tree.node u) (with_copy.tree.node u)
-    others_alike = (make_adds_inode merge.upper stack.directory ud copy w (copy_node ud) ud_directory vacant).1
+    new_name : IsNewName merge.upper stack.directory ud copy w (copy_node ud)
+    new_name = record {
+      tree = top_tree;
+      directory = top_directory;
+      takes = record { in_directory = in_upper.directory; bare = λ r e. none_is_some r (sym free ∙ e) };
+      vacant = vacant;
+      bare = entries_of-copied_content ud node.content;
+    }
 
     is_old : (path : List (List ℕ)) (k : ℕ) → led merge.upper.tree stack.directory path ≡ Some k → k ≢ copy
     is_old path k l same = true≢false (sym (led_is_there _ top_tree top_directory path k l)
         ∙ ap (λ n. is_some (merge.upper.tree.node n)) same ∙ ap is_some vacant)
-
-    hides_at : (front : List (List ℕ)) (b : Bool) → names_entry before ud w front ≡ b
-        → hides (node_led after front) ≡ cond b (hides (Some (copy_node ud))) (hides (node_led before front))
-    hides_at front b e =
-        by b (subst (λ c. IsAlike (cond c (Some (copy_node ud)) (node_led before front)) (node_led after front)) e
-        (make_is_seen merge.upper stack.directory ud copy w
-        (copy_node ud) top_tree top_directory takes vacant bare front))
-      where
-        by : (b : Bool) → IsAlike (cond b (Some (copy_node ud)) (node_led before front)) (node_led after front)
-            → hides (node_led after front) ≡ cond b (hides (Some (copy_node ud))) (hides (node_led before front))
-        by true alike = hiding_alike (Some (copy_node ud)) (node_led after front)
-            (hides_so (Some (copy_node ud)) (node_led after front) alike)
-        by false alike = hiding_alike (node_led before front) (node_led after front)
-            (hides_so (node_led before front) (node_led after front) alike)
 
     -- a copy of a directory lets be seen what is below
     cuts_same : is_directory (kind_of node.content) ≡ true → (path : List (List ℕ)) → cuts after path ≡ cuts before path
@@ -328,9 +306,9 @@ module _ {stack : Stack ℕ} {merge : Merge ℕ} (whole : IsWhole stack merge) (
       where
         by : (front : List (List ℕ)) (b : Bool) → names_entry before ud w front ≡ b
             → hides (node_led after front) ≡ hides (node_led before front)
-        by front true e = hides_at front true e ∙ copy_hides_not ud node node.content is_dir
+        by front true e = hides_at new_name front true e ∙ copy_hides_not ud node node.content is_dir
             ∙ sym (ap (λ o. hides (then_some o merge.upper.tree.node)) (named_led merge.upper _ ud w front e ∙ free))
-        by front false e = hides_at front false e
+        by front false e = hides_at new_name front false e
 
     -- and that of a file hides just what was hidden
     file_cuts : is_directory (kind_of node.content) ≡ false → (path : List (List ℕ))
@@ -338,15 +316,14 @@ module _ {stack : Stack ℕ} {merge : Merge ℕ} (whole : IsWhole stack merge) (
     file_cuts not_dir path through =
         let found = prefix_found (names_entry before ud w) path through in
         prefix_passes (λ front. hides (node_led after front)) path found.0 found.1.0 found.1.1 found.1.2
-        (hides_at found.0 true found.2 ∙ copy_hides ud node node.content not_dir)
+        (hides_at new_name found.0 true found.2 ∙ copy_hides ud node node.content not_dir)
 
     number_none : is_directory (kind_of node.content) ≡ false → (path : List (List ℕ))
         → goes_through before ud w path ≡ true → names_entry before ud w path ≡ false
         → number_at_path merge.files path ≡ None
     number_none not_dir path through other = through_bare merge.files merge.files.tree.root d object
         w has (no_entries merge.files.tree object (entries_in-no_directory _ (ap is_directory_node is ∙ not_dir)))
-        path (same_through stack merge whole d ud real_d ud_directory w path ∙ through)
-        (same_entry stack merge whole d ud real_d ud_directory w path ∙ other)
+        path (same_through in_upper w path ∙ through) (same_entry in_upper w path ∙ other)
 
     shown_same : (path : List (List ℕ)) → names_entry before ud w path ≡ false
         → shown_from 0 (after ∷ lowers) path ≡ shown_from 0 (before ∷ lowers) path
@@ -355,17 +332,18 @@ module _ {stack : Stack ℕ} {merge : Merge ℕ} (whole : IsWhole stack merge) (
         file : is_directory (kind_of node.content) ≡ false → (b : Bool) → goes_through before ud w path ≡ b
             → shown_from 0 (after ∷ lowers) path ≡ shown_from 0 (before ∷ lowers) path
         file not_dir true through = cut_shows_none after lowers path
-            (leads_same path e ∙ through_free merge.upper stack.directory ud w free path through)
+            (leads_same new_name path e ∙ through_free merge.upper stack.directory ud w free path through)
             (file_cuts not_dir path through) ∙ sym (real_by_none path (shown (layers_under stack merge) path)
             (sym (fine_before.paths path) ∙ ap (λ o. then_some o merge.real) (number_none not_dir path through e)))
         file not_dir false elsewhere = shown_elsewhere_stays merge.upper
             (Make ud w copy (copy_node ud)) stack.directory lowers top_tree top_directory
-            (takes, vacant, bare) path elsewhere
+            (new_name.takes, vacant, new_name.bare) path elsewhere
 
         by : (b : Bool) → is_directory (kind_of node.content) ≡ b
             → shown_from 0 (after ∷ lowers) path ≡ shown_from 0 (before ∷ lowers) path
-        by true is_dir = over_same before after lowers path (leads_same path e)
-            (λ k l. white_alike _ (with_copy.tree.node k) (others_alike k (is_old path k l))) (cuts_same is_dir path)
+        by true is_dir = over_same before after lowers path (leads_same new_name path e)
+            (λ k l. white_alike _ (with_copy.tree.node k) (others_alike new_name k (is_old path k l)))
+            (cuts_same is_dir path)
         by false not_dir = file not_dir (goes_through before ud w path) refl
 
     paths_above : (path : List (List ℕ))
@@ -382,21 +360,21 @@ module _ {stack : Stack ℕ} {merge : Merge ℕ} (whole : IsWhole stack merge) (
         by : (b : Bool) → names_entry before ud w path ≡ b
             → then_some (number_at_path merge.files path) real_later ≡ real_seen stack above path
         by true e = ap (λ o. then_some o real_later) (named_led merge.files merge.files.tree.root d w path
-            (same_entry stack merge whole d ud real_d ud_directory w path ∙ e) ∙ has)
+            (same_entry in_upper w path ∙ e) ∙ has)
             ∙ ap (λ b. cond b (Some (Upper copy)) (merge.real object)) (eq-eqb object object refl)
-            ∙ sym (ap (real_by path)
-            (new_name_is_shown merge.upper stack.directory ud copy w (copy_node ud) lowers takes vacant bare path e
+            ∙ sym (ap (real_by path) (new_name_is_shown merge.upper stack.directory ud copy w
+            (copy_node ud) lowers new_name.takes vacant new_name.bare path e
             ∙ ap (λ b. when (not b) (record { layer = 0; object = copy }))
             (ap (is_kind White) (kind_of-copied_content ud node.content) ∙ not_white)))
         by false e = other e _ refl ∙ fine_before.paths path ∙ sym (ap (real_by path) (shown_same path e))
 
     new_object : with_copy.tree.node copy ≡ Some (copy_node ud)
-    new_object = (make_adds_inode merge.upper stack.directory ud copy w (copy_node ud) ud_directory vacant).0
+    new_object = new_there new_name
 
     may_copy : MayMake merge.upper.tree ud w copy (copy_node ud)
     may_copy = record {
       name_is_free = record {
-        in_directory = ud_directory;
+        in_directory = in_upper.directory;
         reached = (
           whole.reached.0 ++ way.0,
           led_parts merge.upper.tree whole.reached.0 way.0 merge.upper.tree.root _ whole.reached.1 ∙ up_way,
@@ -413,15 +391,16 @@ module _ {stack : Stack ℕ} {merge : Merge ℕ} (whole : IsWhole stack merge) (
     above_is_whole : IsWhole stack above
     above_is_whole = whole_again stack merge above whole
         whole.tree whole.numbers (changes_keep_trees merge.upper (Make ud w copy (copy_node ud)) top_tree may_copy)
-        (directory_alike _ _ (others_alike _ (is_old [] _ refl)) ∙ top_directory) (still_reached _ refl) (grown_is_fine
+        (directory_alike _ _ (others_alike new_name _ (is_old [] _ refl))
+        ∙ top_directory) (still_reached _ refl) (grown_is_fine
         stack merge fine_before merge.files with_copy object copy vacant (λ n differ. alike_same _ _ refl)
-        others_alike (subst (SameObject (merge.files.tree.node object)) (sym new_object) (copy_object ud))
+        (others_alike new_name) (subst (SameObject (merge.files.tree.node object)) (sym new_object) (copy_object ud))
         (ap is_some is) (fine_before.whiteout object) (fine_before.mark object) paths_above)
       where
         still_reached : (b : Bool) → names_entry (view_in merge.upper merge.upper.tree.root) ud w whole.reached.0 ≡ b
             → IsReached with_copy.tree stack.directory
         still_reached true e = grind (arith, common_steps, none_is_some, named_led, free)
-        still_reached false e = grind (arith, common_steps, make_adds_path, takes, bare)
+        still_reached false e = grind (arith, common_steps, make_adds_path, new_name.takes, new_name.bare)
 
 pub copy_keeps_whole : CopyKeepsWhole
 copy_keeps_whole stack merge object copy node whole is low vacant parents = by (a_name nat_eq merge.files object) refl

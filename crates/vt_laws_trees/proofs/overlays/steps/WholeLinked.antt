@@ -1,6 +1,6 @@
 -- An object of the upper layer is put under a further name: the tree is still what the layers show.
-use Rattle.std.proofs.Common.{arith, ◌≡◌, refl, sym, ap, subst, ◌∙◌, true≢false, ℕ, nat_eq, Bool, true, false, not, cond, ◌||◌, List, [], ◌∷◌, ◌++◌, map, Option, Some, None, is_some, option_and_then}
-use Rattle.vt_spec.proofs.Common.{AddName, FileTree, IsDirectory, IsTree, Merge, Node, SameObject, Stack, Upper, View, changed, common_steps, entry_at, hides, is_directory_node, is_kind_in, led, led-append, merge_with_link, node_led, none_is_some, number_at_path, opaque_of, shown_from, then_some, upper_of, view_of, when}
+use Rattle.std.proofs.Common.{arith, ◌≡◌, refl, sym, ap, subst, ◌∙◌, true≢false, ℕ, nat_eq, Bool, true, false, not, cond, ◌||◌, List, ◌∷◌, map, Option, Some, None, is_some}
+use Rattle.vt_spec.proofs.Common.{AddName, FileTree, IsDirectory, IsTree, Merge, Node, SameObject, Stack, Upper, View, changed, common_steps, hides, is_directory_node, is_kind_in, led, merge_with_link, node_led, number_at_path, opaque_of, shown_from, then_some, upper_of, view_of, when}
 use Rattle.vt_spec.specs.declared.attributes.Kind.TheVariants.{White}
 use Rattle.vt_laws_trees.specs.Trees.{MayAddName}
 use Rattle.vt_laws_trees.specs.Layers.Layers.ChangesUpper.{StandsInUpper}
@@ -8,14 +8,13 @@ use Rattle.vt_laws_trees.specs.Layers.Layers.Mounted.{IsAlike}
 use Rattle.vt_laws_trees.specs.Layers.Layers.Views.{TakesName, goes_through, names_entry, view_in}
 use Rattle.vt_laws_trees.specs.Overlays.WhatIsShown.{IsWhole, LinkKeepsShown, real_seen}
 use Rattle.vt_laws_trees.proofs.layers.layers.ShownFronts.{prefix_found, prefix_passes}
-use Rattle.vt_laws_trees.proofs.layers.layers.ShownNames.{last_name}
-use Rattle.vt_laws_trees.proofs.layers.views.After.{link_is_shown, on_top, shown_elsewhere_stays}
+use Rattle.vt_laws_trees.proofs.layers.views.After.{link_is_shown, shown_elsewhere_stays}
 use Rattle.vt_laws_trees.proofs.layers.views.Fronts.{hides_so, hiding_alike}
-use Rattle.vt_laws_trees.proofs.layers.views.Names.{add_name_adds_path, add_name_is_seen, names_leave_inodes, no_entries}
+use Rattle.vt_laws_trees.proofs.layers.views.Names.{add_name_adds_path, add_name_is_seen, names_leave_inodes}
 use Rattle.vt_laws_trees.proofs.overlays.steps.WholeAttributes.{top_open, upper_real}
-use Rattle.vt_laws_trees.proofs.overlays.steps.WholeMade.{white_bare}
-use Rattle.vt_laws_trees.proofs.overlays.steps.WholeNames.{cut_shows_none, directory_stands, is_fine, named_above, object_above, same_entry, same_through, through_bare, through_free}
-use Rattle.vt_laws_trees.proofs.overlays.steps.WholeParts.{IsFine, real_by, real_by_none, what_is_shown}
+use Rattle.vt_laws_trees.proofs.overlays.steps.WholeFree.{leads_none, shown_none, takes_above, takes_shown}
+use Rattle.vt_laws_trees.proofs.overlays.steps.WholeNames.{IsAbove, stands_above, cut_shows_none, directory_stands, is_fine, object_above, same_entry}
+use Rattle.vt_laws_trees.proofs.overlays.steps.WholeParts.{IsFine, real_by, what_is_shown}
 use Rattle.vt_laws_trees.proofs.overlays.steps.WholeStill.{rearranged_is_fine}
 
 -- what is the same object as another is no whiteout
@@ -63,14 +62,14 @@ module _ {stack : Stack ℕ} {merge : Merge ℕ} (whole : IsWhole stack merge) {
   top_directory : IsDirectory merge.upper.tree stack.directory
   top_directory = (top_open stack merge whole).1
 
-  real_d : merge.real d ≡ Some (Upper ud)
-  real_d = upper_real merge d stands
+  above : IsAbove stack merge d ud
+  above = stands_above d whole stands may.name_is_free.in_directory
+
+  takes : TakesName merge.upper.tree ud w
+  takes = takes_above above may.name_is_free
 
   real_object : merge.real object ≡ Some (Upper uo)
   real_object = upper_real merge object own
-
-  ud_directory : is_directory_node (merge.upper.tree.node ud) ≡ true
-  ud_directory = directory_stands stack merge whole d ud real_d ∙ may.name_is_free.in_directory
 
   uo_file : is_directory_node (merge.upper.tree.node uo) ≡ false
   uo_file = directory_stands stack merge whole object uo real_object ∙ may.no_directory
@@ -78,54 +77,19 @@ module _ {stack : Stack ℕ} {merge : Merge ℕ} (whole : IsWhole stack merge) {
   uo_not_white : is_kind_in White (merge.upper.tree.node uo) ≡ false
   uo_not_white = no_white_object _ (merge.upper.tree.node uo) (object_above stack merge whole object uo real_object)
 
-  abbrev way : List (List ℕ)
-  way = may.name_is_free.reached.0
-
-  nothing_here : number_at_path merge.files (way ++ w ∷ []) ≡ None
-  nothing_here = last_name merge.files.tree merge.files.tree.root way w
-      ∙ ap (option_and_then (λ x. entry_at merge.files.tree x w)) may.name_is_free.reached.1 ∙ may.name_is_free.free
-
-  whiteout_there : (r : ℕ) → entry_at merge.upper.tree ud w ≡ Some r → is_kind_in White (merge.upper.tree.node r) ≡ true
-  whiteout_there r e = by (is_kind_in White (merge.upper.tree.node r)) refl
-    where
-      by : (b : Bool) → is_kind_in White (merge.upper.tree.node r) ≡ b
-          → is_kind_in White (merge.upper.tree.node r) ≡ true
-      by true k = k
-      by false k = none_is_some (Upper r) (sym (ap (λ o. then_some o merge.real) nothing_here) ∙ fine_before.paths
-          (way ++ w ∷ []) ∙ ap (real_by (way ++ w ∷ [])) (on_top before lowers _ r false (led-append merge.upper.tree
-          stack.directory way w ud r (named_above stack merge whole way d ud may.name_is_free.reached.1 real_d) e) k))
-
-  takes : TakesName merge.upper.tree ud w
-  takes = record {
-    in_directory = ud_directory;
-    bare = λ r e. white_bare (merge.upper.tree.node r) (whiteout_there r e);
-  }
-
-  takes_here : TakesName merge.files.tree d w
-  takes_here = record {
-    in_directory = may.name_is_free.in_directory;
-    bare = λ r e. none_is_some r (sym may.name_is_free.free ∙ e);
-  }
-
-  leads_none : (path : List (List ℕ)) → goes_through before ud w path ≡ true → names_entry before ud w path ≡ false
+  leads_later : (path : List (List ℕ)) → goes_through before ud w path ≡ true → names_entry before ud w path ≡ false
       → led upper.tree stack.directory path ≡ None
-  leads_none path through other = add_name_adds_path merge.upper stack.directory ud uo w takes uo_file path
-      ∙ ap (λ b. cond b (Some uo) (led merge.upper.tree stack.directory path)) other ∙ by _ refl
-    where
-      by : (o : Option ℕ) → entry_at merge.upper.tree ud w ≡ o → led merge.upper.tree stack.directory path ≡ None
-      by None e = through_free merge.upper stack.directory ud w e path through
-      by (Some r) e = through_bare merge.upper stack.directory ud r w e (no_entries merge.upper.tree r
-          (white_bare (merge.upper.tree.node r) (whiteout_there r e))) path through other
+  leads_later path through other = cc (
+    add_name_adds_path merge.upper stack.directory ud uo w takes uo_file path,
+    other,
+    leads_none above may.name_is_free path through other,
+  )
 
   hides_here : (front : List (List ℕ)) → names_entry before ud w front ≡ true → hides (node_led after front) ≡ true
   hides_here front e =
       let alike = subst (λ x. IsAlike (cond x (merge.upper.tree.node uo) (node_led before front))
       (node_led after front)) e (add_name_is_seen merge.upper stack.directory ud uo w takes uo_file front) in
       hiding_alike _ _ (hides_so _ _ alike) ∙ file_hides _ (fine_before.upper object uo real_object) uo_file
-
-  number_none : (path : List (List ℕ)) → goes_through before ud w path ≡ true → number_at_path merge.files path ≡ None
-  number_none path through = through_free merge.files merge.files.tree.root d w may.name_is_free.free path
-      (same_through stack merge whole d ud real_d ud_directory w path ∙ through)
 
   shown_same : (path : List (List ℕ)) → names_entry before ud w path ≡ false
       → shown_from 0 (after ∷ lowers) path ≡ shown_from 0 (before ∷ lowers) path
@@ -135,9 +99,9 @@ module _ {stack : Stack ℕ} {merge : Merge ℕ} (whole : IsWhole stack merge) {
           → shown_from 0 (after ∷ lowers) path ≡ shown_from 0 (before ∷ lowers) path
       by true through =
           let found = prefix_found (names_entry before ud w) path through in
-          cut_shows_none after lowers path (leads_none path through other)
-          (prefix_passes _ path found.0 found.1.0 found.1.1 found.1.2 (hides_here found.0 found.2)) ∙ sym (real_by_none
-          path _ (sym (fine_before.paths path) ∙ ap (λ o. then_some o merge.real) (number_none path through)))
+          cut_shows_none after lowers path (leads_later path through other)
+          (prefix_passes _ path found.0 found.1.0 found.1.1 found.1.2 (hides_here found.0 found.2))
+          ∙ sym (shown_none above may.name_is_free path through)
       by false elsewhere = shown_elsewhere_stays merge.upper
           (AddName ud w uo) stack.directory lowers top_tree top_directory (takes, uo_file) path elsewhere
 
@@ -146,9 +110,9 @@ module _ {stack : Stack ℕ} {merge : Merge ℕ} (whole : IsWhole stack merge) {
     where
       goes : (b : Bool) → names_entry before ud w path ≡ b
           → number_at_path files path ≡ cond b (Some object) (number_at_path merge.files path)
-      goes b e = add_name_adds_path merge.files merge.files.tree.root d object w takes_here may.no_directory path
-          ∙ ap (λ x. cond x (Some object) (number_at_path merge.files path))
-          (same_entry stack merge whole d ud real_d ud_directory w path ∙ e)
+      goes b e = add_name_adds_path merge.files merge.files.tree.root d object w
+          (takes_shown above may.name_is_free) may.no_directory path
+          ∙ ap (λ x. cond x (Some object) (number_at_path merge.files path)) (same_entry above w path ∙ e)
 
       by : (b : Bool) → names_entry before ud w path ≡ b
           → then_some (number_at_path files path) merge.real ≡ real_seen stack later path

@@ -1,29 +1,25 @@
 -- A new object under a name that shows nothing: the tree is still what the layers show.
-use Rattle.std.proofs.Common.{arith, ◌≡◌, refl, sym, ap, subst, ◌∙◌, true≢false, eqb-true, eq-eqb, ne_eqb, inl, inr, ℕ, suc, nat_eq, Bool, true, false, not, cond, List, [], ◌∷◌, ◌++◌, map, Option, Some, None, is_some, option_and_then}
-use Rattle.vt_spec.proofs.Common.{Content, Directory, FileTree, IsDirectory, IsNewIn, IsTree, Make, Merge, Node, Real, Regular, SameObject, Shown, Stack, Symlink, Upper, View, Whiteout, bytes_eq_itself, changed, changed_node, common_steps, content_with_mark, content_with_parent, cuts, entries_in, entries_of, entry_at, hides, hides_directory, is_directory, is_directory_node, is_directory_shown, is_kind, is_kind_in, kind_of, led, led-append, node_led, node_with_entry, node_with_mark, none_is_some, number_at_path, opaque_of, same_content, shown, shown_from, shown_in_lowers_at, then_some, upper_of, view_of, when, with_mark, with_real}
+use Rattle.std.proofs.Common.{arith, ◌≡◌, refl, sym, ap, subst, ◌∙◌, true≢false, eqb-true, eq-eqb, ne_eqb, inl, inr, ℕ, suc, nat_eq, Bool, true, false, not, cond, List, [], ◌∷◌, ◌++◌, map, Option, Some, None, is_some}
+use Rattle.vt_spec.proofs.Common.{Content, Directory, FileTree, IsDirectory, IsNewIn, IsTree, Make, Merge, Node, Real, Regular, SameObject, Shown, Stack, Symlink, Upper, View, Whiteout, bytes_eq_itself, changed, changed_node, common_steps, content_with_mark, content_with_parent, cuts, entries_of, hides, hides_directory, is_directory, is_directory_shown, is_kind, kind_of, led, node_led, node_with_entry, node_with_mark, none_is_some, number_at_path, opaque_of, same_content, shown_from, shown_in_lowers_at, then_some, upper_of, view_of, when, with_mark, with_real}
 use Rattle.vt_spec.specs.declared.attributes.Kind.TheVariants.{White}
 use Rattle.vt_laws_trees.specs.Trees.{MayMake}
 use Rattle.vt_laws_trees.specs.Layers.Layers.ChangesUpper.{StandsInUpper}
-use Rattle.vt_laws_trees.specs.Layers.Layers.Views.{TakesName, goes_through, names_entry, view_in}
+use Rattle.vt_laws_trees.specs.Layers.Layers.Views.{goes_through, names_entry, view_in}
 use Rattle.vt_laws_trees.specs.Overlays.WhatIsShown.{IsWhole, MakeKeepsShown, layers_under, real_seen}
 use Rattle.vt_laws_trees.proofs.layers.layers.ShownDirectories.{append_assoc, led_is_there}
 use Rattle.vt_laws_trees.proofs.layers.layers.ShownFronts.{prefix_found, prefix_passes}
-use Rattle.vt_laws_trees.proofs.layers.layers.ShownNames.{last_name}
 use Rattle.vt_laws_trees.proofs.layers.layers.UpperShown.{without_last_of_longer}
-use Rattle.vt_laws_trees.proofs.layers.views.After.{fails, new_name_is_shown, on_top, shown_elsewhere_stays}
+use Rattle.vt_laws_trees.proofs.layers.views.After.{fails, new_name_is_shown, shown_elsewhere_stays}
 use Rattle.vt_laws_trees.proofs.layers.views.Moves.{through_is_split}
-use Rattle.vt_laws_trees.proofs.layers.views.Names.{make_adds_inode, make_adds_path, no_entries}
-use Rattle.vt_laws_trees.proofs.overlays.steps.WholeAttributes.{top_open, upper_real}
+use Rattle.vt_laws_trees.proofs.layers.views.Names.{make_adds_inode, make_adds_path}
+use Rattle.vt_laws_trees.proofs.overlays.steps.WholeAttributes.{top_open}
 use Rattle.vt_laws_trees.proofs.overlays.steps.WholeGrown.{grown_is_fine}
-use Rattle.vt_laws_trees.proofs.overlays.steps.WholeNames.{cut_shows_none, directory_stands, entry_named_so, is_fine, named_above, same_entry, same_holds, same_is, same_place, same_through, through_bare, through_free}
-use Rattle.vt_laws_trees.proofs.overlays.steps.WholeNew
-use Rattle.vt_laws_trees.proofs.overlays.steps.WholeParts.{IsFine, real_by, real_by_none, what_is_shown}
+use Rattle.vt_laws_trees.proofs.overlays.steps.WholeNames.{IsAbove, stands_above, cut_shows_none, entry_named_so, is_fine, same_entry, same_holds, same_is, same_place}
+use Rattle.vt_laws_trees.proofs.overlays.steps.WholeNew.{IsNewName, cuts_through, hides_at, leads_same, new_there, others_alike}
+use Rattle.vt_laws_trees.proofs.overlays.steps.WholeFree.{leads_none, number_none, shown_none, takes_above, takes_shown}
+use Rattle.vt_laws_trees.proofs.overlays.steps.WholeParts.{IsFine, real_by, what_is_shown}
 use Rattle.vt_laws_trees.proofs.overlays.steps.WholePlaces.{directory_below_top, path_to_is, shown_longer}
 use Rattle.vt_spec.proofs.NodeChanges.{entries_of-content_with_parent, entries_of-no_directory, kind_of-content_with_parent}
-
--- a whiteout has no names in it
-pub white_bare : (o : Option (Node ℕ)) → is_kind_in White o ≡ true → entries_in o ≡ []
-white_bare o e = grind (arith, common_steps, true≢false)
 
 -- a new inode has no names in it and no mark
 pub new_bare : (d : ℕ) (node : Node ℕ) → IsNewIn d node → entries_of node.content ≡ []
@@ -81,59 +77,20 @@ module _ (stack : Stack ℕ) (merge : Merge ℕ) (whole : IsWhole stack merge) (
   top_directory : IsDirectory merge.upper.tree stack.directory
   top_directory = (top_open stack merge whole).1
 
-  real_d : merge.real d ≡ Some (Upper ud)
-  real_d = upper_real merge d stands
+  above : IsAbove stack merge d ud
+  above = stands_above d whole stands may.name_is_free.in_directory
 
-  ud_directory : is_directory_node (merge.upper.tree.node ud) ≡ true
-  ud_directory = directory_stands stack merge whole d ud real_d ∙ may.name_is_free.in_directory
-
-  abbrev way : List (List ℕ)
-  way = may.name_is_free.reached.0
-
-  up_way : led merge.upper.tree stack.directory way ≡ Some ud
-  up_way = named_above stack merge whole way d ud may.name_is_free.reached.1 real_d
-
-  nothing_here : number_at_path merge.files (way ++ w ∷ []) ≡ None
-  nothing_here = last_name merge.files.tree merge.files.tree.root way w
-      ∙ ap (option_and_then (λ x. entry_at merge.files.tree x w)) may.name_is_free.reached.1 ∙ may.name_is_free.free
-
-  -- the upper layer has nothing under the name but a whiteout
-  whiteout_there : (r : ℕ) → entry_at merge.upper.tree ud w ≡ Some r → is_kind_in White (merge.upper.tree.node r) ≡ true
-  whiteout_there r e = by (is_kind_in White (merge.upper.tree.node r)) refl
-    where
-      by : (b : Bool) → is_kind_in White (merge.upper.tree.node r) ≡ b
-          → is_kind_in White (merge.upper.tree.node r) ≡ true
-      by true k = k
-      by false k = none_is_some (Upper r) (sym (ap (λ o. then_some o merge.real) nothing_here) ∙ fine_before.paths _
-          ∙ ap (real_by _) (on_top before lowers _ r false (led-append merge.upper.tree _ way w ud r up_way e) k))
-
-  takes : TakesName merge.upper.tree ud w
-  takes = record {
-    in_directory = ud_directory;
-    bare = λ r e. white_bare (merge.upper.tree.node r) (whiteout_there r e);
-  }
-
-  takes_here : TakesName merge.files.tree d w
-  takes_here = record {
-    in_directory = may.name_is_free.in_directory;
-    bare = λ r e. none_is_some r (sym may.name_is_free.free ∙ e);
+  new_name : IsNewName merge.upper stack.directory ud c w new
+  new_name = record {
+    tree = top_tree;
+    directory = top_directory;
+    takes = takes_above above may.name_is_free;
+    vacant = vacant;
+    bare = bare;
   }
 
   node_bare : entries_of node.content ≡ []
   node_bare = new_bare d node may.fits
-
-  leads_none : (path : List (List ℕ)) → goes_through before ud w path ≡ true → names_entry before ud w path ≡ false
-      → led merge.upper.tree stack.directory path ≡ None
-  leads_none path through other = by (entry_at merge.upper.tree ud w) refl
-    where
-      by : (o : Option ℕ) → entry_at merge.upper.tree ud w ≡ o → led merge.upper.tree stack.directory path ≡ None
-      by None e = through_free merge.upper stack.directory ud w e path through
-      by (Some r) e = through_bare merge.upper stack.directory ud r w e (no_entries merge.upper.tree r
-          (white_bare (merge.upper.tree.node r) (whiteout_there r e))) path through other
-
-  number_none : (path : List (List ℕ)) → goes_through before ud w path ≡ true → number_at_path merge.files path ≡ None
-  number_none path through = through_free merge.files merge.files.tree.root d w may.name_is_free.free path
-      (same_through stack merge whole d ud real_d ud_directory w path ∙ through)
 
   -- below it nothing is shown
   none_after : (path : List (List ℕ)) → goes_through before ud w path ≡ true → names_entry before ud w path ≡ false
@@ -141,9 +98,7 @@ module _ (stack : Stack ℕ) (merge : Merge ℕ) (whole : IsWhole stack merge) (
   none_after path through other = by (hides (Some new)) refl (cuts after path) refl
     where
       leads : led upper.tree stack.directory path ≡ None
-      leads =
-          WholeNew.leads_same merge.upper stack.directory top_tree top_directory ud c w new takes vacant bare path other
-          ∙ leads_none path through other
+      leads = leads_same new_name path other ∙ leads_none above may.name_is_free path through other
 
       -- what is seen below a directory that is no longer hidden
       seen : (seen : Shown ℕ) (to rest : List (List ℕ)) → to ++ w ∷ rest ≡ path
@@ -151,7 +106,7 @@ module _ (stack : Stack ℕ) (merge : Merge ℕ) (whole : IsWhole stack merge) (
           → hides (Some new) ≡ false → cuts after path ≡ false → shown_from 1 lowers path ≡ Some seen → ⊥
       seen s to [] is l h uncut e = true≢false (cc (entry_named_so merge.upper stack.directory ud w to l, is, other))
       seen s to (next ∷ rest) is l h uncut e =
-          let there = same_is _ d (same_place stack merge whole d ud real_d ud_directory to ∙ same_holds _ ud l) in
+          let there = same_is _ d (same_place above to ∙ same_holds _ ud l) in
           let shows = shown_longer stack.lowers (λ k layer f. whole.layers (suc k) layer f) 1 rest (to ++ w ∷ []) next s
           (ap (shown_from 1 lowers) (append_assoc to (w ∷ []) (next ∷ rest) ∙ is) ∙ e) in
           true≢false (sym (ap (is_directory_shown (layers_under stack merge))
@@ -166,10 +121,11 @@ module _ (stack : Stack ℕ) (merge : Merge ℕ) (whole : IsWhole stack merge) (
               found f = at (names_entry before ud w f.0) refl
                 where
                   at : (b : Bool) → names_entry before ud w f.0 ≡ b → ⊥
-                  at true n = none_is_some d (sym (number_none to (prefix_passes _ to f.0 f.1.0 f.1.1 f.1.2 n)) ∙ there)
+                  at true n = none_is_some d (sym (number_none above may.name_is_free to
+                      (prefix_passes _ to f.0 f.1.0 f.1.1 f.1.2 n)) ∙ there)
                   at false n = true≢false (sym (prefix_passes _ path f.0 (f.1.0 ++ w ∷ next ∷ rest)
-                      (cc (append_assoc f.0 f.1.0 (w ∷ next ∷ rest), f.1.1, is)) f.1.2 (WholeNew.hides_at merge.upper
-                      stack.directory top_tree top_directory ud c w new takes vacant bare f.0 false n ∙ f.2)) ∙ uncut)
+                      (cc (append_assoc f.0 f.1.0 (w ∷ next ∷ rest), f.1.1, is)) f.1.2
+                      (hides_at new_name f.0 false n ∙ f.2)) ∙ uncut)
 
       lower_none : hides (Some new) ≡ false → cuts after path ≡ false → (o : Option (Shown ℕ))
           → shown_from 1 lowers path ≡ o → o ≡ None
@@ -181,8 +137,7 @@ module _ (stack : Stack ℕ) (merge : Merge ℕ) (whole : IsWhole stack merge) (
       by : (b : Bool) → hides (Some new) ≡ b → (x : Bool) → cuts after path ≡ x
           → shown_from 0 (after ∷ lowers) path ≡ None
       by b h true cut = cut_shows_none after lowers path leads cut
-      by true h false cut = absurd (true≢false (sym
-          (WholeNew.cuts_through merge.upper stack.directory top_tree top_directory ud c w new takes vacant bare h path
+      by true h false cut = absurd (true≢false (sym (cuts_through new_name h path
           through) ∙ cut))
       by false h false cut = cc (leads, cut, lower_none h cut _ refl)
 
@@ -192,11 +147,10 @@ module _ (stack : Stack ℕ) (merge : Merge ℕ) (whole : IsWhole stack merge) (
     where
       by : (b : Bool) → goes_through before ud w path ≡ b
           → shown_from 0 (after ∷ lowers) path ≡ shown_from 0 (before ∷ lowers) path
-      by true through = none_after path through other ∙ sym (real_by_none path (shown (layers_under stack merge) path)
-          (sym (fine_before.paths path) ∙ ap (λ o. then_some o merge.real) (number_none path through)))
+      by true through = none_after path through other ∙ sym (shown_none above may.name_is_free path through)
       by false elsewhere =
           shown_elsewhere_stays merge.upper (Make ud w c new) stack.directory lowers top_tree top_directory
-          (takes, vacant, bare) path elsewhere
+          (new_name.takes, vacant, bare) path elsewhere
 
   paths_later : (path : List (List ℕ)) → then_some (number_at_path files path) real ≡ real_seen stack later path
   paths_later path = by (names_entry before ud w path) refl
@@ -209,15 +163,15 @@ module _ (stack : Stack ℕ) (merge : Merge ℕ) (whole : IsWhole stack merge) (
       goes : (b : Bool) → names_entry before ud w path ≡ b
           → number_at_path files path ≡ cond b (Some number) (number_at_path merge.files path)
       goes b e =
-          make_adds_path merge.files merge.files.tree.root d number w node takes_here may.number_is_new node_bare path
-          ∙ ap (λ x. cond x (Some number) (number_at_path merge.files path))
-          (same_entry stack merge whole d ud real_d ud_directory w path ∙ e)
+          make_adds_path merge.files merge.files.tree.root d number w node
+          (takes_shown above may.name_is_free) may.number_is_new node_bare path
+          ∙ ap (λ x. cond x (Some number) (number_at_path merge.files path)) (same_entry above w path ∙ e)
 
       by : (b : Bool) → names_entry before ud w path ≡ b
           → then_some (number_at_path files path) real ≡ real_seen stack later path
       by true e = ap (λ o. then_some o real) (goes true e)
           ∙ ap (λ b. cond b (Some (Upper c)) (merge.real number)) (eq-eqb number number refl) ∙ sym (ap (real_by path)
-          (new_name_is_shown merge.upper stack.directory ud c w new lowers takes vacant bare path e
+          (new_name_is_shown merge.upper stack.directory ud c w new lowers new_name.takes vacant bare path e
           ∙ ap (λ b. when (not b) (record { layer = 0; object = c })) white_new))
       by false e = ap (λ o. then_some o real) (goes false e) ∙ old (number_at_path merge.files path) refl
           ∙ fine_before.paths path ∙ sym (ap (real_by path) (shown_same path e))
@@ -228,10 +182,9 @@ module _ (stack : Stack ℕ) (merge : Merge ℕ) (whole : IsWhole stack merge) (
 
   pub later_is_fine : IsFine stack later
   later_is_fine = grown_is_fine stack merge fine_before files upper number c vacant (make_adds_inode merge.files
-      merge.files.tree.root d number w node may.name_is_free.in_directory may.number_is_new).1
-      (WholeNew.others_alike merge.upper stack.directory top_tree top_directory ud c w new takes vacant bare)
+      merge.files.tree.root d number w node may.name_is_free.in_directory may.number_is_new).1 (others_alike new_name)
       (subst (λ o. SameObject o (upper.tree.node c)) (sym number_there) (subst (SameObject (Some node))
-      (sym (WholeNew.new_there merge.upper stack.directory top_tree top_directory ud c w new takes vacant bare)) same))
+      (sym (new_there new_name)) same))
       (ap is_some number_there) (cc (number_there, white)) (cc (number_there, new_unmarked d node may.fits)) paths_later
 
 -- The mark of a new directory
@@ -300,9 +253,6 @@ mark_hides p node Whiteout = refl
 pub make_keeps_shown : MakeKeepsShown
 make_keeps_shown fresh stack merge d w number node whole stands vacant may white = what_is_shown stack _ (by _ refl)
   where
-    upper_directory : IsDirectory merge.upper.tree (upper_of merge d)
-    upper_directory = directory_stands stack merge whole d _ (upper_real merge d stands) ∙ may.name_is_free.in_directory
-
     by : (b : Bool) → hides_directory nat_eq stack merge d w ≡ b → IsFine stack (record {
       files = changed nat_eq merge.files (Make d w number node);
       real = with_real nat_eq merge.real number (Upper (fresh 0));
@@ -319,10 +269,11 @@ make_keeps_shown fresh stack merge d w number node whole stands vacant may white
     })) (sym (marked_is_made merge.upper (upper_of merge d) (fresh 0) w (record {
       attr = node.attr;
       content = content_with_parent (upper_of merge d) node.content;
-    }) upper_directory vacant)) (later_is_fine stack merge whole d w number node stands may (fresh 0) vacant (record {
-      attr = node.attr;
-      content = content_with_mark true (content_with_parent (upper_of merge d) node.content);
-    }) (refl, mark_same (upper_of merge d) node.content white)
+    }) (stands_above d whole stands may.name_is_free.in_directory).directory vacant))
+        (later_is_fine stack merge whole d w number node stands may (fresh 0) vacant (record {
+          attr = node.attr;
+          content = content_with_mark true (content_with_parent (upper_of merge d) node.content);
+        }) (refl, mark_same (upper_of merge d) node.content white)
         (mark_names (upper_of merge d) node.content ∙ new_bare d node may.fits)
         white (ap (is_kind White) (mark_kind (upper_of merge d) node.content) ∙ white)
         (λ shows. absurd (true≢false (sym (mark_hides (upper_of merge d) node node.content) ∙ shows))))

@@ -97,8 +97,7 @@ module _ (stack : Stack ℕ) (merge : Merge ℕ) (whole : IsWhole stack merge) (
       → (o : Option ℕ) → before.leads path ≡ o
       → shown_from 0 (after ∷ lowers) path ≡ shown_from 0 (before ∷ lowers) path
   through front rest path split e (Some object) at = on_top_same path object at
-  through front [] path split e None at =
-      none_is_some above (cc (append-nil front))
+  through front [] path split e None at = none_is_some above (cc (append-nil front))
   through front (word ∷ rest) path split e None at =
       let none = ap (shown_from 1 lowers) (sym split) ∙ none_below front rest word e _ refl in
       nothing after path (leads path ∙ at) none ∙ sym (nothing before path at none)

@@ -22,7 +22,7 @@ use Rattle.vt_laws_trees.proofs.overlays.steps.WholeGrown.{alike_objects}
 use Rattle.vt_laws_trees.proofs.overlays.steps.WholeLeft.{emptied_alike, lowers_have, one_named}
 use Rattle.vt_laws_trees.proofs.overlays.steps.WholeLinked.{file_hides}
 use Rattle.vt_laws_trees.proofs.overlays.steps.WholeMade.{below_name}
-use Rattle.vt_laws_trees.proofs.overlays.steps.WholeMovedTree.{IsMoveAbove, from_number, from_way, inode_alike, led_behind, led_emptied, moved_elsewhere, moved_through, number_behind, real_f, real_o, real_t, uf_directory, ut_directory, way_not_new, way_not_old}
+use Rattle.vt_laws_trees.proofs.overlays.steps.WholeMovedTree.{IsMoveAbove, from_above, from_number, from_way, inode_alike, led_behind, led_emptied, moved_elsewhere, moved_through, number_behind, real_o, to_above, way_not_new, way_not_old}
 use Rattle.vt_laws_trees.proofs.overlays.steps.WholeNames.{cut_shows_none, directory_stands, is_fine, over_same, same_holds, same_is, same_place, same_through}
 use Rattle.vt_laws_trees.proofs.overlays.steps.WholeParts.{IsFine, real_by, what_is_shown}
 use Rattle.vt_laws_trees.proofs.overlays.steps.WholePlaces.{directory_below_top, path_to_is, shown_longer}
@@ -94,8 +94,7 @@ nothing_shown top lowers path leads unseen =
 
 -- `alone`: a directory that moves has nothing below it in the lower layers
 module _ {fresh : Fresh ℕ} {stack : Stack ℕ} {merge : Merge ℕ} {f : ℕ} {old : List ℕ} {t : ℕ} {new : List ℕ}
-    {o : ℕ} (it : IsMoveAbove fresh stack merge f old t new o)
-    (alone : IsDirectory merge.files.tree o
+    {o : ℕ} (it : IsMoveAbove fresh stack merge f old t new o) (alone : IsDirectory merge.files.tree o
     → has_lower_directory (record { tree = merge.upper.tree; directory = stack.directory } ∷ []) stack.lowers
     (path_to nat_eq merge f old) ≡ false) where
   abbrev uf : ℕ
@@ -232,7 +231,7 @@ module _ {fresh : Fresh ℕ} {stack : Stack ℕ} {merge : Merge ℕ} {f : ℕ} {
           → (b : Bool) → is_directory_node (merge.files.tree.node o) ≡ b
           → hides (upper.tree.node k) ≡ hides (merge.upper.tree.node k)
       own k l e true d =
-          absurd (true≢false (sym (one_named it.whole f uf old uo it.may.named (real_f it) (real_o it) d front
+          absurd (true≢false (sym (one_named it.whole f uf old uo it.may.named (from_above it).real (real_o it) d front
           (l ∙ ap Some e)) ∙ named_not uf old front no_old))
       own k l e false d =
           let hid : hides (merge.upper.tree.node k) ≡ true =
@@ -284,11 +283,10 @@ module _ {fresh : Fresh ℕ} {stack : Stack ℕ} {merge : Merge ℕ} {f : ℕ} {
 
   old_number : (to : List (List ℕ)) → led merge.upper.tree stack.directory to ≡ Some uf
       → number_at_path merge.files to ≡ Some f
-  old_number to l = same_is _ f
-      (same_place stack merge it.whole f uf (real_f it) (uf_directory it) to ∙ same_holds _ uf l)
+  old_number to l = same_is _ f (same_place (from_above it) to ∙ same_holds _ uf l)
 
   from_elsewhere : (to : List (List ℕ)) → number_at_path merge.files to ≡ Some f → goes_through before uf old to ≡ false
-  from_elsewhere to e = sym (same_through stack merge it.whole f uf (real_f it) (uf_directory it) old to)
+  from_elsewhere to e = sym (same_through (from_above it) old to)
       ∙ way_goes_elsewhere merge.files merge.files.tree.root f old it.whole.tree o it.may.named to e
 
   way_front : (to rest path : List (List ℕ)) → to ++ old ∷ rest ≡ path → goes_through before ut new path ≡ false
@@ -334,8 +332,7 @@ module _ {fresh : Fresh ℕ} {stack : Stack ℕ} {merge : Merge ℕ} {f : ℕ} {
       unseen_path : left ≡ false → cuts after path ≡ false → (s : Shown ℕ) → shown_from 1 lowers path ≡ Some s
           → (to rest : List (List ℕ)) → to ++ old ∷ rest ≡ path → led merge.upper.tree stack.directory to ≡ Some uf → ⊥
       unseen_path none uncut s e to [] is l = none_is_some s (cc (unseen none uncut to [] is l, is, e))
-      unseen_path none uncut s e to (next ∷ rest) is l = none_is_some _
-          (sym (unseen none uncut to (next ∷ rest) is l)
+      unseen_path none uncut s e to (next ∷ rest) is l = none_is_some _ (sym (unseen none uncut to (next ∷ rest) is l)
           ∙ (shown_below to old next rest s (ap (shown_from 1 lowers) is ∙ e)).is)
 
       plain : left ≡ false → shown_from 0 (after ∷ lowers) path ≡ None
@@ -348,8 +345,7 @@ module _ {fresh : Fresh ℕ} {stack : Stack ℕ} {merge : Merge ℕ} {f : ℕ} {
 
       -- with a whiteout: it is what the name leads to, and it cuts what is behind the name
       white : left ≡ true → (b : Bool) → names_entry before uf old path ≡ b → shown_from 0 (after ∷ lowers) path ≡ None
-      white l true e =
-          on_top after lowers path c true (leads_here path no_new e ∙ ap (λ b. when b c) l) (white_left l)
+      white l true e = on_top after lowers path c true (leads_here path no_new e ∙ ap (λ b. when b c) l) (white_left l)
       white l false e =
           let found = prefix_found (names_entry before uf old) path through in
           let leads = leads_here found.0 (prefixes_fail (names_entry before ut new) path found.0 found.1 no_new) found.2
@@ -365,8 +361,7 @@ module _ {fresh : Fresh ℕ} {stack : Stack ℕ} {merge : Merge ℕ} {f : ℕ} {
 
   new_number : (to : List (List ℕ)) → led merge.upper.tree stack.directory to ≡ Some ut
       → number_at_path merge.files to ≡ Some t
-  new_number to l = same_is _ t
-      (same_place stack merge it.whole t ut (real_t it) (ut_directory it) to ∙ same_holds _ ut l)
+  new_number to l = same_is _ t (same_place (to_above it) to ∙ same_holds _ ut l)
 
   -- what lies under a directory that moves stands in the upper layer
   nothing_below : IsDirectory merge.files.tree o → (word : List ℕ) (rest : List (List ℕ))
@@ -432,8 +427,7 @@ module _ {fresh : Fresh ℕ} {stack : Stack ℕ} {merge : Merge ℕ} {f : ℕ} {
           let behind = led_behind it rest ∙ e in
           let white = (more u (not_c u (is_there (from_way it ++ old ∷ rest) u behind))).white ∙ k in
           ap (real_by (from_way it ++ old ∷ rest)) (on_top before lowers (from_way it ++ old ∷ rest) u w behind k)
-          ∙ one w
-          ∙ sym (ap (real_by (to ++ new ∷ rest))
+          ∙ one w ∙ sym (ap (real_by (to ++ new ∷ rest))
           (on_top after lowers (to ++ new ∷ rest) u w (led_new to rest l ∙ e) white))
         where
           one : (w : Bool) → real_by (from_way it ++ old ∷ rest) (when (not w) (record { layer = 0; object = u }))
@@ -479,9 +473,8 @@ module _ {fresh : Fresh ℕ} {stack : Stack ℕ} {merge : Merge ℕ} {f : ℕ} {
       → number_at_path files path ≡ cond b None (number_at_path merge.files path)
   number_else path no_new b e =
       number_is path ∙ old_leads_nowhere merge.files merge.files.tree.root f t o old new can path
-      (same_through stack merge it.whole t ut (real_t it) (ut_directory it) new path ∙ no_new)
-      ∙ ap (λ x. cond x None (number_at_path merge.files path))
-      (same_through stack merge it.whole f uf (real_f it) (uf_directory it) old path ∙ e)
+      (same_through (to_above it) new path ∙ no_new) ∙ ap (λ x. cond x None (number_at_path merge.files path))
+      (same_through (from_above it) old path ∙ e)
 
   paths_later : (path : List (List ℕ)) → then_some (number_at_path files path) merge.real ≡ real_seen stack later path
   paths_later path = by (goes_through before ut new path) refl

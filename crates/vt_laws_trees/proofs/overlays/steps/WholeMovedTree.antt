@@ -19,7 +19,7 @@ use Rattle.vt_laws_trees.specs.Overlays.WhatIsShown.{IsWhole}
 use Rattle.vt_laws_trees.proofs.overlays.steps.WholeAttributes.{top_open, upper_real}
 use Rattle.vt_laws_trees.proofs.overlays.steps.WholeGrown.{directory_alike}
 use Rattle.vt_laws_trees.proofs.overlays.steps.WholeLeft.{beside_led, emptied_alike, emptied_entries, named_in_upper, one_named, own_upper, up_way, way}
-use Rattle.vt_laws_trees.proofs.overlays.steps.WholeNames.{above_named, directory_stands, is_fine, entry_named_so}
+use Rattle.vt_laws_trees.proofs.overlays.steps.WholeNames.{IsAbove, stands_above, above_named, is_fine, entry_named_so}
 use Rattle.vt_laws_trees.proofs.overlays.steps.WholeParts.{IsFine}
 use Rattle.vt_laws_trees.proofs.layers.layers.ShownDirectories.{append_assoc, last_of, longer_is_not_empty}
 use Rattle.vt_laws_trees.proofs.layers.layers.UpperShown.{without_last_of_longer}
@@ -54,11 +54,11 @@ module _ {fresh : Fresh ℕ} {stack : Stack ℕ} {merge : Merge ℕ} {f : ℕ} {
   abbrev pub before : View ℕ
   before = view_in merge.upper stack.directory
 
-  pub real_f : merge.real f ≡ Some (Upper uf)
-  real_f = upper_real merge f it.from
+  pub from_above : IsAbove stack merge f uf
+  from_above = stands_above f it.whole it.from (has_entries merge.files.tree f old o it.may.named)
 
-  pub real_t : merge.real t ≡ Some (Upper ut)
-  real_t = upper_real merge t it.to
+  pub to_above : IsAbove stack merge t ut
+  to_above = stands_above t it.whole it.to it.may.in_directory
 
   pub real_o : merge.real o ≡ Some (Upper uo)
   real_o = upper_real merge o it.object
@@ -72,23 +72,17 @@ module _ {fresh : Fresh ℕ} {stack : Stack ℕ} {merge : Merge ℕ} {f : ℕ} {
   top_directory : IsDirectory merge.upper.tree stack.directory
   top_directory = (top_open stack merge it.whole).1
 
-  pub uf_directory : IsDirectory merge.upper.tree uf
-  uf_directory = directory_stands stack merge it.whole f uf real_f ∙ has_entries merge.files.tree f old o it.may.named
-
-  pub ut_directory : IsDirectory merge.upper.tree ut
-  ut_directory = directory_stands stack merge it.whole t ut real_t ∙ it.may.in_directory
-
   abbrev pub from_way : List (List ℕ)
-  from_way = (way it.whole f uf old uo it.may.named real_f real_o).0
+  from_way = (way it.whole f uf old uo it.may.named from_above.real real_o).0
 
   pub from_number : number_at_path merge.files from_way ≡ Some f
-  from_number = (way it.whole f uf old uo it.may.named real_f real_o).1
+  from_number = (way it.whole f uf old uo it.may.named from_above.real real_o).1
 
   pub up_from : led merge.upper.tree stack.directory from_way ≡ Some uf
-  up_from = up_way it.whole f uf old uo it.may.named real_f real_o
+  up_from = up_way it.whole f uf old uo it.may.named from_above.real real_o
 
   pub named_up : entry_at merge.upper.tree uf old ≡ Some uo
-  named_up = named_in_upper it.whole f uf old uo it.may.named real_f real_o
+  named_up = named_in_upper it.whole f uf old uo it.may.named from_above.real real_o
 
   -- names behind the old name, in the overlay and in the upper layer
   pub number_behind : (rest : List (List ℕ))
@@ -106,9 +100,9 @@ module _ {fresh : Fresh ℕ} {stack : Stack ℕ} {merge : Merge ℕ} {f : ℕ} {
   pub not_under : (names : List (List ℕ)) → led merge.upper.tree uo names ≢ Some ut
   not_under names e =
       let found = above_named stack merge it.whole (from_way ++ old ∷ names) ut (led_behind names ∙ e)
-      (directory_no_whiteout (merge.upper.tree.node ut) ut_directory) in
+      (directory_no_whiteout (merge.upper.tree.node ut) to_above.directory) in
       it.may.not_under names (sym (number_behind names) ∙ found.1
-      ∙ ap Some (fine_before.one found.0 t (ap is_some found.2) (found.2 ∙ sym real_t)))
+      ∙ ap Some (fine_before.one found.0 t (ap is_some found.2) (found.2 ∙ sym to_above.real)))
 
   -- the two names are two
   pub two_names : (other : ℕ) (word : List ℕ) → is_entry ut new other word ≡ true → is_entry uf old other word ≡ true
@@ -116,7 +110,8 @@ module _ {fresh : Fresh ℕ} {stack : Stack ℕ} {merge : Merge ℕ} {f : ℕ} {
   two_names other word a b =
       let one = is_that_entry ut new other word a in
       let two = is_that_entry uf old other word b in
-      let same : t ≡ f = fine_before.one t f (ap is_some real_t) (cc (real_t, one.0, two.0, real_f)) in
+      let same : t ≡ f = fine_before.one t f (ap is_some to_above.real) (cc
+      (to_above.real, one.0, two.0, from_above.real)) in
       grind (arith, common_steps)
 
   -- The changed tree, from the upper layer or from the one with a replaced directory emptied
@@ -146,8 +141,8 @@ module _ {fresh : Fresh ℕ} {stack : Stack ℕ} {merge : Merge ℕ} {f : ℕ} {
 
     uf_apart : IsDirectory apart.tree uf
     uf_apart = ap is_directory_node (node_other moved_base.tree c (Some (whiteout_of stack.mounter)) uf
-        (not_c uf (directory_used merge.upper.tree uf uf_directory)))
-        ∙ directory_alike (merge.upper.tree.node uf) (moved_base.tree.node uf) (moved_alike uf) ∙ uf_directory
+        (not_c uf (directory_used merge.upper.tree uf from_above.directory)))
+        ∙ directory_alike (merge.upper.tree.node uf) (moved_base.tree.node uf) (moved_alike uf) ∙ from_above.directory
 
     told_left : (b : Bool) (other : ℕ) (word : List ℕ)
         → entry_at (name_left_by nat_eq b fresh stack moved_base uf old).tree other word
@@ -168,7 +163,7 @@ module _ {fresh : Fresh ℕ} {stack : Stack ℕ} {merge : Merge ℕ} {f : ℕ} {
         (cond (is_entry uf old other word) (when left c) (entry_at base.tree other word))
     told other word = told_marked marks other word ∙ told_left left other word
         ∙ ap (cond (is_entry uf old other word) (when left c)) (move_told base uf old ut new uo
-        (directory_alike (merge.upper.tree.node ut) (base.tree.node ut) (alike ut) ∙ ut_directory) other word)
+        (directory_alike (merge.upper.tree.node ut) (base.tree.node ut) (alike ut) ∙ to_above.directory) other word)
         ∙ by (is_entry ut new other word) refl (is_entry uf old other word) refl
       where
         by : (a : Bool) → is_entry ut new other word ≡ a → (b : Bool) → is_entry uf old other word ≡ b
@@ -213,8 +208,8 @@ module _ {fresh : Fresh ℕ} {stack : Stack ℕ} {merge : Merge ℕ} {f : ℕ} {
         ≡ cond (is_entry uf old other word) (when b c) (entry_at merge.upper.tree other word)
     told_between true other word = given apart_upper uf old c
         (ap is_directory_node (node_other merge.upper.tree c (Some (whiteout_of stack.mounter)) uf
-        (λ same. true≢false (sym (directory_used merge.upper.tree uf uf_directory)
-        ∙ ap (λ n. is_some (merge.upper.tree.node n)) same ∙ ap is_some it.vacant))) ∙ uf_directory) other word
+        (λ same. true≢false (sym (directory_used merge.upper.tree uf from_above.directory)
+        ∙ ap (λ n. is_some (merge.upper.tree.node n)) same ∙ ap is_some it.vacant))) ∙ from_above.directory) other word
         ∙ ap (λ entries. cond (is_entry uf old other word) (Some c) (entry_named word entries))
         (inode_entries merge.upper c (whiteout_of stack.mounter) it.vacant refl other)
     told_between false other word = taken merge.upper uf old other word
@@ -230,7 +225,7 @@ module _ {fresh : Fresh ℕ} {stack : Stack ℕ} {merge : Merge ℕ} {f : ℕ} {
       where
         by : (x : Bool) → is_entry uf old c word ≡ x → cond x (Some c) (entry_at merge.upper.tree c word) ≡ None
         by true x =
-            absurd (true≢false (sym (directory_used merge.upper.tree uf uf_directory)
+            absurd (true≢false (sym (directory_used merge.upper.tree uf from_above.directory)
             ∙ ap (λ n. is_some (merge.upper.tree.node n)) (sym (is_that_entry uf old c word x).0)
             ∙ ap is_some it.vacant))
         by false x = ap (λ n. entry_named word (entries_in n)) it.vacant
@@ -251,7 +246,7 @@ module _ {fresh : Fresh ℕ} {stack : Stack ℕ} {merge : Merge ℕ} {f : ℕ} {
       where
         by : (l a b : Bool) → cond a (when l c) (cond b None (led merge.upper.tree start path)) ≡ Some ut
             → led merge.upper.tree start path ≡ Some ut
-        by true true b e = grind (arith, common_steps, true≢false, ut_directory, same_Some)
+        by true true b e = grind (arith, common_steps, true≢false, to_above.directory, same_Some)
         by false true b e = none_is_some ut e
         by l false true e = none_is_some ut e
         by l false false e = e
@@ -263,11 +258,8 @@ module _ {fresh : Fresh ℕ} {stack : Stack ℕ} {merge : Merge ℕ} {f : ℕ} {
       where
         at : (to rest : List (List ℕ)) × (to ++ new ∷ rest ≡ path) × (led between.tree start to ≡ Some ut) → ⊥
         at parts = true≢false (sym (prefix_passes (names_entry (view_in merge.upper start) ut new) path
-            (parts.0 ++ new ∷ []) parts.1
-            (append_assoc parts.0 (new ∷ []) parts.1
-            ∙ parts.2)
-            (longer_is_not_empty parts.0 new)
-            (entry_named_so merge.upper start ut new parts.0
+            (parts.0 ++ new ∷ []) parts.1 (append_assoc parts.0 (new ∷ []) parts.1 ∙ parts.2)
+            (longer_is_not_empty parts.0 new) (entry_named_so merge.upper start ut new parts.0
             (to_before parts.0 start parts.3))) ∙ none)
 
     pub moved_elsewhere : (path : List (List ℕ)) (start : ℕ)
@@ -321,8 +313,7 @@ module _ {fresh : Fresh ℕ} {stack : Stack ℕ} {merge : Merge ℕ} {f : ℕ} {
 
     named_not : (d : ℕ) (name : List ℕ) (path : List (List ℕ)) → goes_through before d name path ≡ false
         → names_entry before d name path ≡ false
-    named_not d name path none = itself_fails
-        (names_entry before d name) path refl none
+    named_not d name path none = itself_fails (names_entry before d name) path refl none
 
     way_led : (to : List (List ℕ)) → led merge.upper.tree stack.directory to ≡ Some ut
         → led moved.tree stack.directory to ≡ Some ut
@@ -354,7 +345,7 @@ module _ {fresh : Fresh ℕ} {stack : Stack ℕ} {merge : Merge ℕ} {f : ℕ} {
 
         named_so : (p : List (List ℕ)) → led merge.upper.tree stack.directory p ≡ Some r
             → names_entry before ut new p ≡ true
-        named_so p l = one_named it.whole t ut new r own.1 real_t own.2 own.3 p l
+        named_so p l = one_named it.whole t ut new r own.1 to_above.real own.2 own.3 p l
 
         -- behind the object
         behind : (rest : List (List ℕ)) → led merge.upper.tree uo rest ≡ Some r → ⊥
@@ -363,15 +354,11 @@ module _ {fresh : Fresh ℕ} {stack : Stack ℕ} {merge : Merge ℕ} {f : ℕ} {
         behind (word ∷ rest) l =
             let named = is_named merge.upper stack.directory ut new (from_way ++ old ∷ word ∷ rest)
             (named_so (from_way ++ old ∷ word ∷ rest) (led_behind (word ∷ rest) ∙ l)) in
-            let last = last_of (word ∷ rest)
-            (not_empty word rest) in
+            let last = last_of (word ∷ rest) (not_empty word rest) in
             not_under last.0 (sym (led_behind last.0) ∙ ap (led merge.upper.tree stack.directory)
             (sym (without_last_of_longer (from_way ++ old
-            ∷ last.0) last.1) ∙ ap without_last
-            (append_assoc from_way (old ∷ last.0)
-            (last.1 ∷ [])
-            ∙ ap (λ q. from_way ++ old ∷ q) last.2 ∙ sym named.1)
-            ∙ without_last_of_longer named.0 new) ∙ named.2)
+            ∷ last.0) last.1) ∙ ap without_last (append_assoc from_way (old ∷ last.0) (last.1 ∷ [])
+            ∙ ap (λ q. from_way ++ old ∷ q) last.2 ∙ sym named.1) ∙ without_last_of_longer named.0 new) ∙ named.2)
 
         at : (l a b : Bool) → names_entry before uf old path ≡ a → goes_through before ut new path ≡ false
             → cond a (when l c) (cond b None (led merge.upper.tree stack.directory path)) ≡ Some r → ⊥

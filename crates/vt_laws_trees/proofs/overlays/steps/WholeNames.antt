@@ -1,8 +1,9 @@
 -- Where names lead in the tree of an overlay and in its upper layer.
 use Rattle.std.proofs.Common.{arith, ◌≡◌, refl, sym, ap, subst, ◌∙◌, eqb-true, eq-eqb, ℕ, zero, suc, nat_eq, Bool, true, false, not, ◌&&◌, List, [], ◌∷◌, ◌++◌, map, Option, Some, None, is_some, option_and_then, slice_get, bytes_eq}
-use Rattle.vt_spec.proofs.Common.{FileTree, IsDirectory, IsReached, IsTree, ListsNumbers, Merge, OpenLayer, SameObject, Shown, Stack, Upper, View, at_path, bytes_eq_itself, common_steps, cuts, directory_no_whiteout, entry_at, is_directory_node, is_empty_list, is_kind_in, last_or, led, none_is_some, number_at_path, real_object, same_Some, same_option, shown, shown_from, then_some, upper_object, view_of}
+use Rattle.vt_spec.proofs.Common.{FileTree, IsDirectory, IsReached, IsTree, ListsNumbers, Merge, OpenLayer, SameObject, Shown, Stack, Upper, View, at_path, bytes_eq_itself, common_steps, cuts, directory_no_whiteout, entry_at, is_directory_node, is_empty_list, is_kind_in, last_or, led, none_is_some, number_at_path, real_object, same_Some, same_option, shown, shown_from, then_some, upper_object, upper_of, view_of}
 use Rattle.vt_spec.specs.declared.attributes.Kind.TheVariants.{White}
 use Rattle.vt_laws_trees.specs.Layers.Layers.Shown.{IsShown}
+use Rattle.vt_laws_trees.specs.Layers.Layers.ChangesUpper.{StandsInUpper}
 use Rattle.vt_laws_trees.specs.Layers.Layers.Views.{goes_through, names_entry, view_in}
 use Rattle.vt_laws_trees.specs.Overlays.WhatIsShown.{IsWhole, inode_behind, layers_under}
 use Rattle.vt_laws_trees.proofs.layers.layers.ShownAtPath.{computed}
@@ -15,7 +16,7 @@ use Rattle.vt_laws_trees.proofs.layers.views.Lower.{is_named}
 use Rattle.vt_laws_trees.proofs.layers.views.Fronts.{prefixes_agree}
 use Rattle.vt_laws_trees.proofs.layers.views.Moves.{led_parts, through_is_split}
 use Rattle.vt_laws_trees.proofs.overlays.whole.UpperGoes.{IsGood}
-use Rattle.vt_laws_trees.proofs.overlays.steps.WholeAttributes.{top_open}
+use Rattle.vt_laws_trees.proofs.overlays.steps.WholeAttributes.{top_open, upper_real}
 use Rattle.vt_laws_trees.proofs.overlays.steps.WholeParts.{IsFine, fine, real_by, what_is_shown}
 
 pub same_is : (o : Option ℕ) (n : ℕ) → same_option nat_eq o (Some n) ≡ true → o ≡ Some n
@@ -37,8 +38,7 @@ pub named_led : (files : FileTree ℕ) (top directory : ℕ) (name : List ℕ) (
     → led files.tree top path ≡ entry_at files.tree directory name
 named_led files top directory name path e =
     let named = is_named files top directory name path e in
-    cc (named.1, last_name files.tree top named.0 name)
-    ∙ ap (option_and_then (λ d. entry_at files.tree d name)) named.2
+    cc (named.1, last_name files.tree top named.0 name) ∙ ap (option_and_then (λ d. entry_at files.tree d name)) named.2
 
 -- a path through a name that is free leads nowhere
 pub through_free : (files : FileTree ℕ) (top directory : ℕ) (name : List ℕ) → entry_at files.tree directory name ≡ None
@@ -74,8 +74,7 @@ over_same one other lowers path leads white cut = grind (arith, common_steps)
 
 pub cut_shows_none : (view : View ℕ) (lowers : List (View ℕ)) (path : List (List ℕ)) → view.leads path ≡ None
     → cuts view path ≡ true → shown_from 0 (view ∷ lowers) path ≡ None
-cut_shows_none view lowers path leads cut =
-    cc (leads, cut)
+cut_shows_none view lowers path leads cut = cc (leads, cut)
 
 -- names lead to the upper layer's directory in its tree
 pub top_good : (stack : Stack ℕ) (merge : Merge ℕ) → IsWhole stack merge → IsGood stack.directory merge.upper
@@ -134,33 +133,46 @@ module _ (stack : Stack ℕ) (merge : Merge ℕ) (whole : IsWhole stack merge) w
       → is_directory_node (merge.upper.tree.node u) ≡ is_directory_node (merge.files.tree.node number)
   directory_stands number u r = same_directory _ (merge.upper.tree.node u) (object_above number u r)
 
-  module _ (d ud : ℕ) (r : merge.real d ≡ Some (Upper ud))
-      (is_directory : is_directory_node (merge.upper.tree.node ud) ≡ true) where
-    pub same_place : (path : List (List ℕ)) → same_option nat_eq (number_at_path merge.files path) (Some d)
-        ≡ same_option nat_eq (led merge.upper.tree stack.directory path) (Some ud)
-    same_place path = by (same_option nat_eq (number_at_path merge.files path) (Some d)) refl _ refl
-      where
-        back : led merge.upper.tree stack.directory path ≡ Some ud → number_at_path merge.files path ≡ Some d
-        back e =
-            let found = above_named path ud e (directory_no_whiteout (merge.upper.tree.node ud) is_directory) in
-            found.1 ∙ ap Some (is_fine.one found.0 d (ap is_some found.2) (found.2 ∙ sym r))
+-- a directory of the overlay that is in its upper layer
+pub record IsAbove (stack : Stack ℕ) (merge : Merge ℕ) (d ud : ℕ) : Type 0 where
+  pub whole : IsWhole stack merge
+  pub real : merge.real d ≡ Some (Upper ud)
+  pub directory : is_directory_node (merge.upper.tree.node ud) ≡ true
 
-        by : (a : Bool) → same_option nat_eq (number_at_path merge.files path) (Some d) ≡ a → (b : Bool)
-            → same_option nat_eq (led merge.upper.tree stack.directory path) (Some ud) ≡ b → a ≡ b
-        by true e true f = refl
-        by false e false f = refl
-        by true e false f = sym (same_holds _ ud (named_above path d ud (same_is _ d e) r)) ∙ f
-        by false e true f = sym e ∙ same_holds _ d (back (same_is _ ud f))
+pub stands_above : {stack : Stack ℕ} {merge : Merge ℕ} (d : ℕ) → IsWhole stack merge → StandsInUpper merge d
+    → IsDirectory merge.files.tree d → IsAbove stack merge d (upper_of merge d)
+stands_above {stack = stack} {merge = merge} d whole stands is = record {
+  whole = whole;
+  real = upper_real merge d stands;
+  directory = directory_stands stack merge whole d _ (upper_real merge d stands) ∙ is;
+}
 
-    pub same_entry : (name : List ℕ) (path : List (List ℕ))
-        → names_entry (view_in merge.files merge.files.tree.root) d name path
-        ≡ names_entry (view_in merge.upper stack.directory) ud name path
-    same_entry name path = ap (λ b. not (is_empty_list path) && (b && bytes_eq (last_or [] path) name)) (same_place _)
+module _ {stack : Stack ℕ} {merge : Merge ℕ} {d ud : ℕ} (it : IsAbove stack merge d ud) where
+  pub same_place : (path : List (List ℕ)) → same_option nat_eq (number_at_path merge.files path) (Some d)
+      ≡ same_option nat_eq (led merge.upper.tree stack.directory path) (Some ud)
+  same_place path = by (same_option nat_eq (number_at_path merge.files path) (Some d)) refl _ refl
+    where
+      back : led merge.upper.tree stack.directory path ≡ Some ud → number_at_path merge.files path ≡ Some d
+      back e =
+          let found = above_named stack merge it.whole path ud e (directory_no_whiteout _ it.directory) in
+          found.1 ∙ ap Some ((is_fine stack merge it.whole).one found.0 d (ap is_some found.2) (found.2 ∙ sym it.real))
 
-    pub same_through : (name : List ℕ) (path : List (List ℕ))
-        → goes_through (view_in merge.files merge.files.tree.root) d name path
-        ≡ goes_through (view_in merge.upper stack.directory) ud name path
-    same_through name path = prefixes_agree _ _ path (λ front is. same_entry name front)
+      by : (a : Bool) → same_option nat_eq (number_at_path merge.files path) (Some d) ≡ a → (b : Bool)
+          → same_option nat_eq (led merge.upper.tree stack.directory path) (Some ud) ≡ b → a ≡ b
+      by true e true f = refl
+      by false e false f = refl
+      by true e false f = sym (same_holds _ ud (named_above stack merge it.whole path d ud (same_is _ d e) it.real)) ∙ f
+      by false e true f = sym e ∙ same_holds _ d (back (same_is _ ud f))
+
+  pub same_entry : (name : List ℕ) (path : List (List ℕ))
+      → names_entry (view_in merge.files merge.files.tree.root) d name path
+      ≡ names_entry (view_in merge.upper stack.directory) ud name path
+  same_entry name path = ap (λ b. not (is_empty_list path) && (b && bytes_eq (last_or [] path) name)) (same_place _)
+
+  pub same_through : (name : List ℕ) (path : List (List ℕ))
+      → goes_through (view_in merge.files merge.files.tree.root) d name path
+      ≡ goes_through (view_in merge.upper stack.directory) ud name path
+  same_through name path = prefixes_agree _ _ path (λ front is. same_entry name front)
 
 -- an overlay that is fine is whole, where its trees are
 pub whole_again : (stack : Stack ℕ) (merge later : Merge ℕ) → IsWhole stack merge → IsTree later.files.tree

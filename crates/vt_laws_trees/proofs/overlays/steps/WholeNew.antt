@@ -7,9 +7,15 @@ use Rattle.vt_laws_trees.proofs.layers.layers.ShownFronts.{prefix_found, prefix_
 use Rattle.vt_laws_trees.proofs.layers.views.Fronts.{hides_so, hiding_alike}
 use Rattle.vt_laws_trees.proofs.layers.views.Names.{make_adds_inode, make_adds_path, make_is_seen}
 
-module _ (upper : FileTree ℕ) (top : ℕ) (top_tree : IsTree upper.tree) (top_directory : IsDirectory upper.tree top)
-    (ud c : ℕ) (w : List ℕ) (new : Node ℕ)
-    (takes : TakesName upper.tree ud w) (vacant : upper.tree.node c ≡ None) (bare : entries_of new.content ≡ []) where
+-- a new inode takes a name of the upper layer that no inode with names has
+pub record IsNewName (upper : FileTree ℕ) (top ud c : ℕ) (w : List ℕ) (new : Node ℕ) : Type 0 where
+  pub tree : IsTree upper.tree
+  pub directory : IsDirectory upper.tree top
+  pub takes : TakesName upper.tree ud w
+  pub vacant : upper.tree.node c ≡ None
+  pub bare : entries_of new.content ≡ []
+
+module _ {upper : FileTree ℕ} {top ud c : ℕ} {w : List ℕ} {new : Node ℕ} (it : IsNewName upper top ud c w new) where
   abbrev pub grown : FileTree ℕ
   grown = changed nat_eq upper (Make ud w c new)
 
@@ -21,19 +27,18 @@ module _ (upper : FileTree ℕ) (top : ℕ) (top_tree : IsTree upper.tree) (top_
 
   pub leads_same : (path : List (List ℕ)) → names_entry before ud w path ≡ false
       → led grown.tree top path ≡ led upper.tree top path
-  leads_same path e =
-      cc (make_adds_path upper top ud c w new takes vacant bare path, e)
+  leads_same path e = cc (make_adds_path upper top ud c w new it.takes it.vacant it.bare path, e)
 
   pub others_alike : (u : ℕ) → u ≢ c → IsAlike (upper.tree.node u) (grown.tree.node u)
-  others_alike = (make_adds_inode upper top ud c w new takes.in_directory vacant).1
+  others_alike = (make_adds_inode upper top ud c w new it.takes.in_directory it.vacant).1
 
   pub new_there : grown.tree.node c ≡ Some new
-  new_there = (make_adds_inode upper top ud c w new takes.in_directory vacant).0
+  new_there = (make_adds_inode upper top ud c w new it.takes.in_directory it.vacant).0
 
   pub hides_at : (front : List (List ℕ)) (b : Bool) → names_entry before ud w front ≡ b
       → hides (node_led after front) ≡ cond b (hides (Some new)) (hides (node_led before front))
   hides_at front b e = by b (subst (λ x. IsAlike (cond x (Some new) (node_led before front)) (node_led after front)) e
-      (make_is_seen upper top ud c w new top_tree top_directory takes vacant bare front))
+      (make_is_seen upper top ud c w new it.tree it.directory it.takes it.vacant it.bare front))
     where
       by : (b : Bool) → IsAlike (cond b (Some new) (node_led before front)) (node_led after front)
           → hides (node_led after front) ≡ cond b (hides (Some new)) (hides (node_led before front))

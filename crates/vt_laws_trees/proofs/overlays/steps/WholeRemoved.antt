@@ -1,6 +1,6 @@
 -- A name is taken away, with a whiteout or without one: the tree is still what the layers show.
-use Rattle.std.proofs.Common.{arith, ◌≡◌, ◌≢◌, refl, sym, ap, subst, ◌∙◌, true≢false, ne_eqb, ◌⊎◌, ⊎_elim, inl, inr, ℕ, suc, nat_eq, Bool, true, false, cond, List, [], ◌∷◌, ◌++◌, map, Option, Some, None, is_some, option_and_then, append-nil}
-use Rattle.vt_spec.proofs.Common.{FileTree, IsDirectory, IsTree, Lower, Make, Merge, Node, Real, Remove, Shown, Stack, Upper, View, changed, changed_node, common_steps, cuts, directory_no_whiteout, entries_in, entry_at, entry_named, hides, is_directory_node, is_kind_in, led, led-append, name_left_by, node_led, node_with_parent, node_without_entries, node_without_entry, none_is_some, number_at_path, same_Some, shown_from, shown_in_lowers_at, then_some, upper_directory_named, upper_object, upper_of, view_of, whiteout_of, without_contents, without_name}
+use Rattle.std.proofs.Common.{arith, ◌≡◌, ◌≢◌, refl, sym, ap, subst, ◌∙◌, true≢false, ne_eqb, ◌⊎◌, ⊎_elim, inl, inr, ℕ, suc, nat_eq, Bool, true, false, cond, List, [], ◌∷◌, ◌++◌, map, Option, Some, None, is_some, append-nil}
+use Rattle.vt_spec.proofs.Common.{FileTree, IsDirectory, IsTree, Make, Merge, Node, Remove, Shown, Stack, Upper, View, changed, changed_node, common_steps, cuts, entries_in, entry_named, hides, is_kind_in, led, name_left_by, node_led, node_with_parent, node_without_entries, node_without_entry, none_is_some, number_at_path, same_Some, shown_from, shown_in_lowers_at, then_some, upper_directory_named, upper_of, view_of, whiteout_of, without_contents, without_name}
 use Rattle.vt_spec.specs.declared.attributes.Kind.TheVariants.{White}
 use Rattle.vt_laws_trees.specs.Trees.{MayRemove}
 use Rattle.vt_laws_trees.specs.Layers.Layers.ChangesUpper.{StandsInUpper}
@@ -13,10 +13,8 @@ use Rattle.vt_laws_trees.proofs.layers.layers.LowersKept.{kept_elsewhere}
 use Rattle.vt_laws_trees.proofs.layers.layers.ShownAlike.{white_alike}
 use Rattle.vt_laws_trees.proofs.layers.layers.ShownDirectories.{append_assoc, led_is_there}
 use Rattle.vt_laws_trees.proofs.layers.layers.ShownFronts.{prefix_found, prefix_passes}
-use Rattle.vt_laws_trees.proofs.layers.layers.ShownNames.{last_name}
-use Rattle.vt_laws_trees.proofs.layers.layers.ShownPaths.{not_empty, last_step}
-use Rattle.vt_laws_trees.proofs.layers.layers.UpperLine.{has_entries, is_reached_in}
-use Rattle.vt_laws_trees.proofs.layers.layers.UpperShown.{way_to}
+use Rattle.vt_laws_trees.proofs.layers.layers.ShownPaths.{not_empty}
+use Rattle.vt_laws_trees.proofs.layers.layers.UpperLine.{has_entries}
 use Rattle.vt_laws_trees.proofs.layers.views.After.{fails, prefixes_fail, itself_fails, on_top}
 use Rattle.vt_laws_trees.proofs.layers.views.Lower.{way_goes_elsewhere}
 use Rattle.vt_laws_trees.proofs.layers.views.Entries.{taken}
@@ -25,9 +23,10 @@ use Rattle.vt_laws_trees.proofs.layers.views.Moves.{no_way_up, through_is_split}
 use Rattle.vt_laws_trees.proofs.layers.views.Names.{alike_after, alike_both, make_adds_inode, make_ends_paths, names_leave_inodes, no_entries, remove_takes_path}
 use Rattle.vt_laws_trees.proofs.layers.views.Stay.{led_where}
 use Rattle.vt_laws_trees.proofs.layers.views.Walks.{entry_gone, goes_through_it}
-use Rattle.vt_laws_trees.proofs.overlays.steps.WholeAttributes.{top_open, upper_real}
+use Rattle.vt_laws_trees.proofs.overlays.steps.WholeAttributes.{top_open}
 use Rattle.vt_laws_trees.proofs.overlays.steps.WholeMade.{below_name}
-use Rattle.vt_laws_trees.proofs.overlays.steps.WholeNames.{above_named, cut_shows_none, directory_stands, entry_named_so, is_fine, named_above, over_same, same_entry, same_holds, same_is, same_place, same_through, through_bare}
+use Rattle.vt_laws_trees.proofs.overlays.steps.WholeLeft.{one_named, own_upper}
+use Rattle.vt_laws_trees.proofs.overlays.steps.WholeNames.{IsAbove, stands_above, cut_shows_none, is_fine, over_same, same_entry, same_holds, same_is, same_place, same_through, through_bare}
 use Rattle.vt_laws_trees.proofs.overlays.steps.WholeParts.{IsFine, what_is_shown}
 use Rattle.vt_laws_trees.proofs.overlays.steps.WholePlaces.{shown_longer}
 use Rattle.vt_laws_trees.proofs.overlays.steps.WholeStill.{rearranged_is_fine}
@@ -59,25 +58,15 @@ module _ {stack : Stack ℕ} {merge : Merge ℕ} (whole : IsWhole stack merge) {
   top_directory : IsDirectory merge.upper.tree stack.directory
   top_directory = (top_open stack merge whole).1
 
-  real_d : merge.real d ≡ Some (Upper ud)
-  real_d = upper_real merge d stands
-
   d_directory : IsDirectory merge.files.tree d
   d_directory = has_entries merge.files.tree d w object may.named
 
-  ud_directory : is_directory_node (merge.upper.tree.node ud) ≡ true
-  ud_directory = directory_stands stack merge whole d ud real_d ∙ d_directory
-
-  way : (q : List (List ℕ)) × (number_at_path merge.files q ≡ Some d)
-  way = let reached = is_reached_in merge.files whole.tree d w object may.named in
-      way_to merge.files.tree reached.0 d reached.1
-
-  up_way : led merge.upper.tree stack.directory way.0 ≡ Some ud
-  up_way = named_above stack merge whole way.0 d ud way.1 real_d
+  above : IsAbove stack merge d ud
+  above = stands_above d whole stands d_directory
 
   -- the way to the directory does not go through the name
   way_elsewhere : (to : List (List ℕ)) → number_at_path merge.files to ≡ Some d → goes_through before ud w to ≡ false
-  way_elsewhere to e = sym (same_through stack merge whole d ud real_d ud_directory w to)
+  way_elsewhere to e = sym (same_through above w to)
       ∙ way_goes_elsewhere merge.files merge.files.tree.root d w whole.tree object may.named to e
 
   -- The upper layer afterwards
@@ -153,8 +142,7 @@ module _ {stack : Stack ℕ} {merge : Merge ℕ} (whole : IsWhole stack merge) {
             here : (to : List (List ℕ)) (rest : List (List ℕ)) → to ++ w ∷ rest ≡ path
                 → led merge.upper.tree stack.directory to ≡ Some ud → shown_from 1 lowers (to ++ w ∷ []) ≡ None
             here to rest is l =
-                let there = same_is _ d (same_place stack merge whole d ud real_d ud_directory to
-                ∙ same_holds _ ud l) in
+                let there = same_is _ d (same_place above to ∙ same_holds _ ud l) in
                 grind (arith, common_steps, below_name, there, d_directory, uncut_to)
 
             seen : (to rest : List (List ℕ)) → to ++ w ∷ rest ≡ path
@@ -195,8 +183,7 @@ module _ {stack : Stack ℕ} {merge : Merge ℕ} (whole : IsWhole stack merge) {
     number_after : (path : List (List ℕ)) (b : Bool) → names_entry before ud w path ≡ b
         → number_at_path files path ≡ cond b None (number_at_path merge.files path)
     number_after path b e = remove_takes_path merge.files merge.files.tree.root d object w may.named may.empty path
-        ∙ ap (λ y. cond y None (number_at_path merge.files path))
-        (same_entry stack merge whole d ud real_d ud_directory w path ∙ e)
+        ∙ ap (λ y. cond y None (number_at_path merge.files path)) (same_entry above w path ∙ e)
 
     paths_later : (path : List (List ℕ)) → then_some (number_at_path files path) merge.real ≡ real_seen stack later path
     paths_later path = by (goes_through before ud w path) refl
@@ -206,15 +193,13 @@ module _ {stack : Stack ℕ} {merge : Merge ℕ} (whole : IsWhole stack merge) {
         none_there through true e = number_after path true e
         none_there through false e = number_after path false e
             ∙ through_bare merge.files merge.files.tree.root d object w may.named
-            (no_entries merge.files.tree object may.empty) path
-            (same_through stack merge whole d ud real_d ud_directory w path ∙ through)
-            (same_entry stack merge whole d ud real_d ud_directory w path ∙ e)
+            (no_entries merge.files.tree object may.empty) path (same_through above w path ∙ through)
+            (same_entry above w path ∙ e)
 
         by : (b : Bool) → goes_through before ud w path ≡ b
             → then_some (number_at_path files path) merge.real ≡ real_seen stack later path
         by true through = cc (none_there through (names_entry before ud w path) refl, none_after path through)
-        by false none =
-            cc (number_after path false (names_not path none), fine_before.paths path, shown_old path none)
+        by false none = cc (number_after path false (names_not path none), fine_before.paths path, shown_old path none)
 
     pub later_is_fine : IsFine stack later
     later_is_fine = rearranged_is_fine stack merge fine_before files upper
@@ -230,31 +215,12 @@ module _ {stack : Stack ℕ} {merge : Merge ℕ} (whole : IsWhole stack merge) {
         → (path : List (List ℕ)) → led first.tree stack.directory path ≢ Some uo
     unreached uo r is_dir path e = by (names_entry before ud w path) refl (goes_through before ud w path) refl
       where
-        uo_directory : IsDirectory merge.upper.tree uo
-        uo_directory = directory_stands stack merge whole object uo r ∙ is_dir
-
-        named_in_upper : entry_at merge.upper.tree ud w ≡ Some uo
-        named_in_upper = sym (last_name merge.upper.tree stack.directory way.0 w
-            ∙ ap (option_and_then (λ n. entry_at merge.upper.tree n w)) up_way) ∙ named_above stack
-            merge whole (way.0 ++ w ∷ []) object uo (led-append merge.files.tree _ way.0 w d object way.1 may.named) r
-
         there : is_some (merge.upper.tree.node uo) ≡ true
         there = fine_before.upper object uo r
 
         old : (path : List (List ℕ)) → led merge.upper.tree stack.directory path ≡ Some uo
             → names_entry before ud w path ≡ true
-        old [] l =
-            let root = above_named stack merge whole [] stack.directory refl (directory_no_whiteout _ top_directory) in
-            absurd (whole.tree.root_unnamed d w (may.named ∙ ap Some (fine_before.one object _ (ap is_some r)
-            (cc (r, same_Some stack.directory uo l, root.2, same_Some merge.files.tree.root root.0 root.1)))))
-        old (word ∷ rest) l =
-            let last = last_step merge.upper.tree stack.directory (word ∷ rest) uo (not_empty word rest) l in
-            let same = sym (top_tree.one_parent last.directory last.name uo last.entry uo_directory)
-            ∙ top_tree.one_parent ud w uo named_in_upper uo_directory in
-            let one = top_tree.one_name ud last.name w uo
-            (ap (λ n. entry_at merge.upper.tree n last.name) (sym same) ∙ last.entry) named_in_upper uo_directory in
-            subst (λ p. names_entry before ud w p ≡ true) (ap (λ n. last.front ++ n ∷ []) (sym one) ∙ last.split)
-            (entry_named_so merge.upper stack.directory ud w last.front (last.leads ∙ ap Some same))
+        old = one_named whole d ud w uo may.named above.real r is_dir
 
         by : (a : Bool) → names_entry before ud w path ≡ a → (b : Bool) → goes_through before ud w path ≡ b → ⊥
         by true n b g = true≢false (sym there ∙ ap is_some (new uo (sym (led_first path ∙ ap (λ y.
@@ -280,18 +246,10 @@ module _ {stack : Stack ℕ} {merge : Merge ℕ} (whole : IsWhole stack merge) {
   -- the upper directory that has the name is the object's
   is_own : (uo : ℕ) → upper_directory_named merge d w ≡ Some uo
       → (merge.real object ≡ Some (Upper uo)) × IsDirectory merge.files.tree object
-  is_own uo e = by (is_directory_node (merge.files.tree.node object)) refl (cc (may.named))
-    where
-      upper_is : (r : Option (Real ℕ)) → upper_object r ≡ Some uo → r ≡ Some (Upper uo)
-      upper_is None e = none_is_some uo e
-      upper_is (Some (Upper k)) e = ap (λ n. Some (Upper n)) (same_Some k uo e)
-      upper_is (Some (Lower layer path)) e = none_is_some uo e
-
-      by : (b : Bool) → is_directory_node (merge.files.tree.node object) ≡ b
-          → cond b (upper_object (merge.real object)) None ≡ Some uo
-          → (merge.real object ≡ Some (Upper uo)) × IsDirectory merge.files.tree object
-      by true is_dir e = (upper_is (merge.real object) e, is_dir)
-      by false is_dir e = none_is_some uo e
+  is_own uo e =
+      let own = own_upper merge d w uo e in
+      let same : own.0 ≡ object = same_Some own.0 object (sym own.1 ∙ may.named) in
+      (ap merge.real (sym same) ∙ own.2, subst (IsDirectory merge.files.tree) same own.3)
 
   -- with no whiteout
   plain_led : (path : List (List ℕ)) → led (without_name nat_eq merge.upper ud w).tree stack.directory path
@@ -336,7 +294,7 @@ module _ {stack : Stack ℕ} {merge : Merge ℕ} (whole : IsWhole stack merge) {
         ≡ cond (names_entry before ud w path) (Some c)
         (cond (goes_through before ud w path) None (led merge.upper.tree stack.directory path))
     white_led path =
-        make_ends_paths merge.upper stack.directory ud c w (whiteout_of stack.mounter) ud_directory vacant refl
+        make_ends_paths merge.upper stack.directory ud c w (whiteout_of stack.mounter) above.directory vacant refl
         (λ replaced names e. no_way_up merge.upper top_tree ud w replaced e names) path
 
     new_number : (k : ℕ) → Some c ≡ Some k → merge.upper.tree.node k ≡ None
@@ -347,7 +305,7 @@ module _ {stack : Stack ℕ} {merge : Merge ℕ} (whole : IsWhole stack merge) {
     white_is_fine =
         let o = upper_directory_named merge d w in
         let inodes = make_adds_inode merge.upper stack.directory ud c w
-        (whiteout_of stack.mounter) ud_directory vacant in
+        (whiteout_of stack.mounter) above.directory vacant in
         later_is_fine (without_contents nat_eq whited o) (Some c)
         (λ path. emptied_led whited (Some c) new_number white_led o is_own path ∙ white_led path) (λ u there.
         alike_both (merge.upper.tree.node u) (whited.tree.node u) _ (inodes.1 u (λ same. cc))

@@ -8,6 +8,7 @@ use Rattle.vt_laws_trees.proofs.overlays.whole.UpperLimits.{sizes_stay}
 use Rattle.vt_laws_trees.proofs.layers.locked.Apart.{layer_among, no_overlay_in, upper_in_layers}
 use Rattle.vt_laws_trees.proofs.layers.views.Names.{alike_kept}
 use Rattle.vt_laws_trees.specs.Overlays.LayersApart.{OverlayInvariantsStay, TreeInvariantsStay, TreesAfter, TreesStay}
+use Rattle.vt_laws_trees.proofs.overlays.whole.ApartThere.{own_number}
 use Rattle.vt_laws_trees.proofs.overlays.whole.ApartLater
 use Rattle.vt_laws_trees.proofs.overlays.whole.ApartReached.{still_reached}
 use Rattle.vt_laws_trees.proofs.overlays.whole.UpperWhole.{merged_trees_stay, upper_trees_stay}
@@ -69,8 +70,7 @@ module _ {fresh : Fresh ℕ} {world : World ℕ} {location : Location ℕ} {chan
           → (old : Filesystem ℕ) × Among old world.filesystems × (one ≡ replaced_if_numbered nat_eq changed old)
           → (f ≡ changed) ⊎ ((f ≡ changed_upper) ⊎ Among f world.filesystems)
       again one same (old, o, e) = at old o (nat_eq changed.number old.number)
-          (nat_eq changed_upper.number (replaced_if_numbered nat_eq changed old).number)
-          (cc)
+          (nat_eq changed_upper.number (replaced_if_numbered nat_eq changed old).number) (cc)
 
       from : (one : Filesystem ℕ) × Among one (map (replaced_if_numbered nat_eq changed) world.filesystems)
           × (f ≡ replaced_if_numbered nat_eq changed_upper one)
@@ -98,8 +98,7 @@ module _ {fresh : Fresh ℕ} {world : World ℕ} {location : Location ℕ} {chan
           ApartLater.stays it n differ t.1 in
           subst (λ f. IsMerged nat_eq later f other) (sym same)
           (other_overlays_stay_merged fresh world location change overlay other upper n it.conditions it.is it.has
-          it.none
-          (WholeLater.spoken (stack_of nat_eq world overlay upper)
+          it.none (WholeLater.spoken (stack_of nat_eq world overlay upper)
           (merge_of nat_eq world (filesystem_at nat_eq world location) overlay upper) change
           (ApartLater.whole it).tree it.asked) differ (cc (e))).1
 
@@ -126,8 +125,7 @@ module _ {fresh : Fresh ℕ} {world : World ℕ} {location : Location ℕ} {chan
           ap (λ l. is_directory_node ((filesystem_numbered nat_eq later l.filesystem).files.tree.node l.directory)) same
           ∙ ap (λ f. is_directory_node (f.files.tree.node upper.directory)) upper_later
           ∙ (ApartLater.goes it).good.directory
-      directory (inr other) = directory_alike _ _ (alike_kept _ _
-          (ApartLater.other_leads it layer other []).1)
+      directory (inr other) = directory_alike _ _ (alike_kept _ _ (ApartLater.other_leads it layer other []).1)
           ∙ and_true_right (not (is_overlay (filesystem_numbered nat_eq world layer.filesystem))) _ was_plain
 
   live : (n : ℕ) (v : Overlay ℕ) → (filesystem_numbered nat_eq world n).overlay ≡ Some v → (layer : Layer ℕ)
@@ -141,8 +139,7 @@ module _ {fresh : Fresh ℕ} {world : World ℕ} {location : Location ℕ} {chan
   upper_reached = subst (λ (f : Filesystem ℕ). IsReached f.files.tree upper.directory) (sym upper_later)
       (ApartLater.goes it).good.reached
 
-  other_reached : (layer : Layer ℕ)
-      → ApartLater.IsOther it layer
+  other_reached : (layer : Layer ℕ) → ApartLater.IsOther it layer
       → IsReached (filesystem_numbered nat_eq world layer.filesystem).files.tree layer.directory
       → IsReached (filesystem_numbered nat_eq later layer.filesystem).files.tree layer.directory
   other_reached layer other was = ⊎_elim beside elsewhere (eqb_tells layer.filesystem upper.filesystem)
@@ -183,8 +180,7 @@ module _ {fresh : Fresh ℕ} {world : World ℕ} {location : Location ℕ} {chan
       elsewhere : n ≢ number → (nat_eq n upper.filesystem ≡ false) × (n ≢ upper.filesystem)
           → IsReached (filesystem_numbered nat_eq later u.filesystem).files.tree u.directory
       elsewhere differ t =
-          let was = sym (ap (λ (x : Filesystem ℕ). x.overlay)
-          (ApartLater.stays it n differ t.1)) ∙ e in
+          let was = sym (ap (λ (x : Filesystem ℕ). x.overlay) (ApartLater.stays it n differ t.1)) ∙ e in
           ⊎_elim as_upper (λ other. other_reached u other (it.conditions.overlays.uppers_reached n v u was f))
           (live n v was u (upper_in_layers world it.conditions n v was u f))
 
@@ -198,7 +194,7 @@ module _ {fresh : Fresh ℕ} {world : World ℕ} {location : Location ℕ} {chan
       old : (f : Filesystem ℕ) → Among f world.filesystems → (o : Option (Overlay ℕ)) → f.overlay ≡ o
           → overlay_or true test o ≡ true
       old f m None e = refl
-      old f m (Some v) e = holds f.number v (cc (ApartLater.own_number it f m))
+      old f m (Some v) e = holds f.number v (cc (own_number world it.conditions.files.one_filesystem f m))
 
       by : (f : Filesystem ℕ) → (f ≡ changed) ⊎ ((f ≡ changed_upper) ⊎ Among f world.filesystems)
           → of_overlay true test f ≡ true
@@ -299,14 +295,12 @@ tree_invariants_stay fresh world location change overlay upper conditions is has
     fit_numbered n = numbered_anyhow (λ (f : Filesystem ℕ). is_fit_filesystem f ≡ true) n world.filesystems
         (all_from_among _ world.filesystems (λ f m. among_from_list_all _ _ conditions.files.fit_filesystems f m)) refl
 
-    sizes : (is_fit_tree
-        (ApartLater.merge it).files ≡ true) × (is_fit_tree (ApartLater.merge it).upper ≡ true)
+    sizes : (is_fit_tree (ApartLater.merge it).files ≡ true) × (is_fit_tree (ApartLater.merge it).upper ≡ true)
     sizes = sizes_stay fresh (stack_of nat_eq world overlay upper)
         (merge_of nat_eq world (filesystem_at nat_eq world location) overlay upper)
         change (ApartLater.whole it) (ApartLater.new it) asked fit (fit_numbered _) (fit_numbered upper.filesystem)
 
-    by : (f : Filesystem ℕ)
-        → (f ≡ ApartLater.changed it)
+    by : (f : Filesystem ℕ) → (f ≡ ApartLater.changed it)
         ⊎ ((f ≡ ApartLater.changed_upper it) ⊎ Among f world.filesystems) → is_fit_filesystem f ≡ true
     by f (inl same) = ap is_fit_filesystem same ∙ sizes.0
     by f (inr (inl same)) = ap is_fit_filesystem same ∙ sizes.1

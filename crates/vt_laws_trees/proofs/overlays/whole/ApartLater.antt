@@ -1,20 +1,19 @@
 -- Layers stand apart after a change of an overlay.
-use Rattle.std.proofs.Common.{arith, ◌≡◌, ◌≢◌, refl, sym, ap, subst, ◌∙◌, true≢false, eqb-true, eq-eqb, ne_eqb, ◌⊎◌, ⊎_elim, inl, inr, ℕ, nat_eq, Bool, true, false, not, cond, ◌&&◌, ◌||◌, List, [], ◌∷◌, ◌++◌, map, Option, Some, None, is_some, flat_map, option_to_list}
-use Rattle.vt_spec.proofs.Common.{Among, Change, Filesystem, Fresh, IsTree, Layer, ListsNumbers, Location, Lower, Merge, Overlay, Real, Stack, Upper, World, among-append_left, among-append_right, among-filter, among-flat_map, among-from_filter, among-from_flat_map, among-from_map, among_from_list_all, among_numbers, and_from, and_true_left, and_true_right, any_among, any_from_among, any_pair, common_steps, counts_in_layer, directory_used, entry_at, eqb_tells, filesystem_numbered, holds_of, is_directory_node, is_object_of, is_overlay, is_plain_layer, is_real_upper, is_there, is_under, layers_of, layers_of_all, led, lies_in_layer, lies_or_counts_under, list_any, live_lowers, live_upper_and_work, mount_at, none_among, none_from_among, none_is_some, of_overlay, open_layer, or_cases, or_false_alone, or_false_left, or_false_right, or_left, or_right, overlap, overlaps_one_of, overlay_or, overlays, replaced_if_numbered, same_Some, stack_of, upper_and_work, upper_object, with_change}
-use Rattle.vt_laws_trees.proofs.trees.TreesOfWorlds.{numbered_anyhow}
+use Rattle.std.proofs.Common.{arith, ◌≡◌, ◌≢◌, refl, sym, ap, subst, ◌∙◌, true≢false, eqb-true, eq-eqb, ◌⊎◌, ⊎_elim, inl, inr, ℕ, nat_eq, Bool, true, false, not, cond, ◌&&◌, ◌||◌, List, [], ◌∷◌, ◌++◌, map, Option, Some, None, is_some, flat_map, option_to_list}
+use Rattle.vt_spec.proofs.Common.{Among, Change, Filesystem, Fresh, IsTree, Layer, Location, Merge, Overlay, Real, Stack, Upper, World, among-append_left, among-append_right, among-filter, among-flat_map, among-from_filter, among-from_flat_map, among-from_map, among_from_list_all, and_from, and_true_left, and_true_right, any_among, any_from_among, any_pair, common_steps, counts_in_layer, directory_used, entry_at, eqb_tells, filesystem_numbered, is_directory_node, is_overlay, is_plain_layer, is_under, layers_of, layers_of_all, led, lies_in_layer, lies_or_counts_under, list_any, live_lowers, live_upper_and_work, mount_at, none_among, none_from_among, none_is_some, of_overlay, or_cases, or_false_alone, or_left, or_right, overlap, overlaps_one_of, overlay_or, overlays, replaced_if_numbered, same_Some, stack_of, upper_and_work, with_change}
 use Rattle.vt_laws_trees.specs.Layers.Layers.Locked.{LeadsAsBefore}
 use Rattle.vt_laws_trees.specs.Layers.Layers.Upper.{IsUpperObject}
 use Rattle.vt_laws_trees.proofs.layers.locked.Apart.{layer_among, layer_plain, lies_there, never_both, no_overlay_in, object_counts, upper_in_layers, upper_is_layer}
 use Rattle.vt_laws_trees.proofs.layers.locked.Paths.{layer_tree, leads_as_before}
 use Rattle.vt_laws_trees.proofs.layers.layers.LowersWorld.{number_of_filesystem}
-use Rattle.vt_laws_trees.proofs.layers.layers.ShownDirectories.{led_is_there}
 use Rattle.vt_laws_trees.proofs.layers.layers.UpperLine.{has_entries}
-use Rattle.vt_laws_trees.proofs.layers.layers.UpperWorld.{overlay_merges}
 use Rattle.vt_laws_trees.proofs.overlays.changes.WholeLater.{ChangesMerge, changing}
 use Rattle.vt_laws_trees.specs.Overlays.LayersApart.{LayersStayApart, StandApart}
 use Rattle.vt_laws_trees.specs.Overlays.WhatIsShown.{IsWhole}
 use Rattle.vt_laws_trees.specs.Overlays.WholeStays.{AreNew}
 use Rattle.vt_laws_trees.proofs.overlays.whole.ApartPairs.{no_pair_later, two_apart}
+use Rattle.vt_laws_trees.proofs.layers.locked.Layers.{AreTrees, are_trees, inode_listed, numbers_listed}
+use Rattle.vt_laws_trees.proofs.overlays.whole.ApartThere.{Counts, counts_again, counts_parts, lying_there, own_number, real_of_object}
 use Rattle.vt_laws_trees.proofs.overlays.whole.ApartPaths.{led_under, under_led}
 use Rattle.vt_laws_trees.proofs.overlays.whole.UpperGoes.{Goes}
 use Rattle.vt_laws_trees.proofs.overlays.whole.UpperOwn
@@ -66,11 +65,8 @@ module _ {fresh : Fresh ℕ} {world : World ℕ} {location : Location ℕ} {chan
   pub goes : Goes upper.directory before.upper merge.upper
   goes = change_goes fresh stack before whole new change it.asked
 
-  pub numbers_in : (n : ℕ) → ListsNumbers nat_eq (filesystem_numbered nat_eq world n).files
-  numbers_in n =
-      numbered_anyhow (λ (f : Filesystem ℕ). ListsNumbers nat_eq f.files) n world.filesystems
-      it.conditions.files.numbers
-      (λ k. refl)
+  trees : AreTrees world
+  trees = are_trees world it.conditions.files
 
   -- the layers that are not the upper one
   abbrev pub IsOther : Layer ℕ → Type 0
@@ -111,16 +107,19 @@ module _ {fresh : Fresh ℕ} {world : World ℕ} {location : Location ℕ} {chan
   other_plain layer (inr m) = plain_of (λ o. o.lowers) (λ o l a. among-append_right _ o.lowers l a) layer m
 
   -- what lies under two of them
-  listed : (n object : ℕ) → is_some (inode_in world n object) ≡ true
-      → Among object (filesystem_numbered nat_eq world n).files.numbers
-  listed n object there = among_numbers _ object (numbers_in n object ∙ there)
-
   abbrev pub Lies : Layer ℕ → ℕ → ℕ → Type 0
   Lies layer n object = lies_or_counts_under nat_eq world n object layer ≡ true
 
   overlap_of : (a b : Layer ℕ) (n object : ℕ) → n ≡ a.filesystem → is_some (inode_in world n object) ≡ true
       → Lies a n object → Lies b n object → overlap nat_eq world a b ≡ true
-  overlap_of a b n object same there in_a in_b = grind (arith, common_steps, any_from_among, listed, and_from, or_left)
+  overlap_of a b n object same there in_a in_b = grind (
+    arith,
+    common_steps,
+    any_from_among,
+    inode_listed world trees,
+    and_from,
+    or_left,
+  )
 
   pub clash : (layer : Layer ℕ) → IsOther layer → (n object : ℕ) → is_some (inode_in world n object) ≡ true
       → Lies upper n object → Lies layer n object → ⊥
@@ -134,7 +133,7 @@ module _ {fresh : Fresh ℕ} {world : World ℕ} {location : Location ℕ} {chan
     upper_live,
     never_both,
     none_among,
-    listed,
+    inode_listed world trees,
     any_from_among,
   )
 
@@ -195,7 +194,7 @@ module _ {fresh : Fresh ℕ} {world : World ℕ} {location : Location ℕ} {chan
   led_lies layer plain n object same way = and_from _ _ (eq-eqb n layer.filesystem same)
       (subst (λ k. is_under nat_eq (filesystem_numbered nat_eq world k).files layer.directory object ≡ true) (sym same)
       (led_under (filesystem_numbered nat_eq world layer.filesystem).files (layer_tree world it.conditions layer plain)
-      layer.directory (numbers_in layer.filesystem) (and_true_right _ _ plain) object way))
+      layer.directory (numbers_listed world trees layer.filesystem) (and_true_right _ _ plain) object way))
 
   pub lies_first : (layer : Layer ℕ) (n object : ℕ) → lies_in_layer nat_eq world n object layer ≡ true
       → Lies layer n object
@@ -274,83 +273,6 @@ module _ {fresh : Fresh ℕ} {world : World ℕ} {location : Location ℕ} {chan
             (number_of_filesystem world number ∙ sym at ∙ ap (λ x. x.number) same)) ∙ e),
       )
 
-  -- one filesystem has a number
-  pub own_number : (f : Filesystem ℕ) → Among f world.filesystems → filesystem_numbered nat_eq world f.number ≡ f
-  own_number f m =
-      ap (λ o. Rattle.std.specs.Prelude.unwrap_or o (Rattle.vt_spec.specs.Machine.World.no_filesystem f.number))
-      (by world.filesystems it.conditions.files.one_filesystem m)
-    where
-      by : (fs : List (Filesystem ℕ)) → any_pair (λ (a b : Filesystem ℕ). nat_eq a.number b.number) fs ≡ false
-          → Among f fs → Rattle.std.specs.Prelude.find (λ (g : Filesystem ℕ). nat_eq f.number g.number) fs ≡ Some f
-      by [] e m = absurd m
-      by (x ∷ fs) e (inl same) = grind (arith, common_steps, eq-eqb)
-      by (x ∷ fs) e (inr l) =
-          grind (arith, common_steps, ne_eqb, true≢false, eq-eqb, none_among, or_false_left, or_false_right, by fs)
-
-  -- What counts under a layer: the parts of it
-  record Counts (w : World ℕ) (layer : Layer ℕ) (n object : ℕ) (g : Filesystem ℕ) : Type 0 where
-    overlay_of : Overlay ℕ
-    is_of : g.overlay ≡ Some overlay_of
-    upper_of_it : Layer ℕ
-    has_it : overlay_of.upper ≡ Some upper_of_it
-    lies : lies_in_layer nat_eq w upper_of_it.filesystem upper_of_it.directory layer ≡ true
-    object_of : is_object_of nat_eq n object g overlay_of ≡ true
-
-  counts_parts : (w : World ℕ) (layer : Layer ℕ) (n object : ℕ) (g : Filesystem ℕ)
-      → counts_in_layer nat_eq w n object layer g ≡ true → Counts w layer n object g
-  counts_parts w layer n object g e = grind (arith, common_steps, true≢false, and_true_left, and_true_right)
-
-  counts_again : (layer : Layer ℕ) (n object : ℕ) (g : Filesystem ℕ) → Among g (overlays world)
-      → Counts world layer n object g → Lies layer n object
-  counts_again layer n object g m parts = grind (arith, common_steps, or_right, any_from_among, and_from)
-
-  -- the object of which it is said is one of the upper layer
-  real_of_object : (g : Filesystem ℕ) (v : Overlay ℕ) (u : Layer ℕ) → v.upper ≡ Some u → (n object : ℕ)
-      → is_object_of nat_eq n object g v ≡ true → (n ≡ u.filesystem) × ((k : ℕ) × (v.real k ≡ Some (Upper object)))
-  real_of_object g v u has_u n object e =
-      let first = and_true_left (holds_of (λ l. nat_eq n l.filesystem) v.upper) _ e in
-      let found = any_among (is_real_upper nat_eq v object) g.files.numbers
-      (and_true_right (holds_of (λ l. nat_eq n l.filesystem) v.upper) _ e) in (
-        eqb-true n u.filesystem (sym (ap (holds_of (λ l. nat_eq n l.filesystem)) has_u) ∙ first),
-        (found.0, by (v.real found.0) found.2),
-      )
-    where
-      by : (r : Option (Real ℕ)) → holds_of (nat_eq object) (upper_object r) ≡ true → r ≡ Some (Upper object)
-      by None h = absurd (true≢false (sym h))
-      by (Some (Upper k)) h = ap (λ x. Some (Upper x)) (sym (eqb-true object k h))
-      by (Some (Lower layer path)) h = absurd (true≢false (sym h))
-
-  -- what lies or counts under a layer is there
-  is_there_if : (layer : Layer ℕ) → is_plain_layer nat_eq world layer ≡ true → (n object : ℕ) → Lies layer n object
-      → is_some (inode_in world n object) ≡ true
-  is_there_if layer plain n object e =
-      ⊎_elim led_there counted (or_cases (lies_in_layer nat_eq world n object layer) _ e)
-    where
-      led_there : lies_in_layer nat_eq world n object layer ≡ true → is_some (inode_in world n object) ≡ true
-      led_there f =
-          let same = eqb-true n layer.filesystem (and_true_left (nat_eq n layer.filesystem) _ f) in
-          let tree = layer_tree world it.conditions layer plain in
-          let way = under_led (filesystem_numbered nat_eq world layer.filesystem).files tree layer.directory object
-          (subst (λ k. is_under nat_eq (filesystem_numbered nat_eq world k).files layer.directory object ≡ true) same
-          (and_true_right (nat_eq n layer.filesystem) _ f)) in
-          subst (λ k. is_some (inode_in world k object) ≡ true) (sym same)
-          (led_is_there (open_layer nat_eq world layer) tree (and_true_right (not
-          (is_overlay (filesystem_numbered nat_eq world layer.filesystem))) _ plain) way.0 object way.1)
-
-      counted : list_any (counts_in_layer nat_eq world n object layer) (overlays world) ≡ true
-          → is_some (inode_in world n object) ≡ true
-      counted f =
-          let found = any_among (counts_in_layer nat_eq world n object layer) (overlays world) f in
-          let g = found.0 in
-          let parts = counts_parts world layer n object g found.2 in
-          let real = real_of_object g parts.overlay_of parts.upper_of_it parts.has_it n object parts.object_of in
-          let here = own_number g (among-from_filter is_overlay world.filesystems g found.1).0 in
-          let of_it : (filesystem_numbered nat_eq world g.number).overlay ≡ Some parts.overlay_of =
-          ap (λ x. x.overlay) here ∙ parts.is_of in
-          subst (λ k. is_some (inode_in world k object) ≡ true) (sym real.0)
-          (sym (ap (holds_of (λ l. is_there nat_eq world l.filesystem object)) parts.has_it)
-          ∙ (overlay_merges world it.conditions g.number parts.overlay_of of_it).upper_there real.1.0 object real.1.1)
-
   pub upper_itself : lies_in_layer nat_eq world upper.filesystem upper.directory upper ≡ true
   upper_itself = led_lies upper upper_plain upper.filesystem upper.directory refl ([], refl)
 
@@ -378,7 +300,7 @@ module _ {fresh : Fresh ℕ} {world : World ℕ} {location : Location ℕ} {chan
       let own = changed_parts later layer n object (subst (λ x. Counts later layer n object x) same parts) in
       absurd (clash layer other upper.filesystem upper.directory (directory_there upper upper_plain)
       (lies_first upper _ upper.directory upper_itself) (lies_first layer _ _ (other_lies layer other _ _ own.0)))
-  counted_other layer other n object g parts (inr old) = counts_again layer n object g old.0 (record {
+  counted_other layer other n object g parts (inr old) = counts_again world layer n object g old.0 (record {
     overlay_of = parts.overlay_of;
     is_of = parts.is_of;
     upper_of_it = parts.upper_of_it;
@@ -413,7 +335,7 @@ module _ {fresh : Fresh ℕ} {world : World ℕ} {location : Location ℕ} {chan
       let own = changed_parts later upper n object (subst (λ x. Counts later upper n object x) same parts) in
       ⊎_elim (λ was. inl (subst (λ k. Lies upper k object) (sym own.1.0) (upper_counts object (own.1.1.0, was)))) inr
       (UpperOwn.objects fresh stack before whole new change it.asked own.1.1.0 object own.1.1.1)
-  counted_upper n object g parts (inr old) = ⊎_elim (λ same. inl (counts_again upper n object g old.0 (record {
+  counted_upper n object g parts (inr old) = ⊎_elim (λ same. inl (counts_again world upper n object g old.0 (record {
     overlay_of = parts.overlay_of;
     is_of = parts.is_of;
     upper_of_it = parts.upper_of_it;
@@ -455,8 +377,8 @@ module _ {fresh : Fresh ℕ} {world : World ℕ} {location : Location ℕ} {chan
   not_new : (layer : Layer ℕ) → is_plain_layer nat_eq world layer ≡ true → (n object : ℕ) → Lies layer n object
       → IsNewBy fresh object → ⊥
   not_new layer plain n object lies fresh_one =
-      true≢false (sym (is_there_if layer plain n object lies) ∙ ap (λ k. is_some (inode_in world n k)) fresh_one.1
-      ∙ ap is_some (it.none n fresh_one.0))
+      true≢false (sym (lying_there world trees it.conditions.overlays layer plain n object lies)
+      ∙ ap (λ k. is_some (inode_in world n k)) fresh_one.1 ∙ ap is_some (it.none n fresh_one.0))
 
   IsLive : Layer ℕ → Type 0
   IsLive layer = (layer ≡ upper) ⊎ IsOther layer
@@ -497,7 +419,8 @@ module _ {fresh : Fresh ℕ} {world : World ℕ} {location : Location ℕ} {chan
   overlap_before a b live_a live_b n object same p q =
       ⊎_elim (λ one. subst (λ x. overlap nat_eq world a x ≡ true) one (overlap_itself a live_a)) (λ differ.
       let lie = both_lie a b live_a live_b differ n object p q in
-      overlap_of a b n object same (is_there_if a (live_plain a live_a) n object lie.0) lie.0 lie.1) (same_layer a b)
+      overlap_of a b n object same (lying_there world trees it.conditions.overlays a
+      (live_plain a live_a) n object lie.0) lie.0 lie.1) (same_layer a b)
 
   -- The layers afterwards are those that were
   abbrev IgnoresReal : (Overlay ℕ → List (Layer ℕ)) → Type 0
@@ -512,7 +435,14 @@ module _ {fresh : Fresh ℕ} {world : World ℕ} {location : Location ℕ} {chan
   first_same : (layers : Overlay ℕ → List (Layer ℕ)) → IgnoresReal layers → (f : Filesystem ℕ)
       → Among f world.filesystems
       → of_overlay [] layers (replaced_if_numbered nat_eq changed f) ≡ of_overlay [] layers f
-  first_same layers ignores f m = grind (arith, common_steps, number_of_filesystem, eqb-true, own_number)
+  first_same layers ignores f m = grind (
+    arith,
+    common_steps,
+    number_of_filesystem,
+    eqb-true,
+    own_number world
+        trees.one_filesystem,
+  )
 
   second_same : (layers : Overlay ℕ → List (Layer ℕ)) (f : Filesystem ℕ)
       → Among f (map (replaced_if_numbered nat_eq changed) world.filesystems)
@@ -522,7 +452,15 @@ module _ {fresh : Fresh ℕ} {world : World ℕ} {location : Location ℕ} {chan
       at : (old : Filesystem ℕ) → Among old world.filesystems → (b : Bool) → nat_eq changed.number old.number ≡ b
           → f ≡ cond b changed old → (c : Bool) → nat_eq changed_upper.number f.number ≡ c
           → of_overlay [] layers (cond c changed_upper f) ≡ of_overlay [] layers f
-      at old o b e same c g = grind (arith, common_steps, apart, number_of_filesystem, eqb-true, own_number)
+      at old o b e same c g = grind (
+        arith,
+        common_steps,
+        apart,
+        number_of_filesystem,
+        eqb-true,
+        own_number world
+            trees.one_filesystem,
+      )
 
       from : (old : Filesystem ℕ) × Among old world.filesystems × (f ≡ replaced_if_numbered nat_eq changed old)
           → of_overlay [] layers (replaced_if_numbered nat_eq changed_upper f) ≡ of_overlay [] layers f

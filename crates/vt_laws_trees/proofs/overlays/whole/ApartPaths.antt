@@ -25,8 +25,7 @@ module _ (files : FileTree ℕ) (tree : IsTree files.tree) (top : ℕ) where
       by false false h e = none_is_some b e
 
   by_chain : (most d : ℕ) → is_among nat_eq top (chain most (named_parent nat_eq files.tree) d) ≡ true → Led d
-  by_chain zero d h = ⊎_elim (λ e. ([], ap Some (eqb-true top d e))) (λ e. absurd cc)
-      (or_cases (nat_eq top d) false h)
+  by_chain zero d h = ⊎_elim (λ e. ([], ap Some (eqb-true top d e))) (λ e. absurd cc) (or_cases (nat_eq top d) false h)
   by_chain (suc most) d h = by (named_parent nat_eq files.tree d) refl h (λ b g. by_chain most b g)
     where
       by : (o : Option ℕ) → named_parent nat_eq files.tree d ≡ o

@@ -148,13 +148,11 @@ module _ {fresh : Fresh ℕ} {world : World ℕ} {location : Location ℕ} {chan
     pub inode_stays : merge.upper.tree.node inode ≡ before.upper.tree.node inode
     inode_stays = changes_keep_so before.files (overlay_tree world it.conditions number overlay it.is)
         (overlay_numbers world it.conditions number overlay it.is)
-        inode (before.upper.tree.node inode) fresh new stack overlay.real before.upper
-        (record {
+        inode (before.upper.tree.node inode) fresh new stack overlay.real before.upper (record {
           here = refl;
           apart = apart;
           root = root_is_upper world it.conditions number overlay it.is upper it.has;
-        })
-        (λ x. x ≡ before.upper.tree.node inode) (λ x e. e) change
+        }) (λ x. x ≡ before.upper.tree.node inode) (λ x e. e) change
         (λ f old t to o moves moved_real moved_upper copied fine from_up to_up object_up.
         moved_leaves before.files (overlay_tree world it.conditions number overlay it.is)
         (overlay_numbers world it.conditions number overlay it.is) inode (before.upper.tree.node inode)

@@ -159,8 +159,7 @@ module _ (files : FileTree ℕ) (r : ℕ) (conditions : IsTree files.tree)
   -- what is left was there, elsewhere
   pub bare_told : (d : ℕ) (n : List ℕ) (k : ℕ) → entry_at bare.tree d n ≡ Some k
       → (d ≢ r) × (entry_at files.tree d n ≡ Some k)
-  bare_told d n k e = ⊎_elim
-      (λ t. none_is_some k (cc (t.1, bare_there)))
+  bare_told d n k e = ⊎_elim (λ t. none_is_some k (cc (t.1, bare_there)))
       (λ t. (t.1, cc (bare_elsewhere d t.1))) (eqb_tells d r)
 
   pub bare_kept : (d : ℕ) (n : List ℕ) (k : ℕ) → d ≢ r → entry_at files.tree d n ≡ Some k
@@ -176,13 +175,10 @@ module _ (files : FileTree ℕ) (r : ℕ) (conditions : IsTree files.tree)
   bare_rearranged : IsRearranged files.tree bare.tree.node Nobody Nowhere
   bare_rearranged = record {
     directories = bare_kind;
-    in_order = λ d. ⊎_elim
-        (λ t. cc (t.1, bare_there))
-        (λ t. cc (bare_elsewhere d t.1, conditions.in_order d))
+    in_order = λ d. ⊎_elim (λ t. cc (t.1, bare_there)) (λ t. cc (bare_elsewhere d t.1, conditions.in_order d))
         (eqb_tells d r);
     alive = λ d n k e. bare_used k ∙ conditions.alive d n k (bare_told d n k e).1;
-    kept = λ d n k e is. ⊎_elim
-        (λ t. absurd (cc (leaves n k (ap (λ m. entry_at files.tree m n) (sym t.1) ∙ e))))
+    kept = λ d n k e is. ⊎_elim (λ t. absurd (cc (leaves n k (ap (λ m. entry_at files.tree m n) (sym t.1) ∙ e))))
         (λ t. inr (bare_kept d n k t.1 e)) (eqb_tells d r);
     told = λ d n k e is. inr ((bare_told d n k e).1, λ nobody. nobody);
     decided = λ k. inr (λ nobody. nobody);
@@ -194,8 +190,7 @@ module _ (files : FileTree ℕ) (r : ℕ) (conditions : IsTree files.tree)
     stays_parent = λ k is stays. part_stays files r node_without_entries (parent_in k) (parent_same k) k;
     leaves_how = λ k is nobody. absurd nobody;
     root_stays = λ nobody. nobody;
-    fills = λ k empty. ⊎_elim (λ t. inl (cc (t.1, bare_there)))
-        (λ t. inl (cc (bare_elsewhere k t.1))) (eqb_tells k r);
+    fills = λ k empty. ⊎_elim (λ t. inl (cc (t.1, bare_there))) (λ t. inl (cc (bare_elsewhere k t.1))) (eqb_tells k r);
   }
 
   pub bare_tree : IsTree bare.tree

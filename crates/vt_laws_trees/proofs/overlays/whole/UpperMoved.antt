@@ -1,5 +1,5 @@
 -- An object is moved in the upper layer: its tree goes on to be one.
-use Rattle.std.proofs.Common.{arith, ◌≡◌, ◌≢◌, refl, sym, ap, subst, ◌∙◌, true≢false, inr, ℕ, nat_eq, Bool, true, false, cond, List, [], ◌∷◌, Option, Some, None, is_some}
+use Rattle.std.proofs.Common.{arith, ◌≡◌, ◌≢◌, refl, sym, ap, subst, ◌∙◌, true≢false, inr, ℕ, nat_eq, Bool, true, false, cond, List, [], Option, Some, None, is_some}
 use Rattle.vt_spec.proofs.Common.{FileTree, Fresh, IsDirectory, IsReached, Merge, Move, Node, Stack, Upper, changed, changed_node, common_steps, entries_in, entries_in-no_directory, entry_at, entry_named, hides_directory, is_directory_node, merge_with_moved, name_left_by, node_with_parent, none_from_not_some, none_is_some, same_Some, shown_in_lowers_at, upper_directory_named, upper_of, whiteout_of, with_mark, with_moved, with_name, without_contents, without_name, without_parent}
 use Rattle.vt_spec.proofs.Trees.{led_kept}
 use Rattle.vt_laws_trees.specs.Trees.{MayMove}
@@ -12,7 +12,7 @@ use Rattle.vt_laws_trees.proofs.overlays.whole.UpperNames.{freed_goes, unchanged
 use Rattle.vt_laws_trees.proofs.overlays.whole.UpperRemoved.{named_no_top, none_named, own_apart, own_entry, own_leaves, own_no_top}
 use Rattle.vt_laws_trees.proofs.overlays.steps.WholeLeft.{own_upper}
 use Rattle.vt_laws_trees.proofs.overlays.steps.WholeLinked.{no_white_object}
-use Rattle.vt_laws_trees.proofs.overlays.steps.WholeMovedTree.{IsMoveAbove, from_number, from_way, named_up, not_under, not_up, real_f, real_o, real_t, two_names, uf_directory, ut_directory}
+use Rattle.vt_laws_trees.proofs.overlays.steps.WholeMovedTree.{IsMoveAbove, from_number, from_way, named_up, not_under, not_up, real_o, two_names, from_above, to_above}
 use Rattle.vt_laws_trees.proofs.overlays.steps.WholeNames.{is_fine, object_above, top_good}
 
 -- with itself as the parent once more
@@ -59,15 +59,15 @@ module _ {fresh : Fresh ℕ} {stack : Stack ℕ} {merge : Merge ℕ} {f : ℕ} {
   good = top_good stack merge it.whole
 
   uf_reached : IsReached merge.upper.tree uf
-  uf_reached = up_reached it.whole f uf (real_f it) (from_way it) (from_number it)
+  uf_reached = up_reached it.whole f uf (from_above it).real (from_way it) (from_number it)
 
   ut_reached : IsReached merge.upper.tree ut
-  ut_reached = up_reached it.whole t ut (real_t it) it.may.reached.0 it.may.reached.1
+  ut_reached = up_reached it.whole t ut (to_above it).real it.may.reached.0 it.may.reached.1
 
   -- what has the new name is another object
   other_there : entry_at merge.upper.tree ut new ≢ Some uo
   other_there e =
-      let found = named_below it.whole t ut (real_t it) it.may.reached.0 it.may.reached.1 new uo e
+      let found = named_below it.whole t ut (to_above it).real it.may.reached.0 it.may.reached.1 new uo e
       (no_white_object (merge.files.tree.node o) (merge.upper.tree.node uo)
       (object_above stack merge it.whole o uo (real_o it))) in
       it.may.replaced_other (found.1 ∙ ap Some
@@ -84,7 +84,7 @@ module _ {fresh : Fresh ℕ} {stack : Stack ℕ} {merge : Merge ℕ} {f : ℕ} {
     may_up : MayMove base.tree uf old ut new uo
     may_up = record {
       named = named;
-      in_directory = kind ut ∙ ut_directory it;
+      in_directory = kind ut ∙ (to_above it).directory;
       reached = to;
       not_under = λ names e. not_under it names (led_kept base.tree merge.upper.tree told uo names ut e);
       replaced_other = λ e. other_there (told ut new uo e);
@@ -104,11 +104,11 @@ module _ {fresh : Fresh ℕ} {stack : Stack ℕ} {merge : Merge ℕ} {f : ℕ} {
     uf_there = change_reaches base (Move uf old ut new uo) to_base.good.tree may_up uf (
       λ same. not_up it [] (ap Some (sym same)),
       λ e. none_is_some uo (sym (no_entries base.tree uf (empty uf e) old) ∙ named),
-    ) (kind uf ∙ uf_directory it) from
+    ) (kind uf ∙ (from_above it).directory) from
 
     old_free : entry_at moved_up.tree uf old ≡ None
-    old_free = move_told base uf old ut new uo (kind ut ∙ ut_directory it) uf old ∙ by (is_entry ut new uf old) refl
-        ∙ ap (λ b. cond b None (entry_at base.tree uf old)) itself
+    old_free = move_told base uf old ut new uo (kind ut ∙ (to_above it).directory) uf old
+        ∙ by (is_entry ut new uf old) refl ∙ ap (λ b. cond b None (entry_at base.tree uf old)) itself
       where
         itself : is_entry uf old uf old ≡ true
         itself = cc (Rattle.std.proofs.Common.eq-eqb uf uf refl, Rattle.vt_spec.proofs.Truths.bytes_eq_itself old)
@@ -147,7 +147,7 @@ module _ {fresh : Fresh ℕ} {stack : Stack ℕ} {merge : Merge ℕ} {f : ℕ} {
           → Goes top merge.upper (with_mark nat_eq marks (name_left_by nat_eq left fresh stack
           (with_moved nat_eq (without_contents nat_eq merge.upper x) uf old ut new uo) uf old) uo)
       by None e left marks =
-          let plain = none_named it.whole t ut (real_t it) it.may.reached.0 it.may.reached.1 new e in
+          let plain = none_named it.whole t ut (to_above it).real it.may.reached.0 it.may.reached.1 new e in
           moved_up_goes merge.upper (goes_none top merge.upper good) (λ d n k g. g) (λ k. refl)
           (λ k. refl) (named_up it) uf_reached ut_reached
           (λ k g. entries_in-no_directory (merge.upper.tree.node k) (plain k g))
@@ -159,29 +159,33 @@ module _ {fresh : Fresh ℕ} {stack : Stack ℕ} {merge : Merge ℕ} {f : ℕ} {
           (λ d n k g. (bare_told merge.upper r good.tree leaf d n k g).1)
           (bare_kind merge.upper r good.tree leaf) (bare_used merge.upper r good.tree leaf)
           (bare_kept merge.upper r good.tree leaf uf old uo uf_apart (named_up it))
-          (bare_reached merge.upper r good.tree leaf uf (uf_directory it) uf_reached)
-          (bare_reached merge.upper r good.tree leaf ut (ut_directory it) ut_reached)
+          (bare_reached merge.upper r good.tree leaf uf (from_above it).directory uf_reached)
+          (bare_reached merge.upper r good.tree leaf ut (to_above it).directory ut_reached)
           (λ k g. cc (one k g, bare_there merge.upper r good.tree leaf)) (λ g. own_no_top it.whole
-          t ut (real_t it) it.may.reached.0 it.may.reached.1 new r e it.may.replaced_empty (one top g)) left marks)
+          t ut (to_above it).real it.may.reached.0 it.may.reached.1 new r e it.may.replaced_empty
+          (one top g)) left marks)
         where
           entry : entry_at merge.upper.tree ut new ≡ Some r
-          entry = own_entry it.whole t ut (real_t it) it.may.reached.0 it.may.reached.1 new r e it.may.replaced_empty
+          entry = own_entry it.whole t ut (to_above it).real it.may.reached.0 it.may.reached.1 new r e
+              it.may.replaced_empty
 
           leaf : (word : List ℕ) (k : ℕ) → entry_at merge.upper.tree r word ≡ Some k
               → is_directory_node (merge.upper.tree.node k) ≡ false
-          leaf = own_leaves it.whole t ut (real_t it) it.may.reached.0 it.may.reached.1 new r e it.may.replaced_empty
+          leaf = own_leaves it.whole t ut (to_above it).real it.may.reached.0 it.may.reached.1 new r e
+              it.may.replaced_empty
 
           base : FileTree ℕ
           base = bare merge.upper r good.tree leaf
 
           ut_apart : ut ≢ r
-          ut_apart = own_apart it.whole t ut (real_t it) it.may.reached.0 it.may.reached.1 new r e it.may.replaced_empty
+          ut_apart = own_apart it.whole t ut (to_above it).real it.may.reached.0 it.may.reached.1 new r e
+              it.may.replaced_empty
 
           uf_apart : uf ≢ r
           uf_apart same =
               let own = own_upper merge t new r e in
               let one_inode : own.0 ≡ f = (is_fine stack merge it.whole).one own.0 f (ap is_some own.2)
-              (own.2 ∙ ap (λ n. Some (Upper n)) (sym same) ∙ sym (real_f it)) in
+              (own.2 ∙ ap (λ n. Some (Upper n)) (sym same) ∙ sym (from_above it).real) in
               none_is_some o (sym
               (no_entries merge.files.tree f (cc (one_inode, it.may.replaced_empty own.0 own.1)) old) ∙ it.may.named)
 

@@ -157,8 +157,7 @@ module _ (fresh : Fresh ℕ) (stack : Stack ℕ) (merge : Merge ℕ) (whole : Is
           → cond b (Some (Upper (odds fresh 0))) ((copied_up nat_eq (evens fresh) merge d).real n) ≡ Some (Upper object)
           → (merge.real n ≡ Some (Upper object)) ⊎ IsNewBy fresh object
       by true e = inr (1, sym (same_Some (odds fresh 0) object (ap upper_object e)))
-      by false e = ⊎_elim inl (λ g. inr (new_of_evens fresh object g))
-          ((is_copied fresh whole distinct unused d
+      by false e = ⊎_elim inl (λ g. inr (new_of_evens fresh object g)) ((is_copied fresh whole distinct unused d
           (directory_used merge.files.tree d asked.0.name_is_free.in_directory)).objects n object e)
   objects (AddName d w o) may n object e =
       let first = is_copied fresh whole distinct unused o may.is_there in

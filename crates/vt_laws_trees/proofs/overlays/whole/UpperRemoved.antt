@@ -32,8 +32,7 @@ module _ {stack : Stack ℕ} {merge : Merge ℕ} (whole : IsWhole stack merge) (
   pub own_named : (k : ℕ) → entry_at merge.upper.tree ud w ≡ Some k → is_directory_node (merge.upper.tree.node k) ≡ true
       → upper_directory_named merge d w ≡ Some k
   own_named k e is =
-      let found = named_below whole d ud real_d way there w k e
-      (directory_no_whiteout (merge.upper.tree.node k) is) in
+      let found = named_below whole d ud real_d way there w k e (directory_no_whiteout (merge.upper.tree.node k) is) in
       grind (arith, common_steps, directory_stands, is)
 
   -- where there is none, what has it is no directory
@@ -76,8 +75,7 @@ module _ {stack : Stack ℕ} {merge : Merge ℕ} (whole : IsWhole stack merge) (
 
 -- A directory loses its whiteouts and then its name
 module _ {top : ℕ} {files : FileTree ℕ} (good : IsGood top files) {d : ℕ} (w : List ℕ) {r : ℕ}
-    (named : entry_at files.tree d w ≡ Some r)
-    (leaves : (word : List ℕ) (k : ℕ) → entry_at files.tree r word ≡ Some k
+    (named : entry_at files.tree d w ≡ Some r) (leaves : (word : List ℕ) (k : ℕ) → entry_at files.tree r word ≡ Some k
     → is_directory_node (files.tree.node k) ≡ false)
     (apart : d ≢ r) (no_top : top ≢ r) (reached : IsReached files.tree d) where
   is : IsDirectory files.tree d

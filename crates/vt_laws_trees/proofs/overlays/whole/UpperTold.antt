@@ -25,8 +25,7 @@ told_wider P Q one other wider a d w y e = ⊎_elim inl (λ p. inr (wider y p)) 
 pub told_stay : (P : ℕ → Type 0) (files : FileTree ℕ) (number : ℕ) (change : Option (Node ℕ) → Option (Node ℕ))
     → ((o : Option (Node ℕ)) → entries_in (change o) ≡ entries_in o)
     → Told P files (changed_node nat_eq files number change)
-told_stay P files number change same d w y e =
-    inl (cc (entries_stay files number change same d))
+told_stay P files number change same d w y e = inl (cc (entries_stay files number change same d))
 
 -- a name that is given
 pub told_name : (P : ℕ → Type 0) (files : FileTree ℕ) (d : ℕ) (w : List ℕ) (k : ℕ) → P k

@@ -98,8 +98,7 @@ module _ (fresh : Fresh ℕ) (world : World ℕ) (plain : IsPlain world) (name :
           call (filesystems_changed_by nat_eq world (judge_in nat_eq fresh world task call))
           (after world (judge_in nat_eq fresh world task call) (apply nat_eq fresh world task)))).world
       by None = plain
-      by (Some task) =
-          finished_plain _ world name _ _ (judged_plain task (judge_in nat_eq fresh world task call) refl)
+      by (Some task) = finished_plain _ world name _ _ (judged_plain task (judge_in nat_eq fresh world task call) refl)
 
 pub same_worlds_are_answered_alike : SameWorldsAreAnsweredAlike
 same_worlds_are_answered_alike one other same plain fresh name call no_mount =

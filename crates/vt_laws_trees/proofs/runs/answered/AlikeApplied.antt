@@ -40,8 +40,7 @@ module _ (fresh : Fresh ℕ) {one other : World ℕ} (same : Alike one other) (c
   makes_alike : (directory : Location ℕ) (name : List ℕ) (node : Node ℕ)
       → Alike (with_new_inode nat_eq fresh one directory name node)
       (with_new_inode nat_eq fresh other directory name node)
-  makes_alike directory name node =
-      changes_alike (odds fresh) directory (Make directory.node name (evens fresh 0) node)
+  makes_alike directory name node = changes_alike (odds fresh) directory (Make directory.node name (evens fresh 0) node)
 
   -- the mounts on a directory go with it
   removes_alike : (parent : Location ℕ) (name : List ℕ) (directory : Location ℕ)
@@ -143,8 +142,7 @@ module _ (fresh : Fresh ℕ) {one other : World ℕ} (same : Alike one other) (c
       (pivoted_alike task.namespace (mount_at nat_eq one task.root) (mount_numbered nat_eq one new) put one other same))
 
   lists_mounts_alike : mount_lines nat_eq one task.namespace ≡ mount_lines nat_eq other again.namespace
-  lists_mounts_alike =
-      listed_alike task.namespace one other same ∙ ap (λ t. mount_lines nat_eq other t.namespace) alike
+  lists_mounts_alike = listed_alike task.namespace one other same ∙ ap (λ t. mount_lines nat_eq other t.namespace) alike
 
   -- Each permit
 

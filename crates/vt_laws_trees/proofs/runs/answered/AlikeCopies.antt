@@ -120,8 +120,7 @@ copy_alike one other same lines object copy node again alike =
     by None b is = same
     by (Some node) true is = same
     by (Some node) false is = ⊎_elim (λ named. node_alike one other same object copy named node)
-        (λ all. absurd (cc (line_ends one.files one object (a_name nat_eq one.files object) all.0)))
-        (lines object)
+        (λ all. absurd (cc (line_ends one.files one object (a_name nat_eq one.files object) all.0))) (lines object)
 
 lines_after_copy : (one other : Merge ℕ) → LinesAlike one other → (object copy : ℕ) (seen again : Option (Node ℕ))
     (b c : Bool) → LinesAlike (copy_of nat_eq one object copy seen b) (copy_of nat_eq other object copy again c)

@@ -24,8 +24,7 @@ change_plain : (fresh : Fresh ℕ) (world : World ℕ) → IsPlain world → (lo
 change_plain fresh world plain location change =
     subst (λ overlay. IsPlain
     (filesystem_changed nat_eq fresh world (filesystem_at nat_eq world location) overlay change))
-    (sym none) (replaced_all (λ f. is_overlay f ≡ false)
-    (with_files (filesystem_at nat_eq world location)
+    (sym none) (replaced_all (λ f. is_overlay f ≡ false) (with_files (filesystem_at nat_eq world location)
     (changed nat_eq (filesystem_at nat_eq world location).files change))
     world.filesystems plain (inl (ap (λ o. elim o [ None ↦ false | Some f ↦ true ]) none)))
   where

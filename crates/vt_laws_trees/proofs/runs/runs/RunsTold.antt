@@ -50,8 +50,7 @@ module _ (grammar : Grammar) (in_hand : ℕ → Bool) (Asks : List ℕ → Type 
     (over : StaysOverLines grammar Asks Is) where
   -- `other` is the policy's world, of which each line keeps this; `world`, renamed, is like it.
   told_alike : (lines : List (List ℕ)) (refused : List Bool) (m number : ℕ) (renaming : Renaming ℕ ℕ)
-      (world other : World ℕ) (mine : ℕ → Bool)
-      → Alike other (renamed renaming.there renaming.back world) → Is other
+      (world other : World ℕ) (mine : ℕ → Bool) → Alike other (renamed renaming.there renaming.back world) → Is other
       → ((k : ℕ) → in_hand k ≡ true → row (renaming.there k) ≤ m)
       → KeepsTo mine other → ((k : ℕ) → mine k ≡ true → row k ≤ m) → All Asks lines
       → (text : List ℕ) → TellsAlike grammar in_hand world number lines refused text

@@ -36,8 +36,7 @@ module _ (next : ℕ) (placed : Placed) (rest : List Placed) (before : Supply ne
   with_one = with_number before.allotment placed.0 placed.1 kept
 
   one_from_hand : (number : ℕ) → is_kept with_one number ≡ true → may_be_given number ≡ true
-  one_from_hand number =
-      grind (arith, common_steps, eqb-true, before.allotment.new, before.given, before.from_hand)
+  one_from_hand number = grind (arith, common_steps, eqb-true, before.allotment.new, before.given, before.from_hand)
 
   one_stays : (number : ℕ) → may_be_given number ≡ true → is_in_hand with_one number ≡ true
   one_stays number given = grind (arith, common_steps)

@@ -49,8 +49,7 @@ one_of fresh (first ∷ list) are number (inr m) = one_of fresh list are.1 numbe
 
 filtered_are : (fresh : Fresh ℕ) (test : ℕ → Bool) (list : List ℕ) → AreOf fresh list → AreOf fresh (filter test list)
 filtered_are fresh test [] are = tt
-filtered_are fresh test (number ∷ list) are =
-    grind (arith, common_steps, filtered_are fresh test list are.1, are.0)
+filtered_are fresh test (number ∷ list) are = grind (arith, common_steps, filtered_are fresh test list are.1, are.0)
 
 once_are : (fresh : Fresh ℕ) (list : List ℕ) → AreOf fresh list → AreOf fresh (each_once nat_eq list)
 once_are fresh [] are = tt

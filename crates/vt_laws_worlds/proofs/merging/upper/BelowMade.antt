@@ -189,8 +189,7 @@ module _ (fresh : Fresh ℕ) {stack : Stack ℕ} {m : Merge ℕ} (whole : IsWhol
 
 -- A further name
 module _ {stack : Stack ℕ} {m : Merge ℕ} (whole : IsWhole stack m) {d : ℕ} {w : List ℕ} {object : ℕ}
-    (may : MayAddName m.files.tree d w object)
-    (whole_later : IsWhole stack (merge_with_link nat_eq m d w object)) where
+    (may : MayAddName m.files.tree d w object) (whole_later : IsWhole stack (merge_with_link nat_eq m d w object)) where
   abbrev further : Merge ℕ
   further = merge_with_link nat_eq m d w object
 

@@ -231,8 +231,7 @@ module _ (fresh : Fresh ℕ) (stack : Stack ℕ) (m : Merge ℕ) (whole : IsWhol
       by None e b low = cc
       by (Some node) e true low = cc (led_stands fresh whole object there path leads low)
       by (Some node) e false low = cc (
-        seen node low (node_seen stack m.upper path)
-            (subst (λ o. SameObject o (node_seen stack m.upper path)) e
+        seen node low (node_seen stack m.upper path) (subst (λ o. SameObject o (node_seen stack m.upper path)) e
             (same_seen fresh whole object there path leads)),
         led_none fresh whole object there path leads low,
       )

@@ -267,8 +267,7 @@ moved_above fresh stack merge whole new from_path to_path from to object old new
     let ready = twice fresh stack merge whole new.distinct new.unused from old to new_name object may in
     let from_now = directory_later (evens
     (odds fresh)) first_line.whole two to to_path to_later.0 from_path from from_later in
-    let to_now = directory_later (evens
-    (odds fresh)) first_line.whole two to to_path to_later.0 to_path to to_later in
+    let to_now = directory_later (evens (odds fresh)) first_line.whole two to to_path to_later.0 to_path to to_later in
     let at_path = ap (λ files. number_at_path files path) ready.files ∙ leads in
     let from_object = object_is stack second ready.whole from_path from from_now.0 ready.from in
     let to_object = object_is stack second ready.whole to_path to to_now.0 ready.to in

@@ -228,8 +228,7 @@ every_call_uncovers_nothing world fresh name call number overlay is serves few w
 
 uncovers_itself : (world : World ℕ) (number : ℕ) (overlay : Overlay ℕ)
     → (filesystem_numbered nat_eq world number).overlay ≡ Some overlay → UncoversNothing world world number overlay
-uncovers_itself world number overlay was after path seen now low e =
-    cc (same_Some overlay after (sym was ∙ now))
+uncovers_itself world number overlay was after path seen now low e = cc (same_Some overlay after (sym was ∙ now))
 
 uncovers_both : (a b c : World ℕ) (number : ℕ) (overlay : Overlay ℕ) (stays : LowersStay a b number overlay)
     → UncoversNothing a b number overlay → UncoversNothing b c number stays.after → UncoversNothing a c number overlay

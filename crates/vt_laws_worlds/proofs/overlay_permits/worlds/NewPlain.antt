@@ -7,7 +7,8 @@ use Rattle.vt_laws_trees.proofs.layers.layers.LowersKept.{kept_same}
 use Rattle.vt_laws_trees.proofs.overlays.changes.WholeOthers.{stays_merged}
 use Rattle.vt_laws_worlds.proofs.worlds.PermitsFilesystems.{appended_apart}
 use Rattle.vt_laws_worlds.proofs.worlds.SeenTrees.{unused_by_filesystem}
-use Rattle.vt_laws_worlds.proofs.overlay_permits.worlds.OverlaysGoOn.{GoesOn, are_trees, overlays_go_on, plain_layer}
+use Rattle.vt_laws_trees.proofs.layers.locked.Layers.{are_trees, plain_layer}
+use Rattle.vt_laws_worlds.proofs.overlay_permits.worlds.OverlaysGoOn.{GoesOn, overlays_go_on}
 use Rattle.vt_laws_worlds.proofs.overlay_permits.worlds.SweptOverlays.{leads_same, shown_among, upper_among}
 
 -- a filesystem that is found is found in front of another one
@@ -91,7 +92,7 @@ module _ (world : World ℕ) (fresh : Fresh ℕ) (conditions : IsWorld nat_eq wo
         (directory_used (filesystem_numbered nat_eq world layer.filesystem).files.tree layer.directory
         (and_true_right (Rattle.std.specs.Prelude.not
         (is_overlay (filesystem_numbered nat_eq world layer.filesystem))) _
-        (plain_layer world (are_trees world conditions.files) conditions.overlays number after was layer m)))
+        (plain_layer world conditions.overlays number after was layer m)))
 
     goes : GoesOn world later number after
     goes = record {

@@ -1,44 +1,20 @@
 -- Overlays that go on: each was there before, with the same layers, whose paths lead where they led. Then all
 -- invariants of overlays
 -- hold, where they held before.
-use Rattle.std.proofs.Common.{arith, ◌≡◌, refl, sym, ap, subst, ◌∙◌, true≢false, eqb-true, eq-eqb, ⊎_elim, inl, inr, ℕ, nat_eq, Bool, true, false, not, ◌&&◌, List, [], ◌∷◌, ◌++◌, Option, Some, None, is_some, All, flat_map, option_to_list}
-use Rattle.vt_spec.proofs.Common.{Among, Filesystem, IsMerged, IsReached, IsTree, Layer, ListsNumbers, Node, Overlay, OverlayInvariants, TreeInvariants, Upper, World, among-append_left, among-append_right, among-from_filter, among-from_flat_map, among_from_list_all, among_numbers, and_from, and_true_left, and_true_right, any_among, any_from_among, any_pair, common_steps, counts_in_layer, filesystem_numbered, has_fit_layers, holds_of, is_directory_node, is_object_of, is_overlay, is_plain_layer, is_real_upper, is_there, is_under, layers_of, lies_in_layer, lies_or_counts_under, list_all, list_all_from_among, list_any, live_lowers, live_upper_and_work, none_among, none_from_among, none_is_some, of_overlay, open_layer, or_cases, or_left, or_right, overlap, overlaps_one_of, overlay_or, overlays, upper_and_work, upper_object, upper_real}
+use Rattle.std.proofs.Common.{arith, ◌≡◌, refl, sym, ap, subst, ◌∙◌, eqb-true, eq-eqb, ⊎_elim, inl, inr, ℕ, nat_eq, Bool, true, false, not, ◌&&◌, List, [], ◌∷◌, ◌++◌, Option, Some, None, is_some, flat_map, option_to_list}
+use Rattle.vt_spec.proofs.Common.{Among, Filesystem, IsMerged, IsReached, Layer, Node, Overlay, OverlayInvariants, Upper, World, among-append_left, among-append_right, among-from_filter, among-from_flat_map, and_from, and_true_left, and_true_right, any_among, any_from_among, any_pair, common_steps, counts_in_layer, filesystem_numbered, has_fit_layers, is_directory_node, is_overlay, is_plain_layer, is_real_upper, is_under, layers_of, lies_in_layer, lies_or_counts_under, list_all, list_all_from_among, list_any, live_lowers, live_upper_and_work, none_among, none_from_among, none_is_some, of_overlay, or_cases, or_left, overlap, overlaps_one_of, overlay_or, overlays, upper_and_work}
 use Rattle.vt_laws_mounts.proofs.letting_go.sweeps.OfWorlds.{found_filesystem}
-use Rattle.vt_laws_trees.proofs.trees.TreesOfWorlds.{numbered_all, numbered_anyhow}
 use Rattle.vt_laws_trees.specs.Layers.Layers.Locked.{LeadsAsBefore}
 use Rattle.vt_laws_trees.proofs.layers.locked.Apart.{layer_among, merged_among}
-use Rattle.vt_laws_trees.proofs.layers.layers.ShownDirectories.{led_is_there}
 use Rattle.vt_laws_trees.proofs.layers.views.Names.{alike_kept}
+use Rattle.vt_laws_trees.proofs.layers.locked.Layers.{AreTrees, fit_overlay, inode_listed, numbers_listed, plain_layer, tree_of_directory}
+use Rattle.vt_laws_trees.proofs.overlays.whole.ApartThere.{Counts, counts_again, counts_parts, lying_there, real_of_object}
 use Rattle.vt_laws_trees.proofs.overlays.whole.ApartPairs.{no_pair_later}
 use Rattle.vt_laws_trees.proofs.overlays.whole.ApartPaths.{led_under, under_led}
 use Rattle.vt_laws_trees.proofs.overlays.steps.WholeGrown.{directory_alike}
 use Rattle.vt_laws_trees.specs.Trees.Settling.{inode_in}
 
--- what is asked of trees
-pub record AreTrees (world : World ℕ) : Type 0 where
-  pub trees : All (λ (f : Filesystem ℕ). IsTree f.files.tree) world.filesystems
-  pub numbers : All (λ (f : Filesystem ℕ). ListsNumbers nat_eq f.files) world.filesystems
-  pub one_filesystem : any_pair (λ (a b : Filesystem ℕ). nat_eq a.number b.number) world.filesystems ≡ false
-
-pub are_trees : (world : World ℕ) → TreeInvariants nat_eq world → AreTrees world
-are_trees world is = record { trees = is.trees; numbers = is.numbers; one_filesystem = is.one_filesystem }
-
--- What the invariants of trees and overlays say of each filesystem and each layer
 module _ (world : World ℕ) (files : AreTrees world) where
-  pub tree_of_directory : (number directory : ℕ) → is_directory_node (inode_in world number directory) ≡ true
-      → IsTree (filesystem_numbered nat_eq world number).files.tree
-  tree_of_directory number directory is = ⊎_elim (λ tree. tree) (λ missing. absurd (true≢false
-      (sym is ∙ ap (λ (f : Filesystem ℕ). is_directory_node (f.files.tree.node directory)) missing.0)))
-      (numbered_all (λ (f : Filesystem ℕ). IsTree f.files.tree) number world.filesystems files.trees)
-
-  pub numbers_listed : (number : ℕ) → ListsNumbers nat_eq (filesystem_numbered nat_eq world number).files
-  numbers_listed number = numbered_anyhow
-      (λ (f : Filesystem ℕ). ListsNumbers nat_eq f.files) number world.filesystems files.numbers (λ k. refl)
-
-  pub inode_listed : (number inode : ℕ) → is_some (inode_in world number inode) ≡ true
-      → Among inode (filesystem_numbered nat_eq world number).files.numbers
-  inode_listed number inode there = among_numbers _ inode (numbers_listed number inode ∙ there)
-
   -- each live layer is one of an overlay
   pub record IsLayerOf (layers : Overlay ℕ → List (Layer ℕ)) (layer : Layer ℕ) : Type 0 where
     pub number : ℕ
@@ -56,24 +32,6 @@ module _ (world : World ℕ) (files : AreTrees world) where
       by : (f : Filesystem ℕ) → filesystem_numbered nat_eq world f.number ≡ f → (o : Option (Overlay ℕ)) → f.overlay ≡ o
           → Among layer (overlay_or [] layers o) → IsLayerOf layers layer
       by f itself o e a = grind (arith, common_steps)
-
-  module _ (are : OverlayInvariants nat_eq world) where
-    pub plain_layer : (number : ℕ) (overlay : Overlay ℕ)
-        → (filesystem_numbered nat_eq world number).overlay ≡ Some overlay
-        → (layer : Layer ℕ) → Among layer (layers_of overlay) → is_plain_layer nat_eq world layer ≡ true
-    plain_layer number overlay is layer m = among_from_list_all (is_plain_layer nat_eq world) (layers_of overlay)
-        (sym (ap (overlay_or true (λ o. list_all (is_plain_layer nat_eq world) (layers_of o))) is)
-        ∙ among_from_list_all (of_overlay true
-        (λ o. list_all (is_plain_layer nat_eq world) (layers_of o))) world.filesystems are.plain_layers
-        (filesystem_numbered nat_eq world number)
-        (among-from_filter is_overlay world.filesystems (filesystem_numbered nat_eq world number)
-        (merged_among world number overlay is)).0) layer m
-
-    pub fit_overlay : (number : ℕ) (overlay : Overlay ℕ)
-        → (filesystem_numbered nat_eq world number).overlay ≡ Some overlay → has_fit_layers overlay ≡ true
-    fit_overlay number overlay is = cc (among_from_list_all (of_overlay true has_fit_layers) world.filesystems
-        are.fit_layers (filesystem_numbered nat_eq world number) (among-from_filter is_overlay world.filesystems
-        (filesystem_numbered nat_eq world number) (merged_among world number overlay is)).0)
 
 -- an overlay of a later world is one that was there: its layers are the same, and so are paths in them
 pub record GoesOn (world later : World ℕ) (number : ℕ) (after : Overlay ℕ) : Type 0 where
@@ -112,7 +70,7 @@ module _ (world later : World ℕ) (files : AreTrees world) (are : OverlayInvari
   live_in number after e layer m =
       let on = goes number after e in
       let a = subst (Among layer) (same_layers number after on) m in
-      record { plain = plain_layer world files are number _ on.is layer a; leads = on.leads layer a }
+      record { plain = plain_layer world are number _ on.is layer a; leads = on.leads layer a }
 
   was_directory : (layer : Layer ℕ) → IsLive layer
       → is_directory_node (inode_in world layer.filesystem layer.directory) ≡ true
@@ -153,38 +111,32 @@ module _ (world later : World ℕ) (files : AreTrees world) (are : OverlayInvari
   abbrev Lies : World ℕ → Layer ℕ → ℕ → ℕ → Type 0
   Lies w layer n object = lies_or_counts_under nat_eq w n object layer ≡ true
 
-  counted : (layer : Layer ℕ) → IsLive layer → (n object number : ℕ) (after : Overlay ℕ)
-      → (filesystem_numbered nat_eq later number).overlay ≡ Some after
-      → (upper : Option (Layer ℕ)) → after.upper ≡ upper
-      → (holds_of (λ u. lies_in_layer nat_eq later u.filesystem u.directory layer) upper
-      && (holds_of (λ u. nat_eq n u.filesystem) upper
-      && list_any (is_real_upper nat_eq after object) (filesystem_numbered nat_eq later number).files.numbers)) ≡ true
-      → Lies world layer n object
-  counted layer live n object number after e None f h = absurd cc
-  counted layer live n object number after e (Some top) f h =
-      let on = goes number after e in
-      let lies = and_true_left (lies_in_layer nat_eq later top.filesystem top.directory layer) _ h in
-      let rest = and_true_right (lies_in_layer nat_eq later top.filesystem top.directory layer) _ h in
-      let found = any_among (is_real_upper nat_eq after object) (filesystem_numbered nat_eq later number).files.numbers
-      (and_true_right (nat_eq n top.filesystem) _ rest) in
-      let real = on.objects found.0 object (upper_real (after.real found.0) object found.2) in
-      let top_is = sym on.upper ∙ f in
-      or_right (lies_in_layer nat_eq world n object layer) _
-      (any_from_among (counts_in_layer nat_eq world n object layer) (overlays world)
-      (filesystem_numbered nat_eq world number) (merged_among world number on.before on.is)
-      (ap (overlay_or false (λ v. holds_of (λ u. lies_in_layer nat_eq world u.filesystem u.directory layer) v.upper
-      && is_object_of nat_eq n object (filesystem_numbered nat_eq world number) v)) on.is ∙ and_from _ _
-      (ap (holds_of (λ u. lies_in_layer nat_eq world u.filesystem u.directory layer)) top_is
-      ∙ lay layer live top.filesystem top.directory lies)
-      (and_from _ _ (ap (holds_of (λ u. nat_eq n u.filesystem)) top_is ∙ and_true_left (nat_eq n top.filesystem) _ rest)
-      (any_from_among (is_real_upper nat_eq on.before object)
-      (filesystem_numbered nat_eq world number).files.numbers found.0
-      (inode_listed world files number found.0 (there on.before on.is found.0 real))
-      (ap (λ r. holds_of (nat_eq object) (upper_object r)) real ∙ eq-eqb object object refl)))))
+  counted : (layer : Layer ℕ) → IsLive layer → (n object : ℕ) (g : Filesystem ℕ) → Among g (overlays later)
+      → Counts later layer n object g → Lies world layer n object
+  counted layer live n object g m parts =
+      let itself = found_filesystem later.filesystems files_later.one_filesystem g
+      (among-from_filter is_overlay later.filesystems g m).0 in
+      let on = goes g.number parts.overlay_of (ap (λ (x : Filesystem ℕ). x.overlay) itself ∙ parts.is_of) in
+      let top = parts.upper_of_it in
+      let has = sym on.upper ∙ parts.has_it in
+      let of = real_of_object g parts.overlay_of top parts.has_it n object parts.object_of in
+      let real = on.objects of.1.0 object of.1.1 in
+      counts_again world layer n object (filesystem_numbered nat_eq world g.number)
+      (merged_among world g.number on.before on.is) (record {
+        overlay_of = on.before;
+        is_of = on.is;
+        upper_of_it = top;
+        has_it = has;
+        lies = lay layer live top.filesystem top.directory parts.lies;
+        object_of = and_from _ _ (cc (has, eq-eqb n top.filesystem of.0)) (any_from_among
+            (is_real_upper nat_eq on.before object) (filesystem_numbered nat_eq world g.number).files.numbers of.1.0
+            (inode_listed world files g.number of.1.0 (there g.number on.before on.is of.1.0 real))
+            (cc (real, eq-eqb object object refl)));
+      })
     where
-      there : (before : Overlay ℕ) → (filesystem_numbered nat_eq world number).overlay ≡ Some before → (inode : ℕ)
-          → before.real inode ≡ Some (Upper object) → is_some (inode_in world number inode) ≡ true
-      there before is inode real = by (inode_in world number inode) refl
+      there : (number : ℕ) (before : Overlay ℕ) → (filesystem_numbered nat_eq world number).overlay ≡ Some before
+          → (inode : ℕ) → before.real inode ≡ Some (Upper object) → is_some (inode_in world number inode) ≡ true
+      there number before is inode real = by (inode_in world number inode) refl
         where
           by : (o : Option (Node ℕ)) → inode_in world number inode ≡ o → is_some (inode_in world number inode) ≡ true
           by None g = none_is_some (Upper object)
@@ -193,74 +145,10 @@ module _ (world later : World ℕ) (files : AreTrees world) (are : OverlayInvari
 
   lay_or_counted : (layer : Layer ℕ) → IsLive layer → (n object : ℕ) → Lies later layer n object
       → Lies world layer n object
-  lay_or_counted layer live n object e = ⊎_elim (λ lies. or_left _ _
-      (lay layer live n object lies)) by_overlays (or_cases (lies_in_layer nat_eq later n object layer) _ e)
-    where
-      by_overlays : list_any (counts_in_layer nat_eq later n object layer) (overlays later) ≡ true
-          → Lies world layer n object
-      by_overlays h =
-          let found = any_among (counts_in_layer nat_eq later n object layer) (overlays later) h in
-          by _ (found_filesystem _ files_later.one_filesystem _
-          (among-from_filter is_overlay later.filesystems found.0 found.1).0) _ refl found.2
-        where
-          by : (f : Filesystem ℕ) → filesystem_numbered nat_eq later f.number ≡ f → (o : Option (Overlay ℕ))
-              → f.overlay ≡ o
-              → overlay_or false (λ v. holds_of (λ u. lies_in_layer nat_eq later u.filesystem u.directory layer) v.upper
-              && is_object_of nat_eq n object f v) o ≡ true → Lies world layer n object
-          by f itself None g h = cc
-          by f itself (Some after) g h = counted layer live n object _ after (cc) _ refl
-              (subst (λ (x : Filesystem ℕ). (holds_of (λ u. lies_in_layer nat_eq later u.filesystem u.directory layer)
-              after.upper && (holds_of (λ u. nat_eq n u.filesystem) after.upper && list_any
-              (is_real_upper nat_eq after object) x.files.numbers)) ≡ true) (sym itself) h)
-
-  -- and is there
-  was_there : (layer : Layer ℕ) → IsLive layer → (n object : ℕ) → Lies world layer n object
-      → is_some (inode_in world n object) ≡ true
-  was_there layer live n object e =
-      ⊎_elim led_there counted_there (or_cases (lies_in_layer nat_eq world n object layer) _ e)
-    where
-      tree : IsTree (filesystem_numbered nat_eq world layer.filesystem).files.tree
-      tree = tree_of_directory world files layer.filesystem layer.directory (was_directory layer live)
-
-      led_there : lies_in_layer nat_eq world n object layer ≡ true → is_some (inode_in world n object) ≡ true
-      led_there f =
-          let same = eqb-true n layer.filesystem (and_true_left (nat_eq n layer.filesystem) _ f) in
-          let way = under_led (filesystem_numbered nat_eq world layer.filesystem).files tree layer.directory object
-          (subst (λ k. is_under nat_eq (filesystem_numbered nat_eq world k).files layer.directory object ≡ true) same
-          (and_true_right (nat_eq n layer.filesystem) _ f)) in
-          subst (λ k. is_some (inode_in world k object) ≡ true) (sym same)
-          (led_is_there (open_layer nat_eq world layer) tree (was_directory layer live) way.0 object way.1)
-
-      counted_there : list_any (counts_in_layer nat_eq world n object layer) (overlays world) ≡ true
-          → is_some (inode_in world n object) ≡ true
-      counted_there h =
-          let found = any_among (counts_in_layer nat_eq world n object layer) (overlays world) h in
-          by found.0 (found_filesystem world.filesystems files.one_filesystem found.0
-          (among-from_filter is_overlay world.filesystems found.0 found.1).0) found.0.overlay refl found.2
-        where
-          at : (f : Filesystem ℕ) (v : Overlay ℕ) → (filesystem_numbered nat_eq world f.number).overlay ≡ Some v
-              → (upper : Option (Layer ℕ)) → v.upper ≡ upper
-              → (holds_of (λ u. lies_in_layer nat_eq world u.filesystem u.directory layer) upper
-              && (holds_of (λ u. nat_eq n u.filesystem) upper
-              && list_any (is_real_upper nat_eq v object) f.files.numbers)) ≡ true
-              → is_some (inode_in world n object) ≡ true
-          at f v is None g h = absurd cc
-          at f v is (Some top) g h =
-              let rest = and_true_right (lies_in_layer nat_eq world top.filesystem top.directory layer) _ h in
-              let found = any_among (is_real_upper nat_eq v object) f.files.numbers
-              (and_true_right (nat_eq n top.filesystem) _ rest) in
-              subst (λ k. is_some (inode_in world k object) ≡ true)
-              (sym (eqb-true n top.filesystem (and_true_left (nat_eq n top.filesystem) _ rest)))
-              (sym (ap (holds_of (λ l. is_there nat_eq world l.filesystem object)) g)
-              ∙ (are.overlays_merge f.number v is).upper_there found.0 object
-              (upper_real (v.real found.0) object found.2))
-
-          by : (f : Filesystem ℕ) → filesystem_numbered nat_eq world f.number ≡ f → (o : Option (Overlay ℕ))
-              → f.overlay ≡ o
-              → overlay_or false (λ v. holds_of (λ u. lies_in_layer nat_eq world u.filesystem u.directory layer) v.upper
-              && is_object_of nat_eq n object f v) o ≡ true → is_some (inode_in world n object) ≡ true
-          by f itself None g h = absurd cc
-          by f itself (Some v) g h = at f v (ap (λ (x : Filesystem ℕ). x.overlay) itself ∙ g) v.upper refl h
+  lay_or_counted layer live n object e = ⊎_elim (λ lies. or_left _ _ (lay layer live n object lies)) (λ h.
+      let found = any_among (counts_in_layer nat_eq later n object layer) (overlays later) h in
+      counted layer live n object found.0 found.1 (counts_parts later layer n object found.0 found.2))
+      (or_cases (lies_in_layer nat_eq later n object layer) _ e)
 
   -- Layers that overlap overlapped
   overlapped : (a : Layer ℕ) (others : List (Layer ℕ)) → IsLive a → ((b : Layer ℕ) → Among b others → IsLive b)
@@ -272,7 +160,7 @@ module _ (world later : World ℕ) (files : AreTrees world) (are : OverlayInvari
       let in_a = lay_or_counted a live_a _ _ (and_true_left _ _ found.2) in
       let other = any_among (lies_or_counts_under nat_eq later a.filesystem found.0) others
       (and_true_right _ _ found.2) in
-      any_from_among _ _ found.0 (inode_listed world files _ _ (was_there a live_a _ _ in_a))
+      any_from_among _ _ found.0 (inode_listed world files _ _ (lying_there world files are a live_a.plain _ _ in_a))
       (and_from _ _ in_a (any_from_among _ others other.0 other.1 (lay_or_counted _ (live_others other.0 other.1) _ _
       other.2)))
 

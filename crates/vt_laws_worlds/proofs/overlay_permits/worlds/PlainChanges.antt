@@ -18,7 +18,8 @@ use Rattle.vt_laws_trees.proofs.overlays.whole.ApartInvariants.{pair_same}
 use Rattle.vt_laws_trees.proofs.overlays.whole.UpperGoes.{Spares, change_reaches}
 use Rattle.vt_laws_trees.proofs.overlays.changes.WholeOthers.{stays_merged}
 use Rattle.vt_laws_worlds.specs.OverlayPermits.Unlocked.{SparesInode, SparesLocked}
-use Rattle.vt_laws_worlds.proofs.overlay_permits.worlds.OverlaysGoOn.{GoesOn, are_trees, overlays_go_on}
+use Rattle.vt_laws_trees.proofs.layers.locked.Layers.{are_trees}
+use Rattle.vt_laws_worlds.proofs.overlay_permits.worlds.OverlaysGoOn.{GoesOn, overlays_go_on}
 use Rattle.vt_laws_trees.specs.Trees.Settling.{inode_in}
 use Rattle.vt_laws_worlds.proofs.overlay_permits.worlds.SweptOverlays.{shown_among}
 

@@ -16,7 +16,8 @@ use Rattle.vt_laws_trees.proofs.layers.layers.LowersKept.{kept_same}
 use Rattle.vt_laws_trees.proofs.layers.layers.LowersWorld.{number_of_filesystem}
 use Rattle.vt_laws_trees.proofs.overlays.whole.ApartInvariants.{pair_same}
 use Rattle.vt_laws_trees.proofs.overlays.changes.WholeOthers.{stays_merged}
-use Rattle.vt_laws_worlds.proofs.overlay_permits.worlds.OverlaysGoOn.{AreTrees, GoesOn, inode_listed, overlays_go_on, plain_layer}
+use Rattle.vt_laws_trees.proofs.layers.locked.Layers.{AreTrees, inode_listed, plain_layer}
+use Rattle.vt_laws_worlds.proofs.overlay_permits.worlds.OverlaysGoOn.{GoesOn, overlays_go_on}
 use Rattle.vt_laws_worlds.proofs.overlay_permits.worlds.SweptOverlays.{leads_same, shown_among, upper_among}
 use Rattle.vt_laws_worlds.proofs.overlay_permits.worlds.SweptTrees.{led_same, led_used, node_led_same, reached_still, used_node}
 use Rattle.vt_laws_trees.proofs.layers.locked.Apart.{merged_among}
@@ -250,7 +251,7 @@ module _ (world : World ℕ) (files : HasFileTrees world)
 
     layer_stays : (layer : Layer ℕ) → Among layer (layers_of before)
         → filesystem_numbered nat_eq first_later layer.filesystem ≡ filesystem_numbered nat_eq world layer.filesystem
-    layer_stays layer m = plain_stays layer (plain_layer world were are number before was layer m)
+    layer_stays layer m = plain_stays layer (plain_layer world are number before was layer m)
 
     still_merged : IsMerged nat_eq first_later f before
     still_merged = stays_merged world first_later f before
@@ -283,8 +284,7 @@ module _ (world : World ℕ) (files : HasFileTrees world)
         })
       where
         abbrev_left : Bool → Overlay ℕ
-        abbrev_left b = left_by
-            (named_is_used world f found.file_tree) found.file_tree still_merged b
+        abbrev_left b = left_by (named_is_used world f found.file_tree) found.file_tree still_merged b
 
         uppers : (b : Bool) → (abbrev_left b).upper ≡ before.upper
         uppers true = refl
@@ -351,7 +351,7 @@ module _ (world : World ℕ) (files : HasFileTrees world)
       used = used_in nat_eq world g
 
       layer_is_plain : is_plain_layer nat_eq world layer ≡ true
-      layer_is_plain = plain_layer world all_trees are number overlay is layer m
+      layer_is_plain = plain_layer world are number overlay is layer m
 
       there : is_some (g.files.tree.node layer.directory) ≡ true
       there = directory_used g.files.tree layer.directory (and_true_right (not (is_overlay g)) _ layer_is_plain)

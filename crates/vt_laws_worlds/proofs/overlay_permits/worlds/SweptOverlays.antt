@@ -9,7 +9,8 @@ use Rattle.vt_laws_trees.proofs.layers.locked.Apart.{found_among, merged_among}
 use Rattle.vt_laws_trees.proofs.layers.layers.LowersKept.{kept_same}
 use Rattle.vt_laws_trees.proofs.layers.layers.LowersWorld.{number_of_filesystem}
 use Rattle.vt_laws_trees.proofs.overlays.changes.WholeOthers.{stays_merged}
-use Rattle.vt_laws_worlds.proofs.overlay_permits.worlds.OverlaysGoOn.{AreTrees, GoesOn, overlays_go_on, plain_layer}
+use Rattle.vt_laws_trees.proofs.layers.locked.Layers.{AreTrees, plain_layer}
+use Rattle.vt_laws_worlds.proofs.overlay_permits.worlds.OverlaysGoOn.{GoesOn, overlays_go_on}
 use Rattle.vt_laws_trees.specs.Trees.Settling.{inode_in}
 
 -- of which fewer pairs pass
@@ -141,7 +142,7 @@ module _ (world : World ℕ) (files : AreTrees world) (are : OverlayInvariants n
         in_overlay f itself (Some v) e h =
             let found = any_among (λ (layer : Layer ℕ). nat_eq
             (filesystem_numbered nat_eq living number).number layer.filesystem) (layers_of v) h in
-            let plain = plain_layer world files are f.number v
+            let plain = plain_layer world are f.number v
             (ap (λ (x : Filesystem ℕ). x.overlay) itself ∙ e) found.0 found.1 in
             true≢false (sym (and_true_left
             (not (is_overlay (filesystem_numbered nat_eq world found.0.filesystem))) _ plain)
@@ -165,13 +166,12 @@ module _ (world : World ℕ) (files : AreTrees world) (are : OverlayInvariants n
     layer_same : (layer : Layer ℕ) → Among layer (layers_of overlay)
         → filesystem_numbered nat_eq living layer.filesystem ≡ filesystem_numbered nat_eq world layer.filesystem
     layer_same layer m =
-        let plain = plain_layer world files are number _ was layer m in
+        let plain = plain_layer world are number _ was layer m in
         let directory = and_true_right _ _ plain in
         let f = filesystem_numbered nat_eq world layer.filesystem in
         cc (
           number_of_filesystem world layer.filesystem,
-          lives_still f
-              (there_among world layer.filesystem layer.directory
+          lives_still f (there_among world layer.filesystem layer.directory
               (Rattle.vt_spec.proofs.Nodes.directory_used f.files.tree
               layer.directory directory)) (or_right (is_mounted nat_eq world f.number) _
               (any_from_among (λ (g : Filesystem ℕ). has_layer_on nat_eq f.number g && is_mounted nat_eq world g.number)

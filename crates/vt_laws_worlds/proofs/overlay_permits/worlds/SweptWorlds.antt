@@ -11,7 +11,7 @@ use Rattle.vt_laws_worlds.proofs.settling.SettledMounts.{settled_mounts, settled
 use Rattle.vt_laws_worlds.proofs.settling.SettledTasks.{listed_trees, settled_roots, settled_tasks, settled_trees, trees_under_way}
 use Rattle.vt_laws_worlds.specs.OverlayPermits.EveryWorld.{SettlingLeavesEveryWorld}
 use Rattle.vt_laws_worlds.proofs.overlay_permits.kept.KeptOverlays.{overlays_in}
-use Rattle.vt_laws_worlds.proofs.overlay_permits.worlds.OverlaysGoOn.{are_trees, plain_layer}
+use Rattle.vt_laws_trees.proofs.layers.locked.Layers.{plain_layer}
 use Rattle.vt_laws_worlds.proofs.overlay_permits.worlds.SweptInodes.{file_trees_are, files_later, first_overlays, one_later, second_overlays}
 use Rattle.vt_laws_worlds.proofs.overlay_permits.worlds.SweptOverlays.{living_files, living_overlays}
 
@@ -76,7 +76,7 @@ module _ (world : World ℕ) (under : IsUnderWay world) (are : OverlayInvariants
           tested false e = e
           tested true e = absurd (true≢false
               (sym (and_true_left (not (is_overlay (filesystem_numbered nat_eq world top.filesystem))) _
-              (plain_layer world (are_trees world under.files) are merged.number v is top
+              (plain_layer world are merged.number v is top
               (subst (λ o. Among top (option_to_list o ++ option_to_list v.work ++ v.lowers)) (sym u) (inl refl))))
               ∙ ap (λ k. not (is_overlay (filesystem_numbered nat_eq world k)))
               (sym (eqb-true f.number top.filesystem e))

@@ -168,8 +168,7 @@ module _ (fresh : Fresh ℕ) (stack : Stack ℕ) (before : Merge ℕ) (fit : IsF
           → upper_object (copied.real other) ≡ Some inode
           → upper_object ((merge_changed nat_eq fresh stack before (Make directory name number node)).real other)
           ≡ Some inode
-      later_real other inode is e = ⊎_elim
-          (λ same. absurd (cc (same.1, may.is_new)))
+      later_real other inode is e = ⊎_elim (λ same. absurd (cc (same.1, may.is_new)))
           (λ differ. ap (λ b. upper_object (cond b (Some (Upper (odds fresh 0))) (copied.real other))) differ.0 ∙ e)
           (eqb_tells other number)
   adds (AddName directory name object) may named =

@@ -112,8 +112,7 @@ module _ (fresh : Fresh ℕ) (stack : Stack ℕ) (before : Merge ℕ) (fit : IsF
       there d n k e at.0) at.1
 
 module _ {fresh : Fresh ℕ} {world : World ℕ} {location : Location ℕ} {change : Change ℕ} {overlay : Overlay ℕ}
-    {upper : Layer ℕ} (conditions : IsWorld nat_eq world)
-    (can : CanChange fresh world location change overlay upper)
+    {upper : Layer ℕ} (conditions : IsWorld nat_eq world) (can : CanChange fresh world location change overlay upper)
     (may : IsProper (files_at nat_eq world location).tree change) (none : takes_a_name change ≡ false) where
   abbrev layer : Filesystem ℕ
   layer = filesystem_numbered nat_eq world upper.filesystem

@@ -194,8 +194,7 @@ removed_from_overlays_let_go fresh world task call parent name directory overlay
 
 pub replaced_in_overlays_let_go : ReplacedInOverlaysLetGo
 replaced_in_overlays_let_go fresh world task call from old to new object replaced overlay upper conditions called judged
-    can = goes_with_mounts conditions can
-    (numbers_of_trees world (mounts_on nat_eq world replaced))
+    can = goes_with_mounts conditions can (numbers_of_trees world (mounts_on nat_eq world replaced))
     (keeps_its_mount world conditions (numbers_of_trees world (mounts_on nat_eq world replaced)) from
     (reached_on_mount world task from (removal_reached fresh world conditions task called call
     (ToRename from old to new object (Some replaced)) judged).0)

@@ -1,10 +1,10 @@
 -- Each inode of a newly mounted overlay has a name.
-use Rattle.std.proofs.Common.{◌≡◌, ◌≢◌, ◌≤◌, refl, sym, ap, subst, ◌∙◌, ⊎_elim, ℕ, nat_eq, eq-eqb, Bool, true, ◌||◌, List, [], ◌∷◌, length, Option, Some, None, is_some, option_and_then, option_map}
-use Rattle.vt_spec.proofs.Common.{Filesystem, Fresh, HasName, Merged, MergedInode, OpenLayer, Shown, Tree, entry_at, eqb_tells, evens, evens-distinct, inode_count, inode_of, is_among, led, named_in, none_is_some, odds, odds-distinct, overlay_filesystem, same_Some, shown}
+use Rattle.std.proofs.Common.{◌≡◌, ◌≢◌, refl, sym, ap, subst, ◌∙◌, ⊎_elim, ℕ, nat_eq, eq-eqb, Bool, true, ◌||◌, List, [], ◌∷◌, Option, Some, None, is_some, option_and_then, option_map}
+use Rattle.vt_spec.proofs.Common.{Filesystem, Fresh, HasName, Merged, MergedInode, OpenLayer, Shown, Tree, entry_at, eqb_tells, evens, evens-distinct, inode_of, is_among, led, named_in, none_is_some, odds, overlay_filesystem, same_Some, shown}
 use Rattle.vt_laws_trees.proofs.layers.directories.Fit.{new_overlay_is_tree, new_overlay_lists_numbers}
-use Rattle.vt_laws_trees.proofs.layers.layers.ShownDirectories.{AreOpen, last_of}
-use Rattle.vt_laws_trees.proofs.layers.layers.ShownMerged.{inodes, number}
-use Rattle.vt_laws_trees.proofs.layers.layers.ShownMounted.{are_open, bounded, layers, root_shown}
+use Rattle.vt_laws_trees.proofs.layers.layers.ShownDirectories.{last_of}
+use Rattle.vt_laws_trees.proofs.layers.layers.ShownMerged.{CanMerge, inodes, number}
+use Rattle.vt_laws_trees.proofs.layers.layers.ShownMounted.{can_merge, bounded, layers, root_shown}
 use Rattle.vt_laws_trees.proofs.layers.layers.ShownNames.{last_name}
 use Rattle.vt_laws_trees.proofs.layers.layers.ShownObjects.{object_is}
 use Rattle.vt_laws_trees.proofs.layers.layers.ShownPaths.{not_empty}
@@ -32,35 +32,31 @@ named_if_led tree (name ∷ path) n isnt e =
     by last (Some directory) f = (directory, last, f)
 
 -- each inode of a merged tree is led to
-module _ (layers : List (OpenLayer ℕ)) (are_open : AreOpen layers) (longest : ℕ)
-    (bounded : (path : List (List ℕ)) (seen : Shown ℕ) → shown layers path ≡ Some seen → length path ≤ longest)
-    (fresh : Fresh ℕ) (distinct : (j k : ℕ) → fresh j ≡ fresh k → j ≡ k) (has_upper : Bool)
-    (top : Shown ℕ) (is_top : shown layers [] ≡ Some top) where
+module _ {layers : List (OpenLayer ℕ)} {longest : ℕ} {fresh : Fresh ℕ} (can : CanMerge layers longest fresh)
+    (has_upper : Bool) (top : Shown ℕ) (is_top : shown layers [] ≡ Some top) where
   abbrev tree : Tree ℕ
-  tree = merged_tree layers are_open longest bounded fresh distinct has_upper top is_top
+  tree = merged_tree can has_upper top is_top
 
   abbrev num : Merged ℕ → ℕ
-  num = number layers are_open longest bounded fresh distinct has_upper
+  num = number can has_upper
 
   led_to : (n : ℕ) → is_some (tree.node n) ≡ true → (path : List (List ℕ)) × (led tree tree.root path ≡ Some n)
-  led_to n there = by (inode_of (inodes layers are_open longest bounded fresh distinct has_upper) n nat_eq) refl there
+  led_to n there = by (inode_of (inodes can has_upper) n nat_eq) refl there
     where
       arrives_at : (path : List (List ℕ)) (seen : Shown ℕ) → shown layers path ≡ Some seen
           → led tree tree.root path ≡ Some (num (record { path = path; seen = seen }))
       arrives_at path seen s =
-          subst (λ o. Arrives layers are_open longest bounded fresh distinct has_upper top is_top o path
-          (led tree tree.root path)) s
-          (arrives layers are_open longest bounded fresh distinct has_upper top is_top path)
+          subst (λ o. Arrives can has_upper top is_top o path (led tree tree.root path)) s
+          (arrives can has_upper top is_top path)
 
-      by : (o : Option (MergedInode ℕ))
-          → inode_of (inodes layers are_open longest bounded fresh distinct has_upper) n nat_eq ≡ o
+      by : (o : Option (MergedInode ℕ)) → inode_of (inodes can has_upper) n nat_eq ≡ o
           → is_some (option_map (λ inode. inode.node) o) ≡ true
           → (path : List (List ℕ)) × (led tree tree.root path ≡ Some n)
       by None e h = absurd cc
       by (Some inode) e h =
-          let is = is_of_object layers are_open longest bounded fresh distinct has_upper n inode e in (
+          let is = is_of_object can has_upper n inode e in (
             is.object.path,
-            arrives_at is.object.path is.object.seen (object_is layers are_open longest bounded is.object is.among)
+            arrives_at is.object.path is.object.seen (object_is layers can.opens longest can.bounded is.object is.among)
                 ∙ ap Some (sym is.numbered),
           )
 
@@ -85,9 +81,7 @@ new_overlays_are_named fresh world overlay conditions are_layers distinct =
 
     named : (n : ℕ) → n ≢ made.files.tree.root → is_some (made.files.tree.node n) ≡ true → HasName made.files.tree n
     named n isnt there =
-        let leads = led_to (layers world conditions overlay are_layers) (are_open world conditions overlay are_layers)
-        (inode_count world) (bounded world conditions overlay are_layers)
-        (odds fresh) (odds-distinct fresh distinct) (is_some overlay.upper)
+        let leads = led_to (can_merge world conditions overlay are_layers fresh distinct) (is_some overlay.upper)
         (root_shown world conditions overlay are_layers).0 (root_shown world conditions overlay are_layers).1 n there in
         named_if_led made.files.tree leads.0 n isnt leads.1
 

@@ -124,8 +124,7 @@ woven_lists_are_filtered test stays plain overlays parted overlays_rise rising =
 put_tested : (test : Filesystem ℕ → Bool) (f : Filesystem ℕ) (list : List (Filesystem ℕ))
     → list_all test (put_in f list) ≡ (test f && list_all test list)
 put_tested test f [] = refl
-put_tested test f (first ∷ rest) =
-    grind (arith, common_steps, put_tested test f rest, and_swapped)
+put_tested test f (first ∷ rest) = grind (arith, common_steps, put_tested test f rest, and_swapped)
 
 pub woven_lists_pass_all : WovenListsPassAll
 woven_lists_pass_all test plain [] = grind (arith, common_steps)

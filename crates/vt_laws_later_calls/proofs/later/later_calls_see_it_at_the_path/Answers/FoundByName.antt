@@ -1,77 +1,20 @@
 -- An object that was renamed, over another one or not, is found where its new name leads, with what it had; the old
 -- name is missing.
-use Rattle.std.proofs.Common.{◌≡◌, refl, sym, ap, subst, ◌∙◌, inl, inr, ◌⊎◌, ⊎_elim, ℕ, nat_eq, Bool, true, false, cond, not, ◌&&◌, List, [], ◌∷◌, Option, Some, None, is_some, Ok, Err, length, unwrap_or}
-use Rattle.vt_spec.proofs.Common.{Done, Fresh, IsWorld, LastWord, Location, Looks, Ls, Lstat, Names, Node, Permit, Place, Rename, Task, TaskName, ToRename, Told, World, and_then-Ok, denial, directory_from_entry, ends_in_slash, entries_in, entry_at, entry_named, files_at, holds_of, is_directory_at, is_directory_node, is_directory_there, is_mount_point_anywhere, is_one_object, is_special, looks_of, mount_at, name_of, names_in, new_walk, node_allows, node_at, object_there, old_leaf_walk, old_walk, old_word_rules, or_parts, passing, place_walk, policy, read_right, rename_new_walk, rename_permit, rename_rules, renamed_permit, same_Some, same_ok, stat_line, stepped, task_called, walk_end}
-use Rattle.vt_laws_later_calls.proofs.Common.{C1, IsFound, IsKept, IsPlain, MayBeRenamed, W3, W6, directory_no_link, tree_here}
+use Rattle.std.proofs.Common.{◌≡◌, refl, sym, ap, subst, ◌∙◌, inl, inr, ◌⊎◌, ⊎_elim, ℕ, nat_eq, Bool, true, false, List, Option, Some, None, is_some, Ok, Err, length, unwrap_or}
+use Rattle.vt_spec.proofs.Common.{is_among, Done, Fresh, IsWorld, LastWord, Location, Ls, Lstat, Names, Node, Place, Rename, Task, TaskName, Told, World, denial, directory_from_entry, ends_in_slash, entries_in, entry_at, entry_named, files_at, holds_of, is_directory_at, is_directory_node, is_directory_there, is_one_object, is_special, looks_of, mount_at, name_of, names_in, new_walk, node_at, object_there, old_leaf_walk, policy, same_Some, stat_line, stepped, task_called}
+use Rattle.vt_laws_later_calls.proofs.Common.{C1, Deny, numbers_of, IsFound, IsKept, IsPlain, MayBeRenamed, W6, directory_no_link, tree_here}
 use Rattle.vt_laws_later_calls.specs.LaterNames.{LeadsToName, RenameThenFound, RenameThenListed}
-use Rattle.vt_laws_later_calls.proofs.later.AfterRename.{free_left, free_over, is_left, may, new_left, object_left, object_shown, old_left, to_shown}
+use Rattle.vt_laws_later_calls.proofs.later.AfterRename.{HasRenamed, free_left, free_over, is_left, may, new_left, object_left, object_shown, old_left, to_shown}
 use Rattle.vt_laws_later_calls.proofs.Granted.{HasSucceeded, IsPermitted, permitted}
-use Rattle.vt_laws_later_calls.proofs.Looked.{list_of, lstat_of, lstat_refused}
+use Rattle.vt_laws_later_calls.proofs.Looked.{listed_or_refused, lstat_of, lstat_refused}
 use Rattle.vt_laws_later_calls.proofs.MadeSeen.{Never, surely}
-use Rattle.vt_laws_later_calls.proofs.Opened.{walk_ended}
 use Rattle.vt_laws_later_calls.proofs.Readers.{own_name, stepped_by}
 use Rattle.vt_laws_later_calls.proofs.Stays.{called_own}
-use Rattle.vt_laws_later_calls.proofs.later.later_calls_see_it_at_the_path.Answers.RenamedSeen.{itself_leads}
-use Rattle.vt_laws_later_calls.proofs.later.later_calls_see_it_at_the_path.Answers.Unlinked.{Missing, old_parts}
-use Rattle.vt_laws_later_calls.proofs.Ways.{both_walked, same_end, walk_passing}
+use Rattle.vt_laws_later_calls.proofs.later.later_calls_see_it_at_the_path.Answers.RenameParts.{NamesParts, itself_leads, names_parts}
+use Rattle.vt_laws_later_calls.proofs.later.later_calls_see_it_at_the_path.Answers.Unlinked.{Missing}
+use Rattle.vt_laws_later_calls.proofs.Ways.{LeadsToo}
 use Rattle.vt_laws_later_calls.proofs.WaysPlaces.{NamedPlace, directory_named_too, front_too, named_place, parent_known, symlink_missing, symlink_named_too}
 use Rattle.vt_laws_later_calls.proofs.WaysStay.{node_in, tree_in}
-
--- what a granted rename of two names of two objects was permitted
-pub record NamesParts (looks : Looks ℕ) (task : Task ℕ) (old new : List ℕ) (from to : Place ℕ)
-    (permit : Permit ℕ) : Type 0 where
-  pub from_walked : place_walk nat_eq looks task old ≡ Ok from
-  pub from_named : is_special from.last ≡ false
-  pub from_slash : from.slash ≡ true → is_directory_there nat_eq looks from ≡ true
-  pub to_named : is_special to.last ≡ false
-  pub uncovered : is_mount_point_anywhere looks (object_there from) ≡ false
-  pub permit_is : permit ≡ ToRename from.parent (name_of from.last) to.parent (name_of to.last)
-      (object_there from) to.object
-
-asked : (slash some : Bool) → (slash && not some) ≡ false → slash ≡ true → some ≡ true
-asked true true e f = refl
-asked true false e f = cc
-asked false some e f = cc
-
-pub names_parts : (looks : Looks ℕ) (task : Task ℕ) (old new : List ℕ) (from to : Place ℕ) (permit : Permit ℕ)
-    → old_leaf_walk nat_eq looks task old ≡ Ok from → new_walk nat_eq looks task new ≡ Ok to
-    → is_one_object nat_eq looks (object_there from) to.object ≡ false
-    → rename_permit nat_eq looks task old new ≡ Ok permit → NamesParts looks task old new from to permit
-unfolding rename_permit
-names_parts looks task old new from to permit from_is to_is two e =
-    let olds = and_then-Ok (walk_end (old_leaf_walk nat_eq looks task old)) _ permit e in
-    let same_from : olds.0 ≡ from = same_ok olds.0 from (sym olds.1 ∙ ap walk_end from_is) in
-    let first = passing (old_word_rules olds.0) _ permit olds.2 in
-    let news = and_then-Ok (walk_end
-    (rename_new_walk nat_eq looks task new (is_directory_there nat_eq looks olds.0))) _ permit first.1 in
-    let named = passing (old_word_rules news.0) _ permit news.2 in
-    let inside = both_walked (new_walk nat_eq looks task new) _ news.0
-    (walk_ended (rename_new_walk nat_eq looks task new (is_directory_there nat_eq looks olds.0)) news.0 news.1) in
-    let slash = walk_passing inside.0.steps ((inside.0.slash && not (is_directory_there nat_eq looks olds.0), W3)
-    ∷ []) inside.0 news.0 inside.2 in
-    let to_same : inside.0 ≡ to = same_end inside.0 to (sym inside.1 ∙ to_is) in
-    let same_to : news.0 ≡ to = sym slash.1 ∙ to_same in
-    let leaf = both_walked (old_walk nat_eq looks task old) _ from from_is in
-    let leaf_slash = walk_passing leaf.0.steps ((leaf.0.slash && not (is_directory_there nat_eq looks leaf.0), W3)
-    ∷ []) leaf.0 from leaf.2 in
-    let there = old_parts looks task old from (leaf.1 ∙ ap Ok leaf_slash.1) in
-    let other : is_one_object nat_eq looks (object_there olds.0) news.0.object ≡ false =
-    (λ i. is_one_object nat_eq looks (object_there (same_from i)) (same_to i).object) ∙ two in
-    let last = passing (rename_rules nat_eq looks task olds.0 news.0 (object_there olds.0)) _ permit
-    (sym (ap (λ b. renamed_permit nat_eq b looks task olds.0 news.0 (object_there olds.0)) other) ∙ named.1) in
-    record {
-      from_walked = there.0;
-      from_named = ap (λ (p : Place ℕ). is_special p.last) (sym same_from) ∙ first.0.0;
-      from_slash = asked from.slash (is_directory_there nat_eq looks from)
-          (ap (λ (p : Place ℕ). p.slash && not (is_directory_there nat_eq looks p)) (sym leaf_slash.1)
-          ∙ leaf_slash.0.0);
-      to_named = ap (λ (p : Place ℕ). is_special p.last) (sym same_to) ∙ named.0.0;
-      uncovered = ap (λ (p : Place ℕ). is_mount_point_anywhere looks (object_there p)) (sym same_from)
-          ∙ (or_parts (is_mount_point_anywhere looks (object_there olds.0)) _ last.0.1.1.1.1.1.1.1.0).0;
-      permit_is = sym (same_ok _ permit last.1)
-          ∙ (λ i. ToRename (same_from i).parent (name_of (same_from i).last) (same_to i).parent
-          (name_of (same_to i).last) (object_there (same_from i)) (same_to i).object);
-    }
 
 -- what is kept is told alike
 pub told_alike : (was now : Option (Node ℕ)) → IsKept was now → stat_line now ≡ stat_line was
@@ -104,11 +47,15 @@ module _ {world : World ℕ} {fresh : Fresh ℕ} {name : TaskName} {old new : Li
   abbrev place_before : Location ℕ
   place_before = record { mount = from.parent.mount; node = object }
 
+  abbrev the_rename : HasRenamed world fresh name (Rename old new) Done from.parent (name_of from.last) to.parent
+      (name_of to.last) (object_there from) to.object
+  the_rename = record { success = it; permit_is = parts.permit_is; uncovered = parts.uncovered }
+
   seen : MayBeRenamed world from.parent (name_of from.last) to.parent (name_of to.last) (object_there from) to.object
-  seen = may it parts.permit_is parts.uncovered
+  seen = may the_rename
 
   object_fs : (mount_at nat_eq world (object_there from)).filesystem ≡ fs
-  object_fs = object_shown it parts.permit_is parts.uncovered
+  object_fs = object_shown the_rename
 
   abbrev pub before : Option (Node ℕ)
   before = (files_at nat_eq world from.parent).tree.node object
@@ -144,142 +91,180 @@ module _ {world : World ℕ} {fresh : Fresh ℕ} {name : TaskName} {old new : Li
       let walk = surely _ _ _ (directory_named_too
       (itself_leads Never world it.is it.plain it.did.task own) old from parts.from_named at_old place_before
       (λ known. old_stepped) (directory_no_link before directory) directory) in
-      by (node_allows it.did.task.credentials read_right before)
-      (list_of world other_fresh name it.did.called old it.plain _ walk.1)
-    where
-      by : (b : Bool) → (policy nat_eq other_fresh world name (Ls old)).answer
-          ≡ cond b (Ok (Names (names_in before))) (Err (denial C1))
-          → ((policy nat_eq other_fresh world name (Ls old)).answer ≡ Ok (Names (names_in before)))
-          ⊎ ((policy nat_eq other_fresh world name (Ls old)).answer ≡ Err (denial C1))
-      by true e = inl e
-      by false e = inr e
+      listed_or_refused world other_fresh name it.did.called old it.plain _ walk.1 (names_in before) refl
 
   -- After it
   left_is : IsWorld nat_eq later × IsPlain later
-  left_is = is_left it parts.permit_is parts.uncovered
+  left_is = is_left the_rename
 
-  module _ (reader : TaskName) (reading : Task ℕ) (path : List ℕ)
-      (called : task_called later reader ≡ Some reading) where
-    module _ (directory : Location ℕ) (last : LastWord) (special : is_special last ≡ false)
-        (directory_fs : (mount_at nat_eq world directory).filesystem ≡ fs)
-        (lead : LeadsToName world later reading path directory last) where
-      named_so : is_special lead.place.last ≡ false
-      named_so = cc lead.last_is
+  to_fs : (mount_at nat_eq world to.parent).filesystem ≡ fs
+  to_fs = to_shown the_rename
 
-      at_name : NamedPlace (looks_of nat_eq later) reading path lead.place
-      at_name = named_place (looks_of nat_eq later) reading path lead.place lead.walked named_so
+  -- Where a directory of the filesystem is seen, through some mount
+  module _ (parent : Location ℕ) (shown : (mount_at nat_eq later parent).filesystem ≡ fs) where
+    abbrev pub place_after : Location ℕ
+    place_after = record { mount = parent.mount; node = object }
 
-      -- the directory is found, through this mount
-      parent_found : IsFound later left_is.0 reading lead.place.parent
-      parent_found = ⊎_elim (λ ends. parent_known
-          (itself_leads Never later left_is.0 left_is.1 reading
-          (own_name later reader reading called)) path lead.place named_so at_name ends.1) (λ stop. absurd stop.1)
-          (front_too (itself_leads Never later left_is.0 left_is.1 reading
-          (own_name later reader reading called)) path lead.place named_so at_name)
+    pub kept : is_some (node_in later fs object) ≡ true → IsKept before (node_at nat_eq later place_after)
+    kept there = subst (λ n. IsKept before (node_in later n object)) (sym shown) (object_left the_rename there)
 
-      parent_fs : (mount_at nat_eq later lead.place.parent).filesystem ≡ fs
-      parent_fs = cc lead.filesystem
+    pub directory_after : is_some (node_in later fs object) ≡ true
+        → is_directory_there nat_eq (looks_of nat_eq world) from ≡ true
+        → is_directory_at nat_eq later place_after ≡ true
+    directory_after there e =
+        directory_kept before (node_at nat_eq later place_after) (kept there) ∙ is_directory_before e
 
-      there : is_some (node_in later fs directory.node) ≡ true
-      there = (λ i. is_some (node_in later (sym parent_fs i) (sym lead.node i))) ∙ parent_found.1
+    module _ (alive : is_some (node_at nat_eq later parent) ≡ true) (reading : Task ℕ) (last : LastWord)
+        (named : is_special last ≡ false) where
+      there : (directory : Location ℕ) → parent.node ≡ directory.node
+          → is_some (node_in later fs directory.node) ≡ true
+      there directory at = (λ i. is_some (node_in later (sym shown i) (sym at i))) ∙ alive
 
-      -- what its name leads to
-      leads_to : (o : Option ℕ) → entry_at (tree_in later fs) directory.node (name_of last) ≡ o
-          → entry_named (name_of lead.place.last) (entries_in (node_at nat_eq later lead.place.parent)) ≡ o
-      leads_to o e = (λ i. entry_at (tree_in later (parent_fs i)) (lead.node i) (name_of (lead.last_is i))) ∙ e
+      entry_here : (directory : Location ℕ) (word : List ℕ) (o : Option ℕ) → parent.node ≡ directory.node
+          → name_of last ≡ word → entry_at (tree_in later fs) directory.node word ≡ o
+          → entry_named (name_of last) (entries_in (node_at nat_eq later parent)) ≡ o
+      entry_here directory word o at same e = (λ i. entry_at (tree_in later (shown i)) (at i) (same i)) ∙ e
 
-    -- by the new name
-    module _ (lead : LeadsToName world later reading path to.parent to.last) where
-      to_fs : (mount_at nat_eq world to.parent).filesystem ≡ fs
-      to_fs = to_shown it parts.permit_is parts.uncovered
+      -- its new name leads to the object, and its old one to nothing
+      new_entry : parent.node ≡ to.parent.node → name_of last ≡ name_of to.last
+          → entry_named (name_of last) (entries_in (node_at nat_eq later parent)) ≡ Some object
+      new_entry at same =
+          entry_here to.parent (name_of to.last) (Some object) at same (new_left the_rename (there to.parent at))
 
-      abbrev place_after : Location ℕ
-      place_after = record { mount = lead.place.parent.mount; node = object }
+      pub new_stepped : is_among nat_eq parent.mount (numbers_of later.mounts) ≡ true → parent.node ≡ to.parent.node
+          → name_of last ≡ name_of to.last → stepped nat_eq (looks_of nat_eq later) reading parent last ≡ Ok place_after
+      new_stepped listed at same = stepped_by later reading parent last named (Some object) (new_entry at same)
+          ∙ ap Ok (free_left the_rename place_after listed shown refl)
 
-      entry_after : entry_at (tree_in later fs) to.parent.node (name_of to.last) ≡ Some object
-      entry_after = new_left it parts.permit_is parts.uncovered
-          (there to.parent to.last parts.to_named to_fs lead)
+      pub none_stepped : parent.node ≡ from.parent.node → name_of last ≡ name_of from.last
+          → stepped nat_eq (looks_of nat_eq later) reading parent last ≡ Err (denial W6)
+      none_stepped at same = stepped_by later reading parent last named None (entry_here from.parent
+          (name_of from.last) None at same (old_left the_rename seen.moves.replaced_other (there from.parent at)))
 
-      entry_here : entry_named (name_of lead.place.last) (entries_in (node_at nat_eq later lead.place.parent))
-          ≡ Some object
-      entry_here = leads_to to.parent to.last parts.to_named to_fs lead (Some object) entry_after
+  module _ (reader : TaskName) (reading : Task ℕ) (called : task_called later reader ≡ Some reading) where
+    -- by paths that lead where they led
+    module _ {Known : Location ℕ → Type 0}
+        (leads : LeadsToo (looks_of nat_eq world) (looks_of nat_eq later) it.did.task reading Missing Known)
+        (found : (here : Location ℕ) → Known here → (is_among nat_eq here.mount (numbers_of later.mounts) ≡ true)
+        × (is_some (node_at nat_eq later here) ≡ true)) (mounts_same : later.mounts ≡ world.mounts)
+        (there : is_some (node_in later fs object) ≡ true) where
+      abbrev IsMissing : Fresh ℕ → List ℕ → Type 0
+      IsMissing later_fresh path = (policy nat_eq later_fresh later reader (Lstat path)).answer ≡ Err (denial W6)
 
-      object_there_still : is_some (node_at nat_eq later place_after) ≡ true
-      object_there_still = (tree_here later left_is.0 lead.place.parent
-          (directory_from_entry (name_of lead.place.last) object
-          (node_at nat_eq later lead.place.parent) entry_here)).tree.alive
-          lead.place.parent.node (name_of lead.place.last) object entry_here
+      pub new_told : (later_fresh : Fresh ℕ)
+          → ((policy nat_eq later_fresh later reader (Lstat new)).answer ≡ Ok (Told (stat_line before)))
+          ⊎ IsMissing later_fresh new
+      new_told later_fresh =
+          let at = named_place (looks_of nat_eq world) it.did.task new to parts.to_walked parts.to_named in
+          let shown : (mount_at nat_eq later to.parent).filesystem ≡ fs = cc (mounts_same, to_fs) in
+          ⊎_elim (λ ends. inl (cc (
+            lstat_of later later_fresh reader called new _ ends.1,
+            told_alike before (node_at nat_eq later (place_after to.parent shown)) (kept to.parent shown there),
+          ))) (λ stop. inr (lstat_refused later later_fresh reader called new stop.0 stop.2 ∙ ap Err stop.1))
+          (symlink_named_too leads new to parts.to_named at (place_after to.parent shown) (λ known.
+          new_stepped to.parent shown (found _ known).1 reading to.last parts.to_named (found _ known).0 refl refl)
+          (λ slash. let now = directory_after to.parent shown there (parts.to_slash (cc at.slash_is)) in
+          (directory_no_link (node_at nat_eq later (place_after to.parent shown)) now, now)))
 
-      kept : IsKept before (node_at nat_eq later place_after)
-      kept = subst (λ n. IsKept before (node_in later n object))
-          (sym (parent_fs to.parent to.last parts.to_named to_fs lead))
-          (object_left it parts.permit_is parts.uncovered
-          (ap (λ n. is_some (node_in later n object)) (sym (parent_fs to.parent to.last parts.to_named to_fs lead))
-          ∙ object_there_still))
+      pub old_missing : (later_fresh : Fresh ℕ) → IsMissing later_fresh old
+      old_missing later_fresh =
+          let at = named_place (looks_of nat_eq world) it.did.task old from parts.from_walked parts.from_named in
+          let stop = symlink_missing leads old from parts.from_named at (denial W6) refl (λ known. none_stepped
+          from.parent (cc mounts_same) (found _ known).1 reading from.last parts.from_named refl refl) in
+          lstat_refused later later_fresh reader called old stop.0 stop.2 ∙ ap Err stop.1
 
-      new_stepped : stepped nat_eq (looks_of nat_eq later) reading lead.place.parent lead.place.last ≡ Ok place_after
-      new_stepped = stepped_by later reading lead.place.parent lead.place.last
-          (named_so to.parent to.last parts.to_named to_fs lead) (Some object) entry_here
-          ∙ ap Ok (free_left it parts.permit_is parts.uncovered place_after
-          (parent_found to.parent to.last parts.to_named to_fs lead).0.0
-          (parent_fs to.parent to.last parts.to_named to_fs lead) refl)
+    -- by each path that leads to the names
+    module _ (path : List ℕ) where
+      own_leads : (Refused : Deny → Type 0)
+          → LeadsToo (looks_of nat_eq later) (looks_of nat_eq later) reading reading Refused
+          (IsFound later left_is.0 reading)
+      own_leads Refused =
+          itself_leads Refused later left_is.0 left_is.1 reading (own_name later reader reading called)
 
-      directory_after : is_directory_there nat_eq (looks_of nat_eq world) from ≡ true
-          → is_directory_at nat_eq later place_after ≡ true
-      directory_after e = directory_kept before (node_at nat_eq later place_after) kept ∙ is_directory_before e
+      module _ (directory : Location ℕ) (last : LastWord) (special : is_special last ≡ false)
+          (directory_fs : (mount_at nat_eq world directory).filesystem ≡ fs)
+          (lead : LeadsToName world later reading path directory last) where
+        named_so : is_special lead.place.last ≡ false
+        named_so = cc lead.last_is
 
-      new_told : (ends_in_slash path ≡ true → is_directory_there nat_eq (looks_of nat_eq world) from ≡ true)
-          → (later_fresh : Fresh ℕ)
-          → (policy nat_eq later_fresh later reader (Lstat path)).answer ≡ Ok (Told (stat_line before))
-      new_told slashed later_fresh =
-          let walk = surely _ _ _ (symlink_named_too (itself_leads Never later left_is.0 left_is.1 reading
-          (own_name later reader reading called)) path lead.place (named_so to.parent to.last parts.to_named to_fs lead)
-          (at_name to.parent to.last parts.to_named to_fs lead) place_after (λ known. new_stepped)
-          (λ slash. let now = directory_after (slashed slash) in (
-            directory_no_link (node_at nat_eq later place_after)
-                now,
-            now,
-          ))) in
-          cc (
-            lstat_of later later_fresh reader called path _ walk.1,
-            told_alike before
-                (node_at nat_eq later place_after) kept,
-          )
+        at_name : NamedPlace (looks_of nat_eq later) reading path lead.place
+        at_name = named_place (looks_of nat_eq later) reading path lead.place lead.walked named_so
 
-      new_listed : is_directory_there nat_eq (looks_of nat_eq world) from ≡ true → (later_fresh : Fresh ℕ)
-          → ((policy nat_eq later_fresh later reader (Ls path)).answer ≡ Ok (Names (names_in before)))
-          ⊎ ((policy nat_eq later_fresh later reader (Ls path)).answer ≡ Err (denial C1))
-      new_listed directory_there later_fresh =
-          let now = directory_after directory_there in
-          let walk = surely _ _ _ (directory_named_too
-          (itself_leads Never later left_is.0 left_is.1 reading (own_name later reader reading called)) path lead.place
-          (named_so to.parent to.last parts.to_named to_fs lead)
-          (at_name to.parent to.last parts.to_named to_fs lead) place_after
-          (λ known. new_stepped) (directory_no_link (node_at nat_eq later place_after) now) now) in
-          by (node_allows reading.credentials read_right (node_at nat_eq later place_after))
-          (list_of later later_fresh reader called path left_is.1 _ walk.1)
-        where
-          by : (b : Bool) → (policy nat_eq later_fresh later reader (Ls path)).answer
-              ≡ cond b (Ok (Names (names_in (node_at nat_eq later place_after)))) (Err (denial C1))
-              → ((policy nat_eq later_fresh later reader (Ls path)).answer ≡ Ok (Names (names_in before)))
-              ⊎ ((policy nat_eq later_fresh later reader (Ls path)).answer ≡ Err (denial C1))
-          by true e = inl (cc kept.names)
-          by false e = inr e
+        -- the directory is found, through this mount
+        parent_found : IsFound later left_is.0 reading lead.place.parent
+        parent_found = ⊎_elim
+            (λ ends. parent_known (own_leads Never) path lead.place named_so at_name ends.1)
+            (λ stop. absurd stop.1) (front_too (own_leads Never) path lead.place named_so at_name)
 
-    -- by the old one
-    old_gone : LeadsToName world later reading path from.parent from.last → (later_fresh : Fresh ℕ)
-        → (policy nat_eq later_fresh later reader (Lstat path)).answer ≡ Err (denial W6)
-    old_gone lead later_fresh =
-        let named : is_special lead.place.last ≡ false = named_so from.parent from.last parts.from_named refl lead in
-        let stop = symlink_missing
-        (itself_leads Missing later left_is.0 left_is.1 reading
-        (own_name later reader reading called)) path lead.place named
-        (at_name from.parent from.last parts.from_named refl lead) (denial W6) refl (λ known.
-        stepped_by later reading lead.place.parent lead.place.last named None
-        (leads_to from.parent from.last parts.from_named refl lead None
-        (old_left it parts.permit_is parts.uncovered seen.moves.replaced_other
-        (there from.parent from.last parts.from_named refl lead)))) in
-        lstat_refused later later_fresh reader called path stop.0 stop.2 ∙ ap Err stop.1
+        parent_fs : (mount_at nat_eq later lead.place.parent).filesystem ≡ fs
+        parent_fs = cc lead.filesystem
+
+      -- by the new name
+      module _ (lead : LeadsToName world later reading path to.parent to.last) where
+        abbrev parent : Location ℕ
+        parent = lead.place.parent
+
+        named : is_special lead.place.last ≡ false
+        named = named_so to.parent to.last parts.to_named to_fs lead
+
+        shown : (mount_at nat_eq later parent).filesystem ≡ fs
+        shown = parent_fs to.parent to.last parts.to_named to_fs lead
+
+        found_there : IsFound later left_is.0 reading parent
+        found_there = parent_found to.parent to.last parts.to_named to_fs lead
+
+        same_word : name_of lead.place.last ≡ name_of to.last
+        same_word = ap name_of lead.last_is
+
+        there_after : is_some (node_in later fs object) ≡ true
+        there_after =
+            let entry = new_entry parent shown found_there.1 reading lead.place.last named lead.node same_word in
+            ap (λ n. is_some (node_in later n object)) (sym shown) ∙ (tree_here later left_is.0 parent
+            (directory_from_entry (name_of lead.place.last) object (node_at nat_eq later parent) entry)).tree.alive
+            parent.node (name_of lead.place.last) object entry
+
+        abbrev after : Location ℕ
+        after = place_after parent shown
+
+        step_after : stepped nat_eq (looks_of nat_eq later) reading parent lead.place.last ≡ Ok after
+        step_after = new_stepped parent shown found_there.1 reading lead.place.last named found_there.0.0 lead.node
+            same_word
+
+        found_told : (ends_in_slash path ≡ true → is_directory_there nat_eq (looks_of nat_eq world) from ≡ true)
+            → (later_fresh : Fresh ℕ)
+            → (policy nat_eq later_fresh later reader (Lstat path)).answer ≡ Ok (Told (stat_line before))
+        found_told slashed later_fresh =
+            let walk = surely _ _ _ (symlink_named_too (own_leads Never) path lead.place named
+            (at_name to.parent to.last parts.to_named to_fs lead) after (λ known. step_after)
+            (λ slash. let now = directory_after parent shown there_after (slashed slash) in
+            (directory_no_link (node_at nat_eq later after) now, now))) in
+            cc (
+              lstat_of later later_fresh reader called path _ walk.1,
+              told_alike before (node_at nat_eq later after) (kept parent shown there_after),
+            )
+
+        found_listed : is_directory_there nat_eq (looks_of nat_eq world) from ≡ true → (later_fresh : Fresh ℕ)
+            → ((policy nat_eq later_fresh later reader (Ls path)).answer ≡ Ok (Names (names_in before)))
+            ⊎ ((policy nat_eq later_fresh later reader (Ls path)).answer ≡ Err (denial C1))
+        found_listed is_one later_fresh =
+            let now = directory_after parent shown there_after is_one in
+            let walk = surely _ _ _ (directory_named_too (own_leads Never) path lead.place named
+            (at_name to.parent to.last parts.to_named to_fs lead) after (λ known. step_after)
+            (directory_no_link (node_at nat_eq later after) now) now) in
+            listed_or_refused later later_fresh reader called path left_is.1 _ walk.1 (names_in before)
+            (cc ((kept parent shown there_after).names))
+
+      -- by the old one
+      found_gone : LeadsToName world later reading path from.parent from.last → (later_fresh : Fresh ℕ)
+          → (policy nat_eq later_fresh later reader (Lstat path)).answer ≡ Err (denial W6)
+      found_gone lead later_fresh =
+          let named : is_special lead.place.last ≡ false = named_so from.parent from.last parts.from_named refl lead in
+          let stop = symlink_missing (own_leads Missing) path lead.place named
+          (at_name from.parent from.last parts.from_named refl lead) (denial W6) refl (λ known.
+          none_stepped lead.place.parent (parent_fs from.parent from.last parts.from_named refl lead)
+          (parent_found from.parent from.last parts.from_named refl lead).1 reading lead.place.last named lead.node
+          (ap name_of lead.last_is)) in
+          lstat_refused later later_fresh reader called path stop.0 stop.2 ∙ ap Err stop.1
 
 -- what a granted rename did
 module _ {old new : List ℕ} (world : World ℕ) (fresh : Fresh ℕ) (name : TaskName) {task : Task ℕ} {from to : Place ℕ}
@@ -310,8 +295,8 @@ rename_then_found old new world fresh name task from to is plain serves called f
       stat_line (before it parts),
       old_told it parts,
       λ reader reading path called_too. (
-        λ lead slashed. new_told it parts reader reading path called_too lead slashed,
-        λ lead. old_gone it parts reader reading path called_too lead,
+        λ lead slashed. found_told it parts reader reading called_too path lead slashed,
+        λ lead. found_gone it parts reader reading called_too path lead,
       ),
     )
 
@@ -329,6 +314,5 @@ rename_then_listed old new world fresh name task from to is plain serves called 
       names_in (before it parts),
       old_listed it parts directory,
       λ reader reading path called_too lead.
-          new_listed it parts reader reading path called_too lead
-          directory,
+          found_listed it parts reader reading called_too path lead directory,
     )

@@ -1,15 +1,14 @@
 -- A name more leads to the object of the old one.
 use Rattle.std.proofs.Common.{◌≡◌, ◌≢◌, refl, sym, ap, subst, ◌∙◌, inl, inr, true≢false, ℕ, nat_eq, eqb-true, true, false, List, Some, is_some, Ok, option_to_list, Bool}
-use Rattle.vt_spec.proofs.Common.{Change, Done, Fresh, Here, LinkTo, Location, Looks, Lstat, Permit, Place, Task, TaskName, ToChange, Told, World, changed, directory_used, entries_in, entry_named, files_at, is_directory_at, is_special, linking, looks_of, name_of, node_at, not-false, place_walk, policy, raised_task, same_Some, stat_line, symlink_walk, task_called, topmost, with_change}
+use Rattle.vt_spec.proofs.Common.{Change, Done, Fresh, Here, LinkTo, Location, Looks, Lstat, Permit, Place, Task, TaskName, ToChange, Told, World, changed, directory_used, entries_in, entry_named, files_at, is_directory_at, is_special, linking, looks_of, name_of, node_at, not-false, place_walk, policy, raised_task, same_Some, stat_line, symlink_walk, task_called, topmost}
 use Rattle.vt_spec.specs.Machine.Looks as Look
-use Rattle.vt_laws_later_calls.proofs.Common.{IsFileTree, IsGranted, SeesTo, change_of, given_permits_are_seen_to, makes_hard_link, tree_here}
+use Rattle.vt_laws_later_calls.proofs.Common.{IsGranted, SeesTo, makes_hard_link}
 use Rattle.vt_laws_later_calls.specs.LaterPaths.{LinkThenLstat}
 use Rattle.vt_laws_later_calls.specs.Later.{IsAnswered}
-use Rattle.vt_laws_later_calls.proofs.AfterChange.{ChangesTree, all_stays, later_mounts, spent}
+use Rattle.vt_laws_later_calls.proofs.AfterChange.{ChangesTree, changes_there, sees_to, all_stays, later_mounts}
 use Rattle.vt_laws_later_calls.proofs.Granted.{HasSucceeded, has_succeeded}
 use Rattle.vt_laws_later_calls.proofs.Looked.{lstat_of}
 use Rattle.vt_laws_later_calls.proofs.MadeSeen.{Never, new_leaf_parts, no_slash_there, surely}
-use Rattle.vt_laws_later_calls.proofs.OpenedNew.{given_of}
 use Rattle.vt_laws_later_calls.proofs.Readers.{MayLook, all_stands, caller, leads, own_name, raised_credentials, raised_stands, seen_at, seen_there, stepped_by, uncovered}
 use Rattle.vt_laws_later_calls.proofs.WaysChanges.{RightsStay, TreeStays, name_leads, named_other, rights_named, ways_named}
 use Rattle.vt_laws_later_calls.proofs.WaysPlaces.{named_place, symlink_named_too}
@@ -59,28 +58,14 @@ module _ {world : World ℕ} {fresh : Fresh ℕ} {name : TaskName} {old new : Li
   later = (policy nat_eq fresh world name (LinkTo old new)).world
 
   seen_to : SeesTo world it.did.task (ToChange place.parent change)
-  seen_to = subst (SeesTo world it.did.task) parts.permit_is
-      (given_permits_are_seen_to world fresh it.did.task it.did.permit it.is
-      (given_of world fresh name (LinkTo old new) Done it.serves refl refl it.did))
+  seen_to = subst (SeesTo world it.did.task) parts.permit_is (sees_to it)
 
   in_directory : is_directory_at nat_eq world place.parent ≡ true
   in_directory = seen_to.1.name_is_free.in_directory
 
-  something : is_some (node_at nat_eq world place.parent) ≡ true
-  something = directory_used (files_at nat_eq world place.parent).tree place.parent.node in_directory
-
-  tree : IsFileTree (files_at nat_eq world place.parent)
-  tree = tree_here world it.is place.parent in_directory
-
-  asks : change_of fresh world it.did.permit ≡ Some (place.parent, change)
-  asks = cc parts.permit_is
-
-  does : spent it
-      ≡ with_change nat_eq fresh world place.parent change
-  does = cc parts.permit_is
-
   abbrev changes : ChangesTree it place.parent change fresh
-  changes = record { asks = asks; does = does; something = something; may = tt; tree = tree }
+  changes = changes_there it parts.permit_is
+      (directory_used (files_at nat_eq world place.parent).tree place.parent.node in_directory) tt
 
   stay : TreeStays (files_at nat_eq world place.parent).tree
       (changed nat_eq (files_at nat_eq world place.parent) change).tree Never
@@ -105,17 +90,14 @@ module _ {world : World ℕ} {fresh : Fresh ℕ} {name : TaskName} {old new : Li
   there reader reading called stands looks later_fresh =
       let own = own_name later reader reading called in
       let at_name = named_place (looks_of nat_eq world) it.did.task new place parts.walked parts.named in
-      let walk = surely _ _ _ (symlink_named_too
-      (leads changes stay reading own stands rights looks) new
-      place parts.named at_name
-      (record { mount = place.parent.mount; node = object.node }) (λ known.
+      let walk = surely _ _ _ (symlink_named_too (leads changes stay reading own stands rights looks) new
+      place parts.named at_name (record { mount = place.parent.mount; node = object.node }) (λ known.
       stepped_by later reading place.parent place.last parts.named (Some object.node)
       (ap (λ o. entry_named (name_of place.last) (entries_in o)) (seen_there changes stay reading own stands known)
       ∙ name_leads (files_at nat_eq world place.parent) Never place.parent.node
       (name_of place.last) object.node in_directory seen_to.1.name_is_free.free)
       ∙ ap Ok (ap (λ mounts. topmost nat_eq mounts (record { mount = place.parent.mount; node = object.node }))
-      (later_mounts it changes)
-      ∙ uncovered world it.is (record { mount = place.parent.mount; node = object.node })
+      (later_mounts it changes) ∙ uncovered world it.is (record { mount = place.parent.mount; node = object.node })
       (sym (ap (is_directory_at nat_eq world) same_object) ∙ parts.no_directory)))
       (λ slash. absurd (true≢false (sym slash ∙ at_name.slash_is ∙ parts.no_slash)))) in
       lstat_of later later_fresh reader called new _ walk.1 ∙ ap (λ o. Ok (Told (stat_line o)))

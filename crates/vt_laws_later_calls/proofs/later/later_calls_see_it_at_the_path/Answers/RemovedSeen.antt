@@ -1,19 +1,20 @@
 -- The name of a directory that was removed is missing.
-use Rattle.std.proofs.Common.{◌≡◌, refl, sym, ap, subst, ◌∙◌, inl, inr, ◌⊎◌, ℕ, nat_eq, true, false, List, Some, None, is_some, Ok, Err, Bool}
-use Rattle.vt_spec.proofs.Common.{Done, Fresh, IsWorld, Location, Looks, Lstat, Permit, Place, Rmdir, Task, TaskName, ToRemoveDirectory, World, denial, execute_right, is_directory_at, is_special, looks_of, may, mount_at, name_of, node_allows, node_at, object_there, old_walk, place_walk, policy, raised_task, same_Some, special_word, task_called}
-use Rattle.vt_laws_later_calls.proofs.Common.{Deny, IsGranted, IsPlain, W4, W6, W8, removes_directory, same_location_itself}
+use Rattle.std.proofs.Common.{◌≡◌, refl, sym, ap, subst, ◌∙◌, inl, inr, ◌⊎◌, ℕ, nat_eq, false, List, Some, None, Ok, Err, Bool}
+use Rattle.vt_spec.proofs.Common.{Done, Fresh, IsWorld, Location, Looks, Lstat, Permit, Place, Rmdir, Task, TaskName, ToRemoveDirectory, World, denial, is_special, looks_of, name_of, object_there, old_walk, place_walk, policy, raised_task, same_Some, special_word, task_called}
+use Rattle.vt_laws_later_calls.proofs.Common.{Deny, IsGranted, IsPlain, W6, W8, removes_directory, same_location_itself}
 use Rattle.vt_laws_later_calls.specs.Later.{IsOneInode}
 use Rattle.vt_laws_later_calls.specs.LaterPaths.{RmdirThenLstat}
 use Rattle.vt_laws_later_calls.proofs.later.AfterRemoval.{caller, is_left, mounts_seen, name_left, objects_stay, own_task, rights_left, seen_to}
 use Rattle.vt_laws_later_calls.proofs.Granted.{HasSucceeded, has_succeeded}
-use Rattle.vt_laws_later_calls.proofs.Looked.{lstat_refused, search_all}
+use Rattle.vt_laws_later_calls.proofs.Looked.{lstat_refused}
 use Rattle.vt_laws_later_calls.proofs.Readers.{MayLook, all_stands, own_name, raised_credentials, raised_stands, stepped_by}
 use Rattle.vt_laws_later_calls.proofs.later.RemovalFits.{Fits, IsOutside, fits_ways}
 use Rattle.vt_laws_later_calls.proofs.later.later_calls_see_it_at_the_path.Answers.Unlinked.{Missing, old_parts}
 use Rattle.vt_laws_later_calls.proofs.Ways.{LeadsToo, same_end}
-use Rattle.vt_laws_later_calls.proofs.later.WaysLeft.{Known, SeesStill, node_here, ways_lead}
+use Rattle.vt_laws_later_calls.proofs.later.LeadsStill.{leads_still}
+use Rattle.vt_laws_later_calls.proofs.later.WaysLeft.{there_later, Known, SeesStill, node_here}
 use Rattle.vt_laws_later_calls.proofs.WaysPlaces.{named_place, symlink_missing}
-use Rattle.vt_laws_later_calls.proofs.WaysStay.{StandsAs, node_in}
+use Rattle.vt_laws_later_calls.proofs.WaysStay.{StandsAs}
 
 -- a name may be missing, or a directory lost
 abbrev MissingOrLost : Deny → Type 0
@@ -54,7 +55,7 @@ module _ {world : World ℕ} {fresh : Fresh ℕ} {name : TaskName} {path : List 
     abbrev is_later : IsWorld nat_eq later × IsPlain later
     is_later = is_left it parts.permit_is
 
-    abbrev still : SeesStill it.is it.plain is_later.0 is_later.1 it.did.task reading Refused Fit
+    abbrev still : SeesStill it.is is_later it.did.task reading Refused Fit
     still = record {
       called = own_task it parts.permit_is;
       called_later = own_name later reader reading called;
@@ -65,39 +66,11 @@ module _ {world : World ℕ} {fresh : Fresh ℕ} {name : TaskName} {path : List 
     }
 
     abbrev KnownSo : Location ℕ → Type 0
-    KnownSo = Known it.is it.plain is_later.0 is_later.1 it.did.task reading still
-
-    here_is : (here : Location ℕ) → KnownSo here → node_at nat_eq later here
-        ≡ node_in later (mount_at nat_eq world here).filesystem here.node
-    here_is here known = node_here it.is it.plain is_later.0 is_later.1 it.did.task reading still here
-        known.0
-
-    now_there : (here : Location ℕ) → KnownSo here
-        → is_some (node_in later (mount_at nat_eq world here).filesystem here.node) ≡ true
-    now_there here known = cc (here_is here known, known.0.1.1)
-
-    searched : (here : Location ℕ) → KnownSo here → is_directory_at nat_eq world here ≡ true
-        → may (looks_of nat_eq world) it.did.task here execute_right ≡ true
-        → (may (looks_of nat_eq later) reading here execute_right ≡ true)
-        ⊎ ((may (looks_of nat_eq later) reading here execute_right ≡ false) × Refused (denial W4))
-    searched here known directory e = inl (by looks)
-      where
-        by : MayLook it.did.task reading → may (looks_of nat_eq later) reading here execute_right ≡ true
-        by (inr all) = search_all reading.credentials all (node_at nat_eq later here)
-            (cc (
-              here_is here known,
-              (objects_stay it parts.permit_is Refused missing).directory
-                  (mount_at nat_eq world here).filesystem here.node known.0.0.1 (now_there here known),
-            ))
-        by (inl same) = ap (λ who. node_allows who execute_right (node_at nat_eq later here)) same
-            ∙ ap (node_allows it.did.task.credentials execute_right) (here_is here known)
-            ∙ rights_left it parts.permit_is (mount_at nat_eq world here).filesystem here.node
-            (now_there here known) known.0.0.1 it.did.task.credentials execute_right ∙ e
+    KnownSo = Known it.is is_later it.did.task reading still
 
     module _ (root_fits : Fit it.did.task.root) (directory_fits : Fit it.did.task.directory) where
       leads : LeadsToo (looks_of nat_eq world) (looks_of nat_eq later) it.did.task reading Refused KnownSo
-      leads = ways_lead it.is it.plain is_later.0 is_later.1 it.did.task reading still searched root_fits
-          directory_fits
+      leads = leads_still still looks (rights_left it parts.permit_is) root_fits directory_fits
 
       gone : (later_fresh : Fresh ℕ)
           → (deny : Deny) × Refused deny × ((policy nat_eq later_fresh later reader (Lstat path)).answer ≡ Err deny)
@@ -105,15 +78,13 @@ module _ {world : World ℕ} {fresh : Fresh ℕ} {name : TaskName} {path : List 
           let stop = symlink_missing leads path place parts.named (named_place (looks_of nat_eq world) it.did.task path
           place parts.walked parts.named) (denial W6) missing (λ known. stepped_by later reading place.parent place.last
           parts.named None (cc (
-            here_is place.parent known,
-            name_left it parts.permit_is
-                (now_there place.parent known),
+            node_here it.is is_later it.did.task reading still place.parent known.0,
+            name_left it parts.permit_is (there_later it.is is_later it.did.task reading still place.parent known.0),
           ))) in
           (stop.0.deny, stop.1, lstat_refused later later_fresh reader called path stop.0 stop.2)
 
   abbrev OutsideOf : Task ℕ → Location ℕ → Type 0
-  OutsideOf reading here = (roots : reading.root ≡ it.did.task.root)
-      → IsOutside it parts.permit_is reading roots here
+  OutsideOf reading here = (roots : reading.root ≡ it.did.task.root) → IsOutside it parts.permit_is reading roots here
 
   root_outside : (reading : Task ℕ) → OutsideOf reading it.did.task.root
   root_outside reading roots removed = cc (same_location_itself it.did.task.root)
@@ -181,5 +152,4 @@ rmdir_then_lstat path world fresh name task place is plain serves called walk gr
 
     caller_here : task_called (policy nat_eq fresh world name (Rmdir path)).world name
         ≡ Some (raised_task name it.did.task)
-    caller_here =
-        caller it parts.permit_is
+    caller_here = caller it parts.permit_is

@@ -1,15 +1,15 @@
 -- A name that was removed is missing.
 use Rattle.std.proofs.Common.{◌≡◌, refl, sym, ap, subst, ◌∙◌, inl, inr, ℕ, nat_eq, true, false, not, ◌&&◌, List, [], ◌∷◌, Some, None, is_some, Ok, Err, Bool}
-use Rattle.vt_spec.proofs.Common.{changed, Change, Done, Fresh, Looks, Lstat, Permit, Place, Task, TaskName, ToChange, Unlink, World, apply, denial, directory_from_entry, directory_used, files_at, is_directory_at, is_directory_there, is_special, looks_of, name_of, node_at, object_there, old_walk, place_walk, policy, raised_task, removing, same_Some, task_called}
-use Rattle.vt_laws_later_calls.proofs.Common.{Deny, IsFileTree, IsGranted, SeesTo, W3, W6, change_of, given_permits_are_seen_to, tree_here, unlinks}
+use Rattle.vt_spec.proofs.Common.{FileTree, changed, Change, Done, Fresh, Looks, Lstat, Permit, Place, Task, TaskName, ToChange, Unlink, World, denial, directory_from_entry, directory_used, files_at, is_directory_at, is_directory_there, is_special, looks_of, name_of, object_there, old_walk, place_walk, policy, raised_task, removing, same_Some, task_called}
+use Rattle.vt_laws_later_calls.proofs.Common.{Deny, IsGranted, SeesTo, W3, W6, unlinks}
 use Rattle.vt_laws_later_calls.specs.LaterPaths.{UnlinkThenLstat}
 use Rattle.vt_laws_later_calls.proofs.Granted.{HasSucceeded, has_succeeded}
 use Rattle.vt_laws_later_calls.proofs.Looked.{lstat_refused}
-use Rattle.vt_laws_later_calls.proofs.OpenedNew.{given_of}
 use Rattle.vt_laws_later_calls.proofs.Readers.{MayLook, all_stands, caller, leads, own_name, raised_credentials, raised_stands, seen_there, stepped_by}
 use Rattle.vt_laws_later_calls.proofs.Ways.{both_walked, walk_passing}
-use Rattle.vt_laws_later_calls.proofs.AfterChange.{ChangesTree}
-use Rattle.vt_laws_later_calls.proofs.WaysChanges.{TreeStays, name_missing, rights_removed, ways_removed}
+use Rattle.vt_laws_later_calls.proofs.AfterChange.{ChangesTree, changes_there, sees_to}
+use Rattle.vt_laws_later_calls.proofs.WaysChanges.{TreeStays}
+use Rattle.vt_laws_later_calls.proofs.later.WaysRemoved.{removed_name, removed_rights, ways_removed}
 use Rattle.vt_laws_later_calls.proofs.WaysPlaces.{named_place, symlink_missing}
 use Rattle.vt_laws_later_calls.proofs.WaysStay.{StandsAs}
 
@@ -55,49 +55,36 @@ module _ {world : World ℕ} {fresh : Fresh ℕ} {name : TaskName} {path : List 
   later = (policy nat_eq fresh world name (Unlink path)).world
 
   seen_to : SeesTo world it.did.task (ToChange place.parent change)
-  seen_to = subst (SeesTo world it.did.task) parts.permit_is
-      (given_permits_are_seen_to world fresh it.did.task it.did.permit it.is
-      (given_of world fresh name (Unlink path) Done it.serves refl refl it.did))
+  seen_to = subst (SeesTo world it.did.task) parts.permit_is (sees_to it)
 
   in_directory : is_directory_at nat_eq world place.parent ≡ true
   in_directory = directory_from_entry (name_of place.last) (object_there place).node
       ((files_at nat_eq world place.parent).tree.node place.parent.node) seen_to.1.named
 
-  something : is_some (node_at nat_eq world place.parent) ≡ true
-  something = directory_used (files_at nat_eq world place.parent).tree place.parent.node in_directory
-
-  tree : IsFileTree (files_at nat_eq world place.parent)
-  tree = tree_here world it.is place.parent in_directory
-
   abbrev changes : ChangesTree it place.parent change fresh
-  changes = record {
-    asks = ap (change_of fresh world) parts.permit_is;
-    does = ap (λ p. (apply nat_eq fresh world it.did.task p).world) parts.permit_is;
-    something = something;
-    may = tt;
-    tree = tree;
-  }
+  changes = changes_there it parts.permit_is
+      (directory_used (files_at nat_eq world place.parent).tree place.parent.node in_directory) tt
 
-  stay : TreeStays (files_at nat_eq world place.parent).tree
-      (changed nat_eq (files_at nat_eq world place.parent) change).tree Missing
-  stay = ways_removed (files_at nat_eq world place.parent) Missing place.parent.node (name_of place.last)
-      (object_there place).node seen_to.1.named seen_to.2 refl
+  abbrev files : FileTree ℕ
+  files = files_at nat_eq world place.parent
+
+  abbrev entry : List ℕ
+  entry = name_of place.last
+
+  stay : TreeStays files.tree (changed nat_eq files change).tree Missing
+  stay = ways_removed files place.parent.node entry (object_there place).node seen_to.1 seen_to.2 Missing refl
 
   gone : (reader : TaskName) (reading : Task ℕ) → task_called later reader ≡ Some reading
       → StandsAs it.did.task reading → MayLook it.did.task reading → (later_fresh : Fresh ℕ)
       → (policy nat_eq later_fresh later reader (Lstat path)).answer ≡ Err (denial W6)
   gone reader reading called stands looks later_fresh =
-      let stop = symlink_missing (leads changes stay reading (own_name later reader reading called) stands
-      (rights_removed (files_at nat_eq world place.parent) Missing place.parent.node (name_of place.last)
-      (object_there place).node seen_to.1.named seen_to.2) looks) path place parts.named
-      (named_place (looks_of nat_eq world) it.did.task path place parts.walked parts.named) (denial W6) refl
-      (λ known. stepped_by later reading place.parent place.last parts.named None
-      (cc (
-        seen_there changes stay reading (own_name later reader reading called) stands known,
-        name_missing
-            (files_at nat_eq world place.parent) Missing place.parent.node (name_of place.last)
-            (object_there place).node
-            seen_to.1.named seen_to.2,
+      let own = own_name later reader reading called in
+      let rights = removed_rights files place.parent.node entry (object_there place).node seen_to.1 in
+      let at = named_place (looks_of nat_eq world) it.did.task path place parts.walked parts.named in
+      let stop = symlink_missing (leads changes stay reading own stands rights looks) path place parts.named at
+      (denial W6) refl (λ known. stepped_by later reading place.parent place.last parts.named None (cc (
+        seen_there changes stay reading own stands known,
+        removed_name files place.parent.node entry (object_there place).node seen_to.1,
       ))) in
       lstat_refused later later_fresh reader called path stop.0 stop.2 ∙ ap Err stop.1
 

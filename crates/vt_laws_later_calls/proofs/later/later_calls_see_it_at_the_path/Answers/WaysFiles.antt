@@ -109,8 +109,7 @@ file_place looks task (suc depth) start text slash end e special =
 module _ {looks later : Looks ℕ} {task reader : Task ℕ} {Refused : Deny → Type 0} {Known : Location ℕ → Type 0}
     (leads : LeadsToo looks later task reader Refused Known)
     (bare : (object : Location ℕ) (text : List ℕ) → symlink_text (looks.node object) ≡ Some text
-    → topmost looks object ≡ object)
-    (root_directory : is_directory_at looks task.root ≡ true) where
+    → topmost looks object ≡ object) (root_directory : is_directory_at looks task.root ≡ true) where
   -- words, of which the last leads to what is there now, which is no link
   named_from : (depth : ℕ) (start here : Here ℕ) (word : List ℕ) (front : List (List ℕ)) (next : Location ℕ)
       → suc start.left ≤ 41 → suc start.left ≤ depth
@@ -160,8 +159,7 @@ module _ {looks later : Looks ℕ} {task reader : Task ℕ} {Refused : Deny → 
       no_slash ends known steps =
       through leads (λ r. EndsThere Refused r next left)
       (words_walked nat_eq later reader (followed_to (suc depth) later reader) (at start steps) front) _ here
-      ((words_lead leads 41
-      (suc depth) start front here few few_too walked).1 known steps) (λ steps_there known_there.
+      ((words_lead leads 41 (suc depth) start front here few few_too walked).1 known steps) (λ steps_there known_there.
       through leads (λ r. EndsThere Refused r next left)
       (word_walked nat_eq later reader (at here steps_there) (last_word word)) _ link (word_too leads here link
       (last_word word) steps_there known_there searched same
@@ -195,8 +193,7 @@ module _ {looks later : Looks ℕ} {task reader : Task ℕ} {Refused : Deny → 
         location = start_same leads here.location here.location
             inner refl i;
         left = link.left - 1;
-        steps = (symlink_start nat_eq later reader here.location
-            (at link steps_link) inner).steps;
+        steps = (symlink_start nat_eq later reader here.location (at link steps_link) inner).steps;
       }))) (finish _ ends_so)
 
   -- what a walk to a file is to find

@@ -1,10 +1,9 @@
 -- Bytes that were written at a path are read there.
 use Rattle.std.proofs.Common.{◌≡◌, refl, sym, ap, subst, ◌∙◌, inl, inr, ◌⊎◌, ℕ, nat_eq, Bool, true, false, cond, ◌||◌, List, [], ◌∷◌, length, reverse, Option, Some, None, is_some, ok_or, Ok, Err, nat_lt, arith}
-use Rattle.vt_spec.proofs.Common.{Bytes, Change, Content, Directory, Done, Fresh, IsWorld, Location, Looks, Node, Permit, Place, Read, Regular, SetBytes, Symlink, Task, TaskName, ToChange, Whiteout, World, Write, allows, and_then-Ok, changed, common_steps, denial, ends_in_slash, file_mode, file_walk, file_word_rules, files_at, is_absolute, is_directory_at, is_directory_node, is_kind, is_kind_in, is_special, kind_of, largest_file, looks_of, make_permit, make_rules, new_attr, new_file, node_at, node_with_bytes, object_walk, or_parts, passing, path_text, policy, raised_task, read_right, rewrite_rules, same_Some, same_ok, stepped, symlink_text, task_called, unnumbered, walk_end, walk_start, with_change, words, words_walked, write_permit, written_permit}
-use Rattle.vt_laws_later_calls.proofs.Common.{cases_Option, Attr, C1, Deny, E6, Ends, File, IsEndPlace, IsFileTree, IsPlain, W6, White, change_of, changed_node_there, file_walk_end, file_walked, new_name_rules, others_are_files, own_directory_found, root_found}
+use Rattle.vt_spec.proofs.Common.{Bytes, Change, Content, Directory, Done, Fresh, IsWorld, Location, Looks, Node, Permit, Place, Read, Regular, SetBytes, Symlink, Task, TaskName, ToChange, Whiteout, World, Write, allows, and_then-Ok, changed, common_steps, denial, ends_in_slash, file_mode, file_walk, file_word_rules, files_at, is_absolute, is_directory_at, is_directory_node, is_kind, is_kind_in, is_special, kind_of, largest_file, looks_of, make_permit, make_rules, new_attr, new_file, node_at, node_with_bytes, object_walk, or_parts, passing, path_text, policy, raised_task, read_right, rewrite_rules, same_Some, same_ok, stepped, symlink_text, task_called, unnumbered, walk_end, walk_start, words, words_walked, write_permit, written_permit}
+use Rattle.vt_laws_later_calls.proofs.Common.{cases_Option, Attr, C1, Deny, E6, Ends, File, IsEndPlace, IsPlain, W6, White, changed_node_there, file_walk_end, file_walked, new_name_rules, others_are_files, own_directory_found, root_found}
 use Rattle.vt_laws_later_calls.specs.LaterPaths.{IsAnsweredUnless, IsSeenByAll, WriteThenRead}
-use Rattle.vt_laws_later_calls.proofs.AfterChange.{ChangesTree, all_stays, later_is, spent}
-use Rattle.vt_laws_later_calls.proofs.AttrSeen.{tree_there}
+use Rattle.vt_laws_later_calls.proofs.AfterChange.{ChangesTree, changes_there, all_stays, later_is}
 use Rattle.vt_laws_later_calls.proofs.Granted.{HasSucceeded, has_succeeded}
 use Rattle.vt_laws_later_calls.proofs.Looked.{read_all, read_of}
 use Rattle.vt_laws_later_calls.proofs.MadeSeen.{Never, made_leads, maker, new_stepped, node_seen, surely}
@@ -133,12 +132,9 @@ module _ {world : World ℕ} {fresh : Fresh ℕ} {name : TaskName} {path bytes :
         let self = own_name left reader reading called in
         let seen = node_seen it permit reading self stands looks in
         let finds = file_found left it.is own path walk named no_slash
-        (record { mount = place.parent.mount; node = fresh 0 })
-        (made_leads it permit reading self stands looks)
-        (new_stepped it permit reading self stands looks place.last named refl)
-        (ap symlink_text seen) in
-        read_of left later_fresh reader called path left_plain _ finds.1.1
-        (new_attr it.did.task file_mode) bytes seen
+        (record { mount = place.parent.mount; node = fresh 0 }) (made_leads it permit reading self stands looks)
+        (new_stepped it permit reading self stands looks place.last named refl) (ap symlink_text seen) in
+        read_of left later_fresh reader called path left_plain _ finds.1.1 (new_attr it.did.task file_mode) bytes seen
 
     new_maker : task_called left name ≡ Some (raised_task name it.did.task)
     new_maker = maker it permit
@@ -162,18 +158,8 @@ module _ {world : World ℕ} {fresh : Fresh ℕ} {name : TaskName} {path bytes :
     old = file_of (node_at nat_eq world file) (others_are_files (node_at nat_eq world file) something
         (ends.2 file object).1 no_directory no_whiteout)
 
-    tree : IsFileTree (files_at nat_eq world file)
-    tree = tree_there world it.is it.plain file something
-
-    asks : change_of fresh world it.did.permit ≡ Some (file, change)
-    asks = cc
-
-    does : spent it
-        ≡ with_change nat_eq fresh world file change
-    does = cc
-
     abbrev changes : ChangesTree it file change fresh
-    changes = record { asks = asks; does = does; something = something; may = tt; tree = tree }
+    changes = changes_there it permit something tt
 
     stay : TreeStays (files_at nat_eq world file).tree (changed nat_eq (files_at nat_eq world file) change).tree Never
     stay = ways_with_bytes (files_at nat_eq world file) Never file.node bytes
@@ -191,8 +177,7 @@ module _ {world : World ℕ} {fresh : Fresh ℕ} {name : TaskName} {path bytes :
         let seen : node_at nat_eq left file ≡ Some (record { attr = old.0; content = Regular bytes }) =
         seen_at changes stay
         reading self stands file.node ∙ all_stays it changes refl
-        file.node
-        ∙ changed_node_there (files_at nat_eq world file) file.node (node_with_bytes bytes)
+        file.node ∙ changed_node_there (files_at nat_eq world file) file.node (node_with_bytes bytes)
         ∙ ap (node_with_bytes bytes) old.2 in
         let before : stepped nat_eq (looks_of nat_eq world) it.did.task place.parent place.last ≡ Ok file =
         ap (stepped nat_eq (looks_of nat_eq world) it.did.task place.parent) (named_last place.last named)
@@ -222,8 +207,7 @@ write_then_read path bytes world fresh name task is plain serves called granted 
       let rules = passing (make_rules (looks_of nat_eq world) it.did.task parts.0 (unnumbered parts.0
       (new_file it.did.task file_mode bytes))) _ it.did.permit small.1 in
       let permit_is = sym (same_ok _ it.did.permit rules.1) in
-      seen (new_attr it.did.task file_mode)
-      (new_read it parts.1 words_pass.0 words_pass.1 permit_is)
+      seen (new_attr it.did.task file_mode) (new_read it parts.1 words_pass.0 words_pass.1 permit_is)
       (new_maker it parts.1 words_pass.0 words_pass.1 permit_is)
   | inr its ↦ let rules = passing (rewrite_rules (looks_of nat_eq world) it.did.task its.0 bytes) (Ok (ToChange its.0
       (SetBytes its.0.node bytes))) it.did.permit

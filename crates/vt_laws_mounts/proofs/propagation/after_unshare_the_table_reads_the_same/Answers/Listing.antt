@@ -17,8 +17,7 @@ map_alike f g h (y ∷ ys) same = cc (same y (inl refl), map_alike f g h ys (λ 
 
 pub map_both : {A C : Type 0} (f g : A → C) (xs : List A) → ((x : A) → Among x xs → g x ≡ f x) → map g xs ≡ map f xs
 map_both f g [] same = refl
-map_both f g (y ∷ ys) same =
-    cc (same y (inl refl), map_both f g ys (λ x m. same x (inr m)))
+map_both f g (y ∷ ys) same = cc (same y (inl refl), map_both f g ys (λ x m. same x (inr m)))
 
 -- the place of a new number among new numbers
 new_place : (new : ℕ → ℕ) (copy : Mount ℕ → Mount ℕ) → ((mount : Mount ℕ) → (copy mount).number ≡ new mount.number)

@@ -1,2 +1,0 @@
--- What the proofs of src/undone.rt use.
-pub mod Beneath
