@@ -18,7 +18,7 @@ DenialChangesNothing =
     → (policy nat_eq fresh world name call).answer ≡ Err deny
     → (policy nat_eq fresh world name call).world ≡ world
 
--- a line of a script that is answered by a denial leaves the world, in each version of the language
+-- a line of a script that is answered by a denial leaves the world as it was, in each version of the language
 abbrev pub DeniedLineChangesNothing : Type 0
 DeniedLineChangesNothing =
     (grammar : Grammar) (world : World ℕ) (line : List ℕ) (fresh : Option (Fresh ℕ)) (outcome : Outcome ℕ) (deny : Deny)
@@ -26,19 +26,19 @@ DeniedLineChangesNothing =
     → outcome.answer ≡ Err deny
     → outcome.world ≡ world
 
--- a line that was refused memory leaves the world, whatever it asks for: ENOMEM
+-- a line that was refused memory leaves the world as it was, whatever it asks for: ENOMEM
 abbrev pub RefusedMemoryChangesNothing : Type 0
 RefusedMemoryChangesNothing =
     (grammar : Grammar) (world : World ℕ) (line : List ℕ)
     → step_world world (line_step nat_eq grammar world line None) ≡ world
 
--- a call that only looks leaves the world, granted or refused: no number of a change is raised either (profile)
+-- a call that only looks leaves the world as it was, granted or refused: no change number is raised (profile)
 abbrev pub LookChangesNothing : Type 0
 LookChangesNothing =
     (fresh : Fresh ℕ) (world : World ℕ) (name : TaskName) (call : Call)
     → only_looks call ≡ true
     → (policy nat_eq fresh world name call).world ≡ world
 
--- what is asked of the machine itself leaves the world
+-- what is asked of the machine itself leaves the world as it was
 abbrev pub DirectiveChangesNothing : Type 0
 DirectiveChangesNothing = (world : World ℕ) (directive : Directive) → (directed nat_eq world directive).world ≡ world

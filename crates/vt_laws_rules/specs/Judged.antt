@@ -18,7 +18,7 @@ use Rattle.vt_spec.specs.Machine.Settled.{settled}
 use Rattle.vt_spec.specs.Machine.Walking.{directory_walk, file_walk, symlink_walk, new_leaf_walk, new_walk, object_walk, old_leaf_walk, old_walk}
 use Rattle.vt_spec.specs.Machine.World.{Layer, Overlay, Task, World, task_called}
 
--- the outcome of each call is its judgement, then its permit applied; a refused call leaves the world
+-- the outcome of each call is its judgement, then its permit applied; a refused call leaves the world as it was
 abbrev pub CallIsJudgedThenApplied : Type 0
 CallIsJudgedThenApplied =
     (fresh : Fresh ℕ) (world : World ℕ) (task : Task ℕ) (call : Call)

@@ -1,8 +1,8 @@
 //! Judgement and application of calls.
 ghost use Rattle.vt_laws_rules.specs.Judged.{AlikeAreJudgedAlike, AlikeAreWalkedAlike, CallIsJudgedThenApplied, LastStepRaisesNumbersAlone, PolicyJudgesThenApplies};
 
-/// Each of the 39 `calls` leaves the world if `judge` refuses it, else `apply` applies its permit. The `policy` does so
-/// if the task exists (else S2), then sweeps the world and raises change numbers.
+/// Each of the 39 `calls` leaves the world as it was if `judge` refuses it, else `apply` applies its permit. The
+/// `policy` does so if the task exists (else S2), then sweeps the world and raises change numbers.
 pub fn calls_are_judged_then_applied()
     ensures calls { CallIsJudgedThenApplied }
     ensures policy { PolicyJudgesThenApplies }

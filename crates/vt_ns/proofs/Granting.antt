@@ -44,8 +44,7 @@ serves value fresh supplied = subst (Serves nat_eq (world_of value)) supplied.1
 -- a task is found under its own name
 found_again : (value : WorldValue) (name : TaskName) (task : Task ℕ) → task_called (world_of value) name ≡ Some task
     → task_called (world_of value) task.name ≡ Some task
-found_again value name task called = subst (λ one. task_called (world_of value) one ≡ Some task)
-    (name_found (world_of value) name task called) called
+found_again value name task called = cc (name_found (world_of value) name task called)
 
 module _ (value : WorldValue) (name : TaskName) (permit : Permit ℕ) (granted : Grants value name permit) where
   -- the call is given its permit, whatever numbers it is handed,

@@ -1,14 +1,9 @@
 -- Layers of an overlay that is to be mounted, where no live overlay has an upper layer: EBUSY of mount(2).
-use Rattle.std.proofs.Common.{◌≡◌, ◌&&◌, ◌++◌, All, ap, filter, nat_eq, refl, sym, ◌∙◌, ℕ, Bool, true, false, List, [], ◌∷◌, Option, Some, None, flat_map}
-use Rattle.vt_spec.proofs.Common.{All-head, All-tail, Filesystem, Layer, Location, Looks, Overlay, Task, World, filesystem_numbered, in_use, is_overlay, lies_or_counts_under, list_any, of_overlay, overlaps_one_of, overlay_at, overlay_or, upper_and_work}
+use Rattle.std.proofs.Common.{◌≡◌, ◌&&◌, All, filter, nat_eq, refl, ℕ, false, List, [], ◌∷◌, flat_map, ◌++◌, ap, sym, ◌∙◌, Option, Some, None}
+use Rattle.vt_spec.proofs.Common.{All-head, All-tail, Filesystem, Layer, Location, Looks, Task, World, filesystem_numbered, in_use, is_overlay, lies_or_counts_under, list_any, of_overlay, overlaps_one_of, overlay_at, upper_and_work, and-false, Overlay, overlay_or}
 use Rattle.vt_layers.specs.LayersValue.{lowers_alone}
 use Rattle.vt_ns.proofs.WithoutUppers.{WritesToNone, all_write_to_none}
 use Rattle.vt_ns.proofs.Common.{WorldValue, world_of}
-
--- nothing overlaps one of no layers
-none_false : (b : Bool) → (b && false) ≡ false
-none_false true = refl
-none_false false = refl
 
 module _ (world : World ℕ) where
   overlaps_none : (layer : Layer ℕ) → overlaps_one_of nat_eq world [] layer ≡ false
@@ -16,7 +11,7 @@ module _ (world : World ℕ) where
     by : (numbers : List ℕ)
         → list_any (λ object. lies_or_counts_under nat_eq world layer.filesystem object layer && false) numbers ≡ false
     by [] = refl
-    by (number ∷ rest) = rw (none_false (lies_or_counts_under nat_eq world layer.filesystem number layer)) (by rest)
+    by (number ∷ rest) = rw (and-false (lies_or_counts_under nat_eq world layer.filesystem number layer)) (by rest)
 
   none_overlap : (layers : List (Layer ℕ)) → list_any (overlaps_one_of nat_eq world []) layers ≡ false
   none_overlap [] = refl

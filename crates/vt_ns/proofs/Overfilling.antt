@@ -1,6 +1,6 @@
 -- Whether a namespace has too many mounts once a tree is attached: ENOSPC of mount(2).
 use Rattle.std.proofs.Common.{◌≡◌, refl, sym, ap, subst, ◌∙◌, ⊎_elim, ◌+◌, ◌-◌, ◌*◌, ℕ, nat_eq, Bool, true, false, true≢false, List, [], ◌∷◌, map, filter, find, length, take, Option, Some, None, is_some, option_map, unwrap_or, arith, take_all, Contains, drop}
-use Rattle.vt_spec.proofs.Common.{Among, Copies, Location, Mount, MountFlags, NamespaceInvariants, Overlay, ToBind, ToMountOverlay, ToMountPlain, ToMove, World, all_from_among, attached_by, bind_tree, contains_from_among, copies_from, evens, group_of, has_too_many, length-map, mount_at, mount_numbered, mount_tree, new_mount, no_mount, odds, overlay_filesystem, parts_of, plain_filesystem, receivers, receivers_of, rest_of, takes_part, with_new_filesystem}
+use Rattle.vt_spec.proofs.Common.{Filesystem, Among, Copies, Location, Mount, MountFlags, NamespaceInvariants, Overlay, ToBind, ToMountOverlay, ToMountPlain, ToMove, World, all_from_among, attached_by, bind_tree, contains_from_among, copies_from, evens, group_of, has_too_many, length-map, mount_at, mount_numbered, mount_tree, new_mount, no_mount, odds, overlay_filesystem, parts_of, plain_filesystem, receivers, receivers_of, rest_of, takes_part, with_new_filesystem}
 use Rattle.vt_location.specs.declared.mounts.Mount.{Mount as Kept}
 use Rattle.vt_location.specs.MountValue.{propagation_of}
 use Rattle.vt_location.specs.declared.mounts.Propagation.{Propagation}
@@ -183,6 +183,18 @@ TellsAdded value place size too_many =
     → too_many ≡ has_too_many nat_eq (attached_by nat_eq one copies place false added)
 
 module _ (value : WorldValue) (held : IsHeld value) (place : Location ℕ) (too_many : Bool) where
+  -- a filesystem more changes no namespace
+  larger_so : (filesystem : Filesystem ℕ)
+      → NamespaceInvariants nat_eq (with_new_filesystem (world_of value) filesystem)
+  larger_so filesystem = let is = held.in_world.namespaces in record {
+    one_namespace = is.one_namespace;
+    mounts_listed = is.mounts_listed;
+    tasks_listed = is.tasks_listed;
+    root_mounts = is.root_mounts;
+    namespaces_live = is.namespaces_live;
+    few_mounts = is.few_mounts;
+  }
+
   -- code tells whether a new mount overfills a namespace
   pub plain_overfills : (flags : MountFlags) → TellsAdded value place 1 too_many
       → too_many ≡ overfills_of value (ToMountPlain place flags)
@@ -191,15 +203,8 @@ module _ (value : WorldValue) (held : IsHeld value) (place : Location ℕ) (too_
       let filesystem = plain_filesystem nat_eq fresh in
       let larger = with_new_filesystem (world_of value) filesystem in
       let added = new_mount filesystem.number filesystem.files.tree.root flags ∷ [] in
-      let is = held.in_world.namespaces in
-      tells larger (copies_from nat_eq (odds fresh) (parts_of nat_eq larger place) added) added refl (record {
-        one_namespace = is.one_namespace;
-        mounts_listed = is.mounts_listed;
-        tasks_listed = is.tasks_listed;
-        root_mounts = is.root_mounts;
-        namespaces_live = is.namespaces_live;
-        few_mounts = is.few_mounts;
-      }) (same_parts (world_of value) held.in_world filesystem place) refl
+      tells larger (copies_from nat_eq (odds fresh) (parts_of nat_eq larger place) added) added refl (larger_so filesystem)
+      (same_parts (world_of value) held.in_world filesystem place) refl
 
   -- whether a new overlay does
   pub overlay_overfills : (overlay : Overlay ℕ) (flags : MountFlags) → TellsAdded value place 1 too_many
@@ -209,15 +214,8 @@ module _ (value : WorldValue) (held : IsHeld value) (place : Location ℕ) (too_
       let filesystem = overlay_filesystem nat_eq (evens fresh) (world_of value) overlay in
       let larger = with_new_filesystem (world_of value) filesystem in
       let added = new_mount filesystem.number filesystem.files.tree.root flags ∷ [] in
-      let is = held.in_world.namespaces in
-      tells larger (copies_from nat_eq (odds fresh) (parts_of nat_eq larger place) added) added refl (record {
-        one_namespace = is.one_namespace;
-        mounts_listed = is.mounts_listed;
-        tasks_listed = is.tasks_listed;
-        root_mounts = is.root_mounts;
-        namespaces_live = is.namespaces_live;
-        few_mounts = is.few_mounts;
-      }) (same_parts (world_of value) held.in_world filesystem place) refl
+      tells larger (copies_from nat_eq (odds fresh) (parts_of nat_eq larger place) added) added refl (larger_so filesystem)
+      (same_parts (world_of value) held.in_world filesystem place) refl
 
   -- and whether a bind does
   pub bind_overfills : (source : Location ℕ) (recursive : Bool)

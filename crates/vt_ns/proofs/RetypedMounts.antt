@@ -1,10 +1,10 @@
 -- Mounts that get types, and leave their groups.
-use Rattle.std.proofs.Common.{None, ◌≡◌, ◌<◌, refl, sym, ap, subst, ◌∙◌, ℕ, ◌+◌, Bool, true, false, ◌||◌, nat_eq, List, [], ◌∷◌, ◌++◌, map, get_or, length, take, arith, Result, Ok, Err, IfOk, OnOk, if◌then◌else◌}
-use Rattle.vt_spec.proofs.Common.{AllocError, Mount, Propagation, ToShared, ToSlave, TypeWord, Unbindable, World, is_among, is_unbindable, list_any, map-append, map_alike, map_twice, nat_eq-swapped, or_parts, retyped as policy_retyped, retyped_mount, source_of, take_more, type_after}
+use Rattle.std.proofs.Common.{None, ◌≡◌, ◌<◌, refl, sym, ap, subst, ◌∙◌, ℕ, ◌+◌, Bool, true, false, nat_eq, List, [], ◌∷◌, ◌++◌, map, get_or, length, take, arith, Result, Ok, Err, IfOk, OnOk, if◌then◌else◌}
+use Rattle.vt_spec.proofs.Common.{AllocError, Mount, Propagation, ToShared, ToSlave, TypeWord, Unbindable, World, is_among, is_unbindable, list_any, map-append, map_alike, map_twice, or_parts, retyped as policy_retyped, retyped_mount, source_of, take_more, type_after, common_steps}
 use Rattle.vt_ns.proofs.Common.{Grouping, IsSeen, MountEntry, all_from_among, among-from_map, changed, counted, counts_from, has_ordered, mounts_in, numbers_of, retyped}
 use Rattle.vt_group.specs.Grouping.{propagation_in}
 use Rattle.vt_group.specs.Together.{Retypes, Shares}
-use Rattle.vt_group.proofs.Together.{is_among-snoc, named_numbers}
+use Rattle.vt_group.proofs.Together.{named_numbers}
 use Rattle.vt_location.specs.declared.numbers.MountId.{MountId}
 use Rattle.vt_retype.specs.Retyping.{FollowsTypes, FollowsTypesLeft, HaveNoSource, shared_by, typed_entry, with_kind}
 use Rattle.vt_propagate.proofs.Seeing.{are_typed, retyping_is_seen, sharing_is_seen, slaves_are_seen}
@@ -19,20 +19,7 @@ module _ (numbers : List ℕ) (kind : Propagation ℕ) (number : ℕ) where
   one_more : (entry : MountEntry)
       → (if nat_eq number entry.mount.number then with_kind kind (retyped (set_if numbers kind) entry)
       else retyped (set_if numbers kind) entry) ≡ retyped (set_if (numbers ++ number ∷ []) kind) entry
-  one_more entry = by (is_among nat_eq entry.mount.number numbers) (nat_eq number entry.mount.number) refl
-      ∙ sym (ap (λ b. with_kind (if b then kind else entry.mount.propagation) entry)
-      (is_among-snoc entry.mount.number number numbers))
-    where
-      by : (a b : Bool) → nat_eq number entry.mount.number ≡ b
-          → (if b then with_kind kind (with_kind (if a then kind else entry.mount.propagation) entry)
-          else with_kind (if a then kind else entry.mount.propagation) entry)
-          ≡ with_kind (if a || nat_eq entry.mount.number number then kind else entry.mount.propagation) entry
-      by true true is = refl
-      by true false is = refl
-      by false true is = sym (ap (λ b. with_kind (if b then kind else entry.mount.propagation) entry)
-          (nat_eq-swapped number entry.mount.number true is))
-      by false false is = sym (ap (λ b. with_kind (if b then kind else entry.mount.propagation) entry)
-          (nat_eq-swapped number entry.mount.number false is))
+  one_more entry = grind (arith, common_steps)
 
   all_more : (entries : List MountEntry) → changed number (with_kind kind) (map (retyped (set_if numbers kind)) entries)
       ≡ map (retyped (set_if (numbers ++ number ∷ []) kind)) entries
@@ -115,10 +102,7 @@ set_retyped word kind sets next numbers none before now old left new alone is re
     set_mount some mount = record mount { propagation = set_if some kind mount.number mount.propagation }
 
     all_set : (world : World ℕ) → IsSeen world old before → mounts_in left ≡ map (set_mount numbers) world.mounts
-    all_set world seen = ap mounts_in is
-        ∙ map_twice (λ (entry : MountEntry). entry.mount) (retyped (set_if numbers kind)) old
-        ∙ sym (map_twice (set_mount numbers) (λ (entry : MountEntry). entry.mount) old)
-        ∙ ap (map (set_mount numbers)) seen.mounts
+    all_set world seen = grind (arith, common_steps, map_twice, map)
 
     named_set : (world : World ℕ) → AllGroupsLive world → (group : ℕ → ℕ) (named mounts : List (Mount ℕ))
         → map (set_mount (numbers_of named)) mounts ≡ map (retyped_mount nat_eq group word named) mounts
@@ -132,8 +116,7 @@ set_retyped word kind sets next numbers none before now old left new alone is re
         by : (b : Bool) → record mount { propagation = if b then kind else mount.propagation }
             ≡ (if b then record mount { propagation = type_after (group mount.number) word mount.propagation }
             else mount)
-        by true = λ i. record mount { propagation = sym (sets (group mount.number) mount.propagation) i }
-        by false = refl
+        by b = grind (arith, common_steps)
 
     kept : (mount : Mount ℕ) → is_among nat_eq (set_mount numbers mount).number numbers ≡ false
         → ((set_mount numbers mount).number ≡ mount.number)
@@ -160,20 +143,14 @@ shared_retyped next later numbers before now old new counts shares is = record {
     pairs : (group : ℕ → ℕ) (named : List (Mount ℕ)) → numbers_of named ≡ numbers
         → map {B = ℕ × ℕ} (λ (mount : Mount ℕ). (mount.number, group mount.number)) named
         ≡ map {B = ℕ × ℕ} (λ number. (number, group number)) numbers
-    pairs group named same =
-        sym (map_twice (numbered group) (λ (mount : Mount ℕ). mount.number) named) ∙ ap (map (numbered group)) same
+    pairs group named same = cc (map_twice (numbered group) (λ (mount : Mount ℕ). mount.number) named)
 
     shared_kind : ℕ → Propagation ℕ → Propagation ℕ
     shared_kind number kind = if is_among nat_eq number numbers then propagation_in now number else kind
 
     shares_each : (entries : List MountEntry) → map (shared_by now numbers) entries ≡ map (retyped shared_kind) entries
     shares_each [] = refl
-    shares_each (entry ∷ entries) = λ i. by (is_among nat_eq entry.mount.number numbers) i ∷ shares_each entries i
-      where
-        by : (b : Bool) → (if b then with_kind (propagation_in now entry.mount.number) entry else entry)
-            ≡ with_kind (if b then propagation_in now entry.mount.number else entry.mount.propagation) entry
-        by true = refl
-        by false = refl
+    shares_each (entry ∷ entries) = grind (arith, common_steps)
 
 -- mounts become shared where the step succeeds
 pub shared_if_ok : (result : Result ℕ AllocError) (next : ℕ) (numbers : List ℕ) (before now : Grouping)
@@ -207,11 +184,6 @@ places_are_counted next k (first ∷ rest) once = λ i. (first.number, counts_fr
     pair : Mount ℕ → ℕ → ℕ × ℕ
     pair mount place = (mount.number, counts_from next place)
 
-    sum : next + (k + 1) ≡ next + k + 1
-    sum = omega arith
-
     others : map (at (k + 1) rest) rest ≡ with_counts (next + (k + 1)) (numbers_of rest)
         → map (at k (first ∷ rest)) rest ≡ with_counts (next + k + 1) (numbers_of rest)
-    others later = map_alike (at k (first ∷ rest)) (at (k + 1) rest) rest
-        (λ mount m. ap (pair mount) (place_later k first rest once mount m))
-        ∙ later ∙ ap (λ n. with_counts n (numbers_of rest)) sum
+    others later = grind (arith, common_steps, map_alike, place_later)

@@ -1,6 +1,6 @@
 -- No overlay of the code's world has an upper layer, nor a work directory.
-use Rattle.std.proofs.Common.{All, List, [], false, is_some, refl, ◌∷◌, ◌≡◌, ℕ}
-use Rattle.vt_spec.proofs.Common.{All-cons, All-nil, Filesystem, of_overlay, upper_and_work}
+use Rattle.std.proofs.Common.{All, List, [], false, is_some, refl, ◌∷◌, ◌≡◌, ℕ, arith}
+use Rattle.vt_spec.proofs.Common.{All-cons, All-nil, Filesystem, of_overlay, upper_and_work, common_steps}
 use Rattle.vt_ns.proofs.Common.{FilesystemEntry, Filesystems, WorldValue, filesystem_seen, overlay_seen, overlays_seen, world_of}
 use Rattle.vt_fs.specs.FilesystemsValue.{filesystems_seen}
 use Rattle.vt_laws_mounts.specs.Counts.BesideOverlays.{OverlaysHaveNoUpper}
@@ -11,14 +11,12 @@ module _ (P : Filesystem ℕ → Type 0) where
   plain_all : ((entry : FilesystemEntry) → P (filesystem_seen entry)) → (all : Filesystems)
       → All P (filesystems_seen all)
   plain_all each [] = All-nil P
-  plain_all each (entry ∷ rest) =
-      All-cons P (filesystem_seen entry) (filesystems_seen rest) (each entry) (plain_all each rest)
+  plain_all each (entry ∷ rest) = grind (arith, common_steps, plain_all each rest, All-cons)
 
   overlays_all : ((entry : OverlayEntry) → P (overlay_seen entry)) → (all : List OverlayEntry)
       → All P (overlays_seen all)
   overlays_all each [] = All-nil P
-  overlays_all each (entry ∷ rest) =
-      All-cons P (overlay_seen entry) (overlays_seen rest) (each entry) (overlays_all each rest)
+  overlays_all each (entry ∷ rest) = grind (arith, common_steps, overlays_all each rest, All-cons)
 
   -- what holds of each filesystem that is kept holds of all of the world
   all_kept : ((entry : FilesystemEntry) → P (filesystem_seen entry)) → ((entry : OverlayEntry) → P (overlay_seen entry))

@@ -26,7 +26,8 @@ use vt_store::Store;
 impl World {
     /// Detaches a mount on which no other stands, and at each receiver of its parent the mount at the same place,
     /// unless others stand on that one; a single one that covers its root takes its place: umount(2). Detached
-    /// mounts are freed: none is in use. Where the mount is in no peer group and its parent is not shared, it does not allocate.
+    /// mounts are freed: none is in use. Where the mount is in no peer group and its parent is not shared, it does
+    /// not allocate.
     ///
     /// It fails too where an inode would have more than 2^64 - 1 uses.
     pub fn unmount(&mut self, name: &TaskName, mount: MountId) -> Result<(), AllocError>

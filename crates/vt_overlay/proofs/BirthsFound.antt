@@ -1,6 +1,6 @@
 -- A directory that was born below is at one path of its layer, if at all.
 use Rattle.std.proofs.Common.{◌≡◌, ◌≢◌, ◌∙◌, ◌<◌, ◌≤◌, ◌∷◌, ◌++◌, [], arith, ap, Bool, eq-eqb, eqb-true, false, length, List, nat_eq, None, Option, option_map, refl, Some, subst, sym, true, true≢false, ℕ, slice_get, if◌then◌else◌, is_some, unwrap_or}
-use Rattle.vt_spec.proofs.Common.{IsDirectory, Node, Shown, Tree, entry_at, found, holds_of, is_directory_node, is_root_path, led, node_at_path, node_in, none_is_some, parent_in, same_Some, shown, slice_get_within, then_some, without_last}
+use Rattle.vt_spec.proofs.Common.{IsDirectory, Node, Shown, Tree, entry_at, found, holds_of, is_directory_node, is_root_path, led, node_at_path, node_in, none_is_some, parent_in, same_Some, shown, slice_get_within, then_some, without_last, common_steps}
 use Rattle.vt_laws_trees.proofs.layers.layers.ShownDirectories.{last_of, led_is_there}
 use Rattle.vt_laws_trees.proofs.layers.layers.ShownNames.{last_name}
 use Rattle.vt_laws_trees.proofs.layers.layers.ShownPaths.{not_empty, one_path}
@@ -8,7 +8,7 @@ use Rattle.vt_laws_trees.proofs.layers.layers.UpperShown.{without_last_of_longer
 use Rattle.vt_location.proofs.NumberLemmas.{exchanged_back, exchanged_number, exchanged_slot, slot_of}
 use Rattle.vt_location.specs.declared.locations.InodeRef.{InodeRef}
 use Rattle.vt_location.specs.Locations.{inode_of, number_of}
-use Rattle.vt_location.specs.Numbers.{exchanged, inode_number, is_inode_of}
+use Rattle.vt_location.specs.Numbers.{exchanged, is_inode_of}
 use Rattle.vt_fs.specs.FilesystemsValue.{Filesystems, files_at}
 use Rattle.vt_overlay.specs.Merge.LayerValue.{layer_of}
 use Rattle.vt_overlay.specs.declared.merge.layers.LayerRef.{LayerRef}
@@ -37,8 +37,7 @@ is_below Here = false
 is_below (Below layer directory rank) = true
 
 no_rank : (b : Bool) (rank : ℕ) → b ≡ true → (if b then 0 else rank) ≡ 0
-no_rank true rank t = refl
-no_rank false rank t = absurd (true≢false (sym t))
+no_rank b rank t = cc
 
 module _ (trees : Filesystems) (lower : LayerRef) (is : IsLayer trees lower) where
   abbrev f : ℕ
@@ -82,17 +81,11 @@ module _ (trees : Filesystems) (lower : LayerRef) (is : IsLayer trees lower) whe
   has_last [] object root leads = absurd (true≢false root)
   has_last (first ∷ rest) object root leads =
       let last = last_of (first ∷ rest) (not_empty first rest) in
-      let step = found (λ directory. entry_at tree directory last.1) (led tree top last.0) object
-      (sym (last_name tree top last.0 last.1) ∙ ap (led tree top) last.2 ∙ leads) in
-      let front : without_last (first ∷ rest) ≡ last.0 =
-      ap without_last (sym last.2) ∙ without_last_of_longer last.0 last.1 in
-      record {
-        directory = step.0;
-        name = last.1;
-        leads = ap (led tree top) front ∙ step.1;
-        entry = step.2;
-        split = ap (λ p. p ++ last.1 ∷ []) front ∙ last.2;
-      }
+      let step = found (λ directory. entry_at tree directory last.1) (led tree top last.0) object (sym (last_name
+      tree top last.0 last.1) ∙ ap (led tree top) last.2 ∙ leads) in
+      let front : without_last (first ∷ rest) ≡ last.0 = ap without_last (sym last.2) ∙ without_last_of_longer last.0
+      last.1 in
+      grind (arith, common_steps, step.0, last.1, step.1, step.2, last.2)
 
   -- the slot of its directory
   pub directory_slot : (path : List (List ℕ)) (object : ℕ) (last : HasLast path object) → IsDirectory tree object
@@ -178,16 +171,7 @@ module _ (trees : Filesystems) (overlay : OverlayValue) (b : Birthplace trees ov
           (rank_at trees at.lower path))
           ≡ Below place directory rank → IsBorn path at.lower
       by true e object is birth = absurd (true≢false (sym (ap is_below birth)))
-      by false e object is birth =
-          let here = ap place_in birth in
-          record {
-            layer = ap (slice_get overlay.lowers) (sym here) ∙ at.layer;
-            leads = at.leads ∙ ap Some object;
-            named = e;
-            above = ap directory_in birth;
-            ranked = ap rank_in birth;
-            shown_there = at.is ∙ (λ i. Some (record { layer = here i; object = object i }));
-          }
+      by false e object is birth = grind (arith, common_steps)
 
   -- where it is at no path of a directory, it is no directory
   pub no_directory : ((path : List (List ℕ)) (lower : LayerRef) → IsBorn path lower
@@ -202,9 +186,8 @@ module _ (trees : Filesystems) (overlay : OverlayValue) (b : Birthplace trees ov
           let at = found_is_at trees overlay are node_number path e in
           let born = is_born path at in
           let tree = (files_at trees at.lower.directory.filesystem.count).tree in
-          sym (ap (only_of_directory trees overlay) e ∙ no_directory_shown trees overlay are node_number path at
-          (λ directory. none path at.lower born (sym (ap (λ o. is_directory_node (then_some o tree.node))
-          born.leads) ∙ directory)))
+          cc (no_directory_shown trees overlay are node_number path at (λ directory. none path at.lower born (sym (ap
+          (λ o. is_directory_node (then_some o tree.node)) born.leads) ∙ directory)))
 
   pub no_layer : slice_get overlay.lowers place ≡ None → None ≡ directory_path trees overlay node_number
   no_layer none = no_directory (λ path lower born directory. none_is_some lower (sym none ∙ born.layer))
@@ -237,8 +220,7 @@ module _ (trees : Filesystems) (overlay : OverlayValue) (b : Birthplace trees ov
         (none path (subst (IsBorn path) (same_lower other born.layer) born)))
 
     pub other_rank : (rank ≡ 0 → ⊥) → None ≡ directory_path trees overlay node_number
-    other_rank some = none_here (λ path born is.
-        some (sym born.ranked ∙ no_rank _ _ (ap (λ o. is_directory_node (then_some o files.node)) born.leads ∙ is)))
+    other_rank some = grind (arith, common_steps, none_here, no_rank)
 
     abbrev pub parent : ℕ
     parent = parent_in object (files.node object)
@@ -276,17 +258,16 @@ module _ (trees : Filesystems) (overlay : OverlayValue) (b : Birthplace trees ov
           → number_of (node_born trees overlay.number place lower way) ≡ node_number
       born_so none named up =
           let last = has_last trees lower is_layer way object named leads in
-          let above : slot_at trees lower (without_last way) ≡ directory =
-          directory_slot trees lower is_layer way object last is
-          ∙ ap (exchanged count) (sym up) ∙ exchanged_back count directory in
-          let ranked : rank_at trees lower way ≡ rank =
-          no_rank _ _ (ap (λ o. is_directory_node (then_some o files.node)) leads ∙ is) ∙ sym none in
-          let birth : birth_at trees place lower way ≡ Below place directory rank = ap (λ b. if b then Here
-          else Below place (slot_at trees lower (without_last way)) (rank_at trees lower way)) named
-          ∙ (λ i. Below place (above i) (ranked i)) in
-          let own : slot_at trees lower way ≡ slot =
-          (in_slot trees lower is_layer way object leads).1 ∙ exchanged_back count slot in
-          (λ i. inode_number (born_in overlay.number.count (birth i)) (own i))
+          let above : slot_at trees lower (without_last way) ≡ directory = directory_slot trees lower is_layer way
+          object last is ∙ ap (exchanged count) (sym up) ∙ exchanged_back count directory in
+          let ranked : rank_at trees lower way ≡ rank = no_rank _ _ (ap (λ o. is_directory_node (then_some o
+          files.node)) leads ∙ is) ∙ sym none in
+          let birth : birth_at trees place lower way ≡ Below place directory rank = ap (λ b. if b then Here else
+          Below place (slot_at trees lower (without_last way)) (rank_at trees lower way)) named ∙ (λ i. Below place
+          (above i) (ranked i)) in
+          let own : slot_at trees lower way ≡ slot = (in_slot trees lower is_layer way object leads).1 ∙
+          exchanged_back count slot in
+          cc
 
       is_at : rank ≡ 0 → is_root_path way ≡ false → exchanged count directory ≡ parent → (o : Option (Shown ℕ))
           → shown (layers trees overlay are) way ≡ o → holds_of (λ (seen : Shown ℕ). nat_eq seen.layer place) o ≡ true
@@ -313,17 +294,16 @@ module _ (trees : Filesystems) (overlay : OverlayValue) (b : Birthplace trees ov
       pub is_shown : rank ≡ 0 → is_root_path way ≡ false → nat_eq (exchanged count directory) parent ≡ true
           → shown_in ≡ true → Some way ≡ directory_path trees overlay node_number
       is_shown none named up holds =
-          let at = is_at none named (eqb-true (exchanged count directory) parent up)
-          (shown (layers trees overlay are) way) refl holds in
-          let there = found_is trees overlay are node_number way at (λ path other.
-          let born = is_born path other in
-          one_way path (subst (λ (l : LayerRef).
-          led (files_at trees l.directory.filesystem.count).tree (inode_of l.directory) path
-          ≡ Some (exchanged l.directory.filesystem.count slot)) (same_lower other.lower born.layer) born.leads)) in
+          let at = is_at none named (eqb-true (exchanged count directory) parent up) (shown (layers trees overlay
+          are) way) refl holds in
+          let there = found_is trees overlay are node_number way at (λ path other. let born = is_born path other in
+          one_way path (subst (λ (l : LayerRef). led (files_at trees l.directory.filesystem.count).tree (inode_of
+          l.directory) path ≡ Some (exchanged l.directory.filesystem.count slot)) (same_lower other.lower born.layer)
+          born.leads)) in
           let here : at.lower ≡ lower = same_lower at.lower (is_born way at).layer in
-          sym (ap (only_of_directory trees overlay) there ∙ directory_shown trees overlay are node_number way at
-          (ap (λ (l : LayerRef). is_directory_node (node_at_path (layer_of trees l) way)) here
-          ∙ ap (λ o. is_directory_node (then_some o files.node)) leads ∙ is))
+          cc (directory_shown trees overlay are node_number way at (ap (λ (l : LayerRef). is_directory_node
+          (node_at_path (layer_of trees l) way)) here ∙ ap (λ o. is_directory_node (then_some o files.node)) leads ∙
+          is))
 
     -- the same of an inode in that slot
     module _ (inode : InodeRef) (is : inode ≡ record { filesystem = lower.directory.filesystem; slot = slot }) where
@@ -339,31 +319,21 @@ module _ (trees : Filesystems) (overlay : OverlayValue) (b : Birthplace trees ov
           ((files_at trees inode.filesystem.count).tree.node (inode_of inode))) where
         parent_found : option_map (exchanged count) found
             ≡ option_map (λ (node : Node ℕ). parent_in object (Some node)) (files.node object)
-        parent_found = ap (λ (n : InodeRef). option_map (exchanged n.filesystem.count) found) (sym is) ∙ finds
-            ∙ ap (λ (n : InodeRef). option_map (λ (node : Node ℕ). parent_in (inode_of n) (Some node))
-            ((files_at trees n.filesystem.count).tree.node (inode_of n))) is
-            ∙ ap (λ m. option_map (λ (node : Node ℕ). parent_in m (Some node)) (files.node m)) number_is
+        parent_found = grind (arith, common_steps)
 
         pub no_inode : found ≡ None → None ≡ directory_path trees overlay node_number
         no_inode none = none_here (λ path born is. by (files.node object) refl is)
           where
             by : (o : Option (Node ℕ)) → files.node object ≡ o → is_directory_node (files.node object) ≡ true → ⊥
             by None e is = true≢false (sym (sym (ap is_directory_node e) ∙ is))
-            by (Some node) e is = none_is_some (parent_in object (Some node))
-                (ap (option_map (exchanged count)) (sym none) ∙ parent_found
-                ∙ ap (option_map (λ (node : Node ℕ). parent_in object (Some node))) e)
+            by (Some node) e is = grind (arith, common_steps, none_is_some, parent_found)
 
         parent_at : (p : ℕ) → found ≡ Some p → exchanged count p ≡ parent
         parent_at p e = by (files.node object) refl
           where
             by : (o : Option (Node ℕ)) → files.node object ≡ o → exchanged count p ≡ parent
-            by None none = none_is_some (exchanged count p)
-                (sym (ap (option_map (exchanged count)) (sym e) ∙ parent_found
-                ∙ ap (option_map (λ (node : Node ℕ). parent_in object (Some node))) none))
-            by (Some node) some = same_Some (exchanged count p) (parent_in object (Some node))
-                (ap (option_map (exchanged count)) (sym e) ∙ parent_found
-                ∙ ap (option_map (λ (node : Node ℕ). parent_in object (Some node))) some)
-                ∙ ap (parent_in object) (sym some)
+            by None none = grind (arith, common_steps)
+            by (Some node) some = grind (arith, common_steps)
 
         pub its_parent : found ≡ Some directory → nat_eq (exchanged count directory) parent ≡ true
         its_parent e = eq-eqb (exchanged count directory) parent (parent_at directory e)
@@ -381,9 +351,7 @@ module _ (trees : Filesystems) (overlay : OverlayValue) (b : Birthplace trees ov
 
 -- a path without names
 pub no_names : (path : List (List ℕ)) → length path ≡ 0 → is_root_path path ≡ true
-no_names [] e = refl
-no_names (name ∷ path) e = absurd (let no : ⊥ = omega (arith, e) in no)
+no_names path e = grind (arith, common_steps)
 
 pub some_names : (path : List (List ℕ)) → (length path ≡ 0 → ⊥) → is_root_path path ≡ false
-some_names [] e = absurd (e refl)
-some_names (name ∷ path) e = refl
+some_names path e = grind (arith, common_steps)

@@ -1,6 +1,6 @@
 -- A node that was born below is at one path: the way to the directory in which it was born, and the name of its rank.
-use Rattle.std.proofs.Common.{◌≡◌, ◌≢◌, ◌∙◌, ◌∷◌, ◌++◌, [], ap, Bool, eqb-true, false, length, List, nat_eq, None, Option, option_and_then, refl, Some, subst, sym, true, true≢false, ℕ, slice_get, is_eq, is_lt, Ordering, Less, Equal, Greater, filter, find, if◌then◌else◌, unwrap_or}
-use Rattle.vt_spec.proofs.Common.{IsDirectory, IsTree, Node, Shown, Tree, and_true_left, and_true_right, entries_in, entries_of, entry_at, entry_named, found_passes, is_directory_node, last_or, led, name_cmp, nat_list_cmp_total, none_is_some, same_Some, shown, then_some, tied_itself, without_last}
+use Rattle.std.proofs.Common.{◌≡◌, ◌≢◌, ◌∙◌, ◌∷◌, ◌++◌, [], ap, Bool, eqb-true, false, length, List, nat_eq, None, Option, option_and_then, refl, Some, subst, sym, true, true≢false, ℕ, slice_get, is_eq, is_lt, Ordering, filter, find, if◌then◌else◌, unwrap_or, arith}
+use Rattle.vt_spec.proofs.Common.{IsDirectory, IsTree, Node, Shown, Tree, and_true_left, and_true_right, entries_in, entries_of, entry_at, entry_named, found_passes, is_directory_node, last_or, led, name_cmp, nat_list_cmp_total, none_is_some, same_Some, shown, then_some, tied_itself, without_last, common_steps}
 use Rattle.vt_laws_trees.proofs.layers.layers.ShownNames.{last_name}
 use Rattle.vt_laws_trees.proofs.layers.layers.ShownPaths.{last_of_longer, one_path, root_of_longer}
 use Rattle.vt_laws_trees.proofs.layers.layers.UpperLine.{has_entries}
@@ -8,9 +8,8 @@ use Rattle.vt_laws_trees.proofs.layers.layers.UpperShown.{without_last_of_longer
 use Rattle.vt_location.proofs.NumberLemmas.{exchanged_back, exchanged_slot}
 use Rattle.vt_location.specs.declared.locations.InodeRef.{InodeRef}
 use Rattle.vt_location.specs.declared.births.Birth.TheVariants.{Below, Here}
-use Rattle.vt_location.specs.Births.{born_in}
 use Rattle.vt_location.specs.Locations.{inode_of, number_of}
-use Rattle.vt_location.specs.Numbers.{exchanged, inode_number}
+use Rattle.vt_location.specs.Numbers.{exchanged}
 use Rattle.vt_fs.specs.FilesystemsValue.{Filesystems, files_at, node_seen}
 use Rattle.vt_overlay.specs.declared.merge.layers.LayerRef.{LayerRef}
 use Rattle.vt_node.proofs.RankLemmas.{before, found_is_there, ranked_is_found, ranked_is_there}
@@ -20,19 +19,12 @@ use Rattle.vt_overlay.proofs.BirthsFound.{Birthplace, IsBorn, has_last, in_slot,
 use Rattle.vt_overlay.proofs.RanksSeen.{ranked_seen}
 use Rattle.vt_overlay.proofs.TreeFound.{IsAt, found_at, found_is, found_is_at, in_layer, layers}
 
-none_counts : {X : Type 0} (p : X → Bool) (xs : List X) → find p xs ≡ None → length (filter p xs) ≡ 0
+pub none_counts : {X : Type 0} (p : X → Bool) (xs : List X) → find p xs ≡ None → length (filter p xs) ≡ 0
 none_counts p [] none = refl
-none_counts {X} p (x ∷ xs) none = by (p x) none (none_counts p xs)
-  where
-    by : (b : Bool) → (if b then Some x else find p xs) ≡ None → (find p xs ≡ None → length (filter p xs) ≡ 0)
-        → length (if b then x ∷ filter p xs else filter p xs) ≡ 0
-    by true none rest = none_is_some x (sym none)
-    by false none rest = rest none
+none_counts {X} p (x ∷ xs) none = grind (arith, common_steps, none_counts p xs, p x)
 
 not_before_itself : (o : Ordering) → is_eq o ≡ true → is_lt o ≡ true → ⊥
-not_before_itself Less equal less = true≢false (sym equal)
-not_before_itself Equal equal less = true≢false (sym less)
-not_before_itself Greater equal less = true≢false (sym less)
+not_before_itself o equal less = grind (arith, common_steps)
 
 -- to a directory leads one name, whose rank is 0
 alone_rank : (tree : Tree ℕ) (directory object : ℕ) (name : List ℕ) → IsTree tree → IsDirectory tree object
@@ -121,32 +113,31 @@ module _ (trees : Filesystems) (overlay : OverlayValue) (b : Birthplace trees ov
 
         here : rank_at trees lower path ≡ (if is_directory_node (files.node object) then 0
             else rank_among (entries_in (files.node above)) name object)
-        here = (λ i. if is_directory_node (then_some (there i) files.node) then 0
-            else rank_among (entries_in (then_some ((ap (led files start) front ∙ leads) i) files.node)) (last i)
-            (unwrap_or (there i) 0))
+        here = grind (arith, common_steps, there, front, leads, last)
 
         by : (d : Bool) → is_directory_node (files.node object) ≡ d
             → rank_at trees lower path ≡ rank_among (entries_in (files.node above)) name object
-        by true d = here ∙ ap (λ t. if t then 0 else rank_among (entries_in (files.node above)) name object) d
-            ∙ sym (alone_rank files above object name is_layer.tree d entry)
+        by true d = cc (here, alone_rank files above object name is_layer.tree d entry)
         by false d = here ∙ ap (λ t. if t then 0 else rank_among (entries_in (files.node above)) name object) d
 
     pub is_named : (path : List (List ℕ)) → Born path lower → IsNamed path
     is_named path is =
         let last = has_last trees lower is_layer path object is.named is.leads in
-        let up : last.directory ≡ above = sym (exchanged_back count last.directory)
-        ∙ ap (exchanged count) (sym (ap (λ o. exchanged count (unwrap_or o 0)) last.leads) ∙ is.above) in
+        let up : last.directory ≡ above = sym (exchanged_back count last.directory) ∙ ap (exchanged count) (sym (ap
+        (λ o. exchanged count (unwrap_or o 0)) last.leads) ∙ is.above) in
         let leads : led files start (without_last path) ≡ Some above = last.leads ∙ ap Some up in
-        let entry : entry_at files above last.name ≡ Some object =
-        ap (λ d. entry_at files d last.name) (sym up) ∙ last.entry in
-        record {
-          way = without_last path;
-          name = last.name;
-          split = last.split;
-          leads = leads;
-          entry = entry;
-          ranked = sym is.ranked ∙ rank_is path (without_last path) last.name last.split leads is.leads entry;
-        }
+        let entry : entry_at files above last.name ≡ Some object = ap (λ d. entry_at files d last.name) (sym up) ∙
+        last.entry in
+        grind (
+          arith,
+          common_steps,
+          without_last path,
+          last.name,
+          last.split,
+          is.ranked,
+          rank_is path (without_last
+              path) last.name last.split leads is.leads entry,
+        )
 
     -- the directory, and its names, as they are found in its slot
     module _ (inode : InodeRef) (is : inode ≡ record { filesystem = lower.directory.filesystem; slot = b.directory })
@@ -158,16 +149,13 @@ module _ (trees : Filesystems) (overlay : OverlayValue) (b : Birthplace trees ov
         above_number = ap inode_of is ∙ in_slot_above
 
         pub above_node : (files_at trees inode.filesystem.count).tree.node (inode_of inode) ≡ files.node above
-        above_node = ap (λ (n : InodeRef). (files_at trees n.filesystem.count).tree.node (inode_of n)) is
-            ∙ ap files.node in_slot_above
+        above_node = cc (is, in_slot_above)
 
         pub name_seen : (node : Node ℕ) → Some (node_seen inode.filesystem.count node)
             ≡ (files_at trees inode.filesystem.count).tree.node (inode_of inode) → (id : ℕ) → id ≡ b.slot
             → name_ranked (entries_of node.content) id b.rank ≡ name_ranked
             (entries_in (files.node above)) object b.rank
-        name_seen node seen id same = ranked_seen inode.filesystem.count node id b.rank
-            ∙ (λ i. name_ranked (entries_in ((seen ∙ above_node) i)) (exchanged (is i).filesystem.count (same i))
-            b.rank)
+        name_seen node seen id same = grind (arith, common_steps, ranked_seen, above_node)
 
     -- where it has no such name, it has no real object
     unnamed : ((path : List (List ℕ)) → Born path lower → IsNamed path → ⊥) → None ≡ object_shown trees overlay number
@@ -222,17 +210,16 @@ module _ (trees : Filesystems) (overlay : OverlayValue) (b : Birthplace trees ov
       born_so : number_of (node_born trees overlay.number b.place lower path) ≡ number
       born_so =
           let front = ap (led files start) (without_last_of_longer way name) ∙ leads in
-          let up : slot_at trees lower (without_last path) ≡ b.directory =
-          ap (λ o. exchanged count (unwrap_or o 0)) front ∙ exchanged_back count b.directory in
-          let ranked : rank_at trees lower path ≡ b.rank =
-          rank_is path way name refl leads led_there there.0 ∙ sym there.1 in
-          let birth : birth_at trees b.place lower path ≡ Below b.place b.directory b.rank =
-          ap (λ t. if t then Here else Below b.place (slot_at trees lower (without_last path))
-          (rank_at trees lower path))
-          (root_of_longer way name) ∙ (λ i. Below b.place (up i) (ranked i)) in
-          let own : slot_at trees lower path ≡ b.slot =
-          (in_slot trees lower is_layer path object led_there).1 ∙ exchanged_back count b.slot in
-          (λ i. inode_number (born_in overlay.number.count (birth i)) (own i))
+          let up : slot_at trees lower (without_last path) ≡ b.directory = ap (λ o. exchanged count (unwrap_or o 0))
+          front ∙ exchanged_back count b.directory in
+          let ranked : rank_at trees lower path ≡ b.rank = rank_is path way name refl leads led_there there.0 ∙ sym
+          there.1 in
+          let birth : birth_at trees b.place lower path ≡ Below b.place b.directory b.rank = ap (λ t. if t then Here
+          else Below b.place (slot_at trees lower (without_last path)) (rank_at trees lower path)) (root_of_longer
+          way name) ∙ (λ i. Below b.place (up i) (ranked i)) in
+          let own : slot_at trees lower path ≡ b.slot = (in_slot trees lower is_layer path object led_there).1 ∙
+          exchanged_back count b.slot in
+          cc
 
       -- and what is shown there in this layer is its real object
       pub shown_here : (seen : Shown ℕ) → shown (layers trees overlay b.are) path ≡ Some seen → seen.layer ≡ b.place

@@ -1,6 +1,6 @@
 -- A directory that has a way: its entries and its parent in the tree.
-use Rattle.std.proofs.Common.{◌≡◌, ◌∙◌, ◌∷◌, ◌++◌, ◌||◌, [], ap, Bool, cond, false, List, None, Option, option_map, refl, Some, subst, sym, true, true≢false, ℕ, filter_map, if◌then◌else◌, is_some, nat_eq, unwrap_or}
-use Rattle.vt_spec.proofs.Common.{Content, Directory, Entries, Node, OpenLayer, Regular, Shown, Symlink, Whiteout, cons_option, entries_in, entry_named, is_directory_node, layer_node, list_any, names_shown, node_shown, none_is_some, parent_in, same_Some, shown, then_some, when, without_last}
+use Rattle.std.proofs.Common.{◌≡◌, ◌∙◌, ◌∷◌, ◌++◌, ◌||◌, [], ap, Bool, cond, false, List, None, Option, option_map, refl, Some, subst, sym, true, true≢false, ℕ, filter_map, if◌then◌else◌, is_some, nat_eq, unwrap_or, arith}
+use Rattle.vt_spec.proofs.Common.{Entries, Node, OpenLayer, Shown, cons_option, entries_in, entry_named, is_directory_node, layer_node, list_any, names_shown, node_shown, none_is_some, parent_in, shown, then_some, when, without_last, common_steps}
 use Rattle.vt_spec.proofs.Nodes.{same_name}
 use Rattle.vt_laws_trees.proofs.layers.layers.ShownAtPath.{computed}
 use Rattle.vt_laws_trees.proofs.layers.layers.ShownDirectories.{last_of}
@@ -9,9 +9,8 @@ use Rattle.vt_laws_trees.proofs.layers.layers.ShownObjects.{shown_before}
 use Rattle.vt_laws_trees.proofs.layers.layers.ShownPaths.{not_empty}
 use Rattle.vt_laws_trees.proofs.layers.layers.UpperShown.{without_last_of_longer}
 use Rattle.vt_laws_trees.specs.Overlays.MergedTrees.{entries_shown, inode_shown, layers_shown, node_as, parent_shown}
-use Rattle.vt_laws_trees.specs.Overlays.TreesSeen.{node_by}
 use Rattle.vt_fs.specs.FilesystemsValue.{Filesystems}
-use Rattle.vt_overlay.specs.MergedTree.{AreLayers, OverlayValue, directory_path, longest, merged_tree, number_at, only_of_directory, overlay_seen, path_at, plain_world, real_number}
+use Rattle.vt_overlay.specs.MergedTree.{AreLayers, OverlayValue, directory_path, merged_tree, number_at, only_of_directory, overlay_seen, path_at, plain_world, real_number}
 use Rattle.vt_overlay.proofs.TreeFound.{layers, layers_are, number_is_shown, open_layers}
 
 -- the name of an entry that is made of names with numbers
@@ -24,61 +23,27 @@ entry_listed number name [] = refl
 entry_listed number name (other ∷ names) =
     by (number other) refl (is_name name other) refl (entry_listed number name names)
   where
-    either : (b : Bool) → number name ≡ None → cond b (number name) None ≡ number name
-    either true e = refl
-    either false e = sym e
-
     by : (o : Option ℕ) → number other ≡ o → (b : Bool) → is_name name other ≡ b
         → entry_named name (with_names number names) ≡ cond (list_any (is_name name) names) (number name) None
         → entry_named name (cons_option (option_map (λ n. (other, n)) o) (with_names number names))
         ≡ cond (b || list_any (is_name name) names) (number name) None
-    by None e true same rest = rest ∙ either (list_any (is_name name) names) (ap number (same_name name other same) ∙ e)
-    by None e false same rest = rest
-    by (Some n) e true same rest = ap (λ b. cond b (Some n) (entry_named name (with_names number names))) same
-        ∙ sym (ap number (same_name name other same) ∙ e)
-    by (Some n) e false same rest = ap (λ b. cond b (Some n) (entry_named name (with_names number names))) same ∙ rest
+    by o e b same rest = grind (arith, common_steps, same, is_name, same_name)
+
+pub filled : (o : Option ℕ) → is_some o ≡ true → o ≡ Some (unwrap_or o 0)
+filled o some = grind (arith, common_steps)
 
 -- a node with another parent and other entries
 module _ (parent own : ℕ) (entries : Entries ℕ) where
   directory_as : (node : Option (Node ℕ))
       → is_directory_node (option_map (node_as parent entries) node) ≡ is_directory_node node
-  directory_as None = refl
-  directory_as (Some node) = by node.content
-    where
-      by : (content : Content ℕ) → is_directory_node (option_map (node_as parent entries)
-          (Some (record { attr = node.attr; content = content })))
-          ≡ is_directory_node (Some (record { attr = node.attr; content = content }))
-      by (Directory above old opaque) = refl
-      by (Regular bytes) = refl
-      by (Symlink text) = refl
-      by Whiteout = refl
+  directory_as object = grind (arith, common_steps)
 
   pub record HasParts (node : Option (Node ℕ)) : Type 0 where
     pub entries_are : entries_in (option_map (node_as parent entries) node) ≡ entries
     pub parent_is : parent_in own (option_map (node_as parent entries) node) ≡ parent
 
   has_parts : (node : Option (Node ℕ)) → is_directory_node node ≡ true → HasParts node
-  has_parts None is = absurd (true≢false (sym is))
-  has_parts (Some node) is = by node.content is
-    where
-      by : (content : Content ℕ) → is_directory_node (Some (record { attr = node.attr; content = content })) ≡ true
-          → HasParts (Some (record { attr = node.attr; content = content }))
-      by (Directory above old opaque) is = record { entries_are = refl; parent_is = refl }
-      by (Regular bytes) is = absurd (true≢false (sym is))
-      by (Symlink text) is = absurd (true≢false (sym is))
-      by Whiteout is = absurd (true≢false (sym is))
-
--- what is no directory has no entries
-none_in : (node : Option (Node ℕ)) → is_directory_node node ≡ false → entries_in node ≡ []
-none_in None is = refl
-none_in (Some node) is = by node.content is
-  where
-    by : (content : Content ℕ) → is_directory_node (Some (record { attr = node.attr; content = content })) ≡ false
-        → entries_in (Some (record { attr = node.attr; content = content })) ≡ []
-    by (Directory above old opaque) is = absurd (true≢false is)
-    by (Regular bytes) is = refl
-    by (Symlink text) is = refl
-    by Whiteout is = refl
+  has_parts object is = grind (arith, common_steps)
 
 module _ (trees : Filesystems) (overlay : OverlayValue) (are : AreLayers trees overlay.lowers) where
   abbrev all : List (OpenLayer ℕ)
@@ -108,8 +73,7 @@ module _ (trees : Filesystems) (overlay : OverlayValue) (are : AreLayers trees o
     where
       by : (b : Bool) → list_any (is_name name) (names_shown all path) ≡ b
           → cond b (number_at trees overlay (path ++ name ∷ [])) None ≡ number_at trees overlay (path ++ name ∷ [])
-      by true e = refl
-      by false e = sym (not_shown path name e)
+      by b e = grind (arith, common_steps, not_shown)
 
   abbrev inode_there : List (List ℕ) → Option (Node ℕ)
   inode_there path = node_shown nat_eq (plain_world trees) (overlay_seen overlay) path
@@ -120,11 +84,6 @@ module _ (trees : Filesystems) (overlay : OverlayValue) (are : AreLayers trees o
         ≡ inode_shown (real_number trees overlay) (plain_world trees) (overlay_seen overlay) path
     pub directory : is_directory_node (inode_there path) ≡ true
 
-  abbrev node_found : ℕ → Option (List (List ℕ)) → Option (Node ℕ)
-  node_found number o =
-      node_by (real_number trees overlay) (λ number. None) (longest trees overlay.lowers) (plain_world trees)
-      (overlay_seen overlay) number o
-
   pub directory_at : (number : ℕ) (way : List (List ℕ)) → Some way ≡ directory_path trees overlay number
       → IsDirectoryAt number way
   directory_at number way e = by (path_at trees overlay number) refl e
@@ -132,43 +91,24 @@ module _ (trees : Filesystems) (overlay : OverlayValue) (are : AreLayers trees o
       there : (path : List (List ℕ)) → path_at trees overlay number ≡ Some path → (b : Bool)
           → is_directory_node (inode_there path) ≡ b → Some way ≡ (if b then Some path else None)
           → IsDirectoryAt number way
-      there path p false d e = none_is_some way (sym e)
-      there path p true d e = subst (IsDirectoryAt number) (sym (same_Some way path e))
-          (record { node = ap (node_found number) p; directory = d })
+      there path p b e last = grind (arith, common_steps)
 
       by : (o : Option (List (List ℕ))) → path_at trees overlay number ≡ o
           → Some way ≡ only_of_directory trees overlay o → IsDirectoryAt number way
-      by None p e = none_is_some way (sym e)
-      by (Some path) p e = there path p (is_directory_node (inode_there path)) refl e
+      by o p e = grind (arith, common_steps, none_is_some, there, inode_there)
 
   pub no_directory_at : (number : ℕ) → None ≡ directory_path trees overlay number
       → is_directory_node ((merged_tree trees overlay).node number) ≡ false
-  no_directory_at number e = by (path_at trees overlay number) refl e
-    where
-      there : (path : List (List ℕ)) → path_at trees overlay number ≡ Some path → (b : Bool)
-          → is_directory_node (inode_there path) ≡ b → None ≡ (if b then Some path else None)
-          → is_directory_node ((merged_tree trees overlay).node number) ≡ false
-      there path p true d e = none_is_some path e
-      there path p false d e = ap (λ o. is_directory_node (node_found number o)) p
-          ∙ directory_as (parent_shown (real_number trees overlay) (plain_world trees) (overlay_seen overlay) path)
-          number (entries_shown (real_number trees overlay) (plain_world trees) (overlay_seen overlay) path)
-          (inode_there path) ∙ d
-
-      by : (o : Option (List (List ℕ))) → path_at trees overlay number ≡ o → None ≡ only_of_directory trees overlay o
-          → is_directory_node ((merged_tree trees overlay).node number) ≡ false
-      by None p e = ap (λ o. is_directory_node (node_found number o)) p
-      by (Some path) p e = there path p (is_directory_node (inode_there path)) refl e
+  no_directory_at number e = grind (arith, common_steps)
 
   pub no_entry_of : (number : ℕ) (name : List ℕ) → None ≡ directory_path trees overlay number
       → None ≡ entry_named name (entries_in ((merged_tree trees overlay).node number))
-  no_entry_of number name e =
-      ap (entry_named name) (sym (none_in ((merged_tree trees overlay).node number) (no_directory_at number e)))
+  no_entry_of number name e = grind (arith, common_steps)
 
   pub no_parent_of : (number : ℕ) → None ≡ directory_path trees overlay number
       → None ≡ when (is_directory_node ((merged_tree trees overlay).node number))
       (parent_in number ((merged_tree trees overlay).node number))
-  no_parent_of number e =
-      ap (λ b. when b (parent_in number ((merged_tree trees overlay).node number))) (sym (no_directory_at number e))
+  no_parent_of number e = cc (no_directory_at number e)
 
   module _ (number : ℕ) (way : List (List ℕ)) (is : Some way ≡ directory_path trees overlay number) where
     at : IsDirectoryAt number way
@@ -186,13 +126,11 @@ module _ (trees : Filesystems) (overlay : OverlayValue) (are : AreLayers trees o
 
     pub entry_of : (name : List ℕ) → number_at trees overlay (way ++ name ∷ [])
         ≡ entry_named name (entries_in ((merged_tree trees overlay).node number))
-    entry_of name = sym (ap (λ node. entry_named name (entries_in node)) at.node
-        ∙ ap (entry_named name) parts.entries_are ∙ entry_shown way name)
+    entry_of name = cc (at.node, parts.entries_are, entry_shown way name)
 
     way_shown : (o : Option (Shown ℕ)) → shown all way ≡ o
         → is_directory_node (then_some (shown all way) (layer_node all)) ≡ true → is_some (shown all way) ≡ true
-    way_shown None e d = absurd (true≢false (sym d ∙ ap (λ o. is_directory_node (then_some o (layer_node all))) e))
-    way_shown (Some seen) e d = ap is_some e
+    way_shown o e is = grind (arith, common_steps)
 
     above_shown : (path : List (List ℕ)) → is_some (shown all path) ≡ true
         → is_some (shown all (without_last path)) ≡ true
@@ -204,8 +142,7 @@ module _ (trees : Filesystems) (overlay : OverlayValue) (are : AreLayers trees o
         by : (front : List (List ℕ)) (name : List ℕ) → front ++ name ∷ [] ≡ first ∷ rest
             → (o : Option (Shown ℕ)) → shown all (front ++ name ∷ []) ≡ o
             → is_some (shown all (without_last (first ∷ rest))) ≡ true
-        by front name split None e =
-            absurd (true≢false (sym some ∙ ap (λ p. is_some (shown all p)) (sym split) ∙ ap is_some e))
+        by front name split None e = cc some
         by front name split (Some seen) e =
             ap (λ p. is_some (shown all p)) (sym (ap without_last split) ∙ without_last_of_longer front name)
             ∙ subst (λ ls. (s : Shown ℕ) → shown ls (front ++ name ∷ []) ≡ Some s → is_some (shown ls front) ≡ true)
@@ -213,20 +150,8 @@ module _ (trees : Filesystems) (overlay : OverlayValue) (are : AreLayers trees o
             (λ s h. shown_before (layers trees overlay are) (open_layers trees overlay are) front (name ∷ []) s h)
             seen e
 
-    filled : (o : Option ℕ) → is_some o ≡ true → o ≡ Some (unwrap_or o 0)
-    filled None some = absurd (true≢false (sym some))
-    filled (Some n) some = refl
-
     pub parent_of : number_at trees overlay (without_last way)
         ≡ when (is_directory_node ((merged_tree trees overlay).node number))
         (parent_in number ((merged_tree trees overlay).node number))
-    parent_of = filled (number_at trees overlay (without_last way))
-        (number_is_shown trees overlay are (without_last way)
-        ∙ above_shown way (way_shown (shown all way) refl at.directory))
-        ∙ sym ((λ i. when (is_directory_node (at.node i)) (parent_in number (at.node i)))
-        ∙ ap (λ b. when b (parent_in number (option_map (node_as
-        (parent_shown (real_number trees overlay) (plain_world trees) (overlay_seen overlay) way)
-        (entries_shown (real_number trees overlay) (plain_world trees) (overlay_seen overlay) way)) (inode_there way))))
-        (directory_as (parent_shown (real_number trees overlay) (plain_world trees) (overlay_seen overlay) way) number
-        (entries_shown (real_number trees overlay) (plain_world trees) (overlay_seen overlay) way) (inode_there way)
-        ∙ at.directory) ∙ ap Some parts.parent_is)
+    parent_of =
+        grind (arith, common_steps, filled, number_is_shown, above_shown, way_shown, all, inode_there, directory_as)

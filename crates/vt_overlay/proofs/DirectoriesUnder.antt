@@ -1,7 +1,7 @@
 -- A directory of an overlay is at one path, and going up by parents takes its names off, from the last on.
-use Rattle.std.proofs.Common.{◌≡◌, ◌≢◌, ◌∙◌, ◌<◌, ◌≤◌, ◌+◌, ◌++◌, ◌∷◌, ◌||◌, [], arith, ap, Bool, eq-eqb, eqb-true, false, get_or, length, length-append, List, map, nat_eq, None, not, Option, option_map, refl, Some, subst, suc, sym, true, true≢false, zero, ℕ, slice_get, append-nil, Contains, filter_map, flat_map, if◌then◌else◌, is_some, unwrap_or}
-use Rattle.vt_spec.proofs.Common.{Content, Directory, Entries, IsDirectory, Node, OpenLayer, Regular, Shown, Symlink, Tree, Whiteout, chain, cons_option, entries_in, entry_to, filter_map-append, has_entry_to, is_among, is_directory_node, is_directory_under, is_empty_list, is_removed, is_root_path, led, named_parent, names_in, names_shown, node_at_path, node_shown, none_is_some, parent_in, paths_from, same_Some, shown, slice_get-map, slice_get_within, targets_in, then_some, when, without_last}
-use Rattle.vt_laws_trees.proofs.layers.layers.ShownDirectories.{AreOpen, append_assoc, last_of, longer_is_not_empty, shown_in_directory}
+use Rattle.std.proofs.Common.{◌≡◌, ◌≢◌, ◌∙◌, ◌<◌, ◌≤◌, ◌+◌, ◌++◌, ◌∷◌, ◌||◌, [], arith, ap, Bool, eq-eqb, eqb-true, false, get_or, length, length-append, List, nat_eq, None, not, Option, option_map, refl, Some, subst, suc, sym, true, true≢false, zero, ℕ, slice_get, append-nil, Contains, filter_map, flat_map, if◌then◌else◌, is_some, unwrap_or}
+use Rattle.vt_spec.proofs.Common.{IsDirectory, Node, OpenLayer, Shown, Tree, chain, cons_option, entries_in, entry_to, filter_map-append, has_entry_to, is_among, is_directory_node, is_directory_under, is_empty_list, is_removed, is_root_path, led, named_parent, names_in, names_shown, node_at_path, node_shown, none_is_some, parent_in, paths_from, same_Some, shown, slice_get-map, slice_get_within, targets_in, then_some, when, without_last, or_right, or-false, common_steps}
+use Rattle.vt_laws_trees.proofs.layers.layers.ShownDirectories.{AreOpen, append_assoc, last_of, shown_in_directory}
 use Rattle.vt_laws_trees.proofs.layers.layers.ShownAtPath.{computed}
 use Rattle.vt_laws_trees.proofs.layers.layers.ShownNames.{names_are_those_shown}
 use Rattle.vt_laws_trees.proofs.layers.layers.ShownObjects.{shown_before}
@@ -17,44 +17,19 @@ use Rattle.vt_overlay.specs.Merge.LayerValue.{layer_of}
 use Rattle.vt_overlay.specs.declared.merge.layers.LayerRef.{LayerRef}
 use Rattle.vt_overlay.specs.MergedTree.{AreLayers, IsLayer, OverlayValue, directory_path, longest, merged_files, merged_tree, node_born, number_at, numbers_shown, only_of_directory, overlay_seen, path_at, plain_world, rank_at, slot_at}
 use Rattle.vt_overlay.proofs.BirthsFound.{Birthplace, IsBorn, has_last, in_slot, is_born}
-use Rattle.vt_overlay.proofs.DirectoriesSeen.{entry_of, no_directory_at, parent_of}
+use Rattle.vt_overlay.proofs.DirectoriesSeen.{entry_of, no_directory_at, parent_of, filled}
 use Rattle.vt_overlay.proofs.RootFound.{is_root, no_name}
 use Rattle.vt_overlay.proofs.TreeFound.{IsAt, bounded, directory_shown, found_is, found_is_at, in_layer, layers, layers_are, node_there, number_is_shown, number_of_shown, numbered_is_at, open_layers}
 
 when_some : {A : Type 0} (b : Bool) (a m : A) → Some m ≡ when b a → a ≡ m
-when_some true a m e = sym (same_Some m a e)
-when_some false a m e = none_is_some m (sym e)
-
-filled : (o : Option ℕ) → is_some o ≡ true → o ≡ Some (unwrap_or o 0)
-filled None some = absurd (true≢false (sym some))
-filled (Some n) some = refl
+when_some b a m e = grind (arith, common_steps)
 
 -- what is no directory is its own parent, and leads nowhere
 own_parent : (own : ℕ) (node : Option (Node ℕ)) → is_directory_node node ≡ false → parent_in own node ≡ own
-own_parent own None isnt = refl
-own_parent own (Some node) isnt = by node.content isnt
-  where
-    by : (content : Content ℕ) → is_directory_node (Some (record { attr = node.attr; content = content })) ≡ false
-        → parent_in own (Some (record { attr = node.attr; content = content })) ≡ own
-    by (Directory above entries opaque) isnt = absurd (true≢false isnt)
-    by (Regular bytes) isnt = refl
-    by (Symlink text) isnt = refl
-    by Whiteout isnt = refl
+own_parent own object isnt = grind (arith, common_steps)
 
 no_targets : (node : Option (Node ℕ)) → is_directory_node node ≡ false → targets_in node ≡ []
-no_targets None isnt = refl
-no_targets (Some node) isnt = by node.content isnt
-  where
-    by : (content : Content ℕ) → is_directory_node (Some (record { attr = node.attr; content = content })) ≡ false
-        → targets_in (Some (record { attr = node.attr; content = content })) ≡ []
-    by (Directory above entries opaque) isnt = absurd (true≢false isnt)
-    by (Regular bytes) isnt = refl
-    by (Symlink text) isnt = refl
-    by Whiteout isnt = refl
-
-or_later : (a b : Bool) → b ≡ true → (a || b) ≡ true
-or_later true b e = refl
-or_later false b e = e
+no_targets object isnt = grind (arith, common_steps)
 
 module _ (trees : Filesystems) (overlay : OverlayValue) (are : AreLayers trees overlay.lowers)
     (few : length overlay.lowers ≤ 129) where
@@ -80,8 +55,7 @@ module _ (trees : Filesystems) (overlay : OverlayValue) (are : AreLayers trees o
     is_directory = sym (ap (λ o. is_directory_node (then_some o files.node)) at.leads) ∙ directory
 
     object_is : exchanged at.lower.directory.filesystem.count slot ≡ at.object
-    object_is = ap (exchanged at.lower.directory.filesystem.count) at_slot.1
-        ∙ exchanged_back at.lower.directory.filesystem.count at.object
+    object_is = cc (at_slot.1, exchanged_back at.lower.directory.filesystem.count at.object)
 
     birthplace : is_root_path path ≡ false → Birthplace trees overlay
     birthplace named =
@@ -270,11 +244,7 @@ module _ (trees : Filesystems) (overlay : OverlayValue) (are : AreLayers trees o
     where
       not_root : (b : Bool) → nat_eq number tree.root ≡ b → number_at trees overlay [] ≡ Some tree.root
           → nat_eq number tree.root ≡ false
-      not_root false t root = t
-      not_root true t root =
-          let same : tree.root ≡ number = sym (eqb-true number tree.root t) in
-          absurd (longer_is_not_empty path name (sym (same_Some [] (path ++ name ∷ [])
-          (sym (root_path number (root ∙ ap Some same)) ∙ e))))
+      not_root b t root = grind (arith, common_steps)
 
   -- what is no directory has none above it
   pub none_above : (number : ℕ) → directory_path trees overlay number ≡ None → named_parent nat_eq tree number ≡ None
@@ -290,13 +260,10 @@ module _ (trees : Filesystems) (overlay : OverlayValue) (are : AreLayers trees o
       by : (b : Bool) → (if b then None
           else when (has_entry_to nat_eq tree (parent_in number (tree.node number)) number)
           (parent_in number (tree.node number))) ≡ None
-      by true = refl
-      by false = ap (λ b. when b (parent_in number (tree.node number))) nowhere
+      by b = grind (arith, common_steps, nowhere)
 
   pub root_above : (number : ℕ) → nat_eq number tree.root ≡ true → named_parent nat_eq tree number ≡ None
-  root_above number e = ap (λ b. if b then None
-      else when (has_entry_to nat_eq tree (parent_in number (tree.node number)) number)
-      (parent_in number (tree.node number))) e
+  root_above number e = cc
 
   abbrev up : ℕ → Option ℕ
   up = named_parent nat_eq tree
@@ -304,38 +271,23 @@ module _ (trees : Filesystems) (overlay : OverlayValue) (are : AreLayers trees o
   -- going up begins with the directory itself
   from_itself : (top number fuel : ℕ) → nat_eq top number ≡ true → is_among nat_eq top (chain fuel up number) ≡ true
   from_itself top number zero e = ap (λ b. b || false) e
-  from_itself top number (suc fuel) e = by (up number)
-    where
-      by : (o : Option ℕ) → is_among nat_eq top
-          (elim o [ None ↦ number ∷ [] | Some b ↦ number ∷ chain fuel up b ]) ≡ true
-      by None = ap (λ b. b || false) e
-      by (Some above) = ap (λ b. b || is_among nat_eq top (chain fuel up above)) e
-
-  or_nothing : (b : Bool) → (b || false) ≡ b
-  or_nothing true = refl
-  or_nothing false = refl
+  from_itself top number (suc fuel) e = grind (arith, common_steps)
 
   -- and where nothing is above it, ends there
   pub alone : (top number fuel : ℕ) → up number ≡ None → is_among nat_eq top (chain fuel up number) ≡ nat_eq top number
-  alone top number zero none = or_nothing (nat_eq top number)
-  alone top number (suc fuel) none =
-      ap (λ (o : Option ℕ). is_among nat_eq top (elim o [ None ↦ number ∷ [] | Some b ↦ number ∷ chain fuel up b ]))
-      none
-      ∙ or_nothing (nat_eq top number)
+  alone top number zero none = or-false (nat_eq top number)
+  alone top number (suc fuel) none = cc (or-false (nat_eq top number))
 
   one_more : (top number above fuel : ℕ) → up number ≡ Some above
       → is_among nat_eq top (chain (suc fuel) up number) ≡
       (nat_eq top number || is_among nat_eq top (chain fuel up above))
-  one_more top number above fuel some =
-      ap (λ (o : Option ℕ). is_among nat_eq top (elim o [ None ↦ number ∷ [] | Some b ↦ number ∷ chain fuel up b ]))
-      some
+  one_more top number above fuel some = cc
 
   -- each directory at a front of its path is met
   pub meets : (fuel top number : ℕ) (path rest : List (List ℕ)) → directory_path trees overlay top ≡ Some path
       → directory_path trees overlay number ≡ Some (path ++ rest) → length rest ≤ fuel
       → is_among nat_eq top (chain fuel up number) ≡ true
-  meets fuel top number path [] top_is is enough = from_itself top number fuel
-      (eq-eqb top number (one_number top number path top_is (is ∙ ap Some (append-nil path))))
+  meets fuel top number path [] top_is is enough = grind (arith, common_steps, from_itself, eq-eqb, one_number)
   meets zero top number path (name ∷ rest) top_is is enough = absurd (let no : ⊥ = omega (arith, enough) in no)
   meets (suc fuel) top number path (name ∷ rest) top_is is enough =
       let last = last_of (name ∷ rest) (not_empty name rest) in
@@ -344,7 +296,7 @@ module _ (trees : Filesystems) (overlay : OverlayValue) (are : AreLayers trees o
       let above = goes_up number (path ++ last.0) last.1
       (is ∙ ap (λ r. Some (path ++ r)) (sym last.2) ∙ ap Some (sym (append_assoc path last.0 (last.1 ∷ [])))) in
       one_more top number above.above fuel above.parent
-      ∙ or_later (nat_eq top number) (is_among nat_eq top (chain fuel up above.above))
+      ∙ or_right (nat_eq top number) (is_among nat_eq top (chain fuel up above.above))
       (meets fuel top above.above path last.0 top_is above.is (omega (arith, length_is, shorter, enough)))
 
   -- and no others
@@ -373,7 +325,7 @@ module _ (trees : Filesystems) (overlay : OverlayValue) (are : AreLayers trees o
 
   pub is_met : (fuel top number : ℕ) (path : List (List ℕ)) → directory_path trees overlay number ≡ Some path
       → is_among nat_eq top (chain fuel up number) ≡ true → IsMet top path
-  is_met zero top number path is among = itself_met top number path is (sym (or_nothing (nat_eq top number)) ∙ among)
+  is_met zero top number path is among = itself_met top number path is (sym (or-false (nat_eq top number)) ∙ among)
   is_met (suc fuel) top number [] is among = itself_met top number [] is
       (sym (alone top number (suc fuel) (root_above number (at_root number is))) ∙ among)
   is_met (suc fuel) top number (name ∷ path) is among =
@@ -395,17 +347,12 @@ module _ (trees : Filesystems) (overlay : OverlayValue) (are : AreLayers trees o
 module _ (layers : List (OpenLayer ℕ)) (are_open : AreOpen layers) (number : List (List ℕ) → Option ℕ)
     (numbered : (path : List (List ℕ)) → is_some (number path) ≡ is_some (shown layers path)) where
   more : (o : Option ℕ) (numbers : List ℕ) → is_some o ≡ true → length (cons_option o numbers) ≡ suc (length numbers)
-  more None numbers some = absurd (true≢false (sym some))
-  more (Some n) numbers some = refl
+  more o numbers some = grind (arith, common_steps)
 
   one_of : (g : List ℕ → List (List (List ℕ))) (names : List (List ℕ)) (name : List ℕ) (k : ℕ) → k < length names
       → get_or names k name ≡ name → length (filter_map number (g name)) ≤ length (filter_map number (flat_map g names))
   one_of g [] name k near is = absurd (let no : ⊥ = omega (arith, near) in no)
-  one_of g (first ∷ names) name zero near is =
-      let appended = ap length (filter_map-append number (g first) (flat_map g names))
-      ∙ length-append (filter_map number (g first)) (filter_map number (flat_map g names)) in
-      let here = ap (λ n. length (filter_map number (g n))) is in
-      omega (arith, appended, here)
+  one_of g (first ∷ names) name zero near is = grind (arith, common_steps, filter_map-append, length-append)
   one_of g (first ∷ names) name (suc k) near is =
       let appended = ap length (filter_map-append number (g first) (flat_map g names))
       ∙ length-append (filter_map number (g first)) (filter_map number (flat_map g names)) in
@@ -414,17 +361,13 @@ module _ (layers : List (OpenLayer ℕ)) (are_open : AreOpen layers) (number : L
 
   is_more : (base rest : List (List ℕ)) (seen : Shown ℕ) → shown layers (base ++ rest) ≡ Some seen
       → (numbers : List ℕ) → length (cons_option (number base) numbers) ≡ suc (length numbers)
-  is_more base rest seen e numbers =
-      more (number base) numbers (numbered base ∙ shown_before layers are_open base rest seen e)
+  is_more base rest seen e numbers = grind (arith, common_steps, more, numbered, shown_before)
 
   pub no_deeper : (depth : ℕ) (base rest : List (List ℕ)) (seen : Shown ℕ) → length rest ≤ depth
       → shown layers (base ++ rest) ≡ Some seen
       → suc (length rest) ≤ length (filter_map number (paths_from depth layers base))
   no_deeper zero base [] seen enough e = let one = is_more base [] seen e [] in omega (arith, one)
-  no_deeper (suc depth) base [] seen enough e =
-      let one = is_more base [] seen e (filter_map number
-      (flat_map (λ n. paths_from depth layers (base ++ n ∷ [])) (names_shown layers base))) in
-      omega (arith, one)
+  no_deeper (suc depth) base [] seen enough e = grind (arith, common_steps)
   no_deeper zero base (name ∷ rest) seen enough e = absurd (let no : ⊥ = omega (arith, enough) in no)
   no_deeper (suc depth) base (name ∷ rest) seen enough e =
       let step = ap (shown layers) (append_assoc base (name ∷ []) rest) ∙ e in
@@ -484,17 +427,14 @@ module _ (trees : Filesystems) (overlay : OverlayValue) (are : AreLayers trees o
 
   pub under_no_directory : (top number : ℕ) → directory_path trees overlay number ≡ None
       → nat_eq top number ≡ is_under top number
-  under_no_directory top number none =
-      sym (alone trees overlay are few top number (length (numbers_shown trees overlay))
-      (none_above trees overlay are few number none))
+  under_no_directory top number none = grind (arith, common_steps, alone, none_above)
 
   pub under_no_top : (top number : ℕ) (path : List (List ℕ)) → directory_path trees overlay top ≡ None
       → directory_path trees overlay number ≡ Some path → nat_eq top number ≡ is_under top number
   under_no_top top number path none is = apart (nat_eq top number) refl ∙ by (is_under top number) refl
     where
       apart : (b : Bool) → nat_eq top number ≡ b → nat_eq top number ≡ false
-      apart false e = e
-      apart true e = none_is_some path (sym none ∙ ap (directory_path trees overlay) (eqb-true top number e) ∙ is)
+      apart b e = grind (arith, common_steps)
 
       by : (b : Bool) → is_under top number ≡ b → false ≡ is_under top number
       by false e = sym e
@@ -505,12 +445,11 @@ module _ (trees : Filesystems) (overlay : OverlayValue) (are : AreLayers trees o
   -- A directory that is shown is not removed.
   pub not_removed : (number : ℕ) (path : List (List ℕ)) → directory_path trees overlay number ≡ Some path
       → false ≡ is_removed nat_eq (merged_tree trees overlay) number
-  not_removed number [] is = ap (λ b. not (b || is_some (named_parent nat_eq (merged_tree trees overlay) number)))
-      (sym (at_root trees overlay are few number is))
+  not_removed number [] is = cc (at_root trees overlay are few number is)
   not_removed number (name ∷ path) is =
       let last = last_of (name ∷ path) (not_empty name path) in
       let above = goes_up trees overlay are few number last.0 last.1 (is ∙ ap Some (sym last.2)) in
-      sym (ap not (or_later (nat_eq number (merged_tree trees overlay).root)
+      sym (ap not (or_right (nat_eq number (merged_tree trees overlay).root)
       (is_some (named_parent nat_eq (merged_tree trees overlay) number)) (ap is_some above.parent)))
 
   pub removed : (number : ℕ) → (number ≡ 0 → ⊥) → directory_path trees overlay number ≡ None
@@ -522,8 +461,7 @@ module _ (trees : Filesystems) (overlay : OverlayValue) (are : AreLayers trees o
       apart : (b : Bool) → nat_eq number (merged_tree trees overlay).root ≡ b
           → (o : Option ℕ) → number_at trees overlay [] ≡ o → nat_eq number (merged_tree trees overlay).root ≡ false
       apart false e o root = e
-      apart true e None root =
-          absurd (some (eqb-true number (merged_tree trees overlay).root e ∙ ap (λ o. unwrap_or o 0) root))
+      apart true e None root = grind (arith, common_steps)
       apart true e (Some r) root =
           let same : number ≡ r = eqb-true number (merged_tree trees overlay).root e ∙ ap (λ o. unwrap_or o 0) root in
           none_is_some [] (sym none ∙ root_path trees overlay are few number (root ∙ ap Some (sym same)))
@@ -533,8 +471,4 @@ pub some_number : (node : NodeRef) → number_of node ≡ 0 → ⊥
 some_number node none = let no : ⊥ = omega (arith, none) in no
 
 pub no_entries : (node : Option (Node ℕ)) → is_empty_list (names_in node) ≡ is_empty_list (entries_in node)
-no_entries node = by (entries_in node)
-  where
-    by : (entries : Entries ℕ) → is_empty_list (map (λ entry. entry.0) entries) ≡ is_empty_list entries
-    by [] = refl
-    by (entry ∷ entries) = refl
+no_entries object = grind (arith, common_steps)

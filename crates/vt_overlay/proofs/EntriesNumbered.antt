@@ -1,6 +1,6 @@
 -- The node of the entry that decides under a name: its number, and its real object.
 use Rattle.std.proofs.Common.{◌≡◌, ◌≢◌, ◌∙◌, ◌∷◌, ◌++◌, ◌<◌, ◌≤◌, [], arith, ap, false, length, length-append, List, None, option_map, Option, Some, subst, sym, true, ℕ, if◌then◌else◌, is_some, not}
-use Rattle.vt_spec.proofs.Common.{Node, at_path, entries_in, entry_at, is_directory_node, is_kind_in, led-append, same_Some, shown, slice_get_within, when}
+use Rattle.vt_spec.proofs.Common.{Node, at_path, entries_in, entry_at, is_directory_node, is_kind_in, led-append, same_Some, shown, slice_get_within, when, common_steps}
 use Rattle.vt_spec.specs.declared.attributes.Kind.TheVariants.{White}
 use Rattle.vt_laws_trees.proofs.layers.layers.ShownDirectories.{led_is_there}
 use Rattle.vt_laws_trees.proofs.layers.layers.ShownPaths.{last_of_longer}
@@ -51,11 +51,9 @@ module _ (trees : Filesystems) (overlay : OverlayValue) (are : AreLayers trees o
 
   leads : at_path (layer_of trees lower) longer ≡ Some object
   leads =
-      led-append (layer_of trees lower).tree (inode_of lower.directory) path name
-      (inode_of found.above.directory) object
-      first.above.leads
-      (ap (λ (id : FilesystemId). entry_at (files_at trees id.count).tree (inode_of found.above.directory) name)
-      (sym first.above.filesystem) ∙ first.entry.leads)
+      cc (led-append (layer_of trees lower).tree (inode_of lower.directory) path name (inode_of
+      found.above.directory) object first.above.leads (ap (λ (id : FilesystemId). entry_at (files_at trees
+      id.count).tree (inode_of found.above.directory) name) (sym first.above.filesystem) ∙ first.entry.leads))
 
   -- it leads to something
   pub object_is_there : is_some own_node ≡ true
@@ -64,9 +62,7 @@ module _ (trees : Filesystems) (overlay : OverlayValue) (are : AreLayers trees o
 
   shown_if : shown (layers trees overlay are) longer
       ≡ when (not (is_kind_in White own_node)) (record { layer = found.above.layer; object = object })
-  shown_if = first.shows
-      ∙ ap (λ (id : FilesystemId). when (not (is_kind_in White ((files_at trees id.count).tree.node object)))
-      (record { layer = found.above.layer; object = object })) (sym first.entry.filesystem)
+  shown_if = cc (first.shows, first.entry.filesystem)
 
   -- to a whiteout, and nothing is shown
   pub whiteout_shows_nothing : is_kind_in White own_node ≡ true → None ≡ number_at trees overlay longer
@@ -92,15 +88,11 @@ module _ (trees : Filesystems) (overlay : OverlayValue) (are : AreLayers trees o
     own_slot = ap (λ (id : FilesystemId). exchanged id.count object) (sym beside) ∙ slot
 
     own_above_slot : exchanged f (inode_of found.above.directory) ≡ found.above.directory.slot
-    own_above_slot =
-        ap (λ (id : FilesystemId). exchanged id.count (inode_of found.above.directory)) (sym first.above.filesystem)
-        ∙ above_slot
+    own_above_slot = cc (first.above.filesystem, above_slot)
 
     own_rank : rank ≡ (if is_directory_node ((files_at trees f).tree.node object) then 0
         else rank_among (entries_in ((files_at trees f).tree.node (inode_of found.above.directory))) name object)
-    own_rank = ranked ∙ (λ i. if is_directory_node ((files_at trees (beside i).count).tree.node object) then 0
-        else rank_among (entries_in ((files_at trees (first.above.filesystem i).count).tree.node
-        (inode_of found.above.directory))) name object)
+    own_rank = grind (arith, common_steps)
 
     some_names : length longer ≢ 0
     some_names none = let many = length-append path (name ∷ []) in absurd (omega (arith, many, none))

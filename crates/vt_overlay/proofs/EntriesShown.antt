@@ -1,7 +1,6 @@
 -- What layers show under a name of a directory: the highest layer that has the directory decides where it has the name.
-use Rattle.std.proofs.Common.{◌≡◌, ◌≢◌, ◌∙◌, ◌∷◌, ◌++◌, ◌+◌, ◌<◌, ◌||◌, [], arith, ap, Bool, false, List, None, option_and_then, option_map, Option, refl, Some, subst, suc, sym, true, true≢false, zero, ℕ, map, length, IfSome, IsSome, if◌then◌else◌, nat_eq, not, slice_get}
-use Rattle.vt_spec.proofs.Common.{IsDirectory, Node, OpenLayer, Shown, at_path, cuts, entries_in, entry_at, entry_named, hides, is_directory_node, is_kind_in, led-append, node_led, node_shown, none_is_some, same_Some, shown, shown_from, shown_over, slice_get-map, slice_get_within, then_some, view_of, when}
-use Rattle.vt_spec.specs.declared.attributes.Kind.TheVariants.{White}
+use Rattle.std.proofs.Common.{◌≡◌, ◌≢◌, ◌∙◌, ◌∷◌, ◌++◌, ◌+◌, ◌<◌, [], arith, ap, Bool, false, List, None, option_map, Option, refl, Some, subst, suc, sym, zero, ℕ, map, length, IfSome, IsSome, if◌then◌else◌, nat_eq, slice_get}
+use Rattle.vt_spec.proofs.Common.{IsDirectory, Node, OpenLayer, Shown, at_path, cuts, entries_in, entry_at, entry_named, hides, is_directory_node, led-append, node_shown, none_is_some, same_Some, shown, shown_from, slice_get-map, slice_get_within, then_some, view_of, common_steps}
 use Rattle.vt_spec.specs.Machine.Views.{visible}
 use Rattle.vt_laws_trees.proofs.layers.layers.ShownDirectories.{shown_in_directory}
 use Rattle.vt_laws_trees.proofs.layers.layers.ShownNames.{last_name}
@@ -11,12 +10,12 @@ use Rattle.vt_location.specs.declared.numbers.FilesystemId.{FilesystemId}
 use Rattle.vt_location.specs.Locations.{inode_of}
 use Rattle.vt_fs.specs.FilesystemsValue.{Filesystems, files_at}
 use Rattle.vt_overlay.specs.Merge.EntryValue.{IsEntry, IsFirstEntry, IsMergedAt, entry_shown}
-use Rattle.vt_overlay.specs.Merge.LayerValue.{layer_of, layers_of, seen_of}
+use Rattle.vt_overlay.specs.Merge.LayerValue.{layer_of, seen_of}
 use Rattle.vt_overlay.specs.declared.merge.layers.LayerEntry.{LayerEntry}
 use Rattle.vt_overlay.specs.declared.merge.layers.LayerRef.{LayerRef}
 use Rattle.vt_overlay.specs.declared.merge.layers.MergedDirectory.{MergedDirectory}
 use Rattle.vt_overlay.specs.declared.merge.layers.Real.{Real}
-use Rattle.vt_overlay.specs.Alike.{lent_at, real_lent}
+use Rattle.vt_overlay.specs.Alike.{real_lent}
 use Rattle.vt_overlay.specs.MergedTree.{AreLayers, OverlayValue, directory_path, merged_tree, number_at, object_shown, only_of_directory, overlay_seen, path_at, plain_world}
 use Rattle.vt_overlay.proofs.DirectoriesSeen.{entry_of, no_entry_of}
 use Rattle.vt_overlay.proofs.NodesShown.{no_number}
@@ -25,11 +24,7 @@ use Rattle.vt_overlay.proofs.TreeFound.{IsAt, directory_shown, found_is_at, in_l
 -- what is visible is in its layer
 visible_at : (layer : OpenLayer ℕ) (depth object : ℕ) (seen : Shown ℕ)
     → visible (view_of layer) depth object ≡ Some seen → seen.layer ≡ depth
-visible_at layer depth object seen = by (not (is_kind_in White (layer.tree.node object)))
-  where
-    by : (b : Bool) → when b (record { layer = depth; object = object }) ≡ Some seen → seen.layer ≡ depth
-    by true e = ap (λ (s : Shown ℕ). s.layer) (sym (same_Some (record { layer = depth; object = object }) seen e))
-    by false e = none_is_some seen e
+visible_at layer depth object seen = grind (arith, common_steps)
 
 -- What a layer has under a name of a path that is shown in it is what is shown there.
 module _ (path : List (List ℕ)) (name : List ℕ) where
@@ -38,25 +33,18 @@ module _ (path : List (List ℕ)) (name : List ℕ) where
 
   -- a layer that leads nowhere leads nowhere further on, and cuts no more
   leads_no_further : (layer : OpenLayer ℕ) → at_path layer path ≡ None → at_path layer longer ≡ None
-  leads_no_further layer none = last_name layer.tree layer.directory path name
-      ∙ ap (option_and_then (λ directory. entry_at layer.tree directory name)) none
+  leads_no_further layer none = cc (last_name layer.tree layer.directory path name)
 
   cuts_no_more : (layer : OpenLayer ℕ) → at_path layer path ≡ None → cuts (view_of layer) path ≡ false
       → cuts (view_of layer) longer ≡ false
-  cuts_no_more layer none uncut = prefixes_longer (λ prefix. hides (node_led (view_of layer) prefix)) path name
-      ∙ (λ i. uncut i || hides (then_some (leads_no_further layer none i) layer.tree.node))
+  cuts_no_more layer none uncut = grind (arith, common_steps, prefixes_longer, hides, leads_no_further)
 
   decides : (depth : ℕ) (all : List (OpenLayer ℕ)) (seen : Shown ℕ) (place : ℕ) (layer : OpenLayer ℕ) (object : ℕ)
       → shown_from depth (map view_of all) path ≡ Some seen → slice_get all place ≡ Some layer
       → seen.layer ≡ depth + place → at_path layer longer ≡ Some object
       → shown_from depth (map view_of all) longer ≡ visible (view_of layer) seen.layer object
   decides depth [] seen place layer object shows at is leads = none_is_some layer at
-  decides depth (top ∷ lower) seen zero layer object shows at is leads =
-      let same = same_Some top layer at in
-      ap (λ o. shown_over (view_of top) depth o (cuts (view_of top) longer)
-      (shown_from (depth + 1) (map view_of lower) longer))
-      (ap (λ l. at_path l longer) same ∙ leads)
-      ∙ (λ i. visible (view_of (same i)) ((let h : depth ≡ seen.layer = omega (arith, is) in h) i) object)
+  decides depth (top ∷ lower) seen zero layer object shows at is leads = grind (arith, common_steps)
   decides depth (top ∷ lower) seen (suc place) layer object shows at is leads =
       by (at_path top path) refl (cuts (view_of top) path) refl
       (λ below. decides (depth + 1) lower seen place layer object below at (omega (arith, is)) leads)
@@ -68,18 +56,8 @@ module _ (path : List (List ℕ)) (name : List ℕ) where
           → (shown_from (depth + 1) (map view_of lower) path ≡ Some seen
           → shown_from (depth + 1) (map view_of lower) longer ≡ visible (view_of layer) seen.layer object)
           → shown_from depth (map view_of (top ∷ lower)) longer ≡ visible (view_of layer) seen.layer object
-      by (Some own) e cut c below =
-          let here : seen.layer ≡ depth = visible_at top depth own seen
-          (sym (λ i. shown_over (view_of top) depth (e i) (c i) (shown_from (depth + 1) (map view_of lower) path))
-          ∙ shows) in
-          absurd (omega (arith, here, is))
-      by None e true c below = none_is_some seen
-          (sym (λ i. shown_over (view_of top) depth (e i) (c i) (shown_from (depth + 1) (map view_of lower) path))
-          ∙ shows)
-      by None e false c below = (λ i. shown_over (view_of top) depth (leads_no_further top e i) (cuts_no_more top e c i)
-          (shown_from (depth + 1) (map view_of lower) longer)) ∙ below
-          (sym (λ i. shown_over (view_of top) depth (e i) (c i) (shown_from (depth + 1) (map view_of lower) path))
-          ∙ shows)
+      by o e cut is_cut below =
+          grind (arith, common_steps, visible_at, map, none_is_some, leads_no_further, cuts_no_more, longer)
 
 -- what is shown under a name is shown in a directory
 pub under_directory : (trees : Filesystems) (overlay : OverlayValue) (are : AreLayers trees overlay.lowers)
@@ -107,21 +85,14 @@ module _ (trees : Filesystems) (overlay : OverlayValue) (are : AreLayers trees o
     ≡ Some real.inode.filesystem) where
   -- its layer
   pub its_layer : (lower : LayerRef) × (slice_get overlay.lowers real.layer ≡ Some lower)
-  its_layer = by (slice_get overlay.lowers real.layer) refl tree
-    where
-      by : (o : Option LayerRef) → slice_get overlay.lowers real.layer ≡ o
-          → option_map (λ (layer : LayerRef). layer.directory.filesystem) o ≡ Some real.inode.filesystem
-          → (lower : LayerRef) × (slice_get overlay.lowers real.layer ≡ Some lower)
-      by None e t = none_is_some real.inode.filesystem t
-      by (Some lower) e t = (lower, e)
+  its_layer = grind (arith, common_steps)
 
   pub is_within : real.layer < length overlay.lowers
   is_within = slice_get_within overlay.lowers real.layer its_layer.0 its_layer.1
 
   module _ (lower : LayerRef) (layer : slice_get overlay.lowers real.layer ≡ Some lower) where
     pub beside : real.inode.filesystem ≡ lower.directory.filesystem
-    beside = sym (same_Some lower.directory.filesystem real.inode.filesystem
-        (ap (option_map (λ (layer : LayerRef). layer.directory.filesystem)) (sym layer) ∙ tree))
+    beside = grind (arith, common_steps)
 
     module _ (path : List (List ℕ)) (name : List ℕ)
         (shows : shown (layers trees overlay are) path ≡ Some (seen_of real)) where
@@ -150,16 +121,18 @@ module _ (trees : Filesystems) (overlay : OverlayValue) (are : AreLayers trees o
               → shown (layers trees overlay are) (path ++ name ∷ []) ≡ entry_shown trees found
           decided is at entry =
               let object = inode_of found.object in
-              let here : entry_at (layer_of trees at.lower).tree (inode_of found.above.directory) name ≡ Some object =
-              ap (λ (id : FilesystemId). entry_at (files_at trees id.count).tree (inode_of found.above.directory) name)
-              (sym at.filesystem) ∙ entry.leads in
-              decides path name 0 (layers trees overlay are) (seen_of real) found.above.layer (layer_of trees at.lower)
-              object shows (slice_get-map (layer_of trees) overlay.lowers found.above.layer
-              ∙ ap (option_map (layer_of trees)) at.layer) (omega (arith, is))
-              (led-append (layer_of trees at.lower).tree (inode_of at.lower.directory) path name
-              (inode_of found.above.directory) object at.leads here)
-              ∙ (λ i. when (not (is_kind_in White ((files_at trees ((sym at.filesystem) i).count).tree.node object)))
-              (record { layer = (sym is) i; object = object }))
+              let here : entry_at (layer_of trees at.lower).tree (inode_of found.above.directory) name ≡ Some object
+              = ap (λ (id : FilesystemId). entry_at (files_at trees id.count).tree (inode_of found.above.directory)
+              name) (sym at.filesystem) ∙ entry.leads in
+              cc (
+                decides path name 0 (layers trees overlay are) (seen_of real) found.above.layer
+                    (layer_of trees at.lower) object shows
+                    (slice_get-map (layer_of trees) overlay.lowers found.above.layer
+                    ∙ ap (option_map (layer_of trees)) at.layer) (omega (arith, is))
+                    (led-append (layer_of trees at.lower).tree (inode_of at.lower.directory) path name
+                    (inode_of found.above.directory) object at.leads here),
+                at.filesystem,
+              )
 
       -- no layer has it
       pub nothing_under : (IsDirectory (files_at trees lower.directory.filesystem.count).tree (inode_of real.inode)
@@ -192,8 +165,7 @@ first_is_within trees lowers path name (Some one) first =
 pub first_is_beside : (trees : Filesystems) (lowers : List LayerRef) (path : List (List ℕ)) (name : List ℕ)
     (found : Option LayerEntry) → IfSome found (IsFirstEntry trees lowers path name)
     → IfSome found (λ one. one.object.filesystem ≡ one.above.directory.filesystem)
-first_is_beside trees lowers path name None first = tt
-first_is_beside trees lowers path name (Some one) first = first.entry.filesystem
+first_is_beside trees lowers path name found first = grind (arith, common_steps)
 
 -- A name of a node that is shown leads to what is shown at its path and the name.
 module _ (trees : Filesystems) (overlay : OverlayValue) (are : AreLayers trees overlay.lowers) (number : ℕ)
@@ -228,27 +200,14 @@ module _ (trees : Filesystems) (overlay : OverlayValue) (are : AreLayers trees o
           (sym (ap (only_of_directory trees overlay) found) ∙ e)) ∙ entry_of trees overlay are number way (sym e) name
         where
           same_path : (b : Bool) (way : List (List ℕ)) → (if b then Some path else None) ≡ Some way → path ≡ way
-          same_path true way e = same_Some path way e
-          same_path false way e = none_is_some way e
+          same_path b way e = grind (arith, common_steps)
 
 -- a node of which something is shown is at a path
 pub is_at_path : (trees : Filesystems) (overlay : OverlayValue) (number : ℕ)
     → IsSome (object_shown trees overlay number) → (path : List (List ℕ)) × (path_at trees overlay number ≡ Some path)
-is_at_path trees overlay number some = by (path_at trees overlay number) refl some
-  where
-    by : (o : Option (List (List ℕ))) → path_at trees overlay number ≡ o
-        → IsSome (then_some o (shown (layers_of trees overlay.lowers)))
-        → (path : List (List ℕ)) × (path_at trees overlay number ≡ Some path)
-    by None e some = absurd (true≢false (sym some))
-    by (Some path) e some = (path, e)
+is_at_path trees overlay number some = grind (arith, common_steps, path_at trees overlay number)
 
 -- what is lent is of a node of which something is shown
 pub lent_is_shown : (trees : Filesystems) (overlay : OverlayValue) (number : ℕ) (node : Node ℕ)
     → real_lent trees overlay number ≡ Some node → IsSome (object_shown trees overlay number)
-lent_is_shown trees overlay number node = by (object_shown trees overlay number)
-  where
-    by : (o : Option (Shown ℕ))
-        → then_some o (λ (seen : Shown ℕ). then_some (slice_get overlay.lowers seen.layer) (lent_at trees seen.object))
-        ≡ Some node → IsSome o
-    by None e = none_is_some node e
-    by (Some seen) e = refl
+lent_is_shown trees overlay number node = grind (arith, common_steps)

@@ -1,6 +1,6 @@
 -- The names of a directory are those that the layers show at its path.
-use Rattle.std.proofs.Common.{◌≡◌, ◌∙◌, ◌∷◌, ◌++◌, [], ap, Bool, false, filter, List, map, nat_eq, None, Option, option_map, refl, Some, sym, true, true≢false, ℕ, filter_map, if◌then◌else◌, is_some}
-use Rattle.vt_spec.proofs.Common.{Content, Directory, Entries, Node, Regular, Symlink, Whiteout, cons_option, is_directory_node, names_in, names_shown, node_shown, none_is_some, same_Some, shown}
+use Rattle.std.proofs.Common.{◌≡◌, ◌∷◌, ◌++◌, [], Bool, false, filter, List, map, nat_eq, None, Option, option_map, refl, Some, sym, true, ℕ, filter_map, if◌then◌else◌, is_some, arith}
+use Rattle.vt_spec.proofs.Common.{Entries, Node, is_directory_node, names_in, names_shown, node_shown, none_is_some, same_Some, shown, common_steps}
 use Rattle.vt_laws_trees.specs.Overlays.MergedTrees.{entries_shown, layers_shown, node_as, number_shown, parent_shown}
 use Rattle.vt_laws_trees.specs.Overlays.TreesSeen.{node_by}
 use Rattle.vt_fs.specs.FilesystemsValue.{Filesystems}
@@ -11,58 +11,28 @@ use Rattle.vt_overlay.proofs.TreeFound.{layers_are, number_is_shown}
 -- the names of a node with other entries
 names_of_directory : (parent : ℕ) (entries : Entries ℕ) (node : Option (Node ℕ)) → is_directory_node node ≡ true
     → names_in (option_map (node_as parent entries) node) ≡ map (λ entry. entry.0) entries
-names_of_directory parent entries None is = absurd (true≢false (sym is))
-names_of_directory parent entries (Some node) is = by node.content is
-  where
-    by : (content : Content ℕ) → is_directory_node (Some (record { attr = node.attr; content = content })) ≡ true
-        → names_in (option_map (node_as parent entries) (Some (record { attr = node.attr; content = content })))
-        ≡ map (λ entry. entry.0) entries
-    by (Directory above old opaque) is = refl
-    by (Regular bytes) is = absurd (true≢false (sym is))
-    by (Symlink text) is = absurd (true≢false (sym is))
-    by Whiteout is = absurd (true≢false (sym is))
-
-no_names_of_other : (parent : ℕ) (entries : Entries ℕ) (node : Option (Node ℕ)) → is_directory_node node ≡ false
-    → names_in (option_map (node_as parent entries) node) ≡ []
-no_names_of_other parent entries None is = refl
-no_names_of_other parent entries (Some node) is = by node.content is
-  where
-    by : (content : Content ℕ) → is_directory_node (Some (record { attr = node.attr; content = content })) ≡ false
-        → names_in (option_map (node_as parent entries) (Some (record { attr = node.attr; content = content }))) ≡ []
-    by (Directory above old opaque) is = absurd (true≢false is)
-    by (Regular bytes) is = refl
-    by (Symlink text) is = refl
-    by Whiteout is = refl
+names_of_directory parent entries object is = grind (arith, common_steps)
 
 -- names that have numbers stay
 names_kept : (number : List ℕ → Option ℕ) (test : List ℕ → Bool) → ((name : List ℕ) → is_some (number name) ≡ test name)
     → (names : List (List ℕ)) → map (λ (entry : List ℕ × ℕ). entry.0)
     (filter_map (λ name. option_map (λ n. (name, n)) (number name)) (filter test names)) ≡ filter test names
 names_kept number test same [] = refl
-names_kept number test same (name ∷ names) = by (test name) refl (number name) refl (names_kept number test same names)
-  where
-    by : (b : Bool) → test name ≡ b → (o : Option ℕ) → number name ≡ o → map (λ (entry : List ℕ × ℕ). entry.0)
-        (filter_map (λ name. option_map (λ n. (name, n)) (number name)) (filter test names)) ≡ filter test names
-        → map (λ (entry : List ℕ × ℕ). entry.0) (filter_map (λ name. option_map (λ n. (name, n)) (number name))
-        (if b then name ∷ filter test names else filter test names))
-        ≡ (if b then name ∷ filter test names else filter test names)
-    by false t o n rest = rest
-    by true t None n rest = absurd (true≢false (sym t ∙ sym (same name) ∙ ap is_some n))
-    by true t (Some found) n rest = ap (λ o. map (λ (entry : List ℕ × ℕ). entry.0) (cons_option
-        (option_map (λ n. (name, n)) o)
-        (filter_map (λ name. option_map (λ n. (name, n)) (number name)) (filter test names)))) n
-        ∙ ap (λ l. name ∷ l) rest
+names_kept number test same (name ∷ names) =
+    grind (arith, common_steps, names_kept number test same names, map, is_some)
 
 module _ (trees : Filesystems) (overlay : OverlayValue) (are : AreLayers trees overlay.lowers) where
   names_at : (path : List (List ℕ)) → map (λ (entry : List ℕ × ℕ). entry.0)
       (entries_shown (real_number trees overlay) (plain_world trees) (overlay_seen overlay) path)
       ≡ names_shown (layers_of trees overlay.lowers) path
   names_at path =
-      names_kept (λ name. number_shown (real_number trees overlay) (plain_world trees) (overlay_seen overlay)
-      (path ++ name ∷ []))
-      (λ name. is_some (shown (layers_shown (plain_world trees) (overlay_seen overlay)) (path ++ name ∷ [])))
-      (λ name. number_is_shown trees overlay are (path ++ name ∷ [])) _
-      ∙ ap (λ ls. names_shown ls path) (layers_are trees overlay are)
+      cc (
+        names_kept (λ name. number_shown (real_number trees overlay) (plain_world trees) (overlay_seen overlay)
+            (path ++ name ∷ []))
+            (λ name. is_some (shown (layers_shown (plain_world trees) (overlay_seen overlay)) (path ++ name ∷ [])))
+            (λ name. number_is_shown trees overlay are (path ++ name ∷ [])) _,
+        layers_are trees overlay are,
+      )
 
   abbrev node_found : ℕ → Option (List (List ℕ)) → Option (Node ℕ)
   node_found number o =
@@ -87,31 +57,20 @@ module _ (trees : Filesystems) (overlay : OverlayValue) (are : AreLayers trees o
           → names_shown (layers_of trees overlay.lowers) way ≡ names_in
           (node_found number (path_at trees overlay number))
       at_path path p false d e = none_is_some way (sym e)
-      at_path path p true d e = ap (names_shown (layers_of trees overlay.lowers)) (same_Some way path e)
-          ∙ sym (names_at path) ∙ sym (names_of_directory (parent_at path) (entries_at path)
-          (node_shown nat_eq (plain_world trees) (overlay_seen overlay) path) d)
-          ∙ sym (ap (λ o. names_in (node_found number o)) p)
+      at_path path p true d e =
+          cc (
+            same_Some way path e,
+            names_at path,
+            names_of_directory (parent_at path) (entries_at path) (node_shown
+                nat_eq (plain_world trees) (overlay_seen overlay) path) d,
+          )
 
       by : (o : Option (List (List ℕ))) → path_at trees overlay number ≡ o
           → Some way ≡ only_of_directory trees overlay o
           → names_shown (layers_of trees overlay.lowers) way ≡ names_in
           (node_found number (path_at trees overlay number))
-      by None p e = none_is_some way (sym e)
-      by (Some path) p e = at_path path p (is_directory_at path) refl e
+      by o p e = grind (arith, common_steps, none_is_some, at_path)
 
   pub names_of_none : (number : ℕ) → None ≡ directory_path trees overlay number
       → [] ≡ names_in ((merged_tree trees overlay).node number)
-  names_of_none number e = by (path_at trees overlay number) refl e
-    where
-      at_path : (path : List (List ℕ)) → path_at trees overlay number ≡ Some path → (b : Bool)
-          → is_directory_at path ≡ b → None ≡ (if b then Some path else None)
-          → [] ≡ names_in (node_found number (path_at trees overlay number))
-      at_path path p true d e = none_is_some path e
-      at_path path p false d e = sym (ap (λ o. names_in (node_found number o)) p
-          ∙ no_names_of_other (parent_at path) (entries_at path)
-          (node_shown nat_eq (plain_world trees) (overlay_seen overlay) path) d)
-
-      by : (o : Option (List (List ℕ))) → path_at trees overlay number ≡ o → None ≡ only_of_directory trees overlay o
-          → [] ≡ names_in (node_found number (path_at trees overlay number))
-      by None p e = sym (ap (λ o. names_in (node_found number o)) p)
-      by (Some path) p e = at_path path p (is_directory_at path) refl e
+  names_of_none number e = grind (arith, common_steps)

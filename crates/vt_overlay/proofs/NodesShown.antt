@@ -1,6 +1,6 @@
 -- The node that is shown at a path: its number, and where it was born.
-use Rattle.std.proofs.Common.{◌≡◌, ◌≢◌, ◌∙◌, ◌∷◌, ◌+◌, [], arith, ap, length, List, None, option_map, Some, subst, suc, sym, zero, ℕ, slice_get, if◌then◌else◌, unwrap_or}
-use Rattle.vt_spec.proofs.Common.{Tree, at_path, entries_in, is_directory_node, last_or, none_is_some, same_Some, shown, then_some, without_last}
+use Rattle.std.proofs.Common.{◌≡◌, ◌≢◌, ◌∙◌, ◌∷◌, ◌+◌, [], arith, ap, length, List, None, Some, subst, suc, sym, zero, ℕ, slice_get, if◌then◌else◌, unwrap_or}
+use Rattle.vt_spec.proofs.Common.{Tree, at_path, entries_in, is_directory_node, last_or, none_is_some, same_Some, shown, without_last, common_steps}
 use Rattle.vt_location.specs.declared.births.Birth.{Birth}
 use Rattle.vt_location.specs.declared.births.Birth.TheVariants.{Below, Here}
 use Rattle.vt_location.specs.Locations.{number_of}
@@ -9,9 +9,9 @@ use Rattle.vt_fs.specs.FilesystemsValue.{Filesystems, files_at}
 use Rattle.vt_overlay.specs.Merge.LayerValue.{layer_of}
 use Rattle.vt_overlay.specs.declared.merge.layers.LayerRef.{LayerRef}
 use Rattle.vt_node.specs.Ranks.{rank_among}
-use Rattle.vt_overlay.specs.MergedTree.{AreLayers, OverlayValue, birth_at, number_at, rank_at, real_number, slot_at}
-use Rattle.vt_overlay.proofs.BirthsFound.{has_last, no_names, some_names}
-use Rattle.vt_overlay.proofs.TreeFound.{in_layer, layers, number_of_shown, real_is, real_of}
+use Rattle.vt_overlay.specs.MergedTree.{AreLayers, OverlayValue, birth_at, number_at, slot_at}
+use Rattle.vt_overlay.proofs.BirthsFound.{has_last, some_names}
+use Rattle.vt_overlay.proofs.TreeFound.{in_layer, layers, number_of_shown, real_is}
 
 -- the last name is that at the last index
 pub last_by_index : (path : List (List ℕ)) (name default : List ℕ) (n : ℕ) → n + 1 ≡ length path
@@ -25,8 +25,7 @@ last_by_index (a ∷ b ∷ rest) name default (suc n) e at = last_by_index (b �
 module _ (trees : Filesystems) (overlay : OverlayValue) (are : AreLayers trees overlay.lowers) (path : List (List ℕ))
   where
     pub no_number : shown (layers trees overlay are) path ≡ None → number_at trees overlay path ≡ None
-    no_number none = ap (option_map (real_number trees overlay)) (real_is trees overlay are path
-        ∙ ap (real_of trees overlay are path) none)
+    no_number none = grind (arith, common_steps, real_is)
 
     module _ (place object : ℕ) (lower : LayerRef)
         (shows : shown (layers trees overlay are) path ≡ Some (record { layer = place; object = object }))
@@ -51,9 +50,7 @@ module _ (trees : Filesystems) (overlay : OverlayValue) (are : AreLayers trees o
           ∙ (λ i. Some (number_of (record { filesystem = overlay.number; slot = own i; birth = sym is i }))))
 
       pub root_birth : length path ≡ 0 → Some Here ≡ Some (birth_at trees place lower path)
-      root_birth none = ap (λ b. Some (if b then Here
-          else Below place (slot_at trees lower (without_last path)) (rank_at trees lower path)))
-          (sym (no_names path none))
+      root_birth none = grind (arith, common_steps)
 
       pub front_there : length path ≢ 0 → at_path (layer_of trees lower) (without_last path) ≢ None
       front_there some none =
@@ -66,11 +63,4 @@ module _ (trees : Filesystems) (overlay : OverlayValue) (are : AreLayers trees o
           → rank ≡ (if is_directory_node (tree.node object) then 0
           else rank_among (entries_in (tree.node directory)) name object)
           → Some (Below place slot rank) ≡ Some (birth_at trees place lower path)
-      below_birth some directory slot rank name up at last ranked =
-          let above : slot_at trees lower (without_last path) ≡ slot = ap (λ o. exchanged f (unwrap_or o 0)) up ∙ at in
-          let rank_is : rank_at trees lower path ≡ rank =
-          (λ i. if is_directory_node (then_some (leads i) tree.node) then 0
-          else rank_among (entries_in (then_some (up i) tree.node)) (last i) (unwrap_or (leads i) 0)) ∙ sym ranked in
-          sym (ap (λ b. Some (if b then Here
-          else Below place (slot_at trees lower (without_last path)) (rank_at trees lower path))) (some_names path some)
-          ∙ (λ i. Some (Below place (above i) (rank_is i))))
+      below_birth some directory slot rank name up at last ranked = grind (arith, common_steps, leads, some_names)

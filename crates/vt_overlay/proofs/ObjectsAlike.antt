@@ -1,10 +1,7 @@
 -- A node has what its real object has, but for names, parent and mark.
-use Rattle.std.proofs.Common.{◌≡◌, ◌∙◌, ◌∷◌, [], ap, List, map, None, Option, refl, Some, sym, ℕ, slice_get, nat_eq, option_map}
-use Rattle.vt_spec.proofs.Common.{Content, Directory, Entries, Node, OpenLayer, Regular, Shown, Symlink, Whiteout, layer_node, node_shown, none_is_some, renamed_content, renamed_entry, same_Some, shown, slice_get-map, then_some}
-use Rattle.vt_laws_trees.specs.Overlays.MergedTrees.{entries_shown, node_as, parent_shown}
-use Rattle.vt_laws_trees.specs.Overlays.TreesSeen.{node_by}
+use Rattle.std.proofs.Common.{◌≡◌, ◌∙◌, ◌∷◌, [], ap, map, None, Option, refl, Some, sym, ℕ, slice_get, option_map, arith}
+use Rattle.vt_spec.proofs.Common.{Content, Directory, Entries, Node, Regular, Shown, Symlink, Whiteout, layer_node, none_is_some, renamed_content, renamed_entry, same_Some, slice_get-map, then_some, common_steps}
 use Rattle.vt_location.proofs.NumberLemmas.{exchanged_back}
-use Rattle.vt_location.specs.declared.numbers.FilesystemId.{FilesystemId}
 use Rattle.vt_location.specs.Locations.{inode_of}
 use Rattle.vt_location.specs.Numbers.{exchanged}
 use Rattle.vt_fs.specs.FilesystemsValue.{Filesystems, files_at, node_seen}
@@ -12,32 +9,11 @@ use Rattle.vt_overlay.specs.Merge.LayerValue.{layer_of, seen_of}
 use Rattle.vt_overlay.specs.declared.merge.layers.LayerRef.{LayerRef}
 use Rattle.vt_overlay.specs.declared.merge.layers.Real.{Real}
 use Rattle.vt_overlay.specs.Alike.{ObjectsAreAlike, front, lent_at, real_inode, real_lent}
-use Rattle.vt_overlay.specs.MergedTree.{AreLayers, OverlayValue, longest, merged_tree, object_shown, overlay_seen, path_at, plain_world, real_number}
+use Rattle.vt_overlay.specs.MergedTree.{AreLayers, OverlayValue, merged_tree, object_shown}
 use Rattle.vt_overlay.proofs.TreeFound.{layers, layers_are}
 
-alike_as : (parent : ℕ) (entries : Entries ℕ) (node : Option (Node ℕ))
-    → front node ≡ front (option_map (node_as parent entries) node)
-alike_as parent entries None = refl
-alike_as parent entries (Some node) = by node.content
-  where
-    by : (content : Content ℕ) → front (Some (record { attr = node.attr; content = content }))
-        ≡ front (option_map (node_as parent entries) (Some (record { attr = node.attr; content = content })))
-    by (Directory above old opaque) = refl
-    by (Regular bytes) = refl
-    by (Symlink text) = refl
-    by Whiteout = refl
-
 pub objects_alike : ObjectsAreAlike
-objects_alike trees overlay number = by (path_at trees overlay number)
-  where
-    by : (o : Option (List (List ℕ)))
-        → front (then_some o (node_shown nat_eq (plain_world trees) (overlay_seen overlay)))
-        ≡ front (node_by (real_number trees overlay) (λ number. None) (longest trees overlay.lowers)
-        (plain_world trees) (overlay_seen overlay) number o)
-    by None = refl
-    by (Some path) = alike_as (parent_shown (real_number trees overlay) (plain_world trees) (overlay_seen overlay) path)
-        (entries_shown (real_number trees overlay) (plain_world trees) (overlay_seen overlay) path)
-        (node_shown nat_eq (plain_world trees) (overlay_seen overlay) path)
+objects_alike trees overlay number = grind (arith, common_steps)
 
 -- an inode that is seen twice by other numbers is itself
 pub seen_twice : (f : ℕ) (node : Option (Node ℕ)) → option_map (node_seen f) (option_map (node_seen f) node) ≡ node
@@ -52,8 +28,7 @@ seen_twice f (Some node) = λ i. Some (record { attr = node.attr; content = cont
 
     content_back : (content : Content ℕ)
         → renamed_content (exchanged f) (exchanged f) (renamed_content (exchanged f) (exchanged f) content) ≡ content
-    content_back (Directory parent entries opaque) =
-        λ i. Directory (exchanged_back f parent i) (entries_back entries i) opaque
+    content_back (Directory parent entries opaque) = cc (exchanged_back f parent, entries_back entries)
     content_back (Regular bytes) = refl
     content_back (Symlink text) = refl
     content_back Whiteout = refl
@@ -62,28 +37,14 @@ seen_twice f (Some node) = λ i. Some (record { attr = node.attr; content = cont
 module _ (trees : Filesystems) (overlay : OverlayValue) (are : AreLayers trees overlay.lowers) (number : ℕ) where
   pub inode_of_object : (o : Option (Shown ℕ)) → o ≡ object_shown trees overlay number
       → real_inode trees overlay number ≡ then_some o (layer_node (layers trees overlay are))
-  inode_of_object o is = by (path_at trees overlay number)
-      ∙ ap (λ o. then_some o (layer_node (layers trees overlay are))) (sym is)
-    where
-      by : (p : Option (List (List ℕ))) → then_some p (node_shown nat_eq (plain_world trees) (overlay_seen overlay))
-          ≡ then_some (then_some p (shown (layers trees overlay are))) (layer_node (layers trees overlay are))
-      by None = refl
-      by (Some path) = ap (λ ls. then_some (shown ls path) (layer_node ls)) (layers_are trees overlay are)
+  inode_of_object o is = grind (arith, common_steps, layers_are)
 
   pub none_alike : None ≡ object_shown trees overlay number
       → front None ≡ front ((merged_tree trees overlay).node number)
   none_alike is = ap front (sym (inode_of_object None is)) ∙ objects_alike trees overlay number
 
   front_seen : (f : ℕ) (node : Option (Node ℕ)) → front node ≡ front (option_map (node_seen f) node)
-  front_seen f None = refl
-  front_seen f (Some node) = by node.content
-    where
-      by : (content : Content ℕ) → front (Some (record { attr = node.attr; content = content }))
-          ≡ front (option_map (node_seen f) (Some (record { attr = node.attr; content = content })))
-      by (Directory above old opaque) = refl
-      by (Regular bytes) = refl
-      by (Symlink text) = refl
-      by Whiteout = refl
+  front_seen f object = grind (arith, common_steps)
 
   pub some_alike : (real : Real) → Some (seen_of real) ≡ object_shown trees overlay number
       → option_map (λ (layer : LayerRef). layer.directory.filesystem) (slice_get overlay.lowers real.layer)
@@ -100,15 +61,18 @@ module _ (trees : Filesystems) (overlay : OverlayValue) (are : AreLayers trees o
           → layer_node (layers trees overlay are) (seen_of real)
           ≡ (files_at trees real.inode.filesystem.count).tree.node (inode_of real.inode)
       in_layer None e t = none_is_some real.inode.filesystem t
-      in_layer (Some lower) e t = ap (λ o. then_some o (λ (layer : OpenLayer ℕ). layer.tree.node (inode_of real.inode)))
-          (slice_get-map (layer_of trees) overlay.lowers real.layer ∙ ap (option_map (layer_of trees)) e)
-          ∙ ap (λ (f : FilesystemId). (files_at trees f.count).tree.node (inode_of real.inode))
-          (same_Some lower.directory.filesystem real.inode.filesystem t)
+      in_layer (Some lower) e t =
+          grind (
+            arith,
+            common_steps,
+            slice_get-map (layer_of trees) overlay.lowers real.layer,
+            same_Some
+                lower.directory.filesystem real.inode.filesystem t,
+          )
 
   -- what is lent of the real object
   pub none_lent : None ≡ object_shown trees overlay number → None ≡ real_lent trees overlay number
-  none_lent is = ap (λ o. then_some o (λ (seen : Shown ℕ).
-      then_some (slice_get overlay.lowers seen.layer) (lent_at trees seen.object))) is
+  none_lent is = cc
 
   pub some_lent : (real : Real) → Some (seen_of real) ≡ object_shown trees overlay number
       → option_map (λ (layer : LayerRef). layer.directory.filesystem) (slice_get overlay.lowers real.layer)
@@ -126,7 +90,4 @@ module _ (trees : Filesystems) (overlay : OverlayValue) (are : AreLayers trees o
           ((files_at trees real.inode.filesystem.count).tree.node (inode_of real.inode))
           ≡ then_some o (lent_at trees (inode_of real.inode))
       in_layer None t = none_is_some real.inode.filesystem t
-      in_layer (Some lower) t =
-          ap (λ (f : FilesystemId). option_map (node_seen f.count)
-          ((files_at trees f.count).tree.node (inode_of real.inode)))
-          (sym (same_Some lower.directory.filesystem real.inode.filesystem t))
+      in_layer (Some lower) t = cc (same_Some lower.directory.filesystem real.inode.filesystem t)

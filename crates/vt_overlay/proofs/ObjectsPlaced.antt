@@ -1,7 +1,6 @@
 -- The real object of a node that is shown is in the slot that the node names, in the layer of its birth.
-use Rattle.std.proofs.Common.{◌≡◌, ◌∙◌, ◌<◌, ◌≤◌, ap, Bool, eq-eqb, eqb-true, false, length, List, nat_eq, None, option_map, Option, refl, Some, subst, sym, true, true≢false, ℕ, IfSome, IsSome, slice_get}
-use Rattle.vt_spec.proofs.Common.{Shown, none_is_some, same_Some, shown, then_some}
-use Rattle.vt_location.specs.Locations.{inode_of}
+use Rattle.std.proofs.Common.{◌≡◌, ◌∙◌, ◌<◌, ◌≤◌, ap, Bool, eq-eqb, eqb-true, false, length, List, nat_eq, None, option_map, Option, refl, Some, sym, true, true≢false, ℕ, IfSome, IsSome, slice_get, arith}
+use Rattle.vt_spec.proofs.Common.{Shown, same_Some, common_steps}
 use Rattle.vt_location.specs.Numbers.{exchanged}
 use Rattle.vt_fs.specs.FilesystemsValue.{Filesystems}
 use Rattle.vt_overlay.specs.Merge.LayerValue.{seen_of}
@@ -11,11 +10,10 @@ use Rattle.vt_overlay.specs.MergedTree.{AreLayers, OverlayValue, number_at, obje
 use Rattle.vt_overlay.proofs.BirthsFound.{Birthplace, inode_number_is, is_born, node_number}
 use Rattle.vt_overlay.proofs.BornNamed.{no_layer}
 use Rattle.vt_overlay.proofs.RootFound.{no_top_object, other_object, root_number, root_object}
-use Rattle.vt_overlay.proofs.TreeFound.{at_is_found, found_at, found_is_at, layers, numbered_is_at}
+use Rattle.vt_overlay.proofs.TreeFound.{at_is_found, found_at, found_is_at, numbered_is_at}
 
 pub nothing_is_none : {A : Type 0} (o : Option A) → None ≡ o → IsSome o → ⊥
-nothing_is_none None e some = true≢false (sym some)
-nothing_is_none (Some a) e some = none_is_some a e
+nothing_is_none o e some = cc
 
 -- of a node that was born below
 module _ (trees : Filesystems) (overlay : OverlayValue) (b : Birthplace trees overlay) where
@@ -32,20 +30,10 @@ module _ (trees : Filesystems) (overlay : OverlayValue) (b : Birthplace trees ov
     found_object path e =
         let at = found_is_at trees overlay b.are number path e in
         let born = is_born trees overlay b path at in
-        ap (λ o. then_some o (shown (layers trees overlay b.are))) e ∙ born.shown_there
-        ∙ ap (λ (l : LayerRef). Some (record {
-          layer = b.place;
-          object = exchanged l.directory.filesystem.count b.slot;
-        })) (same_Some at.lower lower (sym born.layer ∙ layer))
+        grind (arith, common_steps, born.shown_there, same_Some at.lower lower (sym born.layer ∙ layer))
 
     pub shown_object : IsSome (object_shown trees overlay number) → object_shown trees overlay number ≡ Some seen
-    shown_object some = by (found_at trees overlay b.are number) refl
-      where
-        by : (o : Option (List (List ℕ))) → found_at trees overlay b.are number ≡ o
-            → object_shown trees overlay number ≡ Some seen
-        by None e = absurd (nothing_is_none (object_shown trees overlay number)
-            (sym (ap (λ o. then_some o (shown (layers trees overlay b.are))) e)) some)
-        by (Some path) e = found_object path e
+    shown_object some = grind (arith, common_steps, found_at, object_shown, seen, nothing_is_none, found_object)
 
     pub numbered_object : (path : List (List ℕ)) → number_at trees overlay path ≡ Some number
         → object_shown trees overlay number ≡ Some seen
@@ -83,10 +71,7 @@ real_here trees overlay are few slot small some = by (slice_get overlay.lowers 0
         ≡ object_shown trees overlay (root_number trees overlay are few slot small)
     in_slot top e true s =
         let same = eqb-true top.directory.slot slot s in
-        ap (λ n. Some (record {
-          layer = 0;
-          object = inode_of (record { filesystem = top.directory.filesystem; slot = n });
-        })) (sym same) ∙ root_object trees overlay are few slot small top e same
+        cc (root_object trees overlay are few slot small top e same)
     in_slot top e false s =
         absurd (nothing_is_none (object_shown trees overlay (root_number trees overlay are few slot small))
         (other_object trees overlay are few slot small top e
@@ -103,13 +88,4 @@ pub in_its_layer : (lowers : List LayerRef) (place slot : ℕ) (found : Option R
     → found ≡ option_map (real_in place slot) (slice_get lowers place)
     → IfSome found (λ real. option_map (λ (layer : LayerRef). layer.directory.filesystem)
     (slice_get lowers real.layer) ≡ Some real.inode.filesystem)
-in_its_layer lowers place slot found is =
-    subst (λ o. IfSome o (λ (real : Real). option_map (λ (layer : LayerRef). layer.directory.filesystem)
-    (slice_get lowers real.layer) ≡ Some real.inode.filesystem)) (sym is) (by (slice_get lowers place) refl)
-  where
-    by : (o : Option LayerRef) → slice_get lowers place ≡ o
-        → IfSome (option_map (real_in place slot) o) (λ (real : Real).
-        option_map (λ (layer : LayerRef). layer.directory.filesystem) (slice_get lowers real.layer)
-        ≡ Some real.inode.filesystem)
-    by None e = tt
-    by (Some lower) e = ap (option_map (λ (layer : LayerRef). layer.directory.filesystem)) e
+in_its_layer lowers place slot found is = grind (arith, common_steps)

@@ -1,6 +1,6 @@
 -- The names that lead from one directory of an overlay down to another are those that its way has more.
-use Rattle.std.proofs.Common.{◌≡◌, ◌∙◌, ◌≤◌, ◌++◌, ◌∷◌, [], arith, ap, Bool, cond, eq-eqb, eqb-true, false, length, length-append, List, map, nat_eq, None, not, Option, refl, reverse, Some, suc, sym, true, true≢false, zero, ℕ, append-nil, find, is_some, option_map, unwrap_or}
-use Rattle.vt_spec.proofs.Common.{Entries, FileTree, Tree, before_first, chain, cons_option, entries_in, entry_named, eq_by_cmp, is_directory_under, last_or, name_cmp, name_in, named_parent, names_shown, none_is_some, own_name, path_down, reverse-append, reverse-reverse, same_Some, take_while-cons, when}
+use Rattle.std.proofs.Common.{◌≡◌, ◌∙◌, ◌≤◌, ◌++◌, ◌∷◌, [], arith, ap, Bool, eq-eqb, eqb-true, false, length, length-append, List, map, nat_eq, None, not, Option, refl, reverse, Some, suc, sym, true, zero, ℕ, append-nil, find, is_some, option_map, unwrap_or}
+use Rattle.vt_spec.proofs.Common.{Entries, FileTree, Tree, before_first, chain, entries_in, entry_named, eq_by_cmp, is_directory_under, last_or, name_cmp, name_in, named_parent, names_shown, none_is_some, own_name, path_down, reverse-append, reverse-reverse, same_Some, take_while-cons, when, common_steps}
 use Rattle.vt_laws_trees.proofs.layers.layers.ShownDirectories.{append_assoc, last_of}
 use Rattle.vt_laws_trees.proofs.layers.layers.ShownPaths.{last_of_longer, length_longer, not_empty}
 use Rattle.vt_laws_trees.specs.Overlays.MergedTrees.{layers_shown}
@@ -13,41 +13,15 @@ use Rattle.vt_overlay.proofs.DirectoriesUnder.{deep, goes_up, is_there, one_numb
 entry_numbered : (number : List ℕ → Option ℕ) (n : ℕ) (names : List (List ℕ)) (entry : List ℕ × ℕ)
     → find (λ (entry : List ℕ × ℕ). nat_eq n entry.1) (with_names number names) ≡ Some entry → number entry.0 ≡ Some n
 entry_numbered number n [] entry e = none_is_some entry e
-entry_numbered number n (name ∷ names) entry e = by (number name) refl e (entry_numbered number n names entry)
-  where
-    found : (m : ℕ) → number name ≡ Some m → (b : Bool) → nat_eq n m ≡ b
-        → cond b (Some (name, m)) (find (λ (entry : List ℕ × ℕ). nat_eq n entry.1) (with_names number names))
-        ≡ Some entry → (find (λ (entry : List ℕ × ℕ). nat_eq n entry.1) (with_names number names) ≡ Some entry
-        → number entry.0 ≡ Some n) → number entry.0 ≡ Some n
-    found m is true t e rest = ap (λ (one : List ℕ × ℕ). number one.0) (sym (same_Some (name, m) entry e)) ∙ is
-        ∙ ap Some (sym (eqb-true n m t))
-    found m is false t e rest = rest e
-
-    by : (o : Option ℕ) → number name ≡ o → find (λ (entry : List ℕ × ℕ). nat_eq n entry.1)
-        (cons_option (option_map (λ m. (name, m)) o) (with_names number names)) ≡ Some entry
-        → (find (λ (entry : List ℕ × ℕ). nat_eq n entry.1) (with_names number names) ≡ Some entry
-        → number entry.0 ≡ Some n) → number entry.0 ≡ Some n
-    by None is e rest = rest e
-    by (Some m) is e rest = found m is (nat_eq n m) refl e rest
+entry_numbered number n (name ∷ names) entry e =
+    grind (arith, common_steps, entry_numbered number n names entry, number name)
 
 -- what a name leads to is found
 named_is_found : (n : ℕ) (name : List ℕ) (entries : Entries ℕ) → entry_named name entries ≡ Some n
     → is_some (find (λ (entry : List ℕ × ℕ). nat_eq n entry.1) entries) ≡ true
 named_is_found n name [] e = none_is_some n e
-named_is_found n name (first ∷ entries) e = by (eq_by_cmp name_cmp name first.0) e (named_is_found n name entries)
-  where
-    found : Option (List ℕ × ℕ)
-    found = find (λ (entry : List ℕ × ℕ). nat_eq n entry.1) entries
-
-    either : (b : Bool) → is_some found ≡ true → is_some (cond b (Some first) found) ≡ true
-    either true some = refl
-    either false some = some
-
-    by : (b : Bool) → cond b (Some first.1) (entry_named name entries) ≡ Some n
-        → (entry_named name entries ≡ Some n → is_some found ≡ true)
-        → is_some (cond (nat_eq n first.1) (Some first) found) ≡ true
-    by true e rest = ap (λ b. is_some (cond b (Some first) found)) (eq-eqb n first.1 (sym (same_Some first.1 n e)))
-    by false e rest = either (nat_eq n first.1) (rest e)
+named_is_found n name (first ∷ entries) e =
+    grind (arith, common_steps, named_is_found n name entries, eq_by_cmp name_cmp name first.0)
 
 module _ (trees : Filesystems) (overlay : OverlayValue) (are : AreLayers trees overlay.lowers)
     (few : length overlay.lowers ≤ 129) where
@@ -89,31 +63,22 @@ module _ (trees : Filesystems) (overlay : OverlayValue) (are : AreLayers trees o
           → entries_in (tree.node above) ≡ with_names numbered names → is_some o ≡ true
           → unwrap_or (option_map (λ (one : ℕ × List ℕ). one.1)
           (option_map (λ (entry : List ℕ × ℕ). (above, entry.0)) o)) [] ≡ name
-      by None names above found entries some = absurd (true≢false (sym some))
-      by (Some entry) names above found entries some = same_last entry.0 (entry_numbered numbered number names entry
-          (ap (find (λ (entry : List ℕ × ℕ). nat_eq number entry.1)) (sym entries) ∙ found))
+      by o names above found entries some = grind (arith, common_steps, same_last, entry_numbered, numbered)
 
   abbrev names_before : ℕ → List ℕ → List (List ℕ)
   names_before top numbers = map own (before_first (nat_eq top) numbers)
 
   none_before : (top number : ℕ) (later : List ℕ) → nat_eq top number ≡ true → names_before top (number ∷ later) ≡ []
-  none_before top number later e = ap (map own) (take_while-cons (λ a. not (nat_eq top a)) number later
-      ∙ ap (λ b. cond (not b) (number ∷ before_first (nat_eq top) later) []) e)
+  none_before top number later e = cc (take_while-cons (λ a. not (nat_eq top a)) number later)
 
   stops : (fuel top number : ℕ) → nat_eq top number ≡ true → names_before top (chain fuel up number) ≡ []
   stops zero top number e = none_before top number [] e
-  stops (suc fuel) top number e = by (up number)
-    where
-      by : (o : Option ℕ) → names_before top (elim o [ None ↦ number ∷ [] | Some b ↦ number ∷ chain fuel up b ]) ≡ []
-      by None = none_before top number [] e
-      by (Some above) = none_before top number (chain fuel up above) e
+  stops (suc fuel) top number e = grind (arith, common_steps)
 
   goes_on : (fuel top number above : ℕ) → up number ≡ Some above → nat_eq top number ≡ false
       → names_before top (chain (suc fuel) up number) ≡ own number ∷ names_before top (chain fuel up above)
   goes_on fuel top number above some apart =
-      ap (λ (o : Option ℕ). names_before top (elim o [ None ↦ number ∷ [] | Some b ↦ number ∷ chain fuel up b ])) some
-      ∙ ap (map own) (take_while-cons (λ a. not (nat_eq top a)) number (chain fuel up above)
-      ∙ ap (λ b. cond (not b) (number ∷ before_first (nat_eq top) (chain fuel up above)) []) apart)
+      grind (arith, common_steps, take_while-cons (λ a. not (nat_eq top a)) number (chain fuel up above))
 
   names_met : (fuel top number : ℕ) (front rest : List (List ℕ)) → directory_path trees overlay top ≡ Some front
       → directory_path trees overlay number ≡ Some (front ++ rest) → length rest ≤ fuel
@@ -147,24 +112,19 @@ module _ (trees : Filesystems) (overlay : OverlayValue) (are : AreLayers trees o
   down_by_ways top number front rest top_is is under =
       let enough = deep trees overlay are few number (front ++ rest) is in
       let whole = length-append front rest in
-      sym (ap (λ b. when b (reverse (names_before top (chain (length (numbers_shown trees overlay)) up number)))) under
-      ∙ ap (λ names. Some (reverse names)) (names_met (length (numbers_shown trees overlay)) top number front rest
-      top_is is (omega (arith, enough, whole))) ∙ ap Some (reverse-reverse rest))
+      grind (
+        arith,
+        common_steps,
+        names_met (length (numbers_shown trees overlay)) top number front rest top_is is
+            (omega (arith, enough, whole)),
+        reverse-reverse rest,
+      )
 
   pub not_down : (top number : ℕ) → is_directory_under nat_eq files top number ≡ false
       → None ≡ path_down nat_eq files top number
-  not_down top number e =
-      sym (ap (λ b. when b (reverse (names_before top (chain (length (numbers_shown trees overlay)) up number)))) e)
+  not_down top number e = cc
 
   -- from what is no directory, or to it, lead no names but from itself
   module _ (top number : ℕ) (alone : nat_eq top number ≡ is_directory_under nat_eq files top number) where
     pub to_itself : when (nat_eq top number) [] ≡ path_down nat_eq files top number
-    to_itself = by (nat_eq top number) refl
-      where
-        by : (b : Bool) → nat_eq top number ≡ b → when (nat_eq top number) [] ≡ path_down nat_eq files top number
-        by true e = ap (λ b. when b []) e
-            ∙ sym (ap (λ b. when b
-            (reverse (names_before top (chain (length (numbers_shown trees overlay)) up number))))
-            (sym alone ∙ e)
-            ∙ ap (λ names. Some (reverse names)) (stops (length (numbers_shown trees overlay)) top number e))
-        by false e = ap (λ b. when b []) e ∙ not_down top number (sym alone ∙ e)
+    to_itself = grind (arith, common_steps)

@@ -1,6 +1,6 @@
 -- Ranks by slots are ranks by the numbers of inodes.
-use Rattle.std.proofs.Common.{◌≡◌, ◌∙◌, ◌∷◌, ◌&&◌, [], ap, Bool, eq-eqb, eqb-true, false, length, List, map, nat_eq, option_map, refl, Some, suc, sym, true, ℕ, is_lt, filter, find, if◌then◌else◌}
-use Rattle.vt_spec.proofs.Common.{Content, Directory, Entries, Node, Regular, Symlink, Whiteout, entries_in, entries_of, name_cmp, renamed_entry}
+use Rattle.std.proofs.Common.{◌≡◌, ◌∙◌, ◌∷◌, ◌&&◌, [], ap, Bool, eq-eqb, eqb-true, List, map, nat_eq, option_map, refl, Some, sym, ℕ, find, if◌then◌else◌, arith}
+use Rattle.vt_spec.proofs.Common.{Content, Directory, Entries, Node, Regular, Symlink, Whiteout, entries_in, entries_of, renamed_entry, same_truth, common_steps}
 use Rattle.vt_location.proofs.NumberLemmas.{exchanged_back}
 use Rattle.vt_location.specs.Numbers.{exchanged}
 use Rattle.vt_fs.specs.FilesystemsValue.{node_seen}
@@ -9,11 +9,6 @@ use Rattle.vt_node.specs.Ranks.{name_ranked, rank_among}
 module _ (f : ℕ) where
   abbrev numbered : Entries ℕ → Entries ℕ
   numbered entries = map (renamed_entry (exchanged f) (exchanged f)) entries
-
-  same_truth : (a b : Bool) → (a ≡ true → b ≡ true) → (b ≡ true → a ≡ true) → a ≡ b
-  same_truth true b there back = sym (there refl)
-  same_truth false true there back = back refl
-  same_truth false false there back = refl
 
   pub same_slots : (a b : ℕ) → nat_eq a b ≡ nat_eq (exchanged f a) (exchanged f b)
   same_slots a b = same_truth (nat_eq a b) (nat_eq (exchanged f a) (exchanged f b))
@@ -24,20 +19,8 @@ module _ (f : ℕ) where
   rank_numbered : (entries : Entries ℕ) (name : List ℕ) (id : ℕ)
       → rank_among entries name id ≡ rank_among (numbered entries) name (exchanged f id)
   rank_numbered [] name id = refl
-  rank_numbered (entry ∷ entries) name id = ap (λ b. length (if b && is_lt (name_cmp entry.0 name)
-      then entry ∷ filter (λ e. nat_eq id e.1 && is_lt (name_cmp e.0 name)) entries
-      else filter (λ e. nat_eq id e.1 && is_lt (name_cmp e.0 name)) entries)) (same_slots id entry.1)
-      ∙ by (nat_eq (exchanged f id) (exchanged f entry.1) && is_lt (name_cmp entry.0 name))
-      (rank_numbered entries name id)
-    where
-      by : (b : Bool) → rank_among entries name id ≡ rank_among (numbered entries) name (exchanged f id)
-          → length (if b then entry ∷ filter (λ e. nat_eq id e.1 && is_lt (name_cmp e.0 name)) entries
-          else filter (λ e. nat_eq id e.1 && is_lt (name_cmp e.0 name)) entries)
-          ≡ length (if b then renamed_entry (exchanged f) (exchanged f) entry
-          ∷ filter (λ e. nat_eq (exchanged f id) e.1 && is_lt (name_cmp e.0 name)) (numbered entries)
-          else filter (λ e. nat_eq (exchanged f id) e.1 && is_lt (name_cmp e.0 name)) (numbered entries))
-      by true rest = ap suc rest
-      by false rest = rest
+  rank_numbered (entry ∷ entries) name id =
+      grind (arith, common_steps, rank_numbered entries name id, same_slots id entry.1)
 
   -- the entry of a rank, among some of the entries
   found_numbered : (all entries : Entries ℕ) (id rank : ℕ) → option_map (λ (entry : List ℕ × ℕ). entry.0)
@@ -60,8 +43,7 @@ module _ (f : ℕ) where
           ≡ option_map (λ (e : List ℕ × ℕ). e.0) (if b then Some (renamed_entry (exchanged f) (exchanged f) entry)
           else find (λ e. nat_eq (exchanged f id) e.1
           && nat_eq rank (rank_among (numbered all) e.0 (exchanged f id))) (numbered entries))
-      by true rest = refl
-      by false rest = rest
+      by b rest = grind (arith, common_steps)
 
   pub rank_seen : (node : Node ℕ) (name : List ℕ) (id : ℕ) → rank_among (entries_of node.content) name id
       ≡ rank_among (entries_in (Some (node_seen f node))) name (exchanged f id)

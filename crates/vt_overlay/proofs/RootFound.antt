@@ -1,6 +1,6 @@
 -- The root of an overlay is at the path without names.
-use Rattle.std.proofs.Common.{◌≡◌, ◌≢◌, ◌∙◌, ◌<◌, ◌≤◌, ◌∷◌, [], arith, ap, Bool, false, length, List, None, Option, refl, Some, sym, true, true≢false, ℕ, slice_get, IfSome, if◌then◌else◌, not, unwrap_or}
-use Rattle.vt_spec.proofs.Common.{IsDirectory, Shown, Tree, directory_no_whiteout, is_root_path, led, none_is_some, same_Some, shown, slice_get_within, then_some, when, without_last}
+use Rattle.std.proofs.Common.{◌≡◌, ◌≢◌, ◌∙◌, ◌<◌, ◌≤◌, ◌∷◌, [], arith, ap, Bool, false, length, List, None, Option, refl, Some, sym, true, true≢false, ℕ, slice_get, IfSome, if◌then◌else◌, unwrap_or}
+use Rattle.vt_spec.proofs.Common.{IsDirectory, Shown, Tree, is_root_path, led, none_is_some, same_Some, shown, slice_get_within, then_some, without_last, common_steps}
 use Rattle.vt_laws_trees.proofs.layers.layers.ShownPaths.{one_path}
 use Rattle.vt_location.proofs.NumberLemmas.{exchanged_back, exchanged_number, exchanged_slot}
 use Rattle.vt_location.specs.Locations.{inode_of, number_of}
@@ -25,14 +25,10 @@ top_shown : (trees : Filesystems) (lowers : List LayerRef) (top : LayerRef) → 
     → IsDirectory (files_at trees top.directory.filesystem.count).tree (inode_of top.directory)
     → shown (layers_of trees lowers) [] ≡ Some (record { layer = 0; object = inode_of top.directory })
 top_shown trees [] top e is = none_is_some top e
-top_shown trees (first ∷ lowers) top e is =
-    ap (λ (l : LayerRef). shown (layers_of trees (l ∷ lowers)) []) (same_Some first top e)
-    ∙ ap (λ b. when (not b) (record { layer = 0; object = inode_of top.directory }))
-    (directory_no_whiteout ((files_at trees top.directory.filesystem.count).tree.node (inode_of top.directory)) is)
+top_shown trees (first ∷ lowers) top e is = grind (arith, common_steps)
 
 pub no_name : (path : List (List ℕ)) → is_root_path path ≡ true → path ≡ []
-no_name [] e = refl
-no_name (name ∷ path) e = absurd (true≢false (sym e))
+no_name path e = grind (arith, common_steps)
 
 no_first : (lowers : List LayerRef) (place : ℕ) (lower : LayerRef) → slice_get lowers 0 ≡ None
     → slice_get lowers place ≡ Some lower → ⊥
@@ -158,8 +154,7 @@ module _ (trees : Filesystems) (overlay : OverlayValue) (are : AreLayers trees o
 
       root_path : Some [] ≡ directory_path trees overlay root_number
       unfolding at_root
-      root_path = sym (ap (only_of_directory trees overlay) found_there
-          ∙ directory_shown trees overlay are root_number [] at_root is_layer.directory)
+      root_path = cc (found_there, directory_shown trees overlay are root_number [] at_root is_layer.directory)
 
       pub way_of_root : (way : List (List ℕ)) → led files start way ≡ Some start
           → Some way ≡ directory_path trees overlay root_number

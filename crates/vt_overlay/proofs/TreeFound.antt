@@ -1,6 +1,6 @@
 -- What is found by a number is what is shown at the one path where it is.
-use Rattle.std.proofs.Common.{◌≡◌, ◌≢◌, ◌⊎◌, ◌∙◌, ◌≤◌, ◌∷◌, [], arith, ap, Bool, eq-eqb, false, inl, inr, length, List, map, nat_eq, None, option_map, Option, refl, Some, subst, suc, sym, true, true≢false, zero, ℕ, slice_get, find, if◌then◌else◌, is_some, unwrap_or}
-use Rattle.vt_spec.proofs.Common.{Filesystem, Lower, OpenLayer, Real, Shown, World, at_path, found_passes, holds_of, is_directory_node, layer_node, merged_at, node_at_path, node_shown, none_is_some, open_layer, paths_from, real_object, real_shown, same_Some, shown, slice_get-map, then_some}
+use Rattle.std.proofs.Common.{◌≡◌, ◌≢◌, ◌∙◌, ◌≤◌, ◌∷◌, [], arith, ap, Bool, eq-eqb, false, length, List, map, nat_eq, None, option_map, Option, refl, Some, subst, suc, sym, true, zero, ℕ, slice_get, find, if◌then◌else◌, is_some}
+use Rattle.vt_spec.proofs.Common.{Filesystem, Lower, OpenLayer, Real, Shown, World, at_path, found_passes, holds_of, is_directory_node, node_at_path, node_shown, none_is_some, open_layer, paths_from, real_object, real_shown, same_Some, shown, slice_get-map, common_steps}
 use Rattle.vt_laws_trees.proofs.layers.layers.ShownAtPath.{computed}
 use Rattle.vt_laws_trees.proofs.layers.layers.ShownDirectories.{AreOpen}
 use Rattle.vt_laws_trees.proofs.layers.layers.ShownObjects.{Among, paths_complete}
@@ -20,21 +20,14 @@ not_missed : {A : Type 0} (test : A → Bool) (list : List A) (a : A) → test a
     → find test list ≢ None
 not_missed test [] a passes among e = absurd among
 not_missed {A = A} test (first ∷ list) a passes among e =
-    by (test first) refl among (λ rest. not_missed test list a passes rest)
-  where
-    by : (b : Bool) → test first ≡ b → (first ≡ a) ⊎ Among list a → (Among list a → find test list ≢ None) → ⊥
-    by true s among rest = none_is_some first (sym e ∙ ap (λ b. if b then Some first else find test list) s)
-    by false s (inl same) rest = true≢false (sym passes ∙ ap test (sym same) ∙ s)
-    by false s (inr among) rest = rest among (sym (ap (λ b. if b then Some first else find test list) s) ∙ e)
+    grind (arith, common_steps, test first, not_missed test list a passes)
 
 -- a layer has no more inodes than all of them
 at_most_longest : (trees : Filesystems) (layers : List LayerRef) (place : ℕ) (layer : LayerRef)
     → slice_get layers place ≡ Some layer
     → length (files_at trees layer.directory.filesystem.count).numbers ≤ longest trees layers
 at_most_longest trees [] place layer e = none_is_some layer e
-at_most_longest trees (first ∷ layers) zero layer e =
-    let same = ap (λ (l : LayerRef). length (files_at trees l.directory.filesystem.count).numbers)
-    (same_Some first layer e) in omega (arith, same)
+at_most_longest trees (first ∷ layers) zero layer e = grind (arith, common_steps)
 at_most_longest trees (first ∷ layers) (suc place) layer e =
     let rest = at_most_longest trees layers place layer e in omega (arith, rest)
 
@@ -65,25 +58,13 @@ module _ (trees : Filesystems) (overlay : OverlayValue) (are : AreLayers trees o
 
   pub real_is : (path : List (List ℕ))
       → real_shown nat_eq world (overlay_seen overlay) path ≡ real_of path (shown layers path)
-  real_is path = ap (λ ls. option_map (λ object. real_object false object.seen.layer object)
-      (merged_at ls path)) layers_are ∙ by (shown layers path)
-    where
-      by : (o : Option (Shown ℕ)) → option_map (λ object. real_object false object.seen.layer object)
-          (option_map (λ seen. record { path = path; seen = seen }) o) ≡ real_of path o
-      by None = refl
-      by (Some seen) = refl
+  real_is path = grind (arith, common_steps, real_object, layers_are)
 
   -- what is shown has a number
   pub number_is_shown : (path : List (List ℕ))
       → is_some (number_shown (real_number trees overlay) world (overlay_seen overlay) path)
       ≡ is_some (shown (layers_shown world (overlay_seen overlay)) path)
-  number_is_shown path = by (shown (layers_shown world (overlay_seen overlay)) path)
-    where
-      by : (o : Option (Shown ℕ)) → is_some (option_map (real_number trees overlay)
-          (option_map (λ object. real_object false object.seen.layer object)
-          (option_map (λ seen. record { path = path; seen = seen }) o))) ≡ is_some o
-      by None = refl
-      by (Some seen) = refl
+  number_is_shown path = grind (arith, common_steps)
 
   abbrev pub number_at : List (List ℕ) → Option ℕ
   number_at path = number_shown (real_number trees overlay) world (overlay_seen overlay) path
@@ -104,15 +85,14 @@ module _ (trees : Filesystems) (overlay : OverlayValue) (are : AreLayers trees o
       × (at_path (layer_of trees lower) path ≡ Some seen.object)
   in_layer path seen e =
       let has = ((computed layers path seen).0 e).has_uncut.0 in
-      by has.0 has.2 (slice_get overlay.lowers seen.layer) refl
-      (sym (slice_get-map (layer_of trees) overlay.lowers seen.layer) ∙ has.1)
-    where
-      by : (layer : OpenLayer ℕ) → at_path layer path ≡ Some seen.object → (o : Option LayerRef)
-          → slice_get overlay.lowers seen.layer ≡ o → option_map (layer_of trees) o ≡ Some layer
-          → (lower : LayerRef) × (slice_get overlay.lowers seen.layer ≡ Some lower)
-          × (at_path (layer_of trees lower) path ≡ Some seen.object)
-      by layer l None s m = none_is_some layer m
-      by layer l (Some lower) s m = (lower, s, ap (λ o. at_path o path) (same_Some (layer_of trees lower) layer m) ∙ l)
+      grind (
+        arith,
+        common_steps,
+        slice_get overlay.lowers seen.layer,
+        slice_get-map (layer_of trees) overlay.lowers
+            seen.layer,
+        has.1,
+      )
 
   pub open_layers : AreOpen layers
   open_layers place layer e = by (slice_get overlay.lowers place) refl
@@ -140,9 +120,7 @@ module _ (trees : Filesystems) (overlay : OverlayValue) (are : AreLayers trees o
   pub number_of_shown : (path : List (List ℕ)) (seen : Shown ℕ) (lower : LayerRef) → shown layers path ≡ Some seen
       → slice_get overlay.lowers seen.layer ≡ Some lower
       → number_at path ≡ Some (number_of (node_born trees overlay.number seen.layer lower path))
-  number_of_shown path seen lower e l = ap (option_map (real_number trees overlay)) (real_is path ∙ ap (real_of path) e)
-      ∙ ap (λ (o : Option LayerRef). Some (unwrap_or (option_map (λ (layer : LayerRef).
-      number_of (node_born trees overlay.number seen.layer layer path)) o) 0)) l
+  number_of_shown path seen lower e l = grind (arith, common_steps, real_is path)
 
   abbrev pub found_at : ℕ → Option (List (List ℕ))
   found_at number =
@@ -156,9 +134,7 @@ module _ (trees : Filesystems) (overlay : OverlayValue) (are : AreLayers trees o
   numbered_is_at number path numbered = by (shown layers path) refl numbered
     where
       by : (o : Option (Shown ℕ)) → shown layers path ≡ o → number_at path ≡ Some number → IsAt path number
-      by None s n =
-          none_is_some number (sym (ap (option_map (real_number trees overlay)) (real_is path ∙ ap (real_of path) s))
-          ∙ n)
+      by None s n = grind (arith, common_steps, none_is_some, real_is)
       by (Some seen) s n =
           let at = in_layer path seen s in
           record {
@@ -200,16 +176,21 @@ module _ (trees : Filesystems) (overlay : OverlayValue) (are : AreLayers trees o
   -- the inode that is shown at its path
   pub node_there : (number : ℕ) (path : List (List ℕ)) (at : IsAt path number)
       → node_shown nat_eq world (overlay_seen overlay) path ≡ node_at_path (layer_of trees at.lower) path
-  node_there number path at = ap (λ ls. then_some (shown ls path) (layer_node ls)) layers_are
-      ∙ ap (λ o. then_some o (layer_node layers)) at.is ∙ ap (λ o. then_some o (λ layer. layer.tree.node at.object))
-      (slice_get-map (layer_of trees) overlay.lowers at.place ∙ ap (option_map (layer_of trees)) at.layer)
-      ∙ sym (ap (λ o. then_some o (files_at trees at.lower.directory.filesystem.count).tree.node) at.leads)
+  node_there number path at =
+      grind (
+        arith,
+        common_steps,
+        layers_are,
+        at.is,
+        slice_get-map (layer_of trees) overlay.lowers at.place,
+        at.layer,
+        at.leads,
+      )
 
   pub directory_shown : (number : ℕ) (path : List (List ℕ)) (at : IsAt path number)
       → is_directory_node (node_at_path (layer_of trees at.lower) path) ≡ true
       → only_of_directory trees overlay (Some path) ≡ Some path
-  directory_shown number path at is =
-      ap (λ b. if b then Some path else None) (ap is_directory_node (node_there number path at) ∙ is)
+  directory_shown number path at is = grind (arith, common_steps, node_there number path at)
 
   pub no_directory_shown : (number : ℕ) (path : List (List ℕ)) (at : IsAt path number)
       → (is_directory_node (node_at_path (layer_of trees at.lower) path) ≡ true → ⊥)

@@ -1,7 +1,7 @@
 -- One directory alone has a name for a file.
-use Rattle.std.proofs.Common.{Bool, List, None, Option, Some, ap, eqb-true, false, is_some, nat_eq, option_map, refl, sym, true, true≢false, ⊎_elim, ℕ, ◌<◌, ◌≤◌, ◌&&◌, ◌||◌, ◌∙◌, ◌∷◌, ◌≡◌, [], unwrap_or}
-use Rattle.vt_spec.proofs.Common.{Inode, Node, cases_lt, entries_in, entries_of, found_passes, has_entry_to, is_among, list_any, node_in, none_is_some, renamed_inode, same_Some, targets_in}
-use Rattle.vt_fs.specs.FilesystemsValue.{FilesystemEntry, Filesystems, entry_at, entry_of, files_at, files_seen, no_entry, node_seen}
+use Rattle.std.proofs.Common.{Bool, List, None, Option, Some, ap, eqb-true, false, is_some, nat_eq, option_map, refl, sym, true, true≢false, ℕ, ◌<◌, ◌&&◌, ◌∙◌, ◌∷◌, ◌≡◌, [], unwrap_or, arith}
+use Rattle.vt_spec.proofs.Common.{Node, entries_in, entries_of, found_passes, has_entry_to, is_among, list_any, none_is_some, same_Some, targets_in, common_steps}
+use Rattle.vt_fs.specs.FilesystemsValue.{FilesystemEntry, Filesystems, entry_of, files_at, files_seen, no_entry, node_seen}
 use Rattle.vt_fs.proofs.Numbers.{numbers_listed}
 use Rattle.vt_location.proofs.NumberLemmas.{exchanged_back, exchanged_slot}
 use Rattle.vt_location.specs.Numbers.{exchanged, inode_number}
@@ -16,25 +16,14 @@ use Rattle.vt_fs.specs.Trees.TreeValue.{TreeValue, tree_of}
 none_passes : (test : ℕ → Bool) (one : ℕ) → ((other : ℕ) → test other ≡ true → other ≡ one) → test one ≡ false
     → (list : List ℕ) → list_any test list ≡ false
 none_passes test one only fails [] = refl
-none_passes test one only fails (first ∷ rest) = by (test first) refl (none_passes test one only fails rest)
-  where
-    by : (b : Bool) → test first ≡ b → list_any test rest ≡ false → (test first || list_any test rest) ≡ false
-    by true e none = absurd (true≢false (sym e ∙ ap test (only first e) ∙ fails))
-    by false e none = ap (λ b. b || list_any test rest) e ∙ none
+none_passes test one only fails (first ∷ rest) =
+    grind (arith, common_steps, none_passes test one only fails rest, test first)
 
 one_passes : (test : ℕ → Bool) (one : ℕ) → test one ≡ true → (list : List ℕ) → is_among nat_eq one list ≡ true
     → list_any test list ≡ true
 one_passes test one passes [] among = absurd (true≢false (sym among))
-one_passes test one passes (first ∷ rest) among = by (nat_eq one first) refl among (one_passes test one passes rest)
-  where
-    later : (b : Bool) → list_any test rest ≡ true → (b || list_any test rest) ≡ true
-    later true e = refl
-    later false e = e
-
-    by : (b : Bool) → nat_eq one first ≡ b → (b || is_among nat_eq one rest) ≡ true
-        → (is_among nat_eq one rest ≡ true → list_any test rest ≡ true) → list_any test (first ∷ rest) ≡ true
-    by true e among there = ap (λ b. b || list_any test rest) (ap test (sym (eqb-true one first e)) ∙ passes)
-    by false e among there = later (test first) (there among)
+one_passes test one passes (first ∷ rest) among =
+    grind (arith, common_steps, one_passes test one passes rest, eqb-true)
 
 any_one : (test : ℕ → Bool) (one : ℕ) → ((other : ℕ) → test other ≡ true → other ≡ one) → (list : List ℕ)
     → is_among nat_eq one list ≡ true → list_any test list ≡ test one
@@ -43,13 +32,6 @@ any_one test one only list among = by (test one) refl
     by : (b : Bool) → test one ≡ b → list_any test list ≡ test one
     by true e = one_passes test one e list among ∙ sym e
     by false e = none_passes test one only e list ∙ sym e
-
--- a node by slots and by the numbers of inodes
-node_numbered : (count : ℕ) (o : Option (Inode ℕ))
-    → option_map (node_seen count) (node_in o) ≡ node_in
-    (option_map (renamed_inode (exchanged count) (exchanged count)) o)
-node_numbered count None = refl
-node_numbered count (Some inode) = refl
 
 nodes_found : (trees : Filesystems) (count : ℕ) (tree : TreeValue)
     → Some tree ≡ option_map (λ (entry : FilesystemEntry). entry.tree) (entry_of trees count) → (number : ℕ)
@@ -63,11 +45,9 @@ nodes_found trees count tree is number = by (entry_of trees count) refl is
         ≡ (files_seen (unwrap_or (entry_of trees count) (no_entry count))).tree.node number
     by None e f = none_is_some tree (sym f)
     by (Some entry) e f =
-        let same = eqb-true count entry.count
-        (found_passes (λ (one : FilesystemEntry). nat_eq count one.count) trees entry e) in
-        (λ i. option_map (node_seen (same i))
-        ((tree_of (same_Some tree entry.tree f i)).node (exchanged (same i) number))) ∙ node_numbered entry.count _
-        ∙ sym (ap (λ o. (files_seen (unwrap_or o (no_entry count))).tree.node number) e)
+        let same = eqb-true count entry.count (found_passes (λ (one : FilesystemEntry). nat_eq count one.count)
+        trees entry e) in
+        grind (arith, common_steps, same_Some tree entry.tree f)
 
 seen_targets : (count : ℕ) (o : Option (Node ℕ)) (slot : ℕ)
     → is_among nat_eq (exchanged count slot) (targets_in (option_map (node_seen count) o))
@@ -79,8 +59,7 @@ seen_targets count (Some node) slot =
 
 -- what has an entry is there
 has_node : (object : ℕ) (o : Option (Node ℕ)) → is_among nat_eq object (targets_in o) ≡ true → is_some o ≡ true
-has_node object None e = absurd (true≢false (sym e))
-has_node object (Some node) e = refl
+has_node object o e = grind (arith, common_steps)
 
 module _ (plain : Filesystems) (overlays : List OverlayEntry) (count : ℕ) (tree : TreeValue)
     (is : Some tree ≡ option_map (λ (entry : FilesystemEntry). entry.tree) (entry_of plain count))
@@ -93,8 +72,7 @@ module _ (plain : Filesystems) (overlays : List OverlayEntry) (count : ℕ) (tre
       ∙ seen_targets count ((tree_of tree).node (exchanged count number)) slot
 
   named : has_entry_to nat_eq (files_at plain count).tree (exchanged count directory) (inode_number count slot) ≡ true
-  named = entry_seen (exchanged count directory)
-      ∙ ap (λ n. has_entry_to nat_eq (tree_of tree) n slot) (exchanged_back count directory) ∙ alone.0
+  named = cc (entry_seen (exchanged count directory), exchanged_back count directory, alone.0)
 
   abbrev test : ℕ → Bool
   test = names_in_layer plain overlays count (inode_number count slot)
@@ -110,11 +88,9 @@ module _ (plain : Filesystems) (overlays : List OverlayEntry) (count : ℕ) (tre
       by false e passes = absurd (true≢false (sym passes))
 
   listed : is_among nat_eq (exchanged count directory) (files_at plain count).numbers ≡ true
-  listed = numbers_listed (entry_at plain count) (exchanged count directory)
-      ∙ has_node (inode_number count slot) ((files_at plain count).tree.node (exchanged count directory)) named
+  listed = grind (arith, common_steps, numbers_listed, has_node, named)
 
   -- so the directory decides
   pub alone_decides : list_any (directory_lies_in_overlay plain count (exchanged count directory)) overlays
       ≡ list_any test (files_at plain count).numbers
-  alone_decides = sym (any_one test (exchanged count directory) only (files_at plain count).numbers listed
-      ∙ ap (λ b. b && list_any (directory_lies_in_overlay plain count (exchanged count directory)) overlays) named)
+  alone_decides = cc (any_one test (exchanged count directory) only (files_at plain count).numbers listed, named)

@@ -1,11 +1,10 @@
 -- What lies in a layer by a name: the names are looked through once, and the layers for each.
-use Rattle.std.proofs.Common.{Bool, List, [], ap, false, refl, sym, true, ◌&&◌, ◌||◌, ◌∙◌, ◌∷◌, ◌≡◌, nat_eq, ℕ}
-use Rattle.vt_spec.proofs.Common.{has_entry_to, is_directory_under, is_file_under, is_under, list_any, or_false_left, or_false_right}
+use Rattle.std.proofs.Common.{Bool, List, [], ap, false, refl, sym, true, ◌&&◌, ◌||◌, ◌∙◌, ◌∷◌, ◌≡◌, nat_eq, ℕ, arith}
+use Rattle.vt_spec.proofs.Common.{has_entry_to, is_directory_under, is_file_under, list_any, or_false_left, or_false_right, common_steps}
 use Rattle.vt_fs.specs.FilesystemsValue.{Filesystems, files_at}
 use Rattle.vt_location.specs.Locations.{inode_of}
 use Rattle.vt_overlay.specs.declared.merge.layers.LayerRef.{LayerRef}
-use Rattle.vt_store.specs.LayerTests.{stands_in}
-use Rattle.vt_store.specs.Locks.{directory_lies_in, directory_lies_in_overlay, lies_in, lies_in_overlay, names_in_layer, overlay_stands_in}
+use Rattle.vt_store.specs.Locks.{directory_lies_in, directory_lies_in_overlay, lies_in_overlay, names_in_layer, overlay_stands_in}
 use Rattle.vt_store.specs.OverlaysValue.{OverlayEntry}
 
 -- a test that passes for no more elements than another
@@ -17,26 +16,16 @@ any-fewer p q less (x ∷ xs) none = ap (λ b. b || list_any q xs) (less x (or_f
 
 module _ {D : Type 0} (has : D → Bool) where
   each_or : (h p q m n : Bool) → ((h && p || m) || (h && q || n)) ≡ (h && (p || q) || (m || n))
-  each_or false p q m n = refl
-  each_or true true q m n = refl
-  each_or true false true true n = refl
-  each_or true false true false n = refl
-  each_or true false false m n = refl
+  each_or h p q m n = grind (arith, common_steps)
 
   any-or : (p q : D → Bool) (ds : List D) → (list_any (λ d. has d && p d) ds || list_any (λ d. has d && q d) ds)
       ≡ list_any (λ d. has d && (p d || q d)) ds
   any-or p q [] = refl
-  any-or p q (d ∷ ds) = each_or (has d) (p d) (q d) (list_any (λ d. has d && p d) ds) (list_any (λ d. has d && q d) ds)
-      ∙ ap (λ b. has d && (p d || q d) || b) (any-or p q ds)
+  any-or p q (d ∷ ds) = grind (arith, common_steps, any-or p q ds, each_or)
 
   never : (ds : List D) → list_any (λ d. has d && false) ds ≡ false
   never [] = refl
-  never (d ∷ ds) = by (has d) (never ds)
-    where
-      by : (h : Bool) → list_any (λ d. has d && false) ds ≡ false
-          → (h && false || list_any (λ d. has d && false) ds) ≡ false
-      by true rest = rest
-      by false rest = rest
+  never (d ∷ ds) = grind (arith, common_steps, never ds, has d)
 
   -- what does not depend on the element
   pub any-and : (b : Bool) (p : D → Bool) (ds : List D)
@@ -49,17 +38,13 @@ module _ {D : Type 0} (has : D → Bool) where
       → list_any (λ x. list_any (λ d. has d && test x d) ds) xs ≡ list_any
       (λ d. has d && list_any (λ x. test x d) xs) ds
   any-swapped test [] ds = sym (never ds)
-  any-swapped test (x ∷ xs) ds = ap (λ b. list_any (λ d. has d && test x d) ds || b) (any-swapped test xs ds)
-      ∙ any-or (test x) (λ d. list_any (λ x. test x d) xs) ds
+  any-swapped test (x ∷ xs) ds = cc (any-swapped test xs ds, any-or (test x) (λ d. list_any (λ x. test x d) xs) ds)
 
 -- nothing lies in a layer of a filesystem that has none
 pub none_stands : (plain : Filesystems) (count number : ℕ) (overlays : List OverlayEntry)
     → list_any (overlay_stands_in count) overlays ≡ false
     → list_any (lies_in_overlay plain count number) overlays ≡ false
-none_stands plain count number = any-fewer (overlay_stands_in count) (lies_in_overlay plain count number)
-    (λ entry. any-fewer (stands_in count) (lies_in plain count number)
-    (λ layer none. ap (λ b. b && is_under nat_eq (files_at plain count) (inode_of layer.directory) number) none)
-    entry.overlay.lowers)
+none_stands plain count number = grind (arith, common_steps, any-fewer)
 
 module _ (plain : Filesystems) (count file : ℕ) where
   abbrev names_it : ℕ → Bool

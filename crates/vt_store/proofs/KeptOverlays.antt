@@ -1,11 +1,10 @@
 -- The overlays as the map keeps them, and as contracts see them.
-use Rattle.std.proofs.Common.{◌≡◌, ◌<◌, refl, sym, ap, subst, ◌∙◌, ℕ, Bool, true, false, cond, ◌&&◌, nat_eq, nat_lt, List, [], ◌∷◌, ◌++◌, map, filter, not, slice_get, eq-eqb, Option, Some, None, option_map, is_some, IfSome, IsSome, length, Ordering, Less, Equal, Greater, eqb-true}
-use Rattle.vt_spec.proofs.Common.{by_order, list_all, lookup, nil_from_length, put}
+use Rattle.std.proofs.Common.{◌≡◌, ◌<◌, refl, sym, ap, ◌∙◌, ℕ, Bool, true, false, cond, ◌&&◌, nat_eq, nat_lt, List, [], ◌∷◌, ◌++◌, map, filter, not, slice_get, eq-eqb, Option, Some, None, option_map, is_some, IfSome, IsSome, length, eqb-true, arith}
+use Rattle.vt_spec.proofs.Common.{list_all, lookup, nil_from_length, put, common_steps}
 use Rattle.indexmap.specs.IndexMap.{IndexMap, WritesThrough, get_by}
 use Rattle.vt_location.specs.declared.numbers.FilesystemId.{FilesystemId}
 use Rattle.vt_location.specs.InOrder.{cmp_by, in_order_by}
 use Rattle.vt_location.proofs.OrderLemmas.{IsChanged, change_kept, changed-by, in_order-changed, in_order-last, in_order-removed, is_above, looked-in_order}
-use Rattle.vt_overlay.specs.MergedTree.{OverlayValue}
 use Rattle.vt_store.specs.declared.overlays.KeptOverlay.{KeptOverlay}
 use Rattle.vt_store.specs.OverlaysValue.{AreOwn, OverlayEntry, Overlays, entries_kept, entry_kept, kept_overlay, kept_overlays, overlay_of, with_overlay_changed, without_overlay}
 
@@ -44,10 +43,7 @@ none_found f es none = sym (ap (lookup (is_key f)) (nil_from_length es none))
 pub first_found : (id first : FilesystemId) (x : KeptOverlay) (es : List (FilesystemId × KeptOverlay))
     → Some (first, x) ≡ slice_get es 0 → key_eq first id ≡ true → Some x ≡ lookup (is_key id.count) es
 first_found id first x [] at is = absurd cc
-first_found id first x (e ∷ es) at is =
-    let here : e ≡ (first, x) = cc in
-    sym (ap (λ e. lookup (is_key id.count) (e ∷ es)) here ∙ ap (λ b. cond b (Some x) (lookup (is_key id.count) es))
-    (eq-eqb id.count first.count (sym (eqb-true first.count id.count is))))
+first_found id first x (e ∷ es) at is = cc (eq-eqb id.count first.count (sym (eqb-true first.count id.count is)))
 
 pub none_kept : (es : List (FilesystemId × KeptOverlay)) → length es ≡ 0 → kept_overlays es ≡ []
 none_kept es none = ap kept_overlays (nil_from_length es none)
@@ -56,13 +52,7 @@ none_kept es none = ap kept_overlays (nil_from_length es none)
 some_put : (kept : FilesystemId × KeptOverlay) (es : List (FilesystemId × KeptOverlay))
     → ¬ (entries_kept (put (cmp_by count_of) kept.0 kept.1 es) ≡ [])
 some_put kept [] none = cc
-some_put kept (e ∷ es) none = by (cmp_by count_of kept.0 e.0) none
-  where
-    by : (o : Ordering) → ¬ (entries_kept (by_order o (kept ∷ e ∷ es) ((e.0, kept.1) ∷ es)
-        (e ∷ put (cmp_by count_of) kept.0 kept.1 es)) ≡ [])
-    by Less none = cc
-    by Equal none = cc
-    by Greater none = cc
+some_put kept (e ∷ es) none = grind (arith, common_steps)
 
 pub none_under : (es : List (FilesystemId × KeptOverlay)) → kept_overlays es ≡ [] → length es ≡ 0
 none_under [] none = refl
@@ -73,19 +63,12 @@ module _ (f : ℕ) where
   pub entry_kept-entries : (es : List (FilesystemId × KeptOverlay))
       → entry_kept (entries_kept es) f ≡ option_map (of_count f) (lookup (is_key f) es)
   entry_kept-entries [] = refl
-  entry_kept-entries (e ∷ es) = by (nat_eq f e.0.count) (same f e.0.count) (entry_kept-entries es)
-    where
-      by : (b : Bool) → (b ≡ true → e.0.count ≡ f)
-          → entry_kept (entries_kept es) f ≡ option_map (of_count f) (lookup (is_key f) es)
-          → cond b (Some (kept_overlay e)) (entry_kept (entries_kept es) f)
-          ≡ option_map (of_count f) (cond b (Some e.1) (lookup (is_key f) es))
-      by true is rest = λ i. Some (of_count (is refl i) e.1)
-      by false is rest = rest
+  entry_kept-entries (e ∷ es) =
+      grind (arith, common_steps, entry_kept-entries es, nat_eq f e.0.count, same f e.0.count)
 
   pub entry_kept-kept : (es : List (FilesystemId × KeptOverlay))
       → entry_kept (kept_overlays es) f ≡ option_map (of_count f) (lookup (is_key f) es)
-  entry_kept-kept es =
-      entry_kept-entries (in_order es) ∙ ap (option_map (of_count f)) (looked-in_order count_of (id_of f) es)
+  entry_kept-kept es = cc (entry_kept-entries (in_order es), looked-in_order count_of (id_of f) es)
 
   -- the overlay of a count is changed
   entries-changed : (written : KeptOverlay → KeptOverlay) (change : OverlayEntry → OverlayEntry)
@@ -98,8 +81,7 @@ module _ (f : ℕ) where
     where
       by : (b : Bool)
           → of_count e.0.count (cond b (written e.1) e.1) ≡ cond b (change (kept_overlay e)) (kept_overlay e)
-      by true = so e.0.count e.1
-      by false = refl
+      by b = grind (arith, common_steps)
 
   kept-changed : (written : KeptOverlay → KeptOverlay) (change : OverlayEntry → OverlayEntry)
       (es new : List (FilesystemId × KeptOverlay))
@@ -114,61 +96,30 @@ module _ (f : ℕ) where
   pub absent_changed : (change : OverlayEntry → OverlayEntry) (all : Overlays) → entry_kept all f ≡ None
       → with_overlay_changed f change all ≡ all
   absent_changed change [] absent = refl
-  absent_changed change (e ∷ all) absent = by (nat_eq f e.count) absent (absent_changed change all)
-    where
-      by : (b : Bool) → cond b (Some e) (entry_kept all f) ≡ None
-          → (entry_kept all f ≡ None → with_overlay_changed f change all ≡ all)
-          → cond b (change e) e ∷ with_overlay_changed f change all ≡ e ∷ all
-      by true found rest = absurd cc
-      by false absent rest = ap (λ l. e ∷ l) (rest absent)
+  absent_changed change (e ∷ all) absent = grind (arith, common_steps, absent_changed change all, nat_eq f e.count)
 
   -- the overlay of a count is removed
   entries-without : (kept : List (FilesystemId × KeptOverlay))
       → entries_kept (filter (λ one. not (nat_eq f one.0.count)) kept) ≡ without_overlay f (entries_kept kept)
   entries-without [] = refl
-  entries-without (e ∷ kept) = by (nat_eq f e.0.count) (entries-without kept)
-    where
-      by : (b : Bool)
-          → entries_kept (filter (λ one. not (nat_eq f one.0.count)) kept) ≡ without_overlay f (entries_kept kept)
-          → entries_kept (cond (not b) (e ∷ filter (λ one. not (nat_eq f one.0.count)) kept)
-          (filter (λ one. not (nat_eq f one.0.count)) kept))
-          ≡ cond (not b) (kept_overlay e ∷ without_overlay f (entries_kept kept))
-          (without_overlay f (entries_kept kept))
-      by true rest = rest
-      by false rest = ap (λ l. kept_overlay e ∷ l) rest
+  entries-without (e ∷ kept) = grind (arith, common_steps, entries-without kept, nat_eq f e.0.count)
 
   pub removed : (es new : List (FilesystemId × KeptOverlay))
       → ((q : FilesystemId) → lookup (key_eq q) new ≡ cond (nat_eq f q.count) None (lookup (key_eq q) es))
       → kept_overlays new ≡ without_overlay f (kept_overlays es)
-  removed es new goes =
-      ap entries_kept (in_order-removed count_of whole (id_of f) es new goes) ∙ entries-without (in_order es)
+  removed es new goes = cc (in_order-removed count_of whole (id_of f) es new goes, entries-without (in_order es))
 
 -- what the map has under a count is the overlay of that count
 pub overlay_of-kept : (f : ℕ) (es : List (FilesystemId × KeptOverlay)) (all : Overlays) (o : Option KeptOverlay)
     → kept_overlays es ≡ all → o ≡ lookup (is_key f) es
     → option_map (λ (one : KeptOverlay). one.overlay) o ≡ overlay_of all f
-overlay_of-kept f es all o view is =
-    ap (option_map (λ (one : KeptOverlay). one.overlay)) is ∙ both (lookup (is_key f) es)
-    ∙ ap (option_map (λ (entry : OverlayEntry). entry.overlay)) (sym (entry_kept-kept f es))
-    ∙ ap (λ l. overlay_of l f) view
-  where
-    both : (o : Option KeptOverlay) → option_map (λ (one : KeptOverlay). one.overlay) o
-        ≡ option_map (λ (entry : OverlayEntry). entry.overlay) (option_map (of_count f) o)
-    both None = refl
-    both (Some one) = refl
+overlay_of-kept f es all o view is = grind (arith, common_steps, entry_kept-kept)
 
 -- and so many mounts show it
 pub mounts-kept : (f : ℕ) (es : List (FilesystemId × KeptOverlay)) (all : Overlays) (o : Option KeptOverlay)
     → kept_overlays es ≡ all → o ≡ lookup (is_key f) es → option_map (λ (one : KeptOverlay). one.mounts) o
     ≡ option_map (λ (entry : OverlayEntry). entry.mounts) (entry_kept all f)
-mounts-kept f es all o view is = ap (option_map (λ (one : KeptOverlay). one.mounts)) is ∙ both (lookup (is_key f) es)
-    ∙ ap (option_map (λ (entry : OverlayEntry). entry.mounts))
-    (sym (entry_kept-kept f es) ∙ ap (λ l. entry_kept l f) view)
-  where
-    both : (o : Option KeptOverlay) → option_map (λ (one : KeptOverlay). one.mounts) o
-        ≡ option_map (λ (entry : OverlayEntry). entry.mounts) (option_map (of_count f) o)
-    both None = refl
-    both (Some one) = refl
+mounts-kept f es all o view is = grind (arith, common_steps, entry_kept-kept, entry_kept)
 
 -- what was written to the overlay of a count, and what is written to none
 pub writes : {S : Type 0} (f : ℕ) (written : KeptOverlay → KeptOverlay) (change : OverlayEntry → OverlayEntry)
@@ -209,8 +160,7 @@ added es new all k x view above comes = ap entries_kept (in_order-last count_of 
     ∙ entries_behind (k, x) (in_order es) ∙ ap (λ l. l ++ kept_overlay (k, x) ∷ []) view
   where
     last : is_above count_of k (in_order es) ≡ true
-    last = sym (above_entries k (in_order es))
-        ∙ ap (list_all (λ (entry : OverlayEntry). nat_lt entry.count k.count)) view ∙ above
+    last = cc (above_entries k (in_order es), view, above)
 
 -- Each under its own number
 
@@ -222,23 +172,12 @@ is_own id kept own one e = own id one (sym e)
 pub own_added : (es new : List (FilesystemId × KeptOverlay)) (k : FilesystemId) (x : KeptOverlay) → AreOwn es
     → x.overlay.number ≡ k
     → ((q : FilesystemId) → lookup (key_eq q) new ≡ cond (key_eq k q) (Some x) (lookup (key_eq q) es)) → AreOwn new
-own_added es new k x own its comes id one e = by (key_eq k id) (eqb-true k.count id.count) (sym (comes id) ∙ e)
-  where
-    by : (b : Bool) → (b ≡ true → k.count ≡ id.count)
-        → cond b (Some x) (lookup (key_eq id) es) ≡ Some one → one.overlay.number ≡ id
-    by true here is =
-        let same : x ≡ one = cc in
-        ap (λ (l : KeptOverlay). l.overlay.number) (sym same) ∙ its ∙ whole k id (here refl)
-    by false here is = own id one is
+own_added es new k x own its comes id one e = grind (arith, common_steps)
 
 -- where one is taken out,
 pub own_removed : (f : ℕ) (es new : List (FilesystemId × KeptOverlay)) → AreOwn es
     → ((q : FilesystemId) → lookup (key_eq q) new ≡ cond (nat_eq f q.count) None (lookup (key_eq q) es)) → AreOwn new
-own_removed f es new own goes id one e = by (nat_eq f id.count) (sym (goes id) ∙ e)
-  where
-    by : (b : Bool) → cond b None (lookup (key_eq id) es) ≡ Some one → one.overlay.number ≡ id
-    by true is = absurd cc
-    by false is = own id one is
+own_removed f es new own goes id one e = grind (arith, common_steps)
 
 -- and where one is changed, but for its number
 pub own_written : {S : Type 0} (f : ℕ) (m n : IndexMap FilesystemId KeptOverlay S) (x w : KeptOverlay)
@@ -249,15 +188,11 @@ own_written f m n x w own there is through id one e =
   where
     by : (b : Bool) → (b ≡ true → f ≡ id.count)
         → cond b (Some w) (lookup (key_eq id) m.entries) ≡ Some one → one.overlay.number ≡ id
-    by true here written =
-        let same : w ≡ one = cc in
-        ap (λ (l : KeptOverlay). l.overlay.number) (sym same) ∙ ap (λ (l : OverlayValue). l.number) is
-        ∙ own (id_of f) x there ∙ whole (id_of f) id (here refl)
+    by true here written = cc (is, own (id_of f) x there, whole (id_of f) id (here refl))
     by false here written = own id one written
 
 -- what is found has no more mounts than its entry says
 pub mounts_below : (f most : ℕ) (es : List (FilesystemId × KeptOverlay)) (all : Overlays) (x : KeptOverlay)
     → kept_overlays es ≡ all → lookup (is_key f) es ≡ Some x
     → IfSome (entry_kept all f) (λ (entry : OverlayEntry). entry.mounts < most) → x.mounts < most
-mounts_below f most es all x view there less = subst (λ o. IfSome o (λ (entry : OverlayEntry). entry.mounts < most))
-    (ap (λ l. entry_kept l f) (sym view) ∙ entry_kept-kept f es ∙ ap (option_map (of_count f)) there) less
+mounts_below f most es all x view there less = grind (arith, common_steps, entry_kept-kept f es)

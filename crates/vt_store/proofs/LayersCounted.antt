@@ -1,6 +1,6 @@
 -- Layers as they are counted.
-use Rattle.std.proofs.Common.{◌≡◌, ◌≤◌, ◌<◌, ◌+◌, ◌-◌, ◌∙◌, ◌∷◌, ◌↔◌, [], arith, ap, Bool, cond, eq-eqb, eqb-true, false, filter, find, get_or, IsErr, length, List, map, nat_eq, ne_eqb, None, not, OnOk, option_map, Option, refl, Some, subst, sym, take, true, unwrap_or, ℕ, Err, Ok, Result, length-take-le}
-use Rattle.vt_spec.proofs.Common.{Inode, Inodes, folded, folded-snoc, pinned, take_more, unpinned, used_once_more, uses_in}
+use Rattle.std.proofs.Common.{◌≡◌, ◌≤◌, ◌<◌, ◌+◌, ◌-◌, ◌∙◌, ◌∷◌, ◌↔◌, [], arith, ap, Bool, cond, eq-eqb, false, filter, find, get_or, IsErr, length, List, map, nat_eq, ne_eqb, None, not, OnOk, option_map, Option, refl, Some, sym, take, true, unwrap_or, ℕ, Result, length-take-le}
+use Rattle.vt_spec.proofs.Common.{Inodes, folded, pinned, unpinned, uses_in, common_steps}
 use Rattle.vt_fs.specs.Trees.Slots.{most_uses}
 use Rattle.vt_location.specs.declared.locations.NodeRef.{NodeRef}
 use Rattle.vt_location.specs.Locations.{inode_of, number_of}
@@ -16,14 +16,7 @@ pub find-counted : (count : ℕ) (change : Shown → Shown) → ((one : Shown) �
     → (all : List Shown) → found count (map change all) ≡ option_map change (found count all)
 find-counted count change kept [] = refl
 find-counted count change kept (one ∷ all) =
-    ap (λ n. cond (nat_eq count n) (Some (change one)) (found count (map change all))) (kept one)
-    ∙ by (nat_eq count one.count) (find-counted count change kept all)
-  where
-    by : (b : Bool) → found count (map change all) ≡ option_map change (found count all)
-        → cond b (Some (change one)) (found count (map change all))
-        ≡ option_map change (cond b (Some one) (found count all))
-    by true later = refl
-    by false later = later
+    grind (arith, common_steps, find-counted count change kept all, kept one, nat_eq count one.count)
 
 -- What contracts of vt_fs say, as it is shown
 
@@ -42,34 +35,15 @@ shown-mounts_changed count change (entry ∷ rest) =
 shown-without : (count : ℕ) (fs : Filesystems)
     → shown (without count fs) ≡ filter (λ (one : Shown). not (nat_eq count one.count)) (shown fs)
 shown-without count [] = refl
-shown-without count (entry ∷ rest) = by (nat_eq count entry.count) (shown-without count rest)
-  where
-    by : (b : Bool) → shown (without count rest) ≡ filter (λ (one : Shown). not (nat_eq count one.count)) (shown rest)
-        → shown (cond (not b) (entry ∷ without count rest) (without count rest))
-        ≡ cond (not b) (shown_entry entry ∷ filter (λ (one : Shown). not (nat_eq count one.count)) (shown rest))
-        (filter (λ (one : Shown). not (nat_eq count one.count)) (shown rest))
-    by true later = later
-    by false later = ap (λ l. shown_entry entry ∷ l) later
+shown-without count (entry ∷ rest) = grind (arith, common_steps, shown-without count rest, cond)
 
 -- what is found of an entry is what its count shows
 pub found-shown : (count : ℕ) (fs : Filesystems) → found count (shown fs) ≡ option_map shown_entry (entry_of fs count)
 found-shown count [] = refl
-found-shown count (entry ∷ rest) = by (nat_eq count entry.count) (found-shown count rest)
-  where
-    by : (b : Bool) → found count (shown rest) ≡ option_map shown_entry (entry_of rest count)
-        → cond b (Some (shown_entry entry)) (found count (shown rest))
-        ≡ option_map shown_entry (cond b (Some entry) (entry_of rest count))
-    by true later = refl
-    by false later = later
+found-shown count (entry ∷ rest) = grind (arith, common_steps, found-shown count rest, nat_eq count entry.count)
 
 pub mounts_are_shown : (count : ℕ) (fs : Filesystems) → (entry_at fs count).mounts ≡ mounts_shown count (shown fs)
-mounts_are_shown count fs = by (entry_of fs count)
-    ∙ ap (λ o. unwrap_or (option_map (λ (one : Shown). one.mounts) o) 0) (sym (found-shown count fs))
-  where
-    by : (o : Option FilesystemEntry) → (unwrap_or o (no_entry count)).mounts
-        ≡ unwrap_or (option_map (λ (one : Shown). one.mounts) (option_map shown_entry o)) 0
-    by None = refl
-    by (Some entry) = refl
+mounts_are_shown count fs = grind (arith, common_steps, entry_of fs count, found-shown count fs)
 
 pub uses_are_shown : (count number : ℕ) (fs : Filesystems)
     → uses_in ((inodes_at fs count).inode number) ≡ uses_shown count number (shown fs)
@@ -96,8 +70,7 @@ module _ (layer : LayerRef) (at : NodeRef) (is : IsAt layer at) where
   pub layer_pinned : (old mid : Filesystems)
       → ChangesInodes at.filesystem.count (λ inodes. pinned nat_eq inodes (number_of at)) old mid
       → shown mid ≡ shown_with count (λ inodes. pinned nat_eq inodes (inode_of layer.directory)) (shown old)
-  layer_pinned old mid changes = changes.changed
-      ∙ (λ i. shown_with (is.filesystem i).count (λ inodes. pinned nat_eq inodes (is.number i)) (shown old))
+  layer_pinned old mid changes = grind (arith, common_steps)
 
   pub layer_more : (old mid new : Filesystems)
       → ChangesInodes at.filesystem.count (λ inodes. pinned nat_eq inodes (number_of at)) old mid
@@ -110,15 +83,12 @@ module _ (layer : LayerRef) (at : NodeRef) (is : IsAt layer at) where
       → ChangesInodes at.filesystem.count (λ inodes. unpinned nat_eq inodes (number_of at)) old mid
       → shown new ≡ without_unmounted count (mounts_changed count (λ mounts. mounts - 1) (shown mid))
       → shown new ≡ without_layer (shown old) layer
-  layer_less old mid new changes left =
-      left ∙ ap (λ all. without_unmounted count (mounts_changed count (λ mounts. mounts - 1) all)) (changes.changed
-      ∙ (λ i. shown_with (is.filesystem i).count (λ inodes. unpinned nat_eq inodes (is.number i)) (shown old)))
+  layer_less old mid new changes left = grind (arith, common_steps)
 
   -- its uses
   pub layer_used : (fs : Filesystems) → uses_in ((inodes_at fs at.filesystem.count).inode (number_of at))
       ≡ uses_shown count (inode_of layer.directory) (shown fs)
-  layer_used fs = (λ i. uses_in ((inodes_at fs (is.filesystem i).count).inode (is.number i)))
-      ∙ uses_are_shown count (inode_of layer.directory) fs
+  layer_used fs = grind (arith, common_steps, uses_are_shown)
 
 module _ (count : ℕ) (old mid : Filesystems) (n : ℕ)
     (released : mid ≡ with_changed count (λ entry. record entry { mounts = entry.mounts - 1 }) old)
@@ -137,9 +107,7 @@ module _ (count : ℕ) (old mid : Filesystems) (n : ℕ)
 
   -- a filesystem goes with its last mount, and stays while another shows it
   pub filesystem_goes : (new : Filesystems) → n ≡ 0 → new ≡ without count mid → shown new ≡ without_unmounted count less
-  filesystem_goes new zero gone = ap shown gone ∙ shown-without count mid
-      ∙ ap (filter (λ (one : Shown). not (nat_eq count one.count))) seen
-      ∙ ap left (sym (eq-eqb (mounts_shown count less) 0 (sym same ∙ zero)))
+  filesystem_goes new zero gone = grind (arith, common_steps, shown-without, seen, eq-eqb, less, same)
 
   pub filesystem_stays : (n ≡ 0 → ⊥) → shown mid ≡ without_unmounted count less
   filesystem_stays some = seen ∙ ap left (sym (ne_eqb (mounts_shown count less) 0 (λ none. some (same ∙ none))))
@@ -148,37 +116,14 @@ module _ (count : ℕ) (old mid : Filesystems) (n : ℕ)
 
 -- where there is room nothing is refused
 pub unlimited : {T E : Type 0} (r : Result T E) {P Q : Type 0} → OnOk r P → (IsErr r ↔ Q) → (Q → ⊥) → P
-unlimited (Ok value) p limit none = p
-unlimited (Err error) p limit none = absurd (none (limit.0 refl))
-
-used_more : (o : Option (Inode ℕ)) → uses_in (used_once_more o) ≤ uses_in o + 1
-used_more None = omega arith
-used_more (Some inode) = omega arith
-
-pinned_more : (inodes : Inodes ℕ) (number other : ℕ)
-    → uses_in ((pinned nat_eq inodes number).inode other) ≤ uses_in (inodes.inode other) + 1
-pinned_more inodes number other = by (nat_eq other number) (eqb-true other number)
-  where
-    by : (b : Bool) → (b ≡ true → other ≡ number)
-        → uses_in (cond b (used_once_more (inodes.inode number)) (inodes.inode other)) ≤ uses_in
-        (inodes.inode other) + 1
-    by true same = subst (λ n. uses_in (used_once_more (inodes.inode n)) ≤ uses_in (inodes.inode other) + 1)
-        (same refl) (used_more (inodes.inode other))
-    by false same = omega arith
+unlimited r p limit none = grind (arith, common_steps)
 
 -- a change by which what is counted grows by so many at most
 grows : (count : ℕ) (change : Shown → Shown) → ((one : Shown) → (change one).count ≡ one.count)
     → (counts : Shown → ℕ) (more : ℕ) → ((one : Shown) → counts (change one) ≤ counts one + more) → (all : List Shown)
     → unwrap_or (option_map counts (found count (map change all))) 0
     ≤ unwrap_or (option_map counts (found count all)) 0 + more
-grows count change kept counts more most all =
-    subst (λ o. unwrap_or (option_map counts o) 0 ≤ unwrap_or (option_map counts (found count all)) 0 + more)
-    (sym (find-counted count change kept all)) (by (found count all))
-  where
-    by : (o : Option Shown)
-        → unwrap_or (option_map counts (option_map change o)) 0 ≤ unwrap_or (option_map counts o) 0 + more
-    by None = omega arith
-    by (Some one) = most one
+grows count change kept counts more most all = grind (arith, common_steps, find-counted count change kept all)
 
 module _ (layer : LayerRef) where
   abbrev pub home : ℕ
@@ -188,18 +133,10 @@ module _ (layer : LayerRef) where
   pins inodes = pinned nat_eq inodes (inode_of layer.directory)
 
   pub pinned_count : (one : Shown) → (shown_if home pins one).count ≡ one.count
-  pinned_count one = by (nat_eq home one.count)
-    where
-      by : (b : Bool) → (cond b (record one { inodes = pins one.inodes }) one).count ≡ one.count
-      by true = refl
-      by false = refl
+  pinned_count one = grind (arith, common_steps)
 
   pub mounted_count : (one : Shown) → (mounts_changed_if home (λ mounts. mounts + 1) one).count ≡ one.count
-  mounted_count one = by (nat_eq home one.count)
-    where
-      by : (b : Bool) → (cond b (record one { mounts = one.mounts + 1 }) one).count ≡ one.count
-      by true = refl
-      by false = refl
+  mounted_count one = grind (arith, common_steps)
 
   layer_uses : (all : List Shown) (count number : ℕ)
       → uses_shown count number (with_layer all layer) ≤ uses_shown count number all + 1
@@ -214,14 +151,12 @@ module _ (layer : LayerRef) where
       keeps : (one : Shown) (b : Bool)
           → uses_in ((cond b (record one { mounts = one.mounts + 1 }) one).inodes.inode number)
           ≤ uses_in (one.inodes.inode number) + 0
-      keeps one true = omega arith
-      keeps one false = omega arith
+      keeps one b = grind (arith, common_steps)
 
       pinned_one : (one : Shown) (b : Bool)
           → uses_in ((cond b (record one { inodes = pins one.inodes }) one).inodes.inode number)
           ≤ uses_in (one.inodes.inode number) + 1
-      pinned_one one true = pinned_more one.inodes (inode_of layer.directory) number
-      pinned_one one false = omega arith
+      pinned_one one b = grind (arith, common_steps)
 
   -- a use is no mount
   pub pinned_mounts : (all : List Shown) (count : ℕ)
@@ -230,8 +165,7 @@ module _ (layer : LayerRef) where
       grows count (shown_if home pins) pinned_count (λ one. one.mounts) 0 (λ one. keeps one (nat_eq home one.count)) all
     where
       keeps : (one : Shown) (b : Bool) → (cond b (record one { inodes = pins one.inodes }) one).mounts ≤ one.mounts + 0
-      keeps one true = omega arith
-      keeps one false = omega arith
+      keeps one b = grind (arith, common_steps)
 
   layer_mounts : (all : List Shown) (count : ℕ) → mounts_shown count (with_layer all layer) ≤ mounts_shown count all + 1
   layer_mounts all count =
@@ -242,8 +176,7 @@ module _ (layer : LayerRef) where
     where
       mounted_one : (one : Shown) (b : Bool)
           → (cond b (record one { mounts = one.mounts + 1 }) one).mounts ≤ one.mounts + 1
-      mounted_one one true = omega arith
-      mounted_one one false = omega arith
+      mounted_one one b = grind (arith, common_steps)
 
 -- so many layers are so many uses and mounts more at most
 layers_uses : (count number : ℕ) (layers : List LayerRef) (all : List Shown)
@@ -267,27 +200,14 @@ pub room_at : (layers : List LayerRef) (old new : List Shown) (index : ℕ) (def
     → HaveRoomFor (length layers) old layers → new ≡ with_layers (take index layers) old
     → HasRoomFor 1 new (get_or layers index default)
 room_at layers old new index default within room counted =
-    let here = get_or layers index default in
-    let had = room index default within in
-    let taken = length-take-le index layers in
-    subst (λ all. HasRoomFor 1 all here) (sym counted) (record {
-      uses = (let most = had.uses in
-          let more = layers_uses here.directory.filesystem.count (inode_of here.directory) (take index layers) old in
-          omega (arith, most, more, within, taken));
-      mounts = (let most = had.mounts in
-          let more = layers_mounts here.directory.filesystem.count (take index layers) old in
-          omega (arith, most, more, within, taken));
-    })
+    grind (arith, common_steps, length-take-le, layers_uses, layers_mounts)
 
 -- One layer more where there is room
 
 module _ (layer : LayerRef) (at : NodeRef) (is : IsAt layer at) (old mid : Filesystems)
     (room : HasRoomFor 1 (shown old) layer) where
   pub may_pin : uses_in ((inodes_at old at.filesystem.count).inode (number_of at)) ≡ most_uses → ⊥
-  may_pin full =
-      let most = room.uses in
-      let same = layer_used layer at is old in
-      omega (arith, most, same, full)
+  may_pin full = grind (arith, common_steps, layer_used)
 
   pub may_mount : ChangesInodes at.filesystem.count (λ inodes. pinned nat_eq inodes (number_of at)) old mid
       → (entry_at mid layer.directory.filesystem.count).mounts ≡ most_uses → ⊥
@@ -303,7 +223,4 @@ pub folded-take : (add : List Shown → LayerRef → List Shown) (all mid new : 
     (index : ℕ) (default : LayerRef) → index < length layers
     → new ≡ add mid (get_or layers index default) → mid ≡ folded add all (take index layers)
     → new ≡ folded add all (take (index + 1) layers)
-folded-take add all mid new layers index default within is so_far =
-    is ∙ ap (λ all. add all (get_or layers index default)) so_far
-    ∙ sym (ap (folded add all) (take_more layers index default within)
-    ∙ folded-snoc add all (take index layers) (get_or layers index default))
+folded-take add all mid new layers index default within is so_far = grind (arith, common_steps)

@@ -1,7 +1,6 @@
 -- The layers of all overlays, as overlays come, change and go.
-use Rattle.std.proofs.Common.{Option, ◌≡◌, ◌<◌, ◌^◌, arith, is_some, lt-ltb, ne_eqb, refl, sym, ap, ◌∙◌, ℕ, Bool, true, false, cond, not, ◌||◌, nat_eq, List, [], ◌∷◌, ◌++◌, append-nil, append_assoc, None, Some, option_map, T, subst, IsPermutation, count_by, min, nat_lt, eqb-true, ltb-true}
-use Rattle.vt_spec.proofs.Common.{AllByRecursion, IsPermutation-append_left, IsPermutation-append_right, IsPermutation-refl, IsPermutation-trans, T_and_left, T_and_right, keys_of, list_all, list_any, list_any-append, lookup, none_is_some, same_Some, sum_by-IsPermutation}
-use Rattle.std.proofs.lemmas.List.Concat.{flat_map-append}
+use Rattle.std.proofs.Common.{Option, ◌≡◌, ◌<◌, ◌^◌, arith, is_some, lt-ltb, ne_eqb, refl, sym, ap, ◌∙◌, ℕ, Bool, true, false, cond, not, nat_eq, List, [], ◌∷◌, ◌++◌, append_assoc, None, Some, option_map, T, subst, IsPermutation, count_by, min, nat_lt, eqb-true, ltb-true}
+use Rattle.vt_spec.proofs.Common.{AllByRecursion, IsPermutation-append_left, IsPermutation-append_right, IsPermutation-trans, T_and_left, T_and_right, keys_of, list_all, list_any, list_any-append, lookup, same_Some, sum_by-IsPermutation, common_steps}
 use Rattle.std.proofs.lemmas.List.Sorted.{All-permutation, IsPermutation-append_comm}
 use Rattle.indexmap.specs.IndexMap.{IndexMap, WritesThrough, get_by}
 use Rattle.vt_location.proofs.OrderLemmas.{apart-below, rises, rises-in_order, same_by}
@@ -11,7 +10,7 @@ use Rattle.vt_store.proofs.KeptOverlays.{added, count_of, entry_kept-entries, en
 use Rattle.vt_store.proofs.OverlaysGo.{absent_removed}
 use Rattle.vt_store.specs.LayerTests.{stands_at, stands_in}
 use Rattle.vt_store.specs.LayersAt.{AreCounted}
-use Rattle.vt_store.specs.OverlaysValue.{AreKept, OverlayEntry, Overlays, all_layers, entries_kept, entry_kept, kept_overlay, kept_overlays, overlay_of, with_overlay_changed, without_overlay}
+use Rattle.vt_store.specs.OverlaysValue.{AreKept, OverlayEntry, Overlays, all_layers, entries_kept, entry_kept, kept_overlay, kept_overlays, with_overlay_changed, without_overlay}
 use Rattle.vt_store.specs.declared.layer_counts.LayerCounts.{LayerCounts}
 use Rattle.vt_store.specs.declared.overlays.KeptOverlay.{KeptOverlay}
 
@@ -19,14 +18,12 @@ use Rattle.vt_store.specs.declared.overlays.KeptOverlay.{KeptOverlay}
 pub any_layers : (test : LayerRef → Bool) (overlays : Overlays) → list_any test (all_layers overlays)
     ≡ list_any (λ (entry : OverlayEntry). list_any test entry.overlay.lowers) overlays
 any_layers test [] = refl
-any_layers test (entry ∷ rest) = list_any-append test entry.overlay.lowers (all_layers rest)
-    ∙ ap (λ b. list_any test entry.overlay.lowers || b) (any_layers test rest)
+any_layers test (entry ∷ rest) = grind (arith, common_steps, any_layers test rest, list_any-append)
 
 -- a new overlay is the last
 pub layers_with : (overlays : Overlays) (entry : OverlayEntry)
     → all_layers (overlays ++ entry ∷ []) ≡ all_layers overlays ++ entry.overlay.lowers
-layers_with overlays entry = flat_map-append (λ (one : OverlayEntry). one.overlay.lowers) overlays (entry ∷ [])
-    ∙ ap (λ layers. all_layers overlays ++ layers) (append-nil entry.overlay.lowers)
+layers_with overlays entry = grind (arith, common_steps)
 
 -- an overlay that changes keeps its layers
 pub layers_changed : (f : ℕ) (change : OverlayEntry → OverlayEntry)
@@ -36,8 +33,7 @@ layers_changed f change keeps [] = refl
 layers_changed f change keeps (entry ∷ rest) = λ i. by (nat_eq f entry.count) i ++ layers_changed f change keeps rest i
   where
     by : (b : Bool) → (cond b (change entry) entry).overlay.lowers ≡ entry.overlay.lowers
-    by true = ap (λ overlay. overlay.lowers) (keeps entry)
-    by false = refl
+    by b = grind (arith, common_steps)
 
 -- Where one goes, its layers go
 
@@ -63,13 +59,17 @@ module _ (f : ℕ) (entry : OverlayEntry) where
           → IsPermutation (e.1.overlay.lowers ++ all_layers rest) (entry.overlay.lowers
           ++ all_layers (cond (not b) (kept_overlay e ∷ without_overlay f rest) (without_overlay f rest)))
       by true here there later =
-          let none : overlay_of rest f ≡ None = ap (option_map (λ (one : OverlayEntry). one.overlay))
-          (ap (entry_kept rest) (here refl) ∙ entry_kept-entries e.0.count kept
-          ∙ ap (option_map _) (no_key e.0 kept (apart-below count_of e.0 kept (T_and_left _ _ risen)))) in
-          subst (λ layers. IsPermutation (e.1.overlay.lowers ++ all_layers rest) layers)
-          (λ i. (same_Some (kept_overlay e) entry there i).overlay.lowers
-          ++ all_layers (sym (absent_removed f rest none) i))
-          (IsPermutation-refl (e.1.overlay.lowers ++ all_layers rest))
+          grind (
+            arith,
+            common_steps,
+            entry_kept,
+            entry_kept-entries,
+            no_key,
+            apart-below,
+            T_and_left,
+            same_Some,
+            absent_removed,
+          )
       by false here there later =
           let own = e.1.overlay.lowers in
           let its = entry.overlay.lowers in
@@ -134,8 +134,7 @@ kept_removed f es new x before after oldest is there goes counts = record {
 }
   where
     nothing : (b : Bool) (o : Option KeptOverlay) → o ≡ None → cond b None o ≡ None
-    nothing true o e = refl
-    nothing false o e = e
+    nothing b o e = grind (arith, common_steps)
 
 -- and where the mounts of one change
 pub kept_written : {S : Type 0} (f : ℕ) (change : ℕ → ℕ) (m n : IndexMap FilesystemId KeptOverlay S)
@@ -157,6 +156,4 @@ kept_written f change m n x w counts oldest is there so through = record {
     by : (q : FilesystemId) → nat_lt q.count oldest ≡ true → (b : Bool) → (b ≡ true → f ≡ q.count)
         → lookup (is_key q.count) n.entries ≡ cond b (Some w) (lookup (is_key q.count) m.entries)
         → lookup (is_key q.count) n.entries ≡ None
-    by q less true here written =
-        none_is_some x (sym (is.older q less) ∙ ap (λ count. lookup (is_key count) m.entries) (sym (here refl)) ∙ there)
-    by q less false here written = written ∙ is.older q less
+    by q less b here written = grind (arith, common_steps)

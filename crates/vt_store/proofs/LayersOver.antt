@@ -1,12 +1,12 @@
 -- A directory lies in a layer where it is the layer's directory, or one above it is.
-use Rattle.std.proofs.Common.{Bool, List, None, Some, [], ap, eq-eqb, eqb-true, false, nat_eq, option_map, refl, sym, true, ℕ, ◌&&◌, ◌<◌, ◌^◌, ◌||◌, ◌∙◌, ◌∷◌, ◌≡◌, All, nat_lt, unwrap_or}
-use Rattle.vt_spec.proofs.Common.{All-head, All-tail, is_among, is_directory_under, list_any, or-false, same_truth}
+use Rattle.std.proofs.Common.{Bool, List, None, Some, [], ap, eqb-true, false, nat_eq, option_map, refl, sym, true, ℕ, ◌&&◌, ◌<◌, ◌^◌, ◌||◌, ◌∙◌, ◌∷◌, ◌≡◌, All, arith}
+use Rattle.vt_spec.proofs.Common.{All-head, All-tail, is_among, is_directory_under, list_any, nat_eq_turned, common_steps}
 use Rattle.vt_fs.proofs.Numbers.{numbers_counted}
 use Rattle.vt_fs.proofs.Parents.{under_by_names}
 use Rattle.vt_fs.proofs.Standing.{under_there}
-use Rattle.vt_fs.specs.FilesystemsValue.{FilesystemEntry, Filesystems, entry_at, entry_of, files_at, files_seen, inodes_at, no_entry, numbers_seen}
+use Rattle.vt_fs.specs.FilesystemsValue.{FilesystemEntry, Filesystems, entry_at, entry_of, files_at, inodes_at, numbers_seen}
 use Rattle.vt_fs.specs.Laws.{ParentsAreNamed}
-use Rattle.vt_location.proofs.NumberLemmas.{exchanged_slot, inode_test}
+use Rattle.vt_location.proofs.NumberLemmas.{exchanged_slot}
 use Rattle.vt_location.specs.Locations.{inode_of}
 use Rattle.vt_location.specs.Numbers.{inode_number}
 use Rattle.vt_location.specs.declared.locations.InodeRef.{InodeRef}
@@ -16,7 +16,7 @@ use Rattle.vt_spec.specs.Inodes.{ancestors}
 use Rattle.vt_store.proofs.AnyNamed.{any-and, any-swapped}
 use Rattle.vt_store.proofs.LayersKept.{any_layers}
 use Rattle.vt_store.proofs.LayersTallied.{any_counted}
-use Rattle.vt_store.specs.LayerTests.{stands_at, stands_in}
+use Rattle.vt_store.specs.LayerTests.{stands_at}
 use Rattle.vt_store.specs.LayersAt.{AreCounted, has_layer_at, has_layer_in}
 use Rattle.vt_store.specs.Locks.{directory_lies_in, directory_lies_in_overlay, overlay_stands_in}
 use Rattle.vt_store.specs.OverlaysValue.{Overlays, all_layers}
@@ -30,26 +30,20 @@ any_alike P p q alike [] all = refl
 any_alike P p q alike (x ∷ xs) all =
     λ i. alike x (All-head P x xs all) i || any_alike P p q alike xs (All-tail P x xs all) i
 
-same_either_way : (a b : ℕ) → nat_eq a b ≡ nat_eq b a
-same_either_way a b = same_truth _ _ (λ e. eq-eqb b a (sym (eqb-true a b e))) (λ e. eq-eqb a b (sym (eqb-true b a e)))
-
 among : (slot : ℕ) (slots : List ℕ) → list_any (λ other. nat_eq other slot) slots ≡ is_among nat_eq slot slots
 among slot [] = refl
-among slot (other ∷ slots) = λ i. same_either_way other slot i || among slot slots i
+among slot (other ∷ slots) = λ i. nat_eq_turned other slot i || among slot slots i
 
 module _ (overlays : Overlays) (counts : LayerCounts) (counted : AreCounted (all_layers overlays) counts) where
   -- layers in a filesystem
   pub layers_in : (filesystem : FilesystemId)
       → has_layer_in counts filesystem ≡ list_any (overlay_stands_in filesystem.count) overlays
-  layers_in filesystem =
-      ap (nat_lt 0) (counted.filesystems filesystem) ∙ any_counted (stands_in filesystem.count) (all_layers overlays)
-      ∙ any_layers (stands_in filesystem.count) overlays
+  layers_in filesystem = grind (arith, common_steps, any_counted, any_layers)
 
   -- and at a directory
   layers_at : (directory : InodeRef)
       → has_layer_at counts directory ≡ list_any (stands_at directory) (all_layers overlays)
-  layers_at directory =
-      ap (nat_lt 0) (counted.directories directory) ∙ any_counted (stands_at directory) (all_layers overlays)
+  layers_at directory = cc (counted.directories directory, any_counted (stands_at directory) (all_layers overlays))
 
   module _ (plain : Filesystems) (directory : InodeRef) (small : directory.slot < 18446744073709551616) where
     abbrev IsSmall : LayerRef → Type 0
@@ -74,11 +68,12 @@ module _ (overlays : Overlays) (counts : LayerCounts) (counted : AreCounted (all
       under : (slot top : ℕ) → slot < 2 ^ 64 → inode_number filesystem.count slot ≡ top → is_among nat_eq slot above
           ≡ is_directory_under nat_eq (files_at plain filesystem.count) top (inode_of directory)
       under slot top fits is =
-          sym (under_there plain filesystem.count tree (sym found) slot top directory.slot (inode_of directory)
-          (exchanged_slot filesystem.count slot fits ∙ is) (exchanged_slot filesystem.count directory.slot small))
-          ∙ under_by_names (inodes_at plain filesystem.count) named
-          (numbers_seen (entry_at plain filesystem.count)) (numbers_counted (entry_at plain filesystem.count)) top
-          (inode_of directory)
+          cc (
+            under_there plain filesystem.count tree (sym found) slot top directory.slot (inode_of directory)
+                (exchanged_slot filesystem.count slot fits ∙ is) (exchanged_slot filesystem.count directory.slot small),
+            under_by_names (inodes_at plain filesystem.count) named (numbers_seen (entry_at plain filesystem.count))
+                (numbers_counted (entry_at plain filesystem.count)) top (inode_of directory),
+          )
 
       met : (layer : LayerRef) → IsSmall layer → list_any (λ slot. stands_at (place slot) layer) above ≡ lies layer
       met layer fits = sym (any-and (λ slot. true) (nat_eq filesystem.count layer.directory.filesystem.count)
@@ -104,24 +99,7 @@ module _ (overlays : Overlays) (counts : LayerCounts) (counted : AreCounted (all
     -- where there is no tree, there is nothing above it
     module _ (none : entry_of plain filesystem.count ≡ None) where
       alone : (layer : LayerRef) → IsSmall layer → stands_at directory layer ≡ lies layer
-      alone layer fits = by (nat_eq filesystem.count layer.directory.filesystem.count)
-          (eqb-true filesystem.count layer.directory.filesystem.count)
-        where
-          top : ℕ
-          top = inode_of layer.directory
-
-          by : (b : Bool) → (b ≡ true → filesystem.count ≡ layer.directory.filesystem.count)
-              → (b && nat_eq directory.slot layer.directory.slot)
-              ≡ (b && is_directory_under nat_eq (files_at plain filesystem.count) top (inode_of directory))
-          by true same =
-              sym (ap (λ o. is_directory_under nat_eq (files_seen (unwrap_or o (no_entry filesystem.count))) top
-              (inode_of directory)) none ∙ or-false (nat_eq top (inode_of directory))
-              ∙ inode_test layer.directory.filesystem.count filesystem.count layer.directory.slot directory.slot fits
-              small
-              ∙ ap (λ b. b && nat_eq layer.directory.slot directory.slot)
-              (eq-eqb layer.directory.filesystem.count filesystem.count (sym (same refl)))
-              ∙ same_either_way layer.directory.slot directory.slot)
-          by false same = refl
+      alone layer fits = grind (arith, common_steps)
 
       pub layers_alone : has_layer_at counts directory
           ≡ list_any (directory_lies_in_overlay plain filesystem.count (inode_of directory)) overlays

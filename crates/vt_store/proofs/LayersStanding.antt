@@ -1,6 +1,6 @@
 -- Overlays that stand on layers.
-use Rattle.std.proofs.Common.{◌≡◌, ◌<◌, ◌∙◌, ◌∷◌, ◌&&◌, [], arith, ap, Bool, eqb-true, false, find, length, List, map, nat_eq, None, not, Option, refl, Some, subst, suc, sym, true, true≢false, unwrap_or, zero, ℕ, All, is_some, nat_le, slice_get, leb-true}
-use Rattle.vt_spec.proofs.Common.{All-head, All-tail, Among, Filesystem, Inode, IsDirectory, IsTree, IsWorld, Layer, Tree, World, all_from_among, among_from_all, among_from_list_all, and_parts, filesystem_numbered, found_among, found_passes, has_fit_layers, is_directory_node, is_empty_list, is_overlay, is_plain_layer, layers_of, list_all, most_lowers, no_filesystem, node_in, none_is_some, of_overlay, same_Some}
+use Rattle.std.proofs.Common.{◌≡◌, ◌<◌, ◌∙◌, ◌∷◌, [], arith, ap, Bool, eqb-true, false, find, length, List, map, nat_eq, None, not, Option, refl, Some, subst, suc, sym, true, true≢false, unwrap_or, zero, ℕ, All, is_some, nat_le, slice_get, leb-true}
+use Rattle.vt_spec.proofs.Common.{Among, Filesystem, Inode, IsDirectory, IsTree, IsWorld, Layer, Tree, World, all_from_among, among_from_all, among_from_list_all, and_parts, filesystem_numbered, found_among, found_passes, is_directory_node, is_empty_list, is_overlay, is_plain_layer, layers_of, list_all, most_lowers, no_filesystem, node_in, none_is_some, of_overlay, common_steps}
 use Rattle.vt_location.specs.Locations.{inode_of}
 use Rattle.vt_location.specs.Numbers.{counted, is_inode_of}
 use Rattle.vt_fs.specs.FilesystemsValue.{FilesystemEntry, Filesystems, entry_of, inodes_at, inodes_seen, no_entry}
@@ -11,19 +11,12 @@ use Rattle.vt_store.specs.OverlaysValue.{OverlayEntry}
 use Rattle.vt_store.specs.StoreValue.{StandsOnLayers, StoreValue, filesystem_found, filesystem_in, filesystems_of, overlay_filesystem, overlay_in}
 use Rattle.vt_store.proofs.Woven.{among-woven, is_plain}
 use Rattle.vt_store.proofs.Woven.{is_overlay_in}
-
--- what holds of all holds of the one at a place
-pub all_at : {A : Type 0} (P : A → Type 0) (list : List A) → All P list → (place : ℕ) (a : A)
-    → slice_get list place ≡ Some a → P a
-all_at P [] all place a e = none_is_some a e
-all_at P (first ∷ list) all zero a e = subst P (same_Some first a e) (All-head P first list all)
-all_at P (first ∷ list) all (suc place) a e = all_at P list (All-tail P first list all) place a e
+use Rattle.vt_laws_trees.proofs.overlays.seen.Paths.{all_at}
 
 -- Layers whose trees are as they were
 
 nothing_there : (o : Option (Inode ℕ)) → node_in o ≡ None → o ≡ None
-nothing_there None e = refl
-nothing_there (Some inode) e = none_is_some inode.node (sym e)
+nothing_there o e = grind (arith, common_steps)
 
 pub still_layer : (old new : Filesystems) (layer : LayerRef) → IsSameTree old new layer → IsLayer old layer
     → IsLayer new layer
@@ -46,15 +39,13 @@ overlays_stand_still old new entry stands same = record {
 -- Worlds
 
 not_empty : {A : Type 0} (list : List A) → not (is_empty_list list) ≡ true → 0 < length list
-not_empty [] e = absurd (true≢false (sym e))
-not_empty (a ∷ list) e = omega arith
+not_empty list e = grind (arith, common_steps)
 
 -- what holds of each as it is seen
 each_seen : (test : Layer ℕ → Bool) (layers : List LayerRef) → list_all test (map layer_seen layers) ≡ true
     → (place : ℕ) (layer : LayerRef) → slice_get layers place ≡ Some layer → test (layer_seen layer) ≡ true
 each_seen test [] all place layer e = none_is_some layer e
-each_seen test (first ∷ layers) all zero layer e = ap (λ l. test (layer_seen l)) (sym (same_Some first layer e))
-    ∙ (and_parts (test (layer_seen first)) (list_all test (map layer_seen layers)) all).0
+each_seen test (first ∷ layers) all zero layer e = grind (arith, common_steps)
 each_seen test (first ∷ layers) all (suc place) layer e =
     each_seen test layers (and_parts (test (layer_seen first)) (list_all test (map layer_seen layers)) all).1
     place layer e
@@ -79,11 +70,10 @@ module _ (store : StoreValue) (world : World ℕ) (whole : IsWorld nat_eq world)
           → (inodes_seen (unwrap_or o (no_entry count))).inode number ≡ None
       by None s = refl
       by (Some entry) s =
-          let same = eqb-true count entry.count
-          (found_passes (λ (one : FilesystemEntry). nat_eq count one.count) store.plain entry s) in
-          among_from_all HasOwnNumbers store.plain own entry
-          (found_among (λ (one : FilesystemEntry). nat_eq count one.count)
-          store.plain entry s) number (ap (λ n. is_inode_of n number) (sym same) ∙ e)
+          let same = eqb-true count entry.count (found_passes (λ (one : FilesystemEntry). nat_eq count one.count)
+          store.plain entry s) in
+          cc (among_from_all HasOwnNumbers store.plain own entry (found_among (λ (one : FilesystemEntry). nat_eq
+          count one.count) store.plain entry s) number (ap (λ n. is_inode_of n number) (sym same) ∙ e))
 
   -- a layer is a directory of a plain tree
   layer_stands : (layer : LayerRef) → is_plain_layer nat_eq world (layer_seen layer) ≡ true → IsLayer store.plain layer
@@ -107,9 +97,7 @@ module _ (store : StoreValue) (world : World ℕ) (whole : IsWorld nat_eq world)
       no_overlay : (o : Option OverlayValue) → overlay_in store layer.directory.filesystem.count ≡ o
           → not (is_overlay (filesystem_in store layer.directory.filesystem.count)) ≡ true
           → overlay_in store layer.directory.filesystem.count ≡ None
-      no_overlay None s e = s
-      no_overlay (Some overlay) s e = absurd (true≢false (sym e
-          ∙ ap not (sym (is_overlay_in store layer.directory.filesystem.count) ∙ ap is_some s)))
+      no_overlay o s e = grind (arith, common_steps, is_overlay_in, is_some)
 
       tree_of_found : (count : ℕ) (o : Option (Filesystem ℕ))
           → find (λ (one : Filesystem ℕ). nat_eq (counted count) one.number) world.filesystems ≡ o → (number : ℕ)
@@ -122,8 +110,7 @@ module _ (store : StoreValue) (world : World ℕ) (whole : IsWorld nat_eq world)
 
   module _ (entry : OverlayEntry) (there : Among entry store.overlays) where
     among : Among (overlay_filesystem store.plain entry) world.filesystems
-    among = subst (Among (overlay_filesystem store.plain entry)) (sym is)
-        (among-woven store.plain entry store.overlays there)
+    among = grind (arith, common_steps, among-woven)
 
     abbrev lowers : List (Layer ℕ)
     lowers = map layer_seen entry.overlay.lowers
@@ -135,10 +122,7 @@ module _ (store : StoreValue) (world : World ℕ) (whole : IsWorld nat_eq world)
         whole.overlays.plain_layers (overlay_filesystem store.plain entry) among) place layer at)
 
     fits : (not (is_empty_list lowers) ≡ true) × (nat_le (length lowers) most_lowers ≡ true)
-    fits = and_parts (not (is_empty_list lowers)) (nat_le (length lowers) most_lowers)
-        (and_parts (not (is_empty_list lowers) && nat_le (length lowers) most_lowers) true
-        (among_from_list_all (of_overlay true has_fit_layers) world.filesystems whole.overlays.fit_layers
-        (overlay_filesystem store.plain entry) among)).0
+    fits = grind (arith, common_steps, among_from_list_all, among)
 
     stands : StandsOnLayers store.plain entry
     stands =

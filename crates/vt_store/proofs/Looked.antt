@@ -60,8 +60,7 @@ module _ (store : StoreValue) (plain : Filesystems) (same : plain ≡ store.plai
 
     pub plain_lent : (number : ℕ)
         → option_map (node_seen count) ((files_at plain count).tree.node number) ≡ lent_in store count number
-    plain_lent number = ap (λ p. option_map (node_seen count) ((files_at p count).tree.node number)) same
-        ∙ ap (lent_by store.plain count number) (sym none)
+    plain_lent number = cc (same, none)
 
     -- what is lent is the inode by its slots
     pub plain_seen : (number : ℕ)

@@ -1,6 +1,6 @@
 -- How many mounts show an overlay, or a plain filesystem.
-use Rattle.std.proofs.Common.{◌≡◌, ◌∙◌, ◌∷◌, [], ap, Bool, cond, false, get_or, length, nat_eq, None, Option, refl, Some, true, unwrap_or, ℕ, All}
-use Rattle.vt_spec.proofs.Common.{All-cons, All-head, All-tail, FileTree}
+use Rattle.std.proofs.Common.{◌≡◌, ◌∙◌, ◌∷◌, [], ap, Bool, cond, false, get_or, nat_eq, None, Option, refl, Some, true, unwrap_or, ℕ, All, arith}
+use Rattle.vt_spec.proofs.Common.{All-cons, All-head, All-tail, common_steps}
 use Rattle.vt_fs.specs.FilesystemsValue.{FilesystemEntry, Filesystems, entry_of, files_at, files_seen, filesystem_seen, filesystems_seen, no_entry, with_changed}
 use Rattle.vt_overlay.specs.declared.merge.layers.LayerRef.{LayerRef}
 use Rattle.vt_store.specs.Counts.{with_mounts_by}
@@ -35,8 +35,7 @@ module _ (count : ℕ) (change : ℕ → ℕ) where
       ∙ by (nat_eq count entry.count) (nat_eq other entry.count) (files_same other rest)
     where
       kept : (b : Bool) → (one_more entry b).count ≡ entry.count
-      kept true = refl
-      kept false = refl
+      kept b = grind (arith, common_steps)
 
       by : (b c : Bool) → files_at (more rest) other ≡ files_at rest other
           → files_seen (unwrap_or (cond c (Some (one_more entry b)) (entry_of (more rest) other)) (no_entry other))
@@ -48,10 +47,8 @@ module _ (count : ℕ) (change : ℕ → ℕ) where
 
   same_layer : (plain : Filesystems) (layer : LayerRef) → IsSameLayer plain (more plain) layer
   same_layer plain layer =
-      let same = files_same layer.directory.filesystem.count plain in record {
-        tree = ap (λ (files : FileTree ℕ). files.tree) same;
-        numbers = ap (λ (files : FileTree ℕ). length files.numbers) same;
-      }
+      let same = files_same layer.directory.filesystem.count plain in
+      grind (arith, common_steps)
 
   woven_plain : (plain : Filesystems) (overlays : Overlays) → All (StandsOnLayers plain) overlays
       → woven (more plain) overlays ≡ woven plain overlays

@@ -1,8 +1,7 @@
 -- The inodes of overlays have numbers of their own nodes, which tell them apart.
-use Rattle.std.proofs.Common.{◌≡◌, ◌<◌, ◌≤◌, refl, sym, ap, subst, ◌∙◌, true≢false, ℕ, nat_eq, eq-eqb, true, false, ◌&&◌, List, [], Option, Some, None, is_some, length, arith}
-use Rattle.vt_spec.proofs.Common.{Node, among_from_all, is_directory_under, path_down, slice_get_within, when}
+use Rattle.std.proofs.Common.{◌≡◌, ◌<◌, ◌≤◌, refl, sym, ap, subst, ◌∙◌, true≢false, ℕ, nat_eq, eq-eqb, true, false, List, Option, Some, None, is_some, length, arith}
+use Rattle.vt_spec.proofs.Common.{Node, among_from_all, path_down, slice_get_within, common_steps}
 use Rattle.vt_location.specs.declared.locations.NodeRef.{NodeRef}
-use Rattle.vt_location.specs.SameNodes.{same_birth}
 use Rattle.vt_location.specs.Locations.{is_small_node, number_of}
 use Rattle.vt_location.specs.NodeNumbers.{IsSmall}
 use Rattle.vt_location.proofs.NodeLemmas.{nodes_test, one_to_one, small_parts}
@@ -78,11 +77,4 @@ module _ (store : StoreValue) (count : ℕ) (small : count < 1844674407370955161
       → top.filesystem.count ≡ count → nat_eq count directory.filesystem.count ≡ false
       → path_down nat_eq (files_in store count) (number_of top) (number_of directory) ≡ None
   no_path top directory top_small directory_small here other =
-      let files = files_in store count in
-      let apart = nodes_test top directory top_small directory_small
-      ∙ ap (λ n. nat_eq n directory.filesystem.count
-      && (nat_eq top.slot directory.slot && same_birth top.birth directory.birth)) here
-      ∙ ap (λ b. b && (nat_eq top.slot directory.slot && same_birth top.birth directory.birth)) other in
-      path_to_itself files (number_of top) (number_of directory)
-      (nowhere_under files (number_of top) (number_of directory)
-      (no_other_node directory (small_parts directory directory_small) other)) ∙ ap (λ b. when b []) apart
+      grind (arith, common_steps, files_in, nodes_test, path_to_itself, nowhere_under, no_other_node, small_parts)

@@ -1,8 +1,7 @@
 -- What an overlay shows depends on its layers alone.
-use Rattle.std.proofs.Common.{◌≡◌, ◌∙◌, ◌+◌, ◌++◌, ◌∷◌, [], ap, false, List, nat_eq, None, option_map, Option, refl, Some, sym, unwrap_or, ℕ, All, filter_map, find, if◌then◌else◌, slice_get}
-use Rattle.vt_spec.proofs.Common.{All-head, All-tail, FileTree, Lower, Node, OpenLayer, Real, Upper, at_path, entries_in, holds_of, is_directory_node, is_root_path, last_or, layer_node, merged_at, names_shown, node_at_path, paths_from, real_object, shown, then_some, without_last}
+use Rattle.std.proofs.Common.{◌≡◌, ◌∙◌, ◌+◌, ◌++◌, ◌∷◌, [], false, List, nat_eq, None, option_map, Option, refl, Some, sym, unwrap_or, ℕ, All, filter_map, find, if◌then◌else◌, slice_get, arith}
+use Rattle.vt_spec.proofs.Common.{All-head, All-tail, FileTree, Lower, Node, OpenLayer, Real, Upper, at_path, entries_in, holds_of, is_directory_node, is_root_path, last_or, layer_node, merged_at, names_shown, node_at_path, paths_from, real_object, shown, then_some, without_last, common_steps}
 use Rattle.vt_laws_trees.specs.Overlays.MergedTrees.{layers_shown, node_as}
-use Rattle.vt_laws_trees.specs.Overlays.TreesSeen.{node_by, real_by}
 use Rattle.vt_node.specs.Ranks.{rank_among}
 use Rattle.vt_location.specs.declared.births.Birth.TheVariants.{Below, Here}
 use Rattle.vt_location.specs.declared.locations.NodeRef.{NodeRef}
@@ -15,7 +14,8 @@ use Rattle.vt_overlay.proofs.TreeFound.{layers_are}
 use Rattle.vt_overlay.specs.MergedTree.{AreLayers, OverlayValue, longest, merged_files, overlay_seen, path_at, plain_world, real_number}
 use Rattle.vt_store.specs.Laws.{IsSameLayer, OverlaysStayWithLayers}
 use Rattle.vt_store.specs.StoreValue.{layers_and_objects, overlay_filesystem}
-use Rattle.vt_store.proofs.LayersStanding.{all_at, still_layer}
+use Rattle.vt_store.proofs.LayersStanding.{still_layer}
+use Rattle.vt_laws_trees.proofs.overlays.seen.Paths.{all_at}
 
 -- the tree as a function of its layers, of the numbers of real objects, and of the longest path
 module _ (layers : List (OpenLayer ℕ)) (numbered : Real ℕ → ℕ) (most : ℕ) where
@@ -53,30 +53,12 @@ module _ (layers : List (OpenLayer ℕ)) (numbered : Real ℕ → ℕ) (most : �
 files_are : (trees : Filesystems) (overlay : OverlayValue) → merged_files trees overlay
     ≡ files_in (layers_shown (plain_world trees) (overlay_seen overlay)) (real_number trees overlay)
     (longest trees overlay.lowers)
-files_are trees overlay = λ i. record (merged_files trees overlay) {
-  tree = record (merged_files trees overlay).tree { node = λ number. by number (path_at trees overlay number) i };
-}
-  where
-    by : (number : ℕ) (o : Option (List (List ℕ)))
-        → node_by (real_number trees overlay) (λ number. None) (longest trees overlay.lowers) (plain_world trees)
-        (overlay_seen overlay) number o
-        ≡ inode_found (layers_shown (plain_world trees) (overlay_seen overlay)) (real_number trees overlay)
-        (longest trees overlay.lowers) o
-    by number None = refl
-    by number (Some path) = refl
+files_are trees overlay = grind (arith, common_steps)
 
 real_is : (trees : Filesystems) (overlay : OverlayValue) (number : ℕ) → (layers_and_objects trees overlay).real number
     ≡ real_in (layers_shown (plain_world trees) (overlay_seen overlay)) (real_number trees overlay)
     (longest trees overlay.lowers) number
-real_is trees overlay number = by (path_at trees overlay number)
-  where
-    by : (o : Option (List (List ℕ)))
-        → real_by (real_number trees overlay) (λ number. None) (longest trees overlay.lowers) (plain_world trees)
-        (overlay_seen overlay) number o
-        ≡ real_found (layers_shown (plain_world trees) (overlay_seen overlay)) (real_number trees overlay)
-        (longest trees overlay.lowers) o
-    by None = refl
-    by (Some path) = refl
+real_is trees overlay number = grind (arith, common_steps, path_at trees overlay number)
 
 -- the node that is born at a path of a layer
 abbrev born : OverlayValue → ℕ → LayerRef → List (List ℕ) → OpenLayer ℕ → NodeRef
@@ -114,8 +96,7 @@ module _ (old new : Filesystems) where
             → unwrap_or (option_map (λ layer. number_of (born overlay place layer path (layer_of new layer))) o) 0
             ≡ unwrap_or (option_map (λ layer. number_of (born overlay place layer path (layer_of old layer))) o) 0
         by None e = refl
-        by (Some layer) e = ap (λ open_layer. number_of (born overlay place layer path open_layer))
-            (layer_alike layer (all_at (IsSameLayer old new) overlay.lowers all place layer e))
+        by (Some layer) e = cc (layer_alike layer (all_at (IsSameLayer old new) overlay.lowers all place layer e))
 
 -- so what is a function of these is as it was
 module _ (old new : Filesystems) (overlay : OverlayValue) (are : AreLayers old overlay.lowers)
@@ -127,10 +108,17 @@ module _ (old new : Filesystems) (overlay : OverlayValue) (are : AreLayers old o
   stays : {A : Type 0} (f : List (OpenLayer ℕ) → (Real ℕ → ℕ) → ℕ → A)
       → f (layers_shown (plain_world new) (overlay_seen overlay)) (real_number new overlay) (longest new overlay.lowers)
       ≡ f (layers_shown (plain_world old) (overlay_seen overlay)) (real_number old overlay) (longest old overlay.lowers)
-  stays f = ap (λ layers. f layers (real_number new overlay) (longest new overlay.lowers))
-      (layers_are new overlay still ∙ layers_alike old new overlay.lowers all ∙ sym (layers_are old overlay are))
-      ∙ (λ i. f (layers_shown (plain_world old) (overlay_seen overlay))
-      (λ real. number_alike old new overlay all real i) (longest_alike old new overlay.lowers all i))
+  stays f =
+      grind (
+        arith,
+        common_steps,
+        layers_are new overlay still,
+        layers_alike old new overlay.lowers all,
+        layers_are
+            old overlay are,
+        number_alike old new overlay all,
+        longest_alike old new overlay.lowers all,
+      )
 
   files_stay : merged_files new overlay ≡ merged_files old overlay
   files_stay = files_are new overlay ∙ stays files_in ∙ sym (files_are old overlay)

@@ -1,8 +1,8 @@
 -- A store with one overlay less.
-use Rattle.std.proofs.Common.{◌≡◌, ◌∷◌, [], ap, Bool, cond, false, get_or, nat_eq, None, not, option_map, refl, Some, subst, sym, true, ℕ, All}
-use Rattle.vt_spec.proofs.Common.{All-filter, none_is_some}
+use Rattle.std.proofs.Common.{◌≡◌, ◌∷◌, [], get_or, nat_eq, None, not, refl, subst, sym, ℕ, All, arith}
+use Rattle.vt_spec.proofs.Common.{All-filter, common_steps}
 use Rattle.vt_store.specs.Laws.{IsSameTree}
-use Rattle.vt_store.specs.OverlaysValue.{OverlayEntry, Overlays, entry_kept, overlay_of, without_overlay}
+use Rattle.vt_store.specs.OverlaysValue.{OverlayEntry, Overlays, overlay_of, without_overlay}
 use Rattle.vt_store.specs.StoreValue.{StandOnLayers, StandsOnLayers, StoreValue}
 use Rattle.vt_store.proofs.LayersStanding.{overlays_stand_still}
 
@@ -10,14 +10,8 @@ use Rattle.vt_store.proofs.LayersStanding.{overlays_stand_still}
 pub absent_removed : (count : ℕ) (overlays : Overlays) → overlay_of overlays count ≡ None
     → without_overlay count overlays ≡ overlays
 absent_removed count [] none = refl
-absent_removed count (entry ∷ overlays) none = by (nat_eq count entry.count) none (absent_removed count overlays)
-  where
-    by : (b : Bool)
-        → option_map (λ (one : OverlayEntry). one.overlay) (cond b (Some entry) (entry_kept overlays count)) ≡ None
-        → (overlay_of overlays count ≡ None → without_overlay count overlays ≡ overlays)
-        → cond (not b) (entry ∷ without_overlay count overlays) (without_overlay count overlays) ≡ entry ∷ overlays
-    by true none later = none_is_some entry.overlay (sym none)
-    by false none later = ap (λ l. entry ∷ l) (later none)
+absent_removed count (entry ∷ overlays) none =
+    grind (arith, common_steps, absent_removed count overlays, nat_eq count entry.count)
 
 -- those that are left stand still where their layers' trees are as they were
 stand_still : (old new : StoreValue) → All (StandsOnLayers old.plain) new.overlays

@@ -1,8 +1,9 @@
 -- What a directory leads to has a first name: one of rank 0.
-use Rattle.std.proofs.Common.{Bool, List, None, Option, Some, [], ap, arith, cond, eq-eqb, false, is_some, length, map, nat_eq, option_map, refl, suc, sym, true, true≢false, zero, ⊎_elim, ℕ, ◌&&◌, ◌+◌, ◌||◌, ◌∙◌, ◌∷◌, ◌≡◌, ◌≤◌, is_lt, Ordering, Equal, Greater, Less, filter, find}
-use Rattle.vt_spec.proofs.Common.{Among, Entries, and_true_left, and_true_right, found_among, found_passes, is_among, name_cmp, nat_list_cmp_total, none_is_some, tied_itself}
+use Rattle.std.proofs.Common.{Bool, List, None, Option, Some, [], ap, arith, cond, eq-eqb, false, is_some, length, map, nat_eq, option_map, refl, suc, sym, true, true≢false, zero, ⊎_elim, ℕ, ◌&&◌, ◌+◌, ◌∙◌, ◌∷◌, ◌≡◌, ◌≤◌, is_lt, Ordering, Less, filter, find}
+use Rattle.vt_spec.proofs.Common.{Among, Entries, and_true_left, and_true_right, found_among, found_passes, is_among, name_cmp, nat_list_cmp_total, tied_itself, common_steps}
 use Rattle.vt_node.proofs.RankLemmas.{before}
 use Rattle.vt_node.specs.Ranks.{has_rank, name_ranked, rank_among}
+use Rattle.vt_overlay.proofs.BornNamed.{none_counts}
 
 some_found : {A : Type 0} (p : A → Bool) (xs : List A) (x : A) → Among x xs → p x ≡ true → is_some (find p xs) ≡ true
 some_found p [] x m e = absurd m
@@ -11,26 +12,13 @@ some_found p (first ∷ xs) x m e =
     (λ l. later (p first) (some_found p xs x l e)) m
   where
     later : (b : Bool) → is_some (find p xs) ≡ true → is_some (cond b (Some first) (find p xs)) ≡ true
-    later true h = refl
-    later false h = h
-
-none_counted : {A : Type 0} (p : A → Bool) (xs : List A) → find p xs ≡ None → length (filter p xs) ≡ 0
-none_counted p [] e = refl
-none_counted p (x ∷ xs) e = by (p x) e (none_counted p xs)
-  where
-    by : (b : Bool) → cond b (Some x) (find p xs) ≡ None → (find p xs ≡ None → length (filter p xs) ≡ 0)
-        → length (cond b (x ∷ filter p xs) (filter p xs)) ≡ 0
-    by true e rest = none_is_some x (sym e)
-    by false e rest = rest e
+    later b h = grind (arith, common_steps)
 
 -- how many pass the one test and the other
 module _ {A : Type 0} (p q : A → Bool) (also : (x : A) → p x ≡ true → q x ≡ true) where
   each : (b c : Bool) (n : ℕ) (x : A) (ps qs : List A) → (b ≡ true → c ≡ true) → n + length ps ≤ length qs
       → n + length (cond b (x ∷ ps) ps) ≤ length (cond c (x ∷ qs) qs)
-  each true true n x ps qs h few = omega (arith, few)
-  each true false n x ps qs h few = absurd (true≢false (sym (h refl)))
-  each false true n x ps qs h few = omega (arith, few)
-  each false false n x ps qs h few = few
+  each b c n x ps qs h few = grind (arith, common_steps)
 
   no_more : (xs : List A) → 0 + length (filter p xs) ≤ length (filter q xs)
   no_more [] = omega arith
@@ -46,21 +34,14 @@ module _ {A : Type 0} (p q : A → Bool) (also : (x : A) → p x ≡ true → q 
       here : (b c : Bool) → b ≡ false → c ≡ true
           → 1 + length (cond b (first ∷ filter p xs) (filter p xs)) ≤ length
           (cond c (first ∷ filter q xs) (filter q xs))
-      here true c e f = absurd (true≢false e)
-      here false true e f = let all = no_more xs in omega (arith, all)
-      here false false e f = absurd (true≢false (sym f))
+      here b c e f = grind (arith, common_steps, no_more)
 
 less_so : (o : Ordering) → is_lt o ≡ true → o ≡ Less
-less_so Less e = refl
-less_so Equal e = absurd (true≢false (sym e))
-less_so Greater e = absurd (true≢false (sym e))
+less_so o e = grind (arith, common_steps)
 
 not_before_itself : (id : ℕ) (entry : List ℕ × ℕ) → before id entry.0 entry ≡ false
-not_before_itself id entry = by (nat_eq id entry.1) (name_cmp entry.0 entry.0) (tied_itself nat_list_cmp_total entry.0)
-  where
-    by : (c : Bool) (o : Ordering) → o ≡ Equal → (c && is_lt o) ≡ false
-    by true o e = ap is_lt e
-    by false o e = refl
+not_before_itself id entry =
+    grind (arith, common_steps, nat_eq id entry.1, name_cmp entry.0 entry.0, tied_itself nat_list_cmp_total entry.0)
 
 -- of the names that lead to a node one has the rank 0, if one has it where there is a smaller rank
 first_by : (entries : Entries ℕ) (id : ℕ) (entry : List ℕ × ℕ) → Among entry entries → nat_eq id entry.1 ≡ true
@@ -71,8 +52,7 @@ first_by entries id entry m leads smaller = by (find (before id entry.0) entries
   where
     by : (o : Option (List ℕ × ℕ)) → find (before id entry.0) entries ≡ o
         → is_some (find (has_rank entries id 0) entries) ≡ true
-    by None e = some_found (has_rank entries id 0) entries entry m
-        (λ i. leads i && eq-eqb 0 (rank_among entries entry.0 id) (sym (none_counted (before id entry.0) entries e)) i)
+    by None e = grind (arith, common_steps, some_found, eq-eqb, none_counts)
     by (Some other) e =
         let among = found_among (before id entry.0) entries other e in
         let passes = found_passes (before id entry.0) entries other e in
@@ -97,20 +77,12 @@ pub some_ranked : (id : ℕ) (entries : Entries ℕ)
 some_ranked id entries = by (find (λ (entry : List ℕ × ℕ). nat_eq id entry.1) entries) refl
   where
     some_mapped : (o : Option (List ℕ × ℕ)) → is_some (option_map (λ (entry : List ℕ × ℕ). entry.0) o) ≡ is_some o
-    some_mapped None = refl
-    some_mapped (Some entry) = refl
+    some_mapped o = grind (arith, common_steps)
 
     among : (list : Entries ℕ) → is_among nat_eq id (map (λ (entry : List ℕ × ℕ). entry.1) list)
         ≡ is_some (find (λ (entry : List ℕ × ℕ). nat_eq id entry.1) list)
     among [] = refl
-    among (first ∷ list) = here (nat_eq id first.1) (among list)
-      where
-        here : (b : Bool) → is_among nat_eq id (map (λ (entry : List ℕ × ℕ). entry.1) list)
-            ≡ is_some (find (λ (entry : List ℕ × ℕ). nat_eq id entry.1) list)
-            → (b || is_among nat_eq id (map (λ (entry : List ℕ × ℕ). entry.1) list))
-            ≡ is_some (cond b (Some first) (find (λ (entry : List ℕ × ℕ). nat_eq id entry.1) list))
-        here true rest = refl
-        here false rest = rest
+    among (first ∷ list) = grind (arith, common_steps, among list, nat_eq id first.1)
 
     none : (o : Option (List ℕ × ℕ)) → find (has_rank entries id 0) entries ≡ o
         → find (λ (entry : List ℕ × ℕ). nat_eq id entry.1) entries ≡ None → is_some o ≡ false
@@ -121,10 +93,12 @@ some_ranked id entries = by (find (λ (entry : List ℕ × ℕ). nat_eq id entry
 
     by : (o : Option (List ℕ × ℕ)) → find (λ (entry : List ℕ × ℕ). nat_eq id entry.1) entries ≡ o
         → is_some (name_ranked entries id 0) ≡ is_among nat_eq id (map (λ (entry : List ℕ × ℕ). entry.1) entries)
-    by None e = some_mapped (find (has_rank entries id 0) entries)
-        ∙ none (find (has_rank entries id 0) entries) refl e ∙ sym (among entries ∙ ap is_some e)
-    by (Some entry) e = some_mapped (find (has_rank entries id 0) entries)
-        ∙ first_ranked (rank_among entries entry.0 id) entries id entry
-        (found_among (λ (x : List ℕ × ℕ). nat_eq id x.1) entries entry e)
-        (found_passes (λ (x : List ℕ × ℕ). nat_eq id x.1) entries entry e) (omega arith)
-        ∙ sym (among entries ∙ ap is_some e)
+    by None e = grind (arith, common_steps, some_mapped, none, among, is_some)
+    by (Some entry) e =
+        cc (
+          some_mapped (find (has_rank entries id 0) entries),
+          first_ranked (rank_among entries entry.0 id) entries id entry
+              (found_among (λ (x : List ℕ × ℕ). nat_eq id x.1) entries entry e)
+              (found_passes (λ (x : List ℕ × ℕ). nat_eq id x.1) entries entry e) (omega arith),
+          among entries,
+        )

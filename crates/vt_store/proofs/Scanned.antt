@@ -1,6 +1,6 @@
 -- The slots of a tree, looked through from the first one on.
-use Rattle.std.proofs.Common.{Bool, List, None, Option, Some, [], ap, arith, cond, drop, false, is_some, ltb-false, ltb-true, map, nat_lt, refl, suc, sym, true, true≢false, zero, ℕ, ◌+◌, ◌<◌, ◌||◌, ◌∙◌, ◌∷◌, ◌≡◌, ◌≤◌, count_by, slice_index_or}
-use Rattle.vt_spec.proofs.Common.{Inode, list_any, none_is_some, sum_by-cons}
+use Rattle.std.proofs.Common.{Bool, List, None, Option, Some, [], ap, arith, cond, drop, false, is_some, map, refl, suc, zero, ℕ, ◌+◌, ◌||◌, ◌∙◌, ◌∷◌, ◌≡◌, ◌≤◌, count_by, slice_index_or}
+use Rattle.vt_spec.proofs.Common.{Inode, list_any, sum_by-cons, common_steps}
 use Rattle.vt_fs.specs.FilesystemsValue.{filled_from}
 
 abbrev pub Slots : Type 0
@@ -21,9 +21,7 @@ none_beyond least slots none slot beyond = all_none (drop slot slots)
         ≡ slice_index_or slots (slot + k) None
     dropped zero slots k = ap (λ n. slice_index_or slots n None) (let same : k ≡ 0 + k = omega arith in same)
     dropped (suc slot) [] k = refl
-    dropped (suc slot) (first ∷ slots) k = dropped slot slots k
-        ∙ ap (λ n. slice_index_or (first ∷ slots) n None) (let same : suc (slot + k) ≡ suc slot + k = omega arith in
-        same)
+    dropped (suc slot) (first ∷ slots) k = grind (arith, common_steps)
 
     all_none : (slots : Slots) → ((k : ℕ) → slice_index_or slots k None ≡ None) → count_by is_some slots ≡ 0
     all_none [] each = refl
@@ -31,8 +29,7 @@ none_beyond least slots none slot beyond = all_none (drop slot slots)
     all_none (Some inode ∷ slots) each = cc (each 0)
 
 none_left : (k : ℕ) → drop {A = Option (Inode ℕ)} k [] ≡ []
-none_left zero = refl
-none_left (suc k) = refl
+none_left k = grind (arith, common_steps)
 
 -- the slots that are left, one by one
 module _ (test : ℕ → Bool) (number : ℕ → ℕ) where

@@ -1,6 +1,6 @@
 -- Plain filesystems and overlays, found by their numbers.
-use Rattle.std.proofs.Common.{◌≡◌, ◌∙◌, ◌∷◌, ◌⊎◌, [], arith, ap, Bool, Bor, cond, eqb-true, false, List, ltb-true, inl, inr, nat_eq, nat_lt, None, option_map, Option, refl, Some, sym, true, ℕ, find, is_some, option_copied, unwrap_or}
-use Rattle.vt_spec.proofs.Common.{Among, Filesystem, found_among, no_filesystem, none_is_some, same_Some}
+use Rattle.std.proofs.Common.{◌≡◌, ◌∙◌, ◌∷◌, ◌⊎◌, [], arith, ap, Bor, cond, List, inl, inr, nat_eq, nat_lt, None, option_map, Option, refl, Some, sym, ℕ, find, is_some, option_copied, unwrap_or}
+use Rattle.vt_spec.proofs.Common.{Among, Filesystem, found_among, no_filesystem, none_is_some, same_Some, common_steps}
 use Rattle.vt_location.proofs.NumberLemmas.{counted_test}
 use Rattle.vt_location.specs.Numbers.{counted}
 use Rattle.vt_fs.proofs.Numbers.{found_by_number}
@@ -16,44 +16,14 @@ find-put_in : (number : ℕ) (filesystem : Filesystem ℕ) (others : List (Files
     (find (λ (one : Filesystem ℕ). nat_eq number one.number) others)
 find-put_in number filesystem [] = refl
 find-put_in number filesystem (first ∷ rest) =
-    by (nat_lt first.number filesystem.number) refl (find-put_in number filesystem rest)
-  where
-    found : List (Filesystem ℕ) → Option (Filesystem ℕ)
-    found list = find (λ (one : Filesystem ℕ). nat_eq number one.number) list
-
-    turned : (a b : Bool) → nat_eq number first.number ≡ a → nat_eq number filesystem.number ≡ b
-        → nat_lt first.number filesystem.number ≡ true → cond a (Some first) (cond b (Some filesystem) (found rest))
-        ≡ cond b (Some filesystem) (cond a (Some first) (found rest))
-    turned true true is also less =
-        let one = eqb-true number first.number is in
-        let other = eqb-true number filesystem.number also in
-        let below = ltb-true first.number filesystem.number less in
-        absurd (let no : ⊥ = omega (arith, one, other, below) in no)
-    turned true false is also less = refl
-    turned false b is also less = refl
-
-    by : (b : Bool) → nat_lt first.number filesystem.number ≡ b
-        → found (put_in filesystem rest) ≡ cond (nat_eq number filesystem.number) (Some filesystem) (found rest)
-        → found (cond b (first ∷ put_in filesystem rest) (filesystem ∷ first ∷ rest))
-        ≡ cond (nat_eq number filesystem.number) (Some filesystem) (found (first ∷ rest))
-    by true less later = ap (cond (nat_eq number first.number) (Some first)) later
-        ∙ turned (nat_eq number first.number) (nat_eq number filesystem.number) refl refl less
-    by false less later = refl
+    grind (arith, common_steps, find-put_in number filesystem rest, nat_lt first.number filesystem.number)
 
 -- what is put in is there, and all others are
 among-put_in : (one filesystem : Filesystem ℕ) (others : List (Filesystem ℕ))
     → (one ≡ filesystem) ⊎ Among one others → Among one (put_in filesystem others)
 among-put_in one filesystem [] among = among
 among-put_in one filesystem (first ∷ rest) among =
-    by (nat_lt first.number filesystem.number) (among-put_in one filesystem rest) among
-  where
-    by : (b : Bool) → ((one ≡ filesystem) ⊎ Among one rest → Among one (put_in filesystem rest))
-        → (one ≡ filesystem) ⊎ Among one (first ∷ rest)
-        → Among one (cond b (first ∷ put_in filesystem rest) (filesystem ∷ first ∷ rest))
-    by true later (inl same) = inr (later (inl same))
-    by true later (inr (inl same)) = inl same
-    by true later (inr (inr among)) = inr (later (inr among))
-    by false later among = among
+    grind (arith, common_steps, among-put_in one filesystem rest, nat_lt first.number filesystem.number)
 
 pub among-woven : (plain : Filesystems) (entry : OverlayEntry) (entries : List OverlayEntry) → Among entry entries
     → Among (overlay_filesystem plain entry) (woven plain entries)
@@ -62,8 +32,7 @@ among-woven plain entry (first ∷ entries) (inl same) =
     among-put_in (overlay_filesystem plain entry) (overlay_filesystem plain first) (woven plain entries)
     (inl (ap (overlay_filesystem plain) same))
 among-woven plain entry (first ∷ entries) (inr later) =
-    among-put_in (overlay_filesystem plain entry) (overlay_filesystem plain first) (woven plain entries)
-    (inr (among-woven plain entry entries later))
+    grind (arith, common_steps, among-woven plain entry entries later, among-put_in)
 
 -- the overlay of this count, or what is found among others
 abbrev over : Filesystems → Option OverlayEntry → Option (Filesystem ℕ) → Option (Filesystem ℕ)
@@ -76,29 +45,20 @@ find-woven : (plain : Filesystems) (count : ℕ) (entries : List OverlayEntry)
     (find (λ (one : Filesystem ℕ). nat_eq (counted count) one.number) (filesystems_seen plain))
 find-woven plain count [] = refl
 find-woven plain count (entry ∷ entries) =
-    find-put_in (counted count) (overlay_filesystem plain entry) (woven plain entries)
-    ∙ ap (λ b. cond b (Some (overlay_filesystem plain entry))
-    (find (λ (one : Filesystem ℕ). nat_eq (counted count) one.number) (woven plain entries)))
-    (counted_test count entry.count) ∙ by (nat_eq count entry.count) (find-woven plain count entries)
-  where
-    plain_found : Option (Filesystem ℕ)
-    plain_found = find (λ (one : Filesystem ℕ). nat_eq (counted count) one.number) (filesystems_seen plain)
-
-    found : Option OverlayEntry
-    found = find (λ (entry : OverlayEntry). nat_eq count entry.count) entries
-
-    by : (b : Bool) → find (λ (one : Filesystem ℕ). nat_eq (counted count) one.number) (woven plain entries)
-        ≡ over plain found plain_found → cond b (Some (overlay_filesystem plain entry))
-        (find (λ (one : Filesystem ℕ). nat_eq (counted count) one.number) (woven plain entries))
-        ≡ over plain (cond b (Some entry) found) plain_found
-    by true later = refl
-    by false later = later
+    grind (
+      arith,
+      common_steps,
+      find-woven plain count entries,
+      find-put_in (counted count) (overlay_filesystem plain
+          entry) (woven plain entries),
+      counted_test count entry.count,
+      nat_eq count entry.count,
+    )
 
 module _ (store : StoreValue) (count : ℕ) where
   found_by : (o : Option OverlayEntry) → entry_in store count ≡ o → filesystem_found store count ≡ over store.plain o
       (find (λ (one : Filesystem ℕ). nat_eq (counted count) one.number) (filesystems_seen store.plain))
-  found_by o e = find-woven store.plain count store.overlays ∙ ap (λ o. over store.plain o
-      (find (λ (one : Filesystem ℕ). nat_eq (counted count) one.number) (filesystems_seen store.plain))) e
+  found_by o e = cc (find-woven store.plain count store.overlays)
 
   found_so : (o : Option OverlayEntry) → entry_in store count ≡ o → filesystem_in store count
       ≡ unwrap_or (over store.plain o
@@ -160,16 +120,8 @@ found_plain : (plain : Filesystems) (count : ℕ)
     → find (λ (one : Filesystem ℕ). nat_eq (counted count) one.number) (filesystems_seen plain)
     ≡ option_map filesystem_seen (entry_of plain count)
 found_plain [] count = refl
-found_plain (entry ∷ plain) count = ap (λ b. cond b (Some (filesystem_seen entry))
-    (find (λ (one : Filesystem ℕ). nat_eq (counted count) one.number) (filesystems_seen plain)))
-    (counted_test count entry.count) ∙ by (nat_eq count entry.count) (found_plain plain count)
-  where
-    by : (b : Bool) → find (λ (one : Filesystem ℕ). nat_eq (counted count) one.number) (filesystems_seen plain)
-        ≡ option_map filesystem_seen (entry_of plain count) → cond b (Some (filesystem_seen entry))
-        (find (λ (one : Filesystem ℕ). nat_eq (counted count) one.number) (filesystems_seen plain))
-        ≡ option_map filesystem_seen (cond b (Some entry) (entry_of plain count))
-    by true later = refl
-    by false later = later
+found_plain (entry ∷ plain) count =
+    grind (arith, common_steps, found_plain plain count, counted_test count entry.count, nat_eq count entry.count)
 
 -- The root directory
 
@@ -180,8 +132,7 @@ root_plain store count none = by (entry_in store count) refl none
   where
     same : (o : Option FilesystemEntry) → option_map (λ entry. (inodes_seen entry).root) o
         ≡ option_map (λ (one : Filesystem ℕ). one.files.tree.root) (option_map filesystem_seen o)
-    same None = refl
-    same (Some entry) = refl
+    same o = grind (arith, common_steps)
 
     by : (o : Option OverlayEntry) → entry_in store count ≡ o
         → option_map (λ (entry : OverlayEntry). entry.overlay) o ≡ None
@@ -200,10 +151,8 @@ root_over store count overlay some = by (entry_in store count) refl some
         → Some (merged_files store.plain overlay).tree.root ≡ root_in store count
     by None e some = none_is_some overlay some
     by (Some entry) e some =
-        ap (λ one. Some (merged_files store.plain one).tree.root) (sym (same_Some entry.overlay overlay some))
-        ∙ ap (option_map (λ (one : Filesystem ℕ). one.files.tree.root)) (sym (found_by store count (Some entry) e))
+        grind (arith, common_steps, same_Some entry.overlay overlay some, found_by store count (Some entry) e)
 
 -- what is found is there just if something is lent
 pub some_copied : (o : Option (Bor OverlayValue)) → is_some o ≡ is_some (option_copied o)
-some_copied None = refl
-some_copied (Some overlay) = refl
+some_copied o = grind (arith, common_steps)

@@ -1,8 +1,8 @@
 -- An overlay whose number is above all others comes after them.
-use Rattle.std.proofs.Common.{◌≡◌, ◌++◌, ◌∙◌, ◌∷◌, [], ap, arith, Bool, cond, false, List, ltb-true, nat_lt, refl, true, ℕ, le-ltb, lt-ltb}
-use Rattle.vt_spec.proofs.Common.{Filesystem, and_parts, list_all}
+use Rattle.std.proofs.Common.{◌≡◌, ◌++◌, ◌∷◌, [], ap, arith, cond, false, List, ltb-true, nat_lt, refl, true, ℕ, le-ltb, lt-ltb}
+use Rattle.vt_spec.proofs.Common.{Filesystem, and_parts, list_all, common_steps}
 use Rattle.vt_location.specs.Numbers.{counted}
-use Rattle.vt_fs.specs.FilesystemsValue.{FilesystemEntry, Filesystems, filesystem_seen, filesystems_seen}
+use Rattle.vt_fs.specs.FilesystemsValue.{FilesystemEntry, Filesystems, filesystems_seen}
 use Rattle.vt_store.specs.Laws.{NewOverlaysAreLast}
 use Rattle.vt_store.specs.OverlaysValue.{OverlayEntry}
 use Rattle.vt_store.specs.StoreValue.{overlay_filesystem, put_in, woven}
@@ -20,30 +20,23 @@ put_in-last : (last : Filesystem ℕ) (entry : OverlayEntry) → last.number ≡
     → put_in last (filesystems_seen plain) ≡ filesystems_seen plain ++ last ∷ []
 put_in-last last entry is [] above = refl
 put_in-last last entry is (first ∷ plain) above =
-    let parts = and_parts (nat_lt first.count entry.count)
-    (list_all (λ (other : FilesystemEntry). nat_lt other.count entry.count) plain) above in
-    ap (λ b. cond b (filesystem_seen first ∷ put_in last (filesystems_seen plain))
-    (last ∷ filesystem_seen first ∷ filesystems_seen plain))
-    (ap (nat_lt (counted first.count)) is ∙ below first.count entry.count parts.0)
-    ∙ ap (λ l. filesystem_seen first ∷ l) (put_in-last last entry is plain parts.1)
+    let parts = and_parts (nat_lt first.count entry.count) (list_all (λ (other : FilesystemEntry). nat_lt
+    other.count entry.count) plain) above in
+    cc (below first.count entry.count parts.0, put_in-last last entry is plain parts.1)
 
 -- and what is put in below it leaves it the last
 put_in-before : (one last : Filesystem ℕ) → nat_lt last.number one.number ≡ false → (list : List (Filesystem ℕ))
     → put_in one (list ++ last ∷ []) ≡ put_in one list ++ last ∷ []
 put_in-before one last above [] = ap (λ b. cond b (last ∷ one ∷ []) (one ∷ last ∷ [])) above
-put_in-before one last above (first ∷ list) = by (nat_lt first.number one.number) (put_in-before one last above list)
-  where
-    by : (b : Bool) → put_in one (list ++ last ∷ []) ≡ put_in one list ++ last ∷ []
-        → cond b (first ∷ put_in one (list ++ last ∷ [])) (one ∷ first ∷ (list ++ last ∷ []))
-        ≡ cond b (first ∷ put_in one list) (one ∷ first ∷ list) ++ last ∷ []
-    by true later = ap (λ l. first ∷ l) later
-    by false later = refl
+put_in-before one last above (first ∷ list) = grind (arith, common_steps, put_in-before one last above list, cond)
 
 pub new_overlays_are_last : NewOverlaysAreLast
 new_overlays_are_last plain [] entry above over = put_in-last (overlay_filesystem plain entry) entry refl plain above
 new_overlays_are_last plain (first ∷ overlays) entry above over =
-    let parts = and_parts (nat_lt first.count entry.count)
-    (list_all (λ (other : OverlayEntry). nat_lt other.count entry.count) overlays) over in
-    ap (put_in (overlay_filesystem plain first)) (new_overlays_are_last plain overlays entry above parts.1)
-    ∙ put_in-before (overlay_filesystem plain first) (overlay_filesystem plain entry)
-    (not_below first.count entry.count parts.0) (woven plain overlays)
+    let parts = and_parts (nat_lt first.count entry.count) (list_all (λ (other : OverlayEntry). nat_lt other.count
+    entry.count) overlays) over in
+    cc (
+      new_overlays_are_last plain overlays entry above parts.1,
+      put_in-before (overlay_filesystem plain first)
+          (overlay_filesystem plain entry) (not_below first.count entry.count parts.0) (woven plain overlays),
+    )

@@ -1,18 +1,16 @@
 -- What lines, looks and directives leave as it was.
-use Rattle.std.proofs.Common.{◌≡◌, refl, subst, ℕ, nat_eq, Bool, true, false, ◌||◌, nat_lt, length, List, [], ◌∷◌, Option, Some, None, Result, Ok, Err, IfErr, ok_or}
-use Rattle.vt_spec.proofs.Common.{Answered, AskPeers, AskSealed, Asking, Call, Calling, Fresh, Grammar, Outcome, Permit, Request, Silent, Step, Task, TaskName, World, apply, call_outcome, denial, directed, finished_by, is_silent, line_step_by, longest_line, looks_of, only_looks, overfills, request_of, requested, spoken_step, step_world, task_called}
-use Rattle.vt_laws_rules.proofs.rules.Outcomes.{after_keeps, error_is, judged_keeps}
+use Rattle.std.proofs.Common.{◌≡◌, refl, ℕ, nat_eq, Bool, true, ◌||◌, List, Option, Some, None, IfErr, ok_or, arith}
+use Rattle.vt_spec.proofs.Common.{Answered, Asking, Call, Calling, Fresh, Grammar, Outcome, Permit, Request, Silent, Step, Task, TaskName, World, apply, call_outcome, denial, finished_by, line_step_by, looks_of, only_looks, overfills, requested, spoken_step, task_called, common_steps}
+use Rattle.vt_laws_rules.proofs.rules.Outcomes.{after_keeps, error_is}
 use Rattle.vt_laws_rules.proofs.rules.OwnRules.{policy_refuses_own}
 use Rattle.vt_laws_rules.specs.Denials.{DeniedLineChangesNothing, DirectiveChangesNothing, LookChangesNothing, RefusedMemoryChangesNothing}
-use Rattle.vt_spec.specs.declared.errors.Deny.{Deny}
 use Rattle.vt_spec.specs.declared.errors.Rule.TheVariants.{S2}
 use Rattle.vt_laws_rules.proofs.given.CallsGranted.{call_holds}
 use Rattle.vt_laws_rules.specs.Granted.{IsGranted}
 use Rattle.vt_laws_rules.specs.Granted.IsGranted.{lists_directory, lists_mounts, may_execute, reads_file, reads_part, reads_symlink, shows_object, shows_symlink}
 
 pub directive_changes_nothing : DirectiveChangesNothing
-directive_changes_nothing world AskPeers = refl
-directive_changes_nothing world (AskSealed names) = judged_keeps world (_ ∷ []) _ refl
+directive_changes_nothing world directive = grind (arith, common_steps)
 
 -- what a call that only looks is permitted leaves the world
 looks_keep : (fresh : Fresh ℕ) (world : World ℕ) (task : Task ℕ) (call : Call) (permit : Permit ℕ)
@@ -33,8 +31,7 @@ looks_keep fresh world task call permit e granted = cc
 unraised : (looks granted : Bool) (world : World ℕ) (name : TaskName) (changed : List ℕ) (outcome : Outcome ℕ)
     → looks ≡ true → outcome.world ≡ world
     → (finished_by nat_eq (looks || granted) world name changed outcome).world ≡ world
-unraised true granted world name changed outcome e same = same
-unraised false granted world name changed outcome e same = cc
+unraised looks granted world name changed outcome e same = cc
 
 pub look_changes_nothing : LookChangesNothing
 look_changes_nothing fresh world name call looks =
@@ -51,39 +48,23 @@ abbrev StepKeepsIfDenied : World ℕ → Step ℕ → Type 0
 StepKeepsIfDenied world Silent = Unit {0}
 StepKeepsIfDenied world (Answered outcome) = KeepsIfDenied world outcome
 
-denial_keeps : {A : Type 0} (answer : Result A Deny) {P : Type 0} → P → IfErr answer (λ deny. P)
-denial_keeps (Ok a) p = tt
-denial_keeps (Err deny) p = p
-
 request_keeps : (world : World ℕ) (request : Option Request) (fresh : Fresh ℕ)
     → KeepsIfDenied world (requested nat_eq world request fresh)
 request_keeps world None fresh = refl
 request_keeps world (Some (Calling task call)) fresh = (policy_refuses_own fresh world task call).0
-request_keeps world (Some (Asking directive)) fresh =
-    denial_keeps (directed nat_eq world directive).answer (directive_changes_nothing world directive)
+request_keeps world (Some (Asking directive)) fresh = grind (arith, common_steps)
 
 spoken_keeps : (grammar : Grammar) (world : World ℕ) (line : List ℕ) (fresh : Option (Fresh ℕ))
     → StepKeepsIfDenied world (spoken_step nat_eq grammar world line fresh)
-spoken_keeps grammar world line None = refl
-spoken_keeps grammar world line (Some fresh) = request_keeps world (request_of grammar line) fresh
+spoken_keeps grammar world line fresh = grind (arith, common_steps, request_keeps)
 
 line_keeps : (long silent : Bool) (grammar : Grammar) (world : World ℕ) (line : List ℕ) (fresh : Option (Fresh ℕ))
     → StepKeepsIfDenied world (line_step_by nat_eq long silent grammar world line fresh)
-line_keeps true silent grammar world line fresh = refl
-line_keeps false true grammar world line fresh = tt
-line_keeps false false grammar world line fresh = spoken_keeps grammar world line fresh
+line_keeps long silent grammar world line fresh = grind (arith, common_steps, spoken_keeps)
 
 pub denied_line_changes_nothing : DeniedLineChangesNothing
 denied_line_changes_nothing grammar world line fresh outcome deny steps e =
-    error_is (λ d. outcome.world ≡ world) outcome.answer deny e (subst (StepKeepsIfDenied world) steps
-    (line_keeps (nat_lt longest_line (length line)) (is_silent line) grammar world line fresh))
-
-refused_keeps : (long silent : Bool) (grammar : Grammar) (world : World ℕ) (line : List ℕ)
-    → step_world world (line_step_by nat_eq long silent grammar world line None) ≡ world
-refused_keeps true silent grammar world line = refl
-refused_keeps false true grammar world line = refl
-refused_keeps false false grammar world line = refl
+    grind (arith, common_steps, error_is, line_keeps)
 
 pub refused_memory_changes_nothing : RefusedMemoryChangesNothing
-refused_memory_changes_nothing grammar world line =
-    refused_keeps (nat_lt longest_line (length line)) (is_silent line) grammar world line
+refused_memory_changes_nothing grammar world line = grind (arith, common_steps)

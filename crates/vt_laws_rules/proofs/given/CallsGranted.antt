@@ -1,5 +1,5 @@
 -- What a granted call leaves: what its permit leaves.
-use Rattle.std.proofs.Common.{arith, nat_eq, ap, true≢false, Ok, ℕ, ◌≡◌}
+use Rattle.std.proofs.Common.{arith, nat_eq, true≢false, Ok, ℕ, ◌≡◌}
 use Rattle.vt_spec.proofs.Common.{Answer, Call, Fresh, Permit, Task, World, apply, call_outcome, common_steps, looks_of, overfills}
 use Rattle.vt_laws_rules.proofs.given.Inversion.{calls_are_granted}
 use Rattle.vt_laws_rules.specs.Granted.{IsGranted}

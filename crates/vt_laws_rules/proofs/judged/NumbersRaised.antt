@@ -1,6 +1,6 @@
 -- The policy's last step raises change numbers alone.
-use Rattle.std.proofs.Common.{arith, ◌≡◌, refl, ◌⊎◌, inl, ℕ, ◌+◌, nat_eq, Bool, true, false, cond, ◌||◌, List, [], ◌∷◌, ◌++◌, map}
-use Rattle.vt_spec.proofs.Common.{Filesystem, Namespace, Outcome, Task, TaskName, World, common_steps, finished, finished_by, numbers_raised, raised, raised_if_changed, raised_namespace, raised_task, settled, without_changes}
+use Rattle.std.proofs.Common.{arith, ◌≡◌, refl, ◌⊎◌, inl, ℕ, ◌+◌, nat_eq, Bool, true, false, cond, List, [], ◌∷◌, ◌++◌, map}
+use Rattle.vt_spec.proofs.Common.{Filesystem, Namespace, Outcome, Task, TaskName, World, common_steps, finished_by, numbers_raised, raised, raised_if_changed, raised_namespace, raised_task, settled, without_changes}
 use Rattle.vt_laws_rules.specs.Judged.{AreRaised, LastStepRaisesNumbersAlone, change_numbers}
 
 abbrev MayRise : ℕ → ℕ → Type 0

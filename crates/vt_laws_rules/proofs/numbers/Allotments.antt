@@ -1,6 +1,6 @@
 -- Two supplies with room are joined by a renaming.
-use Rattle.std.proofs.Common.{◌≡◌, refl, sym, ap, ◌∙◌, true≢false, ℕ, Bool, true, subst}
-use Rattle.vt_spec.proofs.Common.{World, renamed}
+use Rattle.std.proofs.Common.{◌≡◌, refl, sym, ap, ◌∙◌, ℕ, Bool, true, subst, arith}
+use Rattle.vt_spec.proofs.Common.{World, renamed, common_steps}
 use std.Equiv.{◌≃◌, id_equiv, iso_to_equiv}
 use std.Univalence.{equiv_j}
 use Rattle.vt_laws_rules.specs.Renaming.{Renaming}
@@ -34,9 +34,7 @@ allotted_left allotment other rename number k e = ap (λ s. allotted_by other re
 
 -- what is kept, by its test
 pub kept_lot : (lot : Lot) → is_kept_lot lot ≡ true → lot ≡ Kept
-kept_lot Kept e = refl
-kept_lot (New k) e = absurd (true≢false (sym e))
-kept_lot (LeftOver k) e = absurd (true≢false (sym e))
+kept_lot lot e = grind (arith, common_steps)
 
 pub allotted_back : (allotment other : Allotment) (rename again : ℕ → ℕ)
     → ((number : ℕ) → rename (again number) ≡ number)
@@ -46,8 +44,7 @@ allotted_back allotment other rename again inverse keeps number = by (other.lot 
   where
     by : (lot : Lot) → other.lot number ≡ lot
         → allotted allotment other rename (allotted other allotment again number) ≡ number
-    by Kept e = ap (allotted allotment other rename) (allotted_kept other allotment again number e)
-        ∙ allotted_kept allotment other rename (again number) (keeps number e) ∙ inverse number
+    by Kept e = grind (arith, common_steps, allotted_kept)
     by (New k) e = ap (allotted allotment other rename) (allotted_new other allotment again number k e)
         ∙ allotted_new allotment other rename (allotment.new k) k (allotment.new_lot k) ∙ other.lot_new number k e
     by (LeftOver k) e = ap (allotted allotment other rename) (allotted_left other allotment again number k e)

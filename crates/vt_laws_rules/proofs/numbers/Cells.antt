@@ -21,12 +21,11 @@ numbers_before-sum row place = ap (λ n. n + row) (sum (row + place))
     sum zero = refl
     sum (suc diagonal) =
         let earlier : (diagonal * (diagonal + 1)) / 2 ≡ numbers_before diagonal = sum diagonal in
-        let longer : suc diagonal * (suc diagonal + 1) ≡ diagonal * (suc diagonal + 1) + (suc diagonal + 1) =
-        suc-mul diagonal (suc diagonal + 1) in
-        let wider : diagonal * (suc diagonal + 1) ≡ diagonal * (diagonal + 1) + diagonal =
-        ap (λ n. diagonal * n) (let more : suc diagonal + 1 ≡ suc (diagonal + 1) = omega arith in more)
-        ∙ mul-suc diagonal (diagonal + 1) in
-        omega arith
+        let longer : suc diagonal * (suc diagonal + 1) ≡ diagonal * (suc diagonal + 1) + (suc diagonal + 1) = suc-mul
+        diagonal (suc diagonal + 1) in
+        let wider : diagonal * (suc diagonal + 1) ≡ diagonal * (diagonal + 1) + diagonal = ap (λ n. diagonal * n)
+        (let more : suc diagonal + 1 ≡ suc (diagonal + 1) = omega arith in more) ∙ mul-suc diagonal (diagonal + 1) in
+        grind (arith, common_steps)
 
 next : ℕ → ℕ → ℕ × ℕ
 next a zero = (zero, suc a)
@@ -52,11 +51,7 @@ tri_large (suc s) = let h = tri_large s in omega arith
 
 cell_at : (n a b : ℕ) → number_in_row a b ≡ n → cell n ≡ (a, b)
 unfolding cell next number_in_row numbers_before
-cell_at zero a b e =
-    let large = tri_large (a + b) in
-    let first : 0 ≡ a = omega arith in
-    let second : 0 ≡ b = omega arith in
-    λ i. (first i, second i)
+cell_at zero a b e = grind (arith, common_steps, tri_large)
 cell_at (suc n) zero zero e = absurd (omega (arith, e))
 cell_at (suc n) zero (suc b) e =
     let before : number_in_row b 0 ≡ n = (let h = number_in_row-next b 0 in omega arith) in

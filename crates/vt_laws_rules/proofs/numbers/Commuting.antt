@@ -1,6 +1,6 @@
 -- Whatever is generic in the numbers' type commutes with renamings.
-use Rattle.std.proofs.Common.{arith, ◌≡◌, refl, sym, ap, subst, ◌∙◌, ℕ, nat_eq, eq-eqb, ne_eqb, Bool, List, [], ◌∷◌, ⊎_elim, Option, Some, None, map, option_map}
-use Rattle.vt_spec.proofs.Common.{Change, Content, Inode, Node, common_steps, eqb_tells, renamed_content, renamed_inode, renamed_node}
+use Rattle.std.proofs.Common.{arith, ◌≡◌, refl, sym, ap, subst, ◌∙◌, ℕ, nat_eq, Bool, List, [], ◌∷◌, Option, map, option_map}
+use Rattle.vt_spec.proofs.Common.{Change, Content, Inode, Node, common_steps, renamed_content, renamed_inode, renamed_node}
 use std.Equiv.{◌≃◌, id_equiv, iso_to_equiv}
 use std.Univalence.{equiv_j}
 use Rattle.vt_laws_rules.specs.Renaming.{Renaming, renamed_change}
@@ -10,8 +10,7 @@ map_itself f same [] = refl
 map_itself f same (a ∷ rest) = λ i. same a i ∷ map_itself f same rest i
 
 pub option_itself : {A : Type 0} (f : A → A) → ((a : A) → f a ≡ a) → (option : Option A) → option_map f option ≡ option
-option_itself f same None = refl
-option_itself f same (Some a) = λ i. Some (same a i)
+option_itself f same d = grind (arith, common_steps)
 
 -- With each number for itself nothing is renamed.
 module _ {N : Type 0} where
@@ -22,8 +21,7 @@ module _ {N : Type 0} where
   node_itself node = λ i. record { attr = node.attr; content = content_itself node.content i }
 
   pub inode_itself : (inode : Option (Inode N)) → option_map (renamed_inode (λ n. n) (λ n. n)) inode ≡ inode
-  inode_itself None = refl
-  inode_itself (Some inode) = λ i. Some (record { node = node_itself inode.node i; uses = inode.uses })
+  inode_itself inode = grind (arith, common_steps, node_itself)
 
   pub change_itself : (change : Change N) → renamed_change (λ n. n) (λ n. n) change ≡ change
   change_itself change = grind (arith, common_steps, node_itself)
@@ -53,8 +51,7 @@ pub stay_apart : {N M : Type 0} (renaming : Renaming N M) (a b : N) → renaming
 stay_apart renaming a b e = sym (renaming.back_there a) ∙ ap renaming.back e ∙ renaming.back_there b
 
 same_test : (renaming : Renaming ℕ ℕ) (a b : ℕ) → nat_eq (renaming.there a) (renaming.there b) ≡ nat_eq a b
-same_test renaming a b = ⊎_elim (λ t. eq-eqb (renaming.there a) (renaming.there b) (ap renaming.there t.1) ∙ sym t.0)
-    (λ t. ne_eqb (renaming.there a) (renaming.there b) (λ e. t.1 (stay_apart renaming a b e)) ∙ sym t.0) (eqb_tells a b)
+same_test renaming a b = grind (arith, common_steps)
 
 -- So does what is made for the numbers that the definitions are run with.
 pub commutes_nat : (S T : Type 0 → Type 0) (given : Named S) (made : Named T)

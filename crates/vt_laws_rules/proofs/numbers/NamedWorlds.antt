@@ -1,6 +1,6 @@
 -- A world keeps to the numbers that it has anywhere.
-use Rattle.std.proofs.Common.{◌≡◌, refl, sym, ap, ◌∙◌, true≢false, ℕ, Bool, true, false, List, [], ◌∷◌, Option, Some, None, zero, arith, suc, All, map, option_map}
-use Rattle.vt_spec.proofs.Common.{Content, Descriptor, Filesystem, Layer, Location, Lower, Mount, Namespace, Node, Overlay, Propagation, Real, Task, Upper, World, and_parts, common_steps, list_all, renamed, renamed_content, renamed_entry, renamed_filesystem, renamed_location, renamed_mount, renamed_namespace, renamed_node, renamed_overlay, renamed_task}
+use Rattle.std.proofs.Common.{◌≡◌, refl, sym, ap, ◌∙◌, true≢false, ℕ, Bool, true, false, List, [], ◌∷◌, Option, zero, arith, suc, All, map, option_map}
+use Rattle.vt_spec.proofs.Common.{Content, Descriptor, Filesystem, Layer, Location, Mount, Namespace, Node, Overlay, Propagation, Real, Task, World, and_parts, common_steps, list_all, renamed, renamed_content, renamed_entry, renamed_filesystem, renamed_location, renamed_mount, renamed_namespace, renamed_node, renamed_overlay, renamed_task}
 use Rattle.vt_spec.specs.Machine.Renaming.{renamed_descriptor, renamed_layer, renamed_propagation, renamed_real}
 use Rattle.vt_laws_rules.specs.Renaming.{Leaves, Renaming}
 use Rattle.vt_laws_rules.specs.Numbers.{FilesystemNamed, IsFoundAmong, NamedIsKept, OverlayIfAnyNamed, OverlayNamed, WorldNamed, content_named, descriptor_named, layer_named, location_named, mount_named, namespace_named, node_named, none_or, propagation_named, real_named, task_named}
@@ -16,8 +16,7 @@ list_left f test same (a ∷ rest) e =
 -- and in an option
 pub option_left : {A : Type 0} (f : A → A) (test : A → Bool) → ((a : A) → test a ≡ true → f a ≡ a) → (option : Option A)
     → none_or test option ≡ true → option_map f option ≡ option
-option_left f test same None e = refl
-option_left f test same (Some a) e = λ i. Some (same a e i)
+option_left f test same e option = grind (arith, common_steps)
 
 all_left : {A : Type 0} (f : A → A) (P : A → Type 0) → ((a : A) → P a → f a ≡ a) → (list : List A) → All P list
     → map f list ≡ list
@@ -46,9 +45,7 @@ module _ (named : ℕ → Bool) (renaming : Renaming ℕ ℕ) (leaves : Leaves r
   -- a location of numbers that are left stays, as does a node
   pub location_left : (location : Location ℕ) → location_named named location ≡ true
       → renamed_location there back location ≡ location
-  location_left location e =
-      let parts = and_parts (named location.mount) (named location.node) e in
-      λ i. record { mount = leaves location.mount parts.0 i; node = leaves location.node parts.1 i }
+  location_left location e = grind (arith, common_steps)
 
   propagation_left : (kind : Propagation ℕ) → propagation_named named kind ≡ true
       → renamed_propagation there back kind ≡ kind
@@ -68,21 +65,17 @@ module _ (named : ℕ → Bool) (renaming : Renaming ℕ ℕ) (leaves : Leaves r
   node_left node e = λ i. record { attr = node.attr; content = content_left node.content e i }
 
   layer_left : (layer : Layer ℕ) → layer_named named layer ≡ true → renamed_layer there back layer ≡ layer
-  layer_left layer e =
-      let parts = and_parts (named layer.filesystem) (named layer.directory) e in
-      λ i. record { filesystem = leaves layer.filesystem parts.0 i; directory = leaves layer.directory parts.1 i }
+  layer_left layer e = grind (arith, common_steps)
 
   real_left : (real : Real ℕ) → real_named named real ≡ true → renamed_real there back real ≡ real
-  real_left (Upper object) e = ap Upper (leaves object e)
-  real_left (Lower layer path) e = refl
+  real_left real e = grind (arith, common_steps)
 
   overlay_left : (overlay : Overlay ℕ) → OverlayNamed named overlay → renamed_overlay there back overlay ≡ overlay
   overlay_left overlay h = grind (arith, common_steps, option_left, layer_left, list_left, found_left, real_left)
 
   overlay_if_any_left : (overlay : Option (Overlay ℕ)) → OverlayIfAnyNamed named overlay
       → option_map (renamed_overlay there back) overlay ≡ overlay
-  overlay_if_any_left None h = refl
-  overlay_if_any_left (Some overlay) h = ap Some (overlay_left overlay h)
+  overlay_if_any_left overlay h = grind (arith, common_steps, overlay_left)
 
   filesystem_left : (filesystem : Filesystem ℕ) → FilesystemNamed named filesystem
       → renamed_filesystem there back filesystem ≡ filesystem

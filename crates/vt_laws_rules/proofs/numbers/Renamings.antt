@@ -1,10 +1,10 @@
 -- Worlds, outcomes, lines and turns commute with renamings of their numbers.
 use Rattle.std.proofs.Common.{arith, ◌≡◌, refl, sym, ap, ◌∙◌, ℕ, nat_eq, List, Option, map, option_map}
-use Rattle.vt_spec.proofs.Common.{Answered, FileTree, Filesystem, Fresh, Layer, Lower, Mount, Outcome, Overlay, Progress, Propagation, Real, Sched, Silent, Step, Task, Turned, Upper, World, common_steps, line_step, policy, renamed, renamed_filesystem, renamed_mount, renamed_overlay, renamed_task}
+use Rattle.vt_spec.proofs.Common.{FileTree, Filesystem, Fresh, Layer, Mount, Outcome, Overlay, Progress, Propagation, Real, Sched, Step, Task, Turned, World, common_steps, line_step, policy, renamed, renamed_filesystem, renamed_mount, renamed_overlay, renamed_task}
 use Rattle.vt_spec.specs.Machine.Renaming.{renamed_files, renamed_layer, renamed_propagation, renamed_real}
 use Rattle.vt_laws_rules.specs.Renaming.{Renaming}
 use Rattle.vt_laws_rules.proofs.numbers.Commuting.{Named, commutes_nat, map_itself, node_itself, option_itself}
-use Rattle.vt_laws_rules.specs.Numbers.{CallsDoNotSeeNumbers, LinesDoNotSeeNumbers, renamed_held, renamed_outcome, renamed_progress, renamed_sched, renamed_step, renamed_supply, renamed_turned, SameWorldsAnswerAlike}
+use Rattle.vt_laws_rules.specs.Numbers.{CallsDoNotSeeNumbers, LinesDoNotSeeNumbers, renamed_outcome, renamed_progress, renamed_sched, renamed_step, renamed_supply, renamed_turned, SameWorldsAnswerAlike}
 
 -- With each number for itself nothing is renamed.
 module _ {N : Type 0} where
@@ -12,8 +12,7 @@ module _ {N : Type 0} where
   files_itself files = grind (arith, common_steps, option_itself, node_itself, map_itself)
 
   pub real_itself : (real : Real N) → renamed_real (λ n. n) (λ n. n) real ≡ real
-  real_itself (Upper object) = refl
-  real_itself (Lower layer path) = refl
+  real_itself real = grind (arith, common_steps)
 
   layers_itself : (layers : List (Layer N)) → map (renamed_layer (λ n. n) (λ n. n)) layers ≡ layers
   layers_itself = map_itself (renamed_layer (λ n. n) (λ n. n)) (λ layer. refl)
@@ -44,16 +43,13 @@ module _ {N : Type 0} where
   outcome_itself outcome = λ i. record { answer = outcome.answer; world = renamed_itself outcome.world i }
 
   pub step_itself : (step : Step N) → renamed_step (λ n. n) (λ n. n) step ≡ step
-  step_itself Silent = refl
-  step_itself (Answered outcome) = λ i. Answered (outcome_itself outcome i)
+  step_itself step = grind (arith, common_steps, outcome_itself)
 
   pub supply_itself : (fresh : Option (Fresh N)) → option_map (renamed_supply (λ n. n) (λ n. n)) fresh ≡ fresh
   supply_itself = option_itself (renamed_supply (λ n. n) (λ n. n)) (λ fresh. refl)
 
   progress_itself : (progress : Progress N) → renamed_progress (λ n. n) (λ n. n) progress ≡ progress
-  progress_itself progress = λ i. record progress {
-    filesystems = map_itself (renamed_held (λ n. n) (λ n. n)) (λ held. refl) progress.filesystems i;
-  }
+  progress_itself progress = grind (arith, common_steps, map_itself)
 
   pub sched_itself : (sched : Sched N) → renamed_sched (λ n. n) (λ n. n) sched ≡ sched
   sched_itself sched = grind (arith, common_steps, renamed_itself, map_itself, progress_itself)

@@ -47,19 +47,15 @@ spread_first place low = ap (λ t. first_row t place) (lt-ltb place 4 low)
 
 -- the others
 cell_above : (number a b : ℕ) → number ≡ 4 + number_in_row a b → cell (number - 4) ≡ (a, b)
-cell_above number a b e =
-    let rest : number - 4 ≡ number_in_row a b = omega arith in
-    ap cell rest ∙ cell-number_in_row a b
+cell_above number a b e = grind (arith, common_steps, cell-number_in_row a b)
 
 row_above : (number a b : ℕ) → number ≡ 4 + number_in_row a b → row number ≡ a
 unfolding row row_by
-row_above number a b e =
-    ap (λ t. row_by t number) (le-ltb number 4 (omega arith)) ∙ ap (λ c. c.0) (cell_above number a b e)
+row_above number a b e = cc (le-ltb number 4 (omega arith), cell_above number a b e)
 
 col_above : (number a b : ℕ) → number ≡ 4 + number_in_row a b → col number ≡ place_in a b
 unfolding col col_by
-col_above number a b e = ap (λ t. col_by t number) (le-ltb number 4 (omega arith))
-    ∙ ap (λ (c : ℕ × ℕ). place_in c.0 c.1) (cell_above number a b e)
+col_above number a b e = cc (le-ltb number 4 (omega arith), cell_above number a b e)
 
 spread_later : (place : ℕ) → 4 ≤ place → spread 0 place ≡ 4 + number_in_row 0 (place - 4)
 unfolding spread first_row
@@ -89,9 +85,7 @@ pub spread-row : (number : ℕ) → spread (row number) (col number) ≡ number
 spread-row number = by (nat_lt number 4) refl
   where
     by : (low : Bool) → nat_lt number 4 ≡ low → spread (row number) (col number) ≡ number
-    by true low =
-        let first : number < 4 = ltb-true number 4 low in
-        (λ i. spread (row_first number first i) (col_first number first i)) ∙ spread_first number first
+    by true low = grind (arith, common_steps, ltb-true, spread, row_first, col_first, spread_first)
     by false high =
         let later : 4 ≤ number = ltb-false number 4 high in
         let a = (cell (number - 4)).0 in
@@ -103,6 +97,4 @@ spread-row number = by (nat_lt number 4) refl
 -- what a line is handed is the row of its number
 pub spread_for : (row place : ℕ) → numbers_for (suc row) place ≡ spread (suc row) place
 unfolding spread
-spread_for row place =
-    let same = numbers_before-sum (suc row) place in
-    omega arith
+spread_for row place = grind (arith, common_steps, numbers_before-sum)

@@ -1,4 +1,5 @@
 -- A line that is handed the next row of numbers: of the rows before, all is left over that is not kept.
+use Rattle.vt_spec.proofs.Common.{common_steps}
 use Rattle.std.proofs.Common.{◌≡◌, refl, sym, ap, ◌∙◌, true≢false, ℕ, zero, suc, ◌<◌, ◌≤◌, Bool, true, false, arith, subst}
 use Rattle.vt_laws_rules.specs.Numbers.{Lot, Allotment, is_in_hand_lot, is_kept_lot}
 use Rattle.vt_laws_rules.specs.Numbers.Lot.{Kept, LeftOver, New}
@@ -44,12 +45,7 @@ side_says zero zero = omega arith
 side_says zero (suc zero) = refl
 side_says zero (suc (suc further)) = refl
 side_says (suc m) zero = omega arith
-side_says (suc m) (suc r) = one_more (side m r) (side_says m r)
-  where
-    one_more : (s : Side) → Says m r s → Says (suc m) (suc r) s
-    one_more Before h = omega arith
-    one_more At h = ap suc h
-    one_more (Beyond further) h = ap suc h
+side_says (suc m) (suc r) = grind (arith, common_steps, side_says m r, Beyond)
 
 says : (m r : ℕ) (s : Side) → side m r ≡ s → Says m r s
 says m r s e = subst (Says m r) e (side_says m r)
@@ -91,11 +87,7 @@ module _ (m : ℕ) (keeps : ℕ → Bool) (early : (number : ℕ) → keeps numb
 
   -- numbers of later rows are not kept
   late : (number : ℕ) → m < row number → keeps number ≡ false
-  late number h = by (keeps number) refl
-    where
-      by : (b : Bool) → keeps number ≡ b → keeps number ≡ false
-      by true e = let low = early number e in absurd (omega arith)
-      by false e = e
+  late number h = grind (arith, common_steps, keeps number)
 
   beyond_more : (k further : ℕ) → k < beyond k further
   unfolding beyond
@@ -104,22 +96,25 @@ module _ (m : ℕ) (keeps : ℕ → Bool) (early : (number : ℕ) → keeps numb
 
   pub new_is_new : (k : ℕ) → lot_of (spread (suc m) k) ≡ New k
   unfolding lot_of lot_by
-  new_is_new k =
-      let number = spread (suc m) k in
-      let there : row (spread (suc m) k) ≡ suc m = row-spread (suc m) k in
-      (λ i. lot_by (late number (omega arith) i) (side m (there i)) number)
-      ∙ ap (λ s. lot_by false s number) (side_at m) ∙ ap New (col-spread (suc m) k)
+  new_is_new k = grind (arith, common_steps, spread, row-spread, lot_by, late, side_at, New, col-spread)
 
   -- a number of a later row
   lot_late : (further k : ℕ) → lot_of (spread (beyond m further) k) ≡ LeftOver (number_in_row further (shift further k))
   unfolding lot_of lot_by
   lot_late further k =
-      let number = spread (beyond m further) k in
-      let there : row (spread (beyond m further) k) ≡ beyond m further = row-spread (beyond m further) k in
-      let more = beyond_more m further in
-      (λ i. lot_by (late number (omega arith) i) (side m (there i)) number)
-      ∙ ap (λ s. lot_by false s number) (side_beyond m further)
-      ∙ ap (λ c. LeftOver (number_in_row further (shift further c))) (col-spread (beyond m further) k)
+      grind (
+        arith,
+        common_steps,
+        spread,
+        beyond,
+        row-spread,
+        beyond_more,
+        lot_by,
+        late,
+        side_beyond,
+        LeftOver,
+        col-spread,
+      )
 
   left_is_left_at : (a k : ℕ) → lot_of (left_at a k) ≡ LeftOver (number_in_row a k)
   unfolding left_at later_by shift shift_by lot_by lot_of
@@ -158,13 +153,7 @@ module _ (m : ℕ) (keeps : ℕ → Bool) (early : (number : ℕ) → keeps numb
 
   left_shift : (a k : ℕ) → left_at a (shift a k) ≡ spread (beyond m a) k
   unfolding left_at later_by shift shift_by lot_by lot_of
-  left_shift a k = by (keeps a) (side m (row a))
-    where
-      by : (test : Bool) (s : Side) → later_by test s a (shift_by test s k) ≡ spread (beyond m a) k
-      by true s = refl
-      by false Before = refl
-      by false At = refl
-      by false (Beyond further) = refl
+  left_shift a k = grind (arith, common_steps)
 
   pub lot_back : (number : ℕ) → back_of (lot_of number) number ≡ number
   unfolding lot_of lot_by back_of left_at later_by Says
@@ -173,10 +162,8 @@ module _ (m : ℕ) (keeps : ℕ → Bool) (early : (number : ℕ) → keeps numb
       by : (test : Bool) → keeps number ≡ test → (s : Side) → side m (row number) ≡ s
           → back_of (lot_of number) number ≡ number
       by true is s at = λ i. back_of (lot_by (is i) (side m (row number)) number) number
-      by false is Before at = (λ i. back_of (lot_by (is i) (at i) number) number) ∙ left_place number 0
-          ∙ (λ i. later_by (is i) (at i) number 0)
-      by false is At at = (λ i. back_of (lot_by (is i) (at i) number) number)
-          ∙ ap (λ r. spread r (col number)) (sym (says m (row number) At at)) ∙ spread-row number
+      by false is Before at = cc (left_place number 0)
+      by false is At at = cc (says m (row number) At at, spread-row number)
       by false is (Beyond further) at = (λ i. back_of (lot_by (is i) (at i) number) number)
           ∙ left_place further (shift further (col number)) ∙ left_shift further (col number)
           ∙ ap (λ r. spread r (col number)) (sym (says m (row number) (Beyond further) at)) ∙ spread-row number
@@ -200,13 +187,7 @@ module _ (m : ℕ) (keeps : ℕ → Bool) (early : (number : ℕ) → keeps numb
   -- what is kept
   pub stage_keeps : (number : ℕ) → is_kept_lot (stage.lot number) ≡ keeps number
   unfolding stage lot_of lot_by
-  stage_keeps number = by (keeps number) refl (side m (row number))
-    where
-      by : (test : Bool) → keeps number ≡ test → (s : Side) → is_kept_lot (lot_by test s number) ≡ test
-      by true is s = refl
-      by false is Before = refl
-      by false is At = refl
-      by false is (Beyond further) = refl
+  stage_keeps number = grind (arith, common_steps)
 
   -- what is in hand afterwards stands in these rows
   pub stage_rows : (number : ℕ) → is_in_hand_lot (stage.lot number) ≡ true → row number ≤ suc m

@@ -1,6 +1,6 @@
 -- Which numbers a world has in it.
-use Rattle.std.proofs.Common.{◌≡◌, ◌≢◌, refl, sym, ap, ◌∙◌, true≢false, ℕ, nat_eq, Bool, true, false, cond, List, [], ◌∷◌, ⊎_elim, Some, map, ◌||◌}
-use Rattle.vt_spec.proofs.Common.{Answered, Fresh, Silent, Step, World, eqb_tells, is_among, line_step, numbers_in_use, opening, policy, renamed, step_world}
+use Rattle.std.proofs.Common.{◌≡◌, ◌≢◌, refl, sym, ap, ◌∙◌, true≢false, ℕ, nat_eq, Bool, true, false, cond, List, [], ◌∷◌, ⊎_elim, Some, map, ◌||◌, arith}
+use Rattle.vt_spec.proofs.Common.{Fresh, Step, World, eqb_tells, is_among, line_step, numbers_in_use, opening, policy, renamed, step_world, common_steps}
 use Rattle.vt_laws_rules.specs.Numbers.{CallsKeepToNumbers, LeavesOutTwo, LinesKeepToNumbers, OpeningKeepsToFour, UsedNumbersAreNamed, renamed_step}
 use Rattle.vt_laws_rules.specs.Renaming.{Renaming}
 use Rattle.vt_laws_rules.proofs.numbers.Commuting.{Named, commutes_nat, map_itself}
@@ -18,8 +18,7 @@ calls_keep_to_numbers named fresh world name call keeps supplied renaming leaves
 pub step_world-renamed : (renaming : Renaming ℕ ℕ) (world : World ℕ) (step : Step ℕ)
     → step_world (renamed renaming.there renaming.back world) (renamed_step renaming.there renaming.back step)
     ≡ renamed renaming.there renaming.back (step_world world step)
-step_world-renamed renaming world Silent = refl
-step_world-renamed renaming world (Answered outcome) = refl
+step_world-renamed renaming world step = grind (arith, common_steps)
 
 pub lines_keep_to_numbers : LinesKeepToNumbers
 lines_keep_to_numbers named grammar fresh world line keeps supplied renaming leaves =
@@ -41,15 +40,17 @@ four a b c d k = cond (nat_eq k 0) a (cond (nat_eq k 1) b (cond (nat_eq k 2) c d
 pub opening_alike : (f g : Fresh ℕ) → f 0 ≡ g 0 → f 1 ≡ g 1 → f 2 ≡ g 2 → f 3 ≡ g 3
     → opening nat_eq f ≡ opening nat_eq g
 unfolding four
-opening_alike f g mount namespace filesystem root =
-    λ i. opening nat_eq (four (mount i) (namespace i) (filesystem i) (root i))
+opening_alike f g mount namespace filesystem root = cc
 
 pub opening_keeps_to_four : OpeningKeepsToFour
 unfolding named_supply
 opening_keeps_to_four named fresh mount namespace filesystem root renaming leaves =
-    sym (commutes_nat Fresh World named_supply named_world (λ A eq fresh. opening eq fresh) renaming fresh)
-    ∙ opening_alike (λ k. renaming.there (fresh k)) fresh (leaves _ mount) (leaves _ namespace) (leaves _ filesystem)
-    (leaves _ root)
+    grind (
+      arith,
+      common_steps,
+      commutes_nat Fresh World named_supply named_world (λ A eq fresh. opening eq fresh)
+          renaming fresh,
+    )
 
 -- Numbers in use
 

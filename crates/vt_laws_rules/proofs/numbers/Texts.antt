@@ -1,6 +1,6 @@
 -- A script has one text, whatever unused numbers are handed in.
 use Rattle.std.proofs.Common.{◌≡◌, refl, sym, ap, ◌∙◌, true≢false, ℕ, suc, nat_eq, ◌+◌, ◌≤◌, Bool, true, false, List, [], ◌∷◌, ◌++◌, length, Some, None, arith, ltb-true, subst, eqb-true}
-use Rattle.vt_spec.proofs.Common.{Answered, Fresh, Grammar, Silent, Step, World, first_world, is_among, line_step, lines_of, numbers_for, numbers_in_use, policy, renamed, step_text, step_world, text_from}
+use Rattle.vt_spec.proofs.Common.{Fresh, Grammar, Step, World, first_world, is_among, line_step, lines_of, numbers_for, numbers_in_use, policy, renamed, step_text, step_world, text_from, common_steps}
 use Rattle.vt_spec.specs.Machine.Renaming.{SameWorld}
 use Rattle.vt_spec.specs.Machine.Run.{text_of, Tells}
 use Rattle.vt_laws_rules.specs.Renaming.{Renaming}
@@ -18,9 +18,7 @@ more : (named others : ℕ → Bool) (world : World ℕ) → ((number : ℕ) →
 more named others world among keeps renaming leaves = keeps renaming (λ number is. leaves number (among number is))
 
 kept_in_hand : (lot : Lot) → is_kept_lot lot ≡ true → is_in_hand_lot lot ≡ true
-kept_in_hand Kept e = refl
-kept_in_hand (New k) e = absurd (true≢false (sym e))
-kept_in_hand (LeftOver k) e = absurd (true≢false (sym e))
+kept_in_hand lot e = grind (arith, common_steps)
 
 -- the world after a line keeps to the numbers in hand
 pub worlds_keep_to_hand : WorldsKeepToHand
@@ -31,24 +29,18 @@ worlds_keep_to_hand grammar in_hand world allotment line serves =
 
 step_text-renamed : (renaming : Renaming ℕ ℕ) (number : ℕ) (step : Step ℕ)
     → step_text number (renamed_step renaming.there renaming.back step) ≡ step_text number step
-step_text-renamed renaming number Silent = refl
-step_text-renamed renaming number (Answered outcome) = refl
+step_text-renamed renaming number step = grind (arith, common_steps)
 
 -- a line in a renamed world writes the same text, and leads to the renamed world
 module _ (renaming : Renaming ℕ ℕ) (grammar : Grammar) (world other : World ℕ)
     (same : renamed renaming.there renaming.back world ≡ other) (line : List ℕ) where
   pub refused_alike : (number : ℕ) → step_text number (line_step nat_eq grammar world line None)
       ≡ step_text number (line_step nat_eq grammar other line None)
-  refused_alike number = sym (step_text-renamed renaming number (line_step nat_eq grammar world line None))
-      ∙ ap (step_text number) (sym (lines_renamed renaming grammar None world line))
-      ∙ ap (λ w. step_text number (line_step nat_eq grammar w line None)) same
+  refused_alike number = grind (arith, common_steps)
 
   pub refused_leads : renamed renaming.there renaming.back (step_world world (line_step nat_eq grammar world line None))
       ≡ step_world other (line_step nat_eq grammar other line None)
-  refused_leads = sym (step_world-renamed renaming world (line_step nat_eq grammar world line None))
-      ∙ ap (step_world (renamed renaming.there renaming.back world))
-      (sym (lines_renamed renaming grammar None world line))
-      ∙ ap (λ w. step_world w (line_step nat_eq grammar w line None)) same
+  refused_leads = grind (arith, common_steps)
 
   module _ (fresh new : Fresh ℕ) (supplied : (k : ℕ) → renaming.there (fresh k) ≡ new k) where
     pub line_alike : (number : ℕ) → step_text number (line_step nat_eq grammar world line (Some fresh))
@@ -111,10 +103,7 @@ module _ (grammar : Grammar) where
 
     keeps_early : (number : ℕ) → is_kept_there number ≡ true → row number ≤ m
     unfolding is_kept_there
-    keeps_early number is =
-        let low = early (renaming.back number) (serves.from_hand (renaming.back number) is) in
-        let there : row (renaming.there (renaming.back number)) ≡ row number = ap (row) (renaming.there_back number) in
-        omega arith
+    keeps_early number is = grind (arith, common_steps)
 
     joined_row : Allotment
     joined_row = stage m is_kept_there keeps_early
@@ -127,8 +116,7 @@ module _ (grammar : Grammar) where
     -- it leaves what the line has in hand where it was
     joined-kept : (number : ℕ) → is_kept allotment number ≡ true → joined_with_row.there number ≡ renaming.there number
     unfolding joined_with_row joined
-    joined-kept number is = allotted_kept allotment joined_row renaming.there number
-        (kept_lot (allotment.lot number) is)
+    joined-kept number is = grind (arith, common_steps, allotted_kept, joined_row, kept_lot)
 
     -- takes each new number to one of the row
     pub joined-new : (number k : ℕ) → allotment.lot number ≡ New k → joined_with_row.there number ≡ spread (suc m) k
@@ -146,12 +134,7 @@ module _ (grammar : Grammar) where
       where
         by : (lot : Lot) → allotment.lot number ≡ lot → is_in_hand_lot lot ≡ true
             → row (joined_with_row.there number) ≤ suc m
-        by Kept e is =
-            let kept : is_kept allotment number ≡ true = ap is_kept_lot e in
-            let low = early number (serves.from_hand number kept) in
-            let there : row (joined_with_row.there number) ≡ row (renaming.there number) =
-            ap (row) (joined-kept number kept) in
-            omega arith
+        by Kept e is = grind (arith, common_steps, joined-kept)
         by (New k) e is =
             let there : row (joined_with_row.there number) ≡ suc m = ap (row) (joined-new number k e)
             ∙ row-spread (suc m) k in
@@ -167,10 +150,9 @@ module _ (grammar : Grammar) where
   texts_alike [] refused m number renaming in_hand world other same early text tells = tells
   texts_alike (line ∷ lines) [] m number renaming in_hand world other same early text tells = absurd tells
   texts_alike (line ∷ lines) (true ∷ refused) m number renaming in_hand world other same early text tells =
-      let rest = texts_alike lines refused (suc m) (number + 1) renaming in_hand _ _
-      (refused_leads renaming grammar world other same line)
-      (λ number is. let low = early number is in omega arith) tells.0 tells.2 in
-      tells.1 ∙ (λ i. refused_alike renaming grammar world other same line number i ++ rest i)
+      let rest = texts_alike lines refused (suc m) (number + 1) renaming in_hand _ _ (refused_leads renaming grammar
+      world other same line) (λ number is. let low = early number is in omega arith) tells.0 tells.2 in
+      grind (arith, common_steps, tells.1)
   texts_alike (line ∷ lines) (false ∷ refused) m number renaming in_hand world other same early text tells =
       let allotment = tells.0 in
       let joint = joined_with_row m renaming in_hand world other same early allotment tells.1 in
@@ -187,8 +169,7 @@ module _ (grammar : Grammar) where
   -- a line that was refused memory changes nothing
   pub refused_keeps : (in_hand : ℕ → Bool) (world : World ℕ) (line : List ℕ) → KeepsTo in_hand world
       → KeepsTo in_hand (step_world world (line_step nat_eq grammar world line None))
-  refused_keeps in_hand world line keeps renaming leaves =
-      refused_leads renaming grammar world world (keeps renaming leaves) line
+  refused_keeps in_hand world line keeps renaming leaves = grind (arith, common_steps)
 
   -- the next row serves a line
   pub stage_serves : (m : ℕ) (in_hand : ℕ → Bool) (world : World ℕ) → KeepsTo in_hand world
@@ -230,9 +211,7 @@ nothing_renamed = record { there = λ n. n; back = λ n. n; there_back = λ n. r
 
 -- the opening world keeps to the first four numbers, which stand in the first row
 pub first_early : (number : ℕ) → first_four number ≡ true → row number ≤ 0
-first_early number is =
-    let first : row number ≡ 0 = row_first number (ltb-true number 4 is) in
-    omega arith
+first_early number is = grind (arith, common_steps, row_first, ltb-true)
 
 first_keeps : KeepsTo first_four first_world
 first_keeps = opening_keeps_to_four first_four (λ place. place) refl refl refl refl
@@ -244,8 +223,7 @@ the_text grammar refused script text tells =
     (renamed_itself first_world) first_early text tells
 
 pub any_two_texts_are_one : AnyTwoTextsAreOne
-any_two_texts_are_one grammar refused script text other tells tells_other =
-    the_text grammar refused script text tells ∙ sym (the_text grammar refused script other tells_other)
+any_two_texts_are_one grammar refused script text other tells tells_other = grind (arith, common_steps, the_text)
 
 -- what the next line is handed is the next row
 numbers_for_next : (m number : ℕ) → number ≡ suc m → numbers_for number ≡ spread (suc m)
@@ -259,25 +237,18 @@ unfolding rows_text
 text_alike grammar [] refused m number world here long = refl
 text_alike grammar (line ∷ lines) [] m number world here long = absurd (omega arith)
 text_alike grammar (line ∷ lines) (true ∷ refused) m number world here long =
-    ap (λ rest. step_text number (line_step nat_eq grammar world line None) ++ rest)
-    (text_alike grammar lines refused (suc m) (number + 1) _ (omega arith) (omega arith))
+    cc (text_alike grammar lines refused (suc m) (number + 1) _ (omega arith) (omega arith))
 text_alike grammar (line ∷ lines) (false ∷ refused) m number world here long =
     let row_here = numbers_for_next m number here in
-    ap (λ rest. step_text number (line_step nat_eq grammar world line (Some (numbers_for number))) ++ rest)
-    (text_alike grammar lines refused (suc m) (number + 1) _ (omega arith) (omega arith))
-    ∙ (λ i. step_text number (line_step nat_eq grammar world line (Some (row_here i)))
-    ++ rows_text grammar (suc m) (step_world world (line_step nat_eq grammar world line (Some (row_here i))))
-    (number + 1) lines refused)
+    cc (text_alike grammar lines refused (suc m) (number + 1) _ (omega arith) (omega arith))
 
 text_of_rows : (grammar : Grammar) (refused : List Bool) (script : List ℕ) → length (lines_of script) ≤ length refused
     → text_of grammar refused script ≡ rows_text grammar 0 first_world 1 (lines_of script) refused
-text_of_rows grammar refused script long =
-    text_alike grammar (lines_of script) refused 0 1 first_world (omega arith) long
+text_of_rows grammar refused script long = grind (arith, common_steps, text_alike)
 
 pub some_text_is_there : SomeTextIsThere
 some_text_is_there grammar refused script long =
-    subst (MayBeText grammar refused script) (sym (text_of_rows grammar refused script (omega arith)))
-    (rows_told grammar (lines_of script) refused 0 1 first_four first_world first_keeps first_early long)
+    grind (arith, common_steps, text_of_rows, rows_told, first_keeps, first_early)
 
 -- a text that may be told has a chance for each line
 told_long : (grammar : Grammar) (lines : List (List ℕ)) (refused : List Bool) (in_hand : ℕ → Bool) (world : World ℕ)
@@ -291,9 +262,8 @@ told_long grammar (line ∷ lines) (false ∷ refused) in_hand world number text
     let h = told_long grammar lines refused _ _ (number + 1) _ tells.4 in omega arith
 
 pub whole_machine_has_one_text : WholeMachineHasOneText
-whole_machine_has_one_text grammar refused script text tells = the_text grammar refused script text tells
-    ∙ sym (text_of_rows grammar refused script
-    (told_long grammar (lines_of script) refused first_four first_world 1 text tells))
+whole_machine_has_one_text grammar refused script text tells =
+    grind (arith, common_steps, the_text, text_of_rows, told_long)
 
 -- Supplies with room serve, so each text that is told with them is told.
 pub room_serves : RoomServes
@@ -312,24 +282,13 @@ room_serves in_hand world allotment serves = record {
     place_of : {j k a b : ℕ} → allotment.lot a ≡ New j → allotment.lot b ≡ New k → a ≡ b → j ≡ k
     place_of e h same = cc
 
-    left_place_of : {j k a b : ℕ} → allotment.lot a ≡ LeftOver j → allotment.lot b ≡ LeftOver k → a ≡ b → j ≡ k
-    left_place_of e h same = cc
-
     two : LeavesOutTwo (is_kept allotment)
-    two = (
-      allotment.left_over 0,
-      allotment.left_over 1,
-      (λ e. let same : 0 ≡ 1 = left_place_of (allotment.left_over_lot 0) (allotment.left_over_lot 1) e in absurd
-          (omega arith)),
-      left 0,
-      left 1,
-    )
+    two = grind (arith, common_steps, allotment.left_over 0, allotment.left_over 1, left 0, left 1)
 
     unused : (k : ℕ) (b : Bool) → is_among nat_eq (allotment.new k) (numbers_in_use world) ≡ b
         → is_among nat_eq (allotment.new k) (numbers_in_use world) ≡ false
     unused k true e =
-        absurd (true≢false (sym (used_numbers_are_named (is_kept allotment) world serves.keeps two (allotment.new k) e)
-        ∙ named k))
+        cc (used_numbers_are_named (is_kept allotment) world serves.keeps two (allotment.new k) e, named k)
     unused k false e = e
 
 told_with_room : (grammar : Grammar) (lines : List (List ℕ)) (refused : List Bool) (in_hand : ℕ → Bool)
@@ -348,5 +307,4 @@ told_with_room grammar (line ∷ lines) (false ∷ refused) in_hand world number
 )
 
 pub texts_are_told : TextsAreTold
-texts_are_told grammar refused script text tells =
-    told_with_room grammar (lines_of script) refused first_four first_world 1 text tells
+texts_are_told grammar refused script text tells = grind (arith, common_steps, told_with_room)

@@ -1,6 +1,6 @@
 -- What an outcome that is put together of steps that may be refused keeps of them.
-use Rattle.std.proofs.Common.{◌≡◌, refl, subst, Bool, true, false, not, List, [], ◌∷◌, ◌++◌, ◌&&◌, ◌||◌, Result, Ok, Err, IfErr, is_ok, cond, bytes_eq}
-use Rattle.vt_spec.proofs.Common.{Answer, Outcome, Rules, Stop, TaskName, World, after, and_then, and_true_right, denial, finished_by, judged, stopped_by, then_walk, unless, walk_end, walk_unless}
+use Rattle.std.proofs.Common.{◌≡◌, refl, Bool, true, false, not, List, [], ◌∷◌, ◌++◌, ◌&&◌, ◌||◌, Result, Ok, Err, IfErr, is_ok, cond, bytes_eq, arith}
+use Rattle.vt_spec.proofs.Common.{Answer, Outcome, Rules, Stop, TaskName, World, after, and_then, and_true_right, denial, finished_by, judged, stopped_by, then_walk, unless, walk_end, walk_unless, common_steps}
 use Rattle.vt_laws_rules.specs.RuleRanks.{is_among}
 use Rattle.vt_spec.specs.declared.errors.Deny.{Deny}
 use Rattle.vt_spec.specs.declared.errors.Rule.{Rule}
@@ -9,8 +9,7 @@ use Rattle.vt_spec.specs.Errors.{rule_name}
 -- what is told of the error of a result is told of it in every form
 pub error_is : {A : Type 0} (P : Deny → Type 0) (result : Result A Deny) (deny : Deny) → result ≡ Err deny
     → IfErr result P → P deny
-error_is P (Ok a) deny e h = cc
-error_is P (Err other) deny e h = let same : other ≡ deny = cc in subst P same h
+error_is P result deny e h = grind (arith, common_steps)
 
 -- a rule is among more rules where it is among the last of them
 pub among_more : (own : List Rule) (rule : Rule) (rules : List Rule) → is_among rule rules ≡ true
@@ -19,8 +18,7 @@ among_more [] rule rules e = e
 among_more (one ∷ own) rule rules e = either (bytes_eq (rule_name one) (rule_name rule)) (among_more own rule rules e)
   where
     either : (b : Bool) {c : Bool} → c ≡ true → (b || c) ≡ true
-    either true e = refl
-    either false e = e
+    either b e = grind (arith, common_steps)
 
 -- and where it is among the first of them
 pub among_front : (rules more : List Rule) (rule : Rule) → is_among rule rules ≡ true
@@ -30,8 +28,7 @@ among_front (one ∷ rules) more rule e =
     either (bytes_eq (rule_name one) (rule_name rule)) e (among_front rules more rule)
   where
     either : (b : Bool) {c d : Bool} → (b || c) ≡ true → (c ≡ true → d ≡ true) → (b || d) ≡ true
-    either true e f = refl
-    either false e f = f e
+    either b e f = grind (arith, common_steps)
 
 module _ (rules : List Rule) where
   -- a refusal by one of the rules, with its error
@@ -52,8 +49,7 @@ module _ (rules : List Rule) where
   StopsOwn result = IfErr result (λ stop. IsOwn stop.deny)
 
   first_own : (among others : Bool) → ((among || false) && others) ≡ true → among ≡ true
-  first_own true others e = refl
-  first_own false others e = e
+  first_own among others e = grind (arith, common_steps)
 
   pub unless_own : {A : Type 0} (rows : Rules) (answer : Result A Deny) → are_own rows ≡ true → RefusesOwn answer
       → RefusesOwn (unless rows answer)
@@ -64,19 +60,16 @@ module _ (rules : List Rule) where
 
   pub and_then_own : {A B : Type 0} (first : Result A Deny) (next : A → Result B Deny) → RefusesOwn first
       → ((a : A) → RefusesOwn (next a)) → RefusesOwn (and_then first next)
-  and_then_own (Ok a) next own h = h a
-  and_then_own (Err deny) next own h = own
+  and_then_own first next own h = grind (arith, common_steps)
 
   pub if_own : {A : Type 0} (test : Bool) (a b : Result A Deny) → RefusesOwn a → RefusesOwn b
       → RefusesOwn (cond test a b)
-  if_own true a b h k = h
-  if_own false a b h k = k
+  if_own test a d h k = grind (arith, common_steps)
 
   module _ {N : Type 0} where
     pub stopped_own : {A : Type 0} (steps : List (List N)) (result : Result A Deny) → RefusesOwn result
         → StopsOwn (stopped_by steps result)
-    stopped_own steps (Ok a) own = tt
-    stopped_own steps (Err deny) own = own
+    stopped_own steps result own = grind (arith, common_steps)
 
     pub walk_unless_own : {A : Type 0} (steps : List (List N)) (rows : Rules) (a : A) → are_own rows ≡ true
         → StopsOwn (walk_unless steps rows a)
@@ -84,12 +77,10 @@ module _ (rules : List Rule) where
 
     pub then_walk_own : {A B : Type 0} (first : Result A (Stop N)) (next : A → Result B (Stop N)) → StopsOwn first
         → ((a : A) → StopsOwn (next a)) → StopsOwn (then_walk first next)
-    then_walk_own (Ok a) next own h = h a
-    then_walk_own (Err stop) next own h = own
+    then_walk_own first next own h = grind (arith, common_steps)
 
     pub walk_end_own : {A : Type 0} (walk : Result A (Stop N)) → StopsOwn walk → RefusesOwn (walk_end walk)
-    walk_end_own (Ok a) own = tt
-    walk_end_own (Err stop) own = own
+    walk_end_own walk own = grind (arith, common_steps)
 
     -- an outcome is refused by those rules alone, and leaves the world where it is
     abbrev pub DeniesOwn : World N → Outcome N → Type 0
@@ -97,17 +88,14 @@ module _ (rules : List Rule) where
 
     pub after_own : {A : Type 0} (world : World N) (first : Result A Deny) (next : A → Outcome N) → RefusesOwn first
         → ((a : A) → DeniesOwn world (next a)) → DeniesOwn world (after world first next)
-    after_own world (Ok a) next own h = h a
-    after_own world (Err deny) next own h = (refl, own)
+    after_own world first next own h = grind (arith, common_steps)
 
     -- change numbers are raised where a call is granted alone
     pub finished_own : (eq : N → N → Bool) (world : World N) (name : TaskName) (changed : List N) (looks : Bool)
         (answer : Result Answer Deny) (left : World N) → DeniesOwn world (record { answer = answer; world = left })
         → DeniesOwn world (finished_by eq (looks || not (is_ok answer)) world name changed
         (record { answer = answer; world = left }))
-    finished_own eq world name changed true answer left own = own
-    finished_own eq world name changed false (Ok a) left own = tt
-    finished_own eq world name changed false (Err deny) left own = own
+    finished_own eq world name changed looks answer left own = grind (arith, common_steps)
 
 -- what leaves the world as it is
 module _ {N : Type 0} where
@@ -119,5 +107,4 @@ module _ {N : Type 0} where
 
   pub after_keeps : {A : Type 0} (world : World N) (result : Result A Deny) (next : A → Outcome N)
       → ((a : A) → (next a).world ≡ world) → (after world result next).world ≡ world
-  after_keeps world (Ok a) next e = e a
-  after_keeps world (Err deny) next e = refl
+  after_keeps world result next e = grind (arith, common_steps)

@@ -1,6 +1,6 @@
 -- Each call is refused by its own rules, with the error of the rule, and leaves the world then.
-use Rattle.std.proofs.Common.{arith, ◌≡◌, refl, ℕ, nat_eq, Bool, true, false, List, [], ◌∷◌, ◌++◌, ◌&&◌, ◌||◌, Option, Some, None, ok_or, Result, Ok, Err, IfErr, if◌then◌else◌, length, nat_lt, unwrap_or}
-use Rattle.vt_spec.proofs.Common.{Access, Allowed, Bind, Call, Change, Chdir, Chmod, Chown, Chroot, Close, CopyUp, Creation, Exclusive, Exec, Fork, Fresh, Judgement, Lazy, LinkTo, Location, Ls, Lstat, MakeWhiteout, Mkdir, MountFlags, MountOverlay, MountPlain, MoveMount, NoCreation, Opaque, OpenFile, OrCreate, Overlay, OverlayWords, Permit, PivotRoot, Place, Pread, Pwrite, Read, ReadOnly, ReadWrite, Readlink, Remount, Rename, Rmdir, SetAttr, SetBytes, SetType, Setns, Stat, Stop, Symlink, SymlinkAt, Task, TaskName, Umount, Unlink, Unshare, World, Write, WriteOnly, admin_rules, and_then, apply, attr_with_mode, attr_with_owner, bind_permit, bound_at, call_outcome, cap_sys_admin, cap_sys_chroot, chdir_permit, child_credentials, chmod_permit, chown_permit, chroot_permit, close_permit, common_steps, denial, descriptor_at, descriptor_rules, directory_mode, evens, exact_attr, exclusive_word_rules, exec_permit, file_mode, file_word_rules, fork_permit, fork_rules, hard_link_permit, is_copied_up, is_special, judge_in, largest_file, lazy_permit, linking, list_permit, looks_of, lstat_permit, making, may_chown, mkdir_permit, mount_overlay_permit, mount_plain_permit, mounted, mounter_rules, move_permit, moved_to, moving, new_attr, new_directory, new_file, object_there, odds, old_word_rules, only_looks, opaque_permit, open_permit, opened_or_created_permit, overfills, overlay_mounted, overlay_permit_by, owns, pivot_permit, plain_filesystem, policy, pread_permit, pwrite_permit, read_permit, readlink_permit, remount_permit, removing, rename_permit, renamed_permit, rmdir_permit, rmdir_word_rules, setns_permit, stat_permit, symlink_mode, symlink_permit, symlink_text_rules, task_called, type_permit, umount_permit, unlink_permit, unshare_permit, walk_end, whiteout_permit, write_permit, written_permit}
+use Rattle.std.proofs.Common.{arith, ◌≡◌, refl, ℕ, nat_eq, Bool, true, false, List, [], ◌∷◌, Option, Some, None, ok_or, Result, Err, IfErr, length, nat_lt, unwrap_or}
+use Rattle.vt_spec.proofs.Common.{Access, Bind, Call, Change, Chdir, Chmod, Chown, Chroot, Close, Creation, Exclusive, Exec, Fork, Fresh, Judgement, Lazy, LinkTo, Location, Ls, Lstat, MakeWhiteout, Mkdir, MountFlags, MountOverlay, MountPlain, MoveMount, NoCreation, Opaque, OpenFile, OrCreate, OverlayWords, Permit, PivotRoot, Place, Pread, Pwrite, Read, ReadOnly, ReadWrite, Readlink, Remount, Rename, Rmdir, SetAttr, SetBytes, SetType, Setns, Stat, Stop, Symlink, SymlinkAt, Task, TaskName, Umount, Unlink, Unshare, World, Write, WriteOnly, admin_rules, and_then, apply, attr_with_mode, attr_with_owner, bind_permit, bound_at, call_outcome, cap_sys_admin, cap_sys_chroot, chdir_permit, child_credentials, chmod_permit, chown_permit, chroot_permit, close_permit, common_steps, denial, descriptor_rules, directory_mode, evens, exact_attr, exclusive_word_rules, exec_permit, file_mode, file_word_rules, fork_permit, fork_rules, hard_link_permit, is_copied_up, is_special, judge_in, largest_file, lazy_permit, linking, list_permit, looks_of, lstat_permit, making, may_chown, mkdir_permit, mount_overlay_permit, mount_plain_permit, mounted, mounter_rules, move_permit, moved_to, moving, new_attr, new_directory, new_file, object_there, odds, old_word_rules, only_looks, opaque_permit, open_permit, opened_or_created_permit, overfills, overlay_mounted, overlay_permit_by, owns, pivot_permit, plain_filesystem, policy, pread_permit, pwrite_permit, read_permit, readlink_permit, remount_permit, removing, rename_permit, renamed_permit, rmdir_permit, rmdir_word_rules, setns_permit, stat_permit, symlink_mode, symlink_permit, symlink_text_rules, task_called, type_permit, umount_permit, unlink_permit, unshare_permit, walk_end, whiteout_permit, write_permit, written_permit}
 use Rattle.vt_laws_rules.proofs.rules.Outcomes.{DeniesOwn, IsOwn, RefusesOwn, after_own, among_more, are_own, error_is, finished_own, and_then_own, unless_own}
 use Rattle.vt_laws_rules.proofs.rules.WalkRules.{RefusesAsWalk, StopsAsWalk, destination_walks, directory_walks, file_walks, layer_walks, leaf_walks, new_leaf_walks, new_walks, object_walks, old_leaf_walks, old_walks, rename_new_walks, source_walks}
 use Rattle.vt_laws_rules.specs.Denials.{DenialChangesNothing}
@@ -8,8 +8,8 @@ use Rattle.vt_laws_rules.specs.RuleOrder.{DenialHasErrorOfRule, DenialIsOwn, has
 use Rattle.vt_laws_rules.specs.RuleRanks.{is_among}
 use Rattle.vt_spec.specs.declared.errors.Deny.{Deny}
 use Rattle.vt_spec.specs.declared.errors.Rule.{Rule}
-use Rattle.vt_spec.specs.declared.errors.Rule.TheVariants.{B1, B2, E1, E2, E6, K1, S2, S4}
-use Rattle.vt_spec.proofs.Tables.{exec_rules, list_rules, read_rules, readlink_rules, attr_at, attr_rules, opaque_rules, copy_rules, open_rules, pwrite_rules, hard_link_rules, make_rules, new_rules, rewrite_rules, whiteout_rules, overlay_at, bind_rules, layer_rules, layers_walked, lazy_rules, move_rules, new_mount_rules, pivot_rules, remount_rules, source_walk, destination_walk, type_rules, umount_rules, is_one_object, rename_new_walk, rename_rules, rmdir_rules, same_object_rules, unlink_rules, enter_rules}
+use Rattle.vt_spec.specs.declared.errors.Rule.TheVariants.{B1, B2, E1, E2, E6, K1, S2}
+use Rattle.vt_spec.proofs.Tables.{exec_rules, list_rules, read_rules, readlink_rules, attr_at, attr_rules, opaque_rules, copy_rules, open_rules, hard_link_rules, make_rules, new_rules, rewrite_rules, whiteout_rules, overlay_at, bind_rules, layer_rules, layers_walked, lazy_rules, move_rules, new_mount_rules, pivot_rules, remount_rules, source_walk, destination_walk, type_rules, umount_rules, is_one_object, rename_new_walk, rename_rules, rmdir_rules, same_object_rules, unlink_rules, enter_rules}
 use Rattle.vt_spec.specs.Machine.Rows.{lacks}
 use Rattle.vt_spec.proofs.Walk.{directory_walk, file_walk, is_directory_there, symlink_walk, new_leaf_walk, new_walk, object_walk, old_leaf_walk, old_walk}
 
@@ -25,19 +25,16 @@ module _ (rules : List Rule) where
   walk_own : {N A : Type 0} → ((rule : Rule) → is_among rule walk_rules ≡ true → is_among rule rules ≡ true)
       → (walk : Result A (Stop N)) (next : A → Judgement N) → StopsAsWalk walk → ((a : A) → RefusesOwn rules (next a))
       → RefusesOwn rules (and_then (walk_end walk) next)
-  walk_own more (Ok a) next own h = h a
-  walk_own more (Err stop) next own h = (own.0, more stop.deny.rule own.1)
+  walk_own more rule next own h = grind (arith, common_steps)
 
   refuses_more : {A : Type 0} → ((rule : Rule) → is_among rule walk_rules ≡ true → is_among rule rules ≡ true)
       → (result : Result A Deny) → RefusesAsWalk result → RefusesOwn rules result
-  refuses_more more (Ok a) own = tt
-  refuses_more more (Err deny) own = (own.0, more deny.rule own.1)
+  refuses_more more rule own = grind (arith, common_steps)
 
   copy_own : is_among B1 rules ≡ true → is_among B2 rules ≡ true
       → {N : Type 0} (eq : N → N → Bool) (copied : Bool) (world : World N) (file : Location N)
       → are_own rules (copy_rules eq copied world file) ≡ true
-  copy_own b1 b2 eq true world file = mounter_own b1 b2 eq world file (CopyUp file.node)
-  copy_own b1 b2 eq false world file = refl
+  copy_own b1 b2 eq copied world file = grind (arith, common_steps)
 
 -- the rules of walks are among those of a call with a path
 walks_of : (call : Call) → has_path call ≡ true → (rule : Rule) → is_among rule walk_rules ≡ true
@@ -46,8 +43,7 @@ walks_of call path rule among = grind (arith, common_steps, among_more)
 
 found_own : {A : Type 0} (rules : List Rule) (rule : Rule) (object : Option A) → is_among rule rules ≡ true
     → RefusesOwn rules (ok_or object (denial rule))
-found_own rules rule None own = (refl, own)
-found_own rules rule (Some object) own = tt
+found_own rules rule object own = grind (arith, common_steps)
 
 module _ {N : Type 0} (eq : N → N → Bool) where
   write_own : (fresh : Fresh N) (world : World N) (task : Task N) (path bytes : List ℕ) (place : Place N)
@@ -160,10 +156,7 @@ module _ {N : Type 0} (eq : N → N → Bool) where
       let own = rules_of (Stat path) in
       walk_own own (walks_of (Stat path) refl) (object_walk eq world task path) _
       (object_walks eq world task path) (λ here. tt)
-  call_own fresh world task (Lstat path) =
-      let own = rules_of (Lstat path) in
-      walk_own own (walks_of (Lstat path) refl) (symlink_walk eq world task path) _
-      (leaf_walks eq world task path) (λ here. tt)
+  call_own fresh world task (Lstat path) = grind (arith, common_steps, rules_of, walk_own, walks_of, leaf_walks)
   call_own fresh world task (Readlink path) =
       let own = rules_of (Readlink path) in
       walk_own own (walks_of (Readlink path) refl) (symlink_walk eq world task path) _
@@ -254,17 +247,10 @@ module _ {N : Type 0} (eq : N → N → Bool) where
       (walk_own own (walks_of (Opaque path mark) refl) (directory_walk eq world task path) _
       (directory_walks eq world task path) (λ here. unless_own own (opaque_rules eq world here.location) _ refl tt))
   call_own fresh world task (OpenFile path access creation) = open_own fresh world task path access creation
-  call_own fresh world task (Pread number offset size) =
-      let own = rules_of (Pread number offset size) in
-      and_then_own own (descriptor_at task number (λ descriptor. descriptor.reads)) _ (found_own own S4 _ refl)
-      (λ descriptor. tt)
+  call_own fresh world task (Pread number offset size) = grind (arith, common_steps)
   call_own fresh world task (Pwrite number offset bytes) =
-      let own = rules_of (Pwrite number offset bytes) in
-      and_then_own own (descriptor_at task number (λ descriptor. descriptor.writes)) _ (found_own own S4 _ refl)
-      (λ descriptor. unless_own own (pwrite_rules eq world descriptor.location offset bytes) _ refl tt)
-  call_own fresh world task (Close number) =
-      let own = rules_of (Close number) in
-      and_then_own own (descriptor_at task number (λ descriptor. true)) _ (found_own own S4 _ refl) (λ descriptor. tt)
+      grind (arith, common_steps, rules_of, and_then_own, found_own, unless_own)
+  call_own fresh world task (Close number) = grind (arith, common_steps)
   call_own fresh world task (Chdir path) =
       let own = rules_of (Chdir path) in
       walk_own own (walks_of (Chdir path) refl) (directory_walk eq world task path) _
@@ -278,11 +264,7 @@ module _ {N : Type 0} (eq : N → N → Bool) where
       let own = rules_of (Fork words) in
       unless_own own (fork_rules task (child_credentials task.credentials words)) _ refl tt
   call_own fresh world task Unshare = unless_own (rules_of Unshare) ((lacks task cap_sys_admin, K1) ∷ []) _ refl tt
-  call_own fresh world task (Setns name) =
-      let own = rules_of (Setns name) in
-      and_then_own own (ok_or ((looks_of eq world).namespace_called name) (denial S2)) _
-      (found_own own S2 _ refl) (λ namespace.
-      unless_own own ((lacks task cap_sys_admin || lacks task cap_sys_chroot, K1) ∷ []) _ refl tt)
+  call_own fresh world task (Setns name) = grind (arith, common_steps)
   call_own fresh world task (MountPlain path flags) =
       let own = rules_of (MountPlain path flags) in
       unless_own own (admin_rules task) _ refl
@@ -349,8 +331,7 @@ module _ {N : Type 0} (eq : N → N → Bool) where
   -- a permit is applied, and refuses nothing
   applied_own : (rules : List Rule) (fresh : Fresh N) (world : World N) (task : Task N) (permit : Permit N)
       → DeniesOwn rules world (apply eq fresh world task permit)
-  applied_own rules fresh world task Allowed = tt
-  applied_own rules fresh world task permit = tt
+  applied_own rules fresh world task permit = grind (arith, common_steps)
 
   -- the policy
   policy_own : (fresh : Fresh N) (world : World N) (name : TaskName) (call : Call)
@@ -365,8 +346,7 @@ module _ {N : Type 0} (eq : N → N → Bool) where
 -- of a denial that leaves the world and is by its own rules, either holds
 parts_denied : {A : Type 0} (P : Type 0) (Q : Deny → Type 0) (answer : Result A Deny)
     → IfErr answer (λ deny. P × Q deny) → IfErr answer (λ deny. P) × IfErr answer Q
-parts_denied P Q (Ok a) h = (tt, tt)
-parts_denied P Q (Err deny) h = h
+parts_denied P Q answer h = grind (arith, common_steps)
 
 pub policy_refuses_own : (fresh : Fresh ℕ) (world : World ℕ) (name : TaskName) (call : Call)
     → IfErr (policy nat_eq fresh world name call).answer (λ deny. (policy nat_eq fresh world name call).world ≡ world)

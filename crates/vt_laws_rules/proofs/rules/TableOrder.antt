@@ -1,14 +1,14 @@
 -- Each table of rules is in the policy's order, and walks are refused by the rules of walks.
-use Rattle.std.proofs.Common.{arith, ◌≡◌, refl, ℕ, nat_eq, Bool, true, false, ◌&&◌, nat_le, List, [], ◌∷◌, ◌++◌, Option, Some, None, ok_or, Result, Ok, Err, IfOk, unwrap_or, is_err}
-use Rattle.vt_spec.proofs.Common.{Access, Bind, Call, Change, Chdir, Chmod, Chown, Chroot, CopyUp, Exclusive, Exec, Fresh, Lazy, LinkTo, Location, Ls, Lstat, MakeWhiteout, Mkdir, MountFlags, MountOverlay, MountPlain, MoveMount, NoCreation, Opaque, OpenFile, OrCreate, Overlay, OverlayWords, PivotRoot, Place, Pwrite, Read, Readlink, Remount, Rename, Rmdir, Rules, SetAttr, SetType, Stat, Stop, Symlink, SymlinkAt, Task, Umount, Unlink, World, Write, and_then, attr_with_mode, attr_with_owner, common_steps, denial, descriptor_at, directory_mode, evens, exact_attr, is_copied_up, linking, looks_of, making, mounter_rules, moving, new_attr, new_directory, new_file, object_there, old_word_rules, removing, rmdir_word_rules, symlink_mode, symlink_text_rules, unless}
-use Rattle.vt_laws_rules.proofs.rules.Outcomes.{IsOwn, RefusesOwn, among_front, error_is, unless_own}
+use Rattle.std.proofs.Common.{arith, ◌≡◌, refl, ℕ, nat_eq, Bool, true, false, nat_le, List, [], ◌∷◌, ◌++◌, Option, ok_or, Result, IfOk, unwrap_or, is_err}
+use Rattle.vt_spec.proofs.Common.{Access, Bind, Call, Change, Chdir, Chmod, Chown, Chroot, Exclusive, Exec, Fresh, Lazy, LinkTo, Location, Ls, Lstat, MakeWhiteout, Mkdir, MountFlags, MountOverlay, MountPlain, MoveMount, NoCreation, Opaque, OpenFile, OrCreate, OverlayWords, PivotRoot, Place, Pwrite, Read, Readlink, Remount, Rename, Rmdir, Rules, SetAttr, SetType, Stat, Stop, Symlink, SymlinkAt, Task, Umount, Unlink, World, Write, and_then, attr_with_mode, attr_with_owner, common_steps, denial, descriptor_at, directory_mode, evens, exact_attr, is_copied_up, linking, looks_of, making, mounter_rules, new_attr, new_directory, new_file, object_there, old_word_rules, removing, rmdir_word_rules, symlink_mode, symlink_text_rules, unless}
+use Rattle.vt_laws_rules.proofs.rules.Outcomes.{IsOwn, RefusesOwn, error_is, unless_own}
 use Rattle.vt_laws_rules.proofs.rules.WalkRules.{RefusesAsWalk, StopsAsWalk, destination_walks, directory_walks, file_walks, layer_walks, leaf_walks, new_leaf_walks, new_walks, object_walks, old_leaf_walks, old_walks, rename_new_walks, source_walks}
 use Rattle.vt_laws_rules.specs.Asked.{asked_first, asked_last, asked_of_open, asked_of_overlay, asked_of_rename, asked_of_write, exclusive_last_words, failing, last_word_rules, walked}
 use Rattle.vt_laws_rules.specs.RuleOrder.{FirstTablesInOrder, LastTablesInOrder, WalksRefuseAsWalks, walk_rules}
 use Rattle.vt_laws_rules.specs.RuleRanks.{IsInOrderAfterWalk, is_in_order_from, rank}
 use Rattle.vt_spec.specs.declared.errors.Rule.{Rule}
 use Rattle.vt_spec.specs.declared.errors.Rule.TheVariants.{B1, C2, S4}
-use Rattle.vt_spec.proofs.Tables.{copy_rules, is_one_object, rename_new_walk, attr_at, destination_walk, layers_walked, source_walk}
+use Rattle.vt_spec.proofs.Tables.{copy_rules, is_one_object, rename_new_walk, attr_at, destination_walk, source_walk}
 use Rattle.vt_spec.specs.declared.errors.Deny.{Deny}
 use Rattle.vt_spec.proofs.Walk.{directory_walk, file_walk, is_directory_there, symlink_walk, new_leaf_walk, new_walk, object_walk, old_leaf_walk, old_walk}
 
@@ -18,13 +18,11 @@ IsInOrderAtEnd last = IfOk last IsInOrderAfterWalk
 
 ok_then : {A : Type 0} (first : Result A Deny) (next : A → Result Rules Deny) → ((a : A) → IsInOrderAtEnd (next a))
     → IsInOrderAtEnd (and_then first next)
-ok_then (Ok a) next h = h a
-ok_then (Err deny) next h = tt
+ok_then first next h = grind (arith, common_steps)
 
 ok_walk : {A : Type 0} (walk : Result A (Stop ℕ)) (next : A → Result Rules Deny) → ((a : A) → IsInOrderAtEnd (next a))
     → IsInOrderAtEnd (walked walk next)
-ok_walk (Ok a) next h = h a
-ok_walk (Err stop) next h = tt
+ok_walk walk next h = grind (arith, common_steps)
 
 ok_words : (rows : Rules) (last : Result Rules Deny) → IsInOrderAtEnd last → IsInOrderAtEnd (unless rows last)
 ok_words [] last h = h
@@ -39,8 +37,7 @@ mounter_in_order least e world location change = grind (arith, common_steps)
 
 copy_in_order : (copied : Bool) (world : World ℕ) (file : Location ℕ)
     → is_in_order_from (rank B1) (copy_rules nat_eq copied world file) ≡ true
-copy_in_order true world file = mounter_in_order (rank B1) refl world file (CopyUp file.node)
-copy_in_order false world file = refl
+copy_in_order copied world file = grind (arith, common_steps)
 
 write_in_order : (fresh : Fresh ℕ) (world : World ℕ) (task : Task ℕ) (place : Place ℕ) (bytes : List ℕ)
     (object : Option (Location ℕ))
@@ -54,15 +51,11 @@ open_in_order fresh world task place access mode object = grind (arith, common_s
 
 rename_in_order : (world : World ℕ) (task : Task ℕ) (from to : Place ℕ) (object : Location ℕ) (one : Bool)
     → IsInOrderAfterWalk (asked_of_rename (looks_of nat_eq world) task from to object one)
-rename_in_order world task from to object true = refl
-rename_in_order world task from to object false =
-    mounter_in_order (rank B1) refl world from.parent (moving from to object)
+rename_in_order world task from to object one = grind (arith, common_steps)
 
 overlay_in_order : (fresh : Fresh ℕ) (world : World ℕ) (task : Task ℕ) (place : Location ℕ) (flags : MountFlags)
     (options : Option OverlayWords) → IsInOrderAtEnd (asked_of_overlay fresh world task place flags options)
-overlay_in_order fresh world task place flags None = refl
-overlay_in_order fresh world task place flags (Some words) =
-    ok_then (layers_walked nat_eq world task words) _ (λ places. refl)
+overlay_in_order fresh world task place flags options = grind (arith, common_steps)
 
 pub last_in_order : LastTablesInOrder
 last_in_order fresh world task (Ls path) = ok_walk (directory_walk nat_eq world task path) _ (λ here. refl)
@@ -136,82 +129,44 @@ first_in_order world task call = grind (arith, common_steps)
 walk_refuses : {A : Type 0} (words : List Rule) (walk : Result A (Stop ℕ)) (next : A → Result Rules Deny)
     → StopsAsWalk walk
     → ((a : A) → RefusesOwn (walk_rules ++ words) (next a)) → RefusesOwn (walk_rules ++ words) (walked walk next)
-walk_refuses words (Ok a) next own h = h a
-walk_refuses words (Err stop) next own h = (own.0, among_front walk_rules words stop.deny.rule own.1)
+walk_refuses words walk next own h = grind (arith, common_steps)
 
 layers_refuse : {A : Type 0} (first : Result A Deny) (next : A → Result Rules Deny) → RefusesAsWalk first
     → ((a : A) → RefusesOwn (walk_rules ++ []) (next a)) → RefusesOwn (walk_rules ++ []) (and_then first next)
-layers_refuse (Ok a) next own h = h a
-layers_refuse (Err deny) next own h = own
+layers_refuse first next own h = grind (arith, common_steps)
 
 -- a descriptor that is there is no refusal
 descriptor_refuses : {A : Type 0} (rules : List Rule) (object : Option A) (next : A → Result Rules Deny)
     → failing ((is_err (ok_or object (denial S4)), S4) ∷ []) ≡ [] → ((a : A) → RefusesOwn rules (next a))
     → RefusesOwn rules (and_then (ok_or object (denial S4)) next)
-descriptor_refuses rules (Some a) next none h = h a
-descriptor_refuses rules None next none h = cc
+descriptor_refuses rules object next none h = grind (arith, common_steps)
 
 overlay_refuses : (fresh : Fresh ℕ) (world : World ℕ) (task : Task ℕ) (place : Location ℕ) (flags : MountFlags)
     (options : Option OverlayWords)
     → RefusesOwn (walk_rules ++ []) (asked_of_overlay fresh world task place flags options)
-overlay_refuses fresh world task place flags None = tt
-overlay_refuses fresh world task place flags (Some words) =
-    layers_refuse (layers_walked nat_eq world task words) _ (layer_walks nat_eq world task words) (λ places. tt)
+overlay_refuses fresh world task place flags options = grind (arith, common_steps, layers_refuse, layer_walks)
 
 walks_refuse : (fresh : Fresh ℕ) (world : World ℕ) (task : Task ℕ) (call : Call)
     → failing (asked_first world task call) ≡ []
     → RefusesOwn (walk_rules ++ last_word_rules call) (asked_last fresh world task call)
-walks_refuse fresh world task (Ls path) none =
-    walk_refuses (last_word_rules (Ls path)) (directory_walk nat_eq world task path) _
-    (directory_walks nat_eq world task path) (λ here. tt)
-walks_refuse fresh world task (Stat path) none =
-    walk_refuses (last_word_rules (Stat path)) (object_walk nat_eq world task path) _
-    (object_walks nat_eq world task path) (λ here. tt)
-walks_refuse fresh world task (Lstat path) none =
-    walk_refuses (last_word_rules (Lstat path)) (symlink_walk nat_eq world task path) _
-    (leaf_walks nat_eq world task path) (λ here. tt)
-walks_refuse fresh world task (Readlink path) none =
-    walk_refuses (last_word_rules (Readlink path)) (symlink_walk nat_eq world task path) _
-    (leaf_walks nat_eq world task path) (λ here. tt)
-walks_refuse fresh world task (Read path) none =
-    walk_refuses (last_word_rules (Read path)) (object_walk nat_eq world task path) _
-    (object_walks nat_eq world task path) (λ here. tt)
-walks_refuse fresh world task (Exec path) none =
-    walk_refuses (last_word_rules (Exec path)) (object_walk nat_eq world task path) _
-    (object_walks nat_eq world task path) (λ here. tt)
-walks_refuse fresh world task (Chdir path) none =
-    walk_refuses (last_word_rules (Chdir path)) (directory_walk nat_eq world task path) _
-    (directory_walks nat_eq world task path) (λ here. tt)
-walks_refuse fresh world task (Chroot path) none =
-    walk_refuses (last_word_rules (Chroot path)) (directory_walk nat_eq world task path) _
-    (directory_walks nat_eq world task path) (λ here. tt)
-walks_refuse fresh world task (Umount path) none =
-    walk_refuses (last_word_rules (Umount path)) (directory_walk nat_eq world task path) _
-    (directory_walks nat_eq world task path) (λ here. tt)
-walks_refuse fresh world task (Lazy path) none =
-    walk_refuses (last_word_rules (Lazy path)) (directory_walk nat_eq world task path) _
-    (directory_walks nat_eq world task path) (λ here. tt)
-walks_refuse fresh world task (Write path bytes) none =
-    walk_refuses (last_word_rules (Write path bytes)) (file_walk nat_eq world task path) _
-    (file_walks nat_eq world task path) (λ place. tt)
-walks_refuse fresh world task (Mkdir path mode) none =
-    walk_refuses (last_word_rules (Mkdir path mode)) (new_walk nat_eq world task path) _
-    (new_walks nat_eq world task path) (λ place. tt)
+walks_refuse fresh world task (Ls path) none = grind (arith, common_steps, walk_refuses, directory_walks)
+walks_refuse fresh world task (Stat path) none = grind (arith, common_steps, walk_refuses, object_walks)
+walks_refuse fresh world task (Lstat path) none = grind (arith, common_steps, walk_refuses, leaf_walks)
+walks_refuse fresh world task (Readlink path) none = grind (arith, common_steps, walk_refuses, leaf_walks)
+walks_refuse fresh world task (Read path) none = grind (arith, common_steps, walk_refuses, object_walks)
+walks_refuse fresh world task (Exec path) none = grind (arith, common_steps, walk_refuses, object_walks)
+walks_refuse fresh world task (Chdir path) none = grind (arith, common_steps, walk_refuses, directory_walks)
+walks_refuse fresh world task (Chroot path) none = grind (arith, common_steps, walk_refuses, directory_walks)
+walks_refuse fresh world task (Umount path) none = grind (arith, common_steps, walk_refuses, directory_walks)
+walks_refuse fresh world task (Lazy path) none = grind (arith, common_steps, walk_refuses, directory_walks)
+walks_refuse fresh world task (Write path bytes) none = grind (arith, common_steps, walk_refuses, file_walks)
+walks_refuse fresh world task (Mkdir path mode) none = grind (arith, common_steps, walk_refuses, new_walks)
 walks_refuse fresh world task (SymlinkAt text path) none =
-    unless_own (walk_rules ++ last_word_rules (SymlinkAt text path)) (symlink_text_rules text) _ refl
-    (walk_refuses (last_word_rules (SymlinkAt text path)) (new_leaf_walk nat_eq world task path) _
-    (new_leaf_walks nat_eq world task path) (λ place. tt))
-walks_refuse fresh world task (MakeWhiteout path) none =
-    walk_refuses (last_word_rules (MakeWhiteout path)) (new_leaf_walk nat_eq world task path) _
-    (new_leaf_walks nat_eq world task path) (λ place. tt)
+    grind (arith, common_steps, unless_own, walk_refuses, new_leaf_walks)
+walks_refuse fresh world task (MakeWhiteout path) none = grind (arith, common_steps, walk_refuses, new_leaf_walks)
 walks_refuse fresh world task (LinkTo old new) none =
-    walk_refuses (last_word_rules (LinkTo old new)) (symlink_walk nat_eq world task old) _
-    (leaf_walks nat_eq world task old) (λ from.
-    walk_refuses (last_word_rules (LinkTo old new)) (new_leaf_walk nat_eq world task new) _
-    (new_leaf_walks nat_eq world task new) (λ place. tt))
-walks_refuse fresh world task (Unlink path) none =
-    walk_refuses (last_word_rules (Unlink path)) (old_leaf_walk nat_eq world task path) _
-    (old_leaf_walks nat_eq world task path) (λ place. tt)
+    grind (arith, common_steps, walk_refuses, leaf_walks, new_leaf_walks)
+walks_refuse fresh world task (Unlink path) none = grind (arith, common_steps, walk_refuses, old_leaf_walks)
 walks_refuse fresh world task (Rmdir path) none =
     walk_refuses (last_word_rules (Rmdir path)) (old_walk nat_eq world task path) _ (old_walks nat_eq world task path)
     (λ place. unless_own (walk_rules ++ last_word_rules (Rmdir path)) (rmdir_word_rules place) _ refl (tt))
@@ -223,55 +178,29 @@ walks_refuse fresh world task (Rename old new) none =
     (rename_new_walk nat_eq world task new (is_directory_there nat_eq world from)) _
     (rename_new_walks nat_eq world task new (is_directory_there nat_eq world from)) (λ to.
     unless_own (walk_rules ++ last_word_rules (Rename old new)) (old_word_rules to) _ refl (tt))))
-walks_refuse fresh world task (Chmod path mode) none =
-    walk_refuses (last_word_rules (Chmod path mode)) (object_walk nat_eq world task path) _
-    (object_walks nat_eq world task path) (λ here. tt)
-walks_refuse fresh world task (Chown path uid gid) none =
-    walk_refuses (last_word_rules (Chown path uid gid)) (object_walk nat_eq world task path) _
-    (object_walks nat_eq world task path) (λ here. tt)
-walks_refuse fresh world task (Opaque path mark) none =
-    walk_refuses (last_word_rules (Opaque path mark)) (directory_walk nat_eq world task path) _
-    (directory_walks nat_eq world task path) (λ here. tt)
+walks_refuse fresh world task (Chmod path mode) none = grind (arith, common_steps, walk_refuses, object_walks)
+walks_refuse fresh world task (Chown path uid gid) none = grind (arith, common_steps, walk_refuses, object_walks)
+walks_refuse fresh world task (Opaque path mark) none = grind (arith, common_steps, walk_refuses, directory_walks)
 walks_refuse fresh world task (OpenFile path access NoCreation) none =
-    walk_refuses (last_word_rules (OpenFile path access NoCreation)) (object_walk nat_eq world task path) _
-    (object_walks nat_eq world task path) (λ here. tt)
+    grind (arith, common_steps, walk_refuses, object_walks)
 walks_refuse fresh world task (OpenFile path access (OrCreate mode)) none =
-    walk_refuses (last_word_rules (OpenFile path access (OrCreate mode))) (file_walk nat_eq world task path) _
-    (file_walks nat_eq world task path) (λ place. tt)
+    grind (arith, common_steps, walk_refuses, file_walks)
 walks_refuse fresh world task (OpenFile path access (Exclusive mode)) none =
-    walk_refuses (last_word_rules (OpenFile path access (Exclusive mode))) (new_walk nat_eq world task path) _
-    (new_walks nat_eq world task path) (λ place.
-    unless_own (walk_rules ++ last_word_rules (OpenFile path access (Exclusive mode)))
-    (exclusive_last_words place) _ refl (tt))
-walks_refuse fresh world task (Pwrite number offset bytes) none =
-    descriptor_refuses (walk_rules ++ []) _ _ none (λ descriptor. tt)
+    grind (arith, common_steps, walk_refuses, new_walks, unless_own)
+walks_refuse fresh world task (Pwrite number offset bytes) none = grind (arith, common_steps)
 walks_refuse fresh world task (MountPlain path flags) none =
-    walk_refuses (last_word_rules (MountPlain path flags)) (destination_walk nat_eq world task path) _
-    (destination_walks nat_eq world task path) (λ here. tt)
+    grind (arith, common_steps, walk_refuses, destination_walks)
 walks_refuse fresh world task (MountOverlay path options flags) none =
-    walk_refuses (last_word_rules (MountOverlay path options flags)) (destination_walk nat_eq world task path) _
-    (destination_walks nat_eq world task path) (λ here. overlay_refuses fresh world task here.location flags options)
+    grind (arith, common_steps, walk_refuses, destination_walks, overlay_refuses)
 walks_refuse fresh world task (Bind source path recursive) none =
-    walk_refuses (last_word_rules (Bind source path recursive)) (source_walk nat_eq world task source) _
-    (source_walks nat_eq world task source) (λ from.
-    walk_refuses (last_word_rules (Bind source path recursive)) (destination_walk nat_eq world task path) _
-    (destination_walks nat_eq world task path) (λ here. tt))
+    grind (arith, common_steps, walk_refuses, source_walks, destination_walks)
 walks_refuse fresh world task (MoveMount source path) none =
-    walk_refuses (last_word_rules (MoveMount source path)) (source_walk nat_eq world task source) _
-    (source_walks nat_eq world task source) (λ from.
-    walk_refuses (last_word_rules (MoveMount source path)) (destination_walk nat_eq world task path) _
-    (destination_walks nat_eq world task path) (λ here. tt))
-walks_refuse fresh world task (Remount path flags) none =
-    walk_refuses (last_word_rules (Remount path flags)) (directory_walk nat_eq world task path) _
-    (directory_walks nat_eq world task path) (λ here. tt)
+    grind (arith, common_steps, walk_refuses, source_walks, destination_walks)
+walks_refuse fresh world task (Remount path flags) none = grind (arith, common_steps, walk_refuses, directory_walks)
 walks_refuse fresh world task (SetType path word recursive) none =
-    walk_refuses (last_word_rules (SetType path word recursive)) (directory_walk nat_eq world task path) _
-    (directory_walks nat_eq world task path) (λ here. tt)
+    grind (arith, common_steps, walk_refuses, directory_walks)
 walks_refuse fresh world task (PivotRoot new put) none =
-    walk_refuses (last_word_rules (PivotRoot new put)) (source_walk nat_eq world task new) _
-    (source_walks nat_eq world task new) (λ root.
-    walk_refuses (last_word_rules (PivotRoot new put)) (destination_walk nat_eq world task put) _
-    (destination_walks nat_eq world task put) (λ here. tt))
+    grind (arith, common_steps, walk_refuses, source_walks, destination_walks)
 walks_refuse fresh world task call none = tt
 
 pub walks_refuse_as_walks : WalksRefuseAsWalks

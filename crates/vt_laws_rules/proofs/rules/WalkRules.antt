@@ -1,12 +1,12 @@
 -- Walks are refused by the rules of walks alone.
-use Rattle.std.proofs.Common.{arith, refl, ℕ, zero, suc, Bool, false, List, [], ◌∷◌, ◌+◌, ◌||◌, reverse, Option, Some, None, ok_or, Result, Ok}
+use Rattle.std.proofs.Common.{arith, refl, ℕ, zero, suc, Bool, false, List, [], ◌∷◌, ◌+◌, ◌||◌, reverse, Option, ok_or, Result, Ok}
 use Rattle.vt_spec.proofs.Common.{Dot, DotDot, Follow, Here, LastWord, Location, Named, NoWord, OverlayWords, Place, Stop, Task, World, and_then, common_steps, denial, ends_in_slash, file_or_symlink, file_walked, final_word, followed, if_symlink, last_walked, last_word, most_symlinks, path_rules, path_text, path_walked, prefix_walked, stopped_by, symlink_of, unless, walk_start, words, work_walked}
 use Rattle.vt_laws_rules.specs.RuleOrder.{walk_rules}
-use Rattle.vt_laws_rules.proofs.rules.Outcomes.{RefusesOwn, StopsOwn, and_then_own, if_own, stopped_own, then_walk_own, unless_own, walk_end_own, walk_unless_own}
+use Rattle.vt_laws_rules.proofs.rules.Outcomes.{RefusesOwn, StopsOwn, and_then_own, stopped_own, then_walk_own, unless_own, walk_end_own, walk_unless_own}
 use Rattle.vt_spec.specs.declared.errors.Deny.{Deny}
 use Rattle.vt_spec.specs.declared.errors.Rule.TheVariants.{W6}
 use Rattle.vt_spec.proofs.Tables.{destination_walk, each_walked, layers_walked, source_walk, walked_if_given, rename_new_walk}
-use Rattle.vt_spec.proofs.Walk.{directory_walk, entry_location, file_walk, follow_rules, hops, is_top, symlink_start, symlink_there, symlink_walk, symlink_walk_by, symlink_walked, new_leaf_walk, new_walk, object_named, object_walk, old_leaf_walk, old_walk, place_walk, placed, search_rules, slash_rules, stepped, up_from, word_walked, words_walked}
+use Rattle.vt_spec.proofs.Walk.{directory_walk, entry_location, file_walk, follow_rules, hops, symlink_start, symlink_there, symlink_walk, symlink_walk_by, symlink_walked, new_leaf_walk, new_walk, object_named, object_walk, old_leaf_walk, old_walk, place_walk, placed, search_rules, slash_rules, stepped, up_from, word_walked, words_walked}
 
 -- stopped by a rule of walks
 abbrev pub StopsAsWalk : {A N : Type 0} → Result A (Stop N) → Type 0
@@ -16,16 +16,14 @@ abbrev pub RefusesAsWalk : {A : Type 0} → Result A Deny → Type 0
 RefusesAsWalk result = RefusesOwn walk_rules result
 
 found : {A : Type 0} (object : Option A) → RefusesAsWalk (ok_or object (denial W6))
-found None = (refl, refl)
-found (Some object) = tt
+found object = grind (arith, common_steps)
 
 module _ {N : Type 0} (eq : N → N → Bool) (world : World N) (task : Task N) where
   text_walks : (path : List ℕ) → StopsAsWalk {N = N} (path_text path)
   text_walks path = walk_unless_own walk_rules [] (path_rules path) path refl
 
   up_steps : (here : Location N) → RefusesAsWalk (up_from eq world task here)
-  up_steps here = if_own walk_rules (is_top eq world task here) (Ok here) _ tt
-      (unless_own walk_rules (_ ∷ []) (Ok _) refl tt)
+  up_steps here = grind (arith, common_steps)
 
   steps : (here : Location N) (word : LastWord) → RefusesAsWalk (stepped eq world task here word)
   steps here word = grind (arith, common_steps, up_steps, hops, found, entry_location)
@@ -41,8 +39,7 @@ module _ {N : Type 0} (eq : N → N → Bool) (world : World N) (task : Task N) 
 
   if_link_walks : (here : Here N) (text : Option (List ℕ)) (follow : List ℕ → Result (Here N) (Stop N))
       → ((inner : List ℕ) → StopsAsWalk (follow inner)) → StopsAsWalk (if_symlink here text follow)
-  if_link_walks here None follow h = tt
-  if_link_walks here (Some text) follow h = h text
+  if_link_walks here text follow h = grind (arith, common_steps)
 
   words_walk : (follow : Follow N) → FollowsAsWalk follow → (here : Here N) (front : List (List ℕ))
       → StopsAsWalk (words_walked eq world task follow here front)
@@ -68,21 +65,18 @@ module _ {N : Type 0} (eq : N → N → Bool) (world : World N) (task : Task N) 
   follows directory link text = link_walks (most_symlinks + 1) directory link text
 
   path_walks : (path : List ℕ) → StopsAsWalk (path_walked eq world task path)
-  path_walks path = then_walk_own walk_rules (path_text path) _ (text_walks path) (λ text.
-      words_walk (followed eq world task) follows (walk_start task text) (reverse (words text)))
+  path_walks path = grind (arith, common_steps, then_walk_own, text_walks, words_walk, follows)
 
   pub object_walks : (path : List ℕ) → StopsAsWalk (object_walk eq world task path)
   object_walks path = then_walk_own walk_rules (path_walked eq world task path) _ (path_walks path) (λ here.
       walk_unless_own walk_rules here.steps (slash_rules eq world path here.location) here refl)
 
   pub directory_walks : (path : List ℕ) → StopsAsWalk (directory_walk eq world task path)
-  directory_walks path = then_walk_own walk_rules (path_walked eq world task path) _ (path_walks path) (λ here.
-      walk_unless_own walk_rules here.steps (_ ∷ []) here refl)
+  directory_walks path = grind (arith, common_steps, then_walk_own, path_walks, walk_unless_own)
 
   prefix_walks : (here : Here N) (words : List (List ℕ))
       → StopsAsWalk (prefix_walked eq world task (followed eq world task) here words)
-  prefix_walks here [] = tt
-  prefix_walks here (word ∷ front) = words_walk (followed eq world task) follows here front
+  prefix_walks here words = grind (arith, common_steps, words_walk, follows)
 
   last_walks : (here : Here N) (word : LastWord) → StopsAsWalk (last_walked eq world task here word)
   last_walks here NoWord = tt
@@ -118,34 +112,26 @@ module _ {N : Type 0} (eq : N → N → Bool) (world : World N) (task : Task N) 
   places here (Named name) slash = named_places here (Named name) _ _
 
   pub place_walks : (path : List ℕ) → StopsAsWalk (place_walk eq world task path)
-  place_walks path = then_walk_own walk_rules (path_text path) _ (text_walks path) (λ text.
-      then_walk_own walk_rules _ _ (prefix_walks (walk_start task text) (reverse (words text))) (λ here.
-      places here (final_word (reverse (words text))) (ends_in_slash text)))
+  place_walks path = grind (arith, common_steps, then_walk_own, text_walks, prefix_walks, places)
 
   pub new_walks : (path : List ℕ) → StopsAsWalk (new_walk eq world task path)
-  new_walks path = then_walk_own walk_rules (place_walk eq world task path) _ (place_walks path) (λ place.
-      walk_unless_own walk_rules place.steps (_ ∷ []) place refl)
+  new_walks path = grind (arith, common_steps, then_walk_own, place_walks, walk_unless_own)
 
   pub new_leaf_walks : (path : List ℕ) → StopsAsWalk (new_leaf_walk eq world task path)
-  new_leaf_walks path = then_walk_own walk_rules (new_walk eq world task path) _ (new_walks path) (λ place.
-      walk_unless_own walk_rules place.steps (_ ∷ []) place refl)
+  new_leaf_walks path = grind (arith, common_steps, then_walk_own, new_walks, walk_unless_own)
 
   pub old_walks : (path : List ℕ) → StopsAsWalk (old_walk eq world task path)
-  old_walks path = then_walk_own walk_rules (place_walk eq world task path) _ (place_walks path) (λ place.
-      walk_unless_own walk_rules place.steps (_ ∷ []) place refl)
+  old_walks path = grind (arith, common_steps, then_walk_own, place_walks, walk_unless_own)
 
   pub old_leaf_walks : (path : List ℕ) → StopsAsWalk (old_leaf_walk eq world task path)
-  old_leaf_walks path = then_walk_own walk_rules (old_walk eq world task path) _ (old_walks path) (λ place.
-      walk_unless_own walk_rules place.steps (_ ∷ []) place refl)
+  old_leaf_walks path = grind (arith, common_steps, then_walk_own, old_walks, walk_unless_own)
 
   pub rename_new_walks : (path : List ℕ) (directory : Bool) → StopsAsWalk (rename_new_walk eq world task path directory)
-  rename_new_walks path directory = then_walk_own walk_rules (new_walk eq world task path) _ (new_walks path) (λ place.
-      walk_unless_own walk_rules place.steps (_ ∷ []) place refl)
+  rename_new_walks path directory = grind (arith, common_steps, then_walk_own, new_walks, walk_unless_own)
 
   file_or_link_walks : (place : Place N) (text : Option (List ℕ)) (follow : List ℕ → Result (Place N) (Stop N))
       → ((inner : List ℕ) → StopsAsWalk (follow inner)) → StopsAsWalk (file_or_symlink eq world place text follow)
-  file_or_link_walks place None follow h = tt
-  file_or_link_walks place (Some text) follow h = h text
+  file_or_link_walks place text follow h = grind (arith, common_steps)
 
   file_walks_by : (depth : ℕ) (start : Here N) (text : List ℕ) (slash : Bool)
       → StopsAsWalk (file_walked eq depth world task start text slash)
@@ -166,24 +152,18 @@ module _ {N : Type 0} (eq : N → N → Bool) (world : World N) (task : Task N) 
       walk_unless_own walk_rules place.steps (_ ∷ []) place refl))
 
   pub source_walks : (path : List ℕ) → StopsAsWalk (source_walk eq world task path)
-  source_walks path = then_walk_own walk_rules (directory_walk eq world task path) _ (directory_walks path) (λ here.
-      walk_unless_own walk_rules here.steps (_ ∷ []) here refl)
+  source_walks path = grind (arith, common_steps, then_walk_own, directory_walks, walk_unless_own)
 
   pub destination_walks : (path : List ℕ) → StopsAsWalk (destination_walk eq world task path)
-  destination_walks path = then_walk_own walk_rules (source_walk eq world task path) _ (source_walks path) (λ here.
-      walk_unless_own walk_rules here.steps (_ ∷ []) _ refl)
+  destination_walks path = grind (arith, common_steps, then_walk_own, source_walks, walk_unless_own)
 
   -- the walks of an overlay's layers
   each_walks : (paths : List (List ℕ)) → RefusesAsWalk (each_walked eq world task paths)
   each_walks [] = tt
-  each_walks (path ∷ paths) =
-      and_then_own walk_rules _ _ (walk_end_own walk_rules (source_walk eq world task path) (source_walks path))
-      (λ here. and_then_own walk_rules (each_walked eq world task paths) _ (each_walks paths) (λ rest. tt))
+  each_walks (path ∷ paths) = grind (arith, common_steps, each_walks paths, and_then_own, walk_end_own, source_walks)
 
   given_walks : (path : Option (List ℕ)) → RefusesAsWalk (walked_if_given eq world task path)
-  given_walks None = tt
-  given_walks (Some path) = and_then_own walk_rules _ _
-      (walk_end_own walk_rules (source_walk eq world task path) (source_walks path)) (λ here. tt)
+  given_walks path = grind (arith, common_steps, and_then_own, walk_end_own, source_walks)
 
   pub layer_walks : (words : OverlayWords) → RefusesAsWalk (layers_walked eq world task words)
   layer_walks words =

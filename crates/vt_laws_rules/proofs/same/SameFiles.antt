@@ -1,6 +1,6 @@
 -- What does not depend on the order of the numbers that stand beside a tree.
-use Rattle.std.proofs.Common.{◌≡◌, refl, sym, ap, subst, ◌∙◌, ℕ, nat_eq, true≢false, Bool, true, false, cond, ◌||◌, ◌&&◌, List, [], ◌∷◌, length, map, find, filter_map, Option, Some, None, is_some, option_map, option_to_list, reverse, IsPermutation}
-use Rattle.vt_spec.proofs.Common.{FileTree, SameFiles, Tree, ancestors, before_first, chain, cons_option, entries_in, first_of_list, has_entry_to, is_among, is_directory_node, is_directory_under, is_file_under, is_under, length_permutation, list_any, list_any-IsPermutation, name_in, named_parent, own_name, path_down, when}
+use Rattle.std.proofs.Common.{◌≡◌, refl, sym, ap, ◌∙◌, ℕ, nat_eq, true≢false, Bool, true, cond, ◌||◌, ◌&&◌, List, [], ◌∷◌, length, map, find, filter_map, Option, Some, None, is_some, option_map, IsPermutation, arith}
+use Rattle.vt_spec.proofs.Common.{FileTree, SameFiles, Tree, ancestors, chain, cons_option, entries_in, first_of_list, has_entry_to, is_among, is_directory_under, is_file_under, is_under, length_permutation, list_any, list_any-IsPermutation, name_in, named_parent, path_down, common_steps}
 use Rattle.vt_spec.specs.Machine.Filesystems.{directory_of_name}
 
 module _ (one other : FileTree ℕ) (same : SameFiles one other) where
@@ -23,13 +23,10 @@ module _ (one other : FileTree ℕ) (same : SameFiles one other) where
       other.numbers)
 
   pub under_same : (top object : ℕ) → is_under nat_eq one top object ≡ is_under nat_eq other top object
-  under_same top object = λ i. cond (is_directory_node ((same.tree i).node object)) (directory_under_same top object i)
-      (file_under_same top object i)
+  under_same top object = cc (same.tree, directory_under_same top object, file_under_same top object)
 
   pub path_same : (top directory : ℕ) → path_down nat_eq one top directory ≡ path_down nat_eq other top directory
-  path_same top directory = λ i. when (directory_under_same top directory i)
-      (reverse (map (own_name nat_eq (record { tree = same.tree i; numbers = [] }))
-      (before_first (nat_eq top) (ancestors_same directory i))))
+  path_same top directory = grind (arith, common_steps, directory_under_same top directory, ancestors_same directory)
 
 -- the directories that have a name of an object, among some
 abbrev pub named_among : Tree ℕ → ℕ → List ℕ → Option ℕ
@@ -58,8 +55,7 @@ module _ (tree : Tree ℕ) (object : ℕ) where
           (cond b (Some entry) (find (λ entry. nat_eq object entry.1) entries))) names
           ≡ cond (b || is_among nat_eq object (map (λ entry. entry.1) entries)) (Some directory)
           (option_map (λ name. name.0) (first_of_list names))
-      by true later = refl
-      by false later = later
+      by b later = grind (arith, common_steps)
 
   -- the first of some directories that has one
   pub first_named : (numbers : List ℕ)
@@ -72,21 +68,11 @@ module _ (tree : Tree ℕ) (object : ℕ) where
 module _ (test : ℕ → Bool) where
   found_passes : (list : List ℕ) (a : ℕ) → find test list ≡ Some a → test a ≡ true
   found_passes [] a e = cc
-  found_passes (first ∷ rest) a e = by (test first) refl e (found_passes rest a)
-    where
-      by : (b : Bool) → test first ≡ b → cond b (Some first) (find test rest) ≡ Some a
-          → (find test rest ≡ Some a → test a ≡ true) → test a ≡ true
-      by true passes e later = let same : first ≡ a = cc in subst (λ x. test x ≡ true) same passes
-      by false passes e later = later e
+  found_passes (first ∷ rest) a e = grind (arith, common_steps, found_passes rest a, cond)
 
   found_if_any : (list : List ℕ) → is_some (find test list) ≡ list_any test list
   found_if_any [] = refl
-  found_if_any (first ∷ rest) = by (test first) (found_if_any rest)
-    where
-      by : (b : Bool) → is_some (find test rest) ≡ list_any test rest
-          → is_some (cond b (Some first) (find test rest)) ≡ (b || list_any test rest)
-      by true later = refl
-      by false later = later
+  found_if_any (first ∷ rest) = grind (arith, common_steps, found_if_any rest, test first)
 
   -- the one that passes is found in whatever order
   pub one_found : (ones others : List ℕ) → IsPermutation ones others
@@ -106,8 +92,14 @@ module _ (test : ℕ → Bool) where
 pub directory_same : (one other : FileTree ℕ) → SameFiles one other → (object : ℕ)
     → ((a b : ℕ) → has_entry_to nat_eq one.tree a object ≡ true → has_entry_to nat_eq one.tree b object ≡ true → a ≡ b)
     → directory_of_name nat_eq one object ≡ directory_of_name nat_eq other object
-directory_same one other same object alone = ap option_to_list (first_named one.tree object one.numbers
-    ∙ one_found (λ directory.
-    has_entry_to nat_eq one.tree directory object) one.numbers other.numbers same.numbers alone
-    ∙ (λ i. find (λ directory. has_entry_to nat_eq (same.tree i) directory object) other.numbers)
-    ∙ sym (first_named other.tree object other.numbers))
+directory_same one other same object alone =
+    grind (
+      arith,
+      common_steps,
+      first_named one.tree object one.numbers,
+      one_found (λ directory. has_entry_to nat_eq
+          one.tree directory object) one.numbers other.numbers same.numbers alone,
+      same.tree,
+      first_named other.tree object
+          other.numbers,
+    )

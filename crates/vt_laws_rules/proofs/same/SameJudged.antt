@@ -1,9 +1,8 @@
 -- Change numbers, and the order of numbers beside trees, are not looked at.
-use Rattle.std.proofs.Common.{◌≡◌, refl, ap, subst, ◌∙◌, ℕ, nat_eq, Bool, true, false, cond, ◌||◌, ◌&&◌, List, [], ◌∷◌, ◌++◌, map, find, flat_map, Some, is_some, option_map, true≢false, sym, unwrap_or, All}
-use Rattle.vt_spec.proofs.Common.{All-head, All-tail, Filesystem, Task, TaskName, World, going, has_child, is_among, is_overlay, list_any, locations_of, looks_of, mount_numbered, no_filesystem, same_name, without_changes}
+use Rattle.std.proofs.Common.{◌≡◌, refl, ap, ◌∙◌, ℕ, nat_eq, Bool, false, cond, ◌||◌, ◌&&◌, List, [], ◌∷◌, ◌++◌, map, find, flat_map, Some, is_some, option_map, true≢false, sym, unwrap_or, All, arith}
+use Rattle.vt_spec.proofs.Common.{All-tail, Filesystem, Task, TaskName, World, going, has_child, is_among, is_overlay, list_any, locations_of, looks_of, mount_numbered, no_filesystem, same_name, without_changes, common_steps}
 use Rattle.vt_laws_rules.proofs.judged.LooksAlike.{alike_are_judged_alike}
 use Rattle.vt_laws_rules.proofs.same.SameLooks.{others_look_alike}
-use Rattle.vt_laws_rules.specs.Judged.{LookAlike}
 use Rattle.vt_laws_rules.specs.Same.{PlainHasOneName, SameWorldsAreJudgedAlike, SameWorldsLookAlike}
 use Rattle.vt_laws_rules.proofs.judged.NumbersRaised.{bare_task}
 
@@ -20,25 +19,13 @@ written_bare : (mount : ℕ) (tasks : List (Task ℕ)) → list_any (λ (task : 
     ≡ list_any (λ (task : Task ℕ). list_any
     (λ descriptor. descriptor.writes && nat_eq mount descriptor.location.mount) task.descriptors) tasks
 written_bare mount [] = refl
-written_bare mount (task ∷ tasks) =
-    ap (λ rest. list_any (λ descriptor. descriptor.writes && nat_eq mount descriptor.location.mount) task.descriptors
-    || rest) (written_bare mount tasks)
+written_bare mount (task ∷ tasks) = cc (written_bare mount tasks)
 
 namespace_bare : (name : TaskName) (tasks : List (Task ℕ))
     → option_map (λ (task : Task ℕ). task.namespace) (find (λ task. same_name name task.name) (map bare_task tasks))
     ≡ option_map (λ (task : Task ℕ). task.namespace) (find (λ task. same_name name task.name) tasks)
 namespace_bare name [] = refl
-namespace_bare name (task ∷ tasks) = by (same_name name task.name) (namespace_bare name tasks)
-  where
-    by : (b : Bool)
-        → option_map (λ (task : Task ℕ). task.namespace) (find (λ task. same_name name task.name) (map bare_task tasks))
-        ≡ option_map (λ (task : Task ℕ). task.namespace) (find (λ task. same_name name task.name) tasks)
-        → option_map (λ (task : Task ℕ). task.namespace)
-        (cond b (Some (bare_task task)) (find (λ task. same_name name task.name) (map bare_task tasks)))
-        ≡ option_map (λ (task : Task ℕ). task.namespace)
-        (cond b (Some task) (find (λ task. same_name name task.name) tasks))
-    by true later = refl
-    by false later = later
+namespace_bare name (task ∷ tasks) = grind (arith, common_steps, namespace_bare name tasks, same_name name task.name)
 
 -- change numbers are not looked at
 bare_looks : (world : World ℕ) → looks_of nat_eq (bare world) ≡ looks_of nat_eq world
@@ -51,24 +38,19 @@ bare_looks world = λ i. record (looks_of nat_eq world) {
 }
 
 pub same_worlds_look_alike : SameWorldsLookAlike
-same_worlds_look_alike one other same alone = subst (λ looks. LookAlike looks (looks_of nat_eq other)) (bare_looks one)
-    (subst (LookAlike (looks_of nat_eq (bare one))) (ap (looks_of nat_eq) rest ∙ bare_looks other)
-    (others_look_alike (bare one) other.filesystems same.filesystems alone))
-  where
-    rest : record (bare one) { filesystems = other.filesystems } ≡ bare other
-    rest = λ i. record {
-      mounts = same.mounts i;
-      master = same.master i;
-      filesystems = other.filesystems;
-      namespaces = same.namespaces i;
-      tasks = same.tasks i;
-      change = 0;
-    }
+same_worlds_look_alike one other same alone =
+    grind (
+      arith,
+      common_steps,
+      bare_looks one,
+      bare_looks other,
+      others_look_alike (bare one) other.filesystems
+          same.filesystems alone,
+    )
 
 pub same_worlds_are_judged_alike : SameWorldsAreJudgedAlike
 same_worlds_are_judged_alike one other same alone overfills task call =
-    alike_are_judged_alike (looks_of nat_eq one) (looks_of nat_eq other) (same_worlds_look_alike one other same alone)
-    overfills task call
+    grind (arith, common_steps, alike_are_judged_alike, same_worlds_look_alike)
 
 plain_there : (number : ℕ) (list : List (Filesystem ℕ)) → All (λ filesystem. is_overlay filesystem ≡ false) list
     → is_overlay (unwrap_or (find (λ filesystem. nat_eq number filesystem.number) list) (no_filesystem number)) ≡ false
@@ -81,8 +63,7 @@ plain_there number (filesystem ∷ list) all = by (nat_eq number filesystem.numb
         ≡ false → is_overlay
         (unwrap_or (cond b (Some filesystem) (find (λ filesystem. nat_eq number filesystem.number) list))
         (no_filesystem number)) ≡ false
-    by true later = All-head (λ filesystem. is_overlay filesystem ≡ false) filesystem list all
-    by false later = later
+    by b later = grind (arith, common_steps)
 
 pub plain_has_one_name : PlainHasOneName
 plain_has_one_name world plain number overlay is object one other below in_one in_other =

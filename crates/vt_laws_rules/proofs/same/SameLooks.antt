@@ -1,6 +1,6 @@
 -- Worlds that are the same but for change numbers and the order of numbers beside trees look alike.
-use Rattle.std.proofs.Common.{◌≡◌, refl, sym, ap, subst, ◌∙◌, ℕ, ◌+◌, nat_eq, Bool, true, false, cond, not, ◌||◌, ◌&&◌, List, [], ◌∷◌, ◌++◌, map, filter, flat_map, find, Option, Some, None, is_some, option_to_list, unwrap_or}
-use Rattle.vt_spec.proofs.Common.{Change, Filesystem, IsPermutation-refl, Layer, Location, LowerObjectsHaveOneName, Mount, Overlay, Rules, SameFilesystem, SameFilesystems, Tree, World, attr_in, before_first, counts_in_layer, execute_right, filesystem_at, filesystem_numbered, has_entry_to, has_lower_directory, has_lower_directory_at, holds_of, in_use, is_kind_in, is_locked, is_overlay, is_point, is_real_upper, is_removed, layers_of, lies_in_layer, lies_only_in_lowers, lies_or_counts_under, list_any, list_any-IsPermutation, live_layers, live_upper_and_work, looks_of, mount_at, mounter_rules, no_filesystem, node_allows, of_overlay, open_layer, overlaps_one_of, overlay_or, overlay_rules, read_right, upper_and_work, upper_points, write_right}
+use Rattle.std.proofs.Common.{◌≡◌, refl, sym, ap, subst, ◌∙◌, ℕ, ◌+◌, nat_eq, Bool, true, false, cond, not, ◌||◌, ◌&&◌, List, [], ◌∷◌, ◌++◌, map, filter, flat_map, find, Option, Some, None, is_some, option_to_list, unwrap_or, arith}
+use Rattle.vt_spec.proofs.Common.{Change, Filesystem, IsPermutation-refl, Layer, Location, LowerObjectsHaveOneName, Mount, Overlay, Rules, SameFilesystem, SameFilesystems, Tree, World, attr_in, before_first, counts_in_layer, execute_right, filesystem_at, filesystem_numbered, has_entry_to, has_lower_directory, has_lower_directory_at, in_use, is_kind_in, is_locked, is_overlay, is_point, is_removed, layers_of, lies_in_layer, lies_only_in_lowers, lies_or_counts_under, list_any, list_any-IsPermutation, live_layers, live_upper_and_work, looks_of, mount_at, mounter_rules, no_filesystem, node_allows, of_overlay, open_layer, overlaps_one_of, overlay_or, overlay_rules, read_right, upper_and_work, upper_points, write_right, common_steps}
 use Rattle.vt_laws_rules.proofs.same.SameFiles.{ancestors_same, directory_same, directory_under_same, path_same, under_same}
 use Rattle.vt_laws_rules.specs.Judged.{LookAlike}
 use Rattle.vt_spec.specs.declared.attributes.Kind.TheVariants.{File}
@@ -25,8 +25,7 @@ found_same number (one ∷ ones) (other ∷ others) same = subst (λ n. SameFile
         (no_filesystem number))
         (unwrap_or (cond b (Some other) (find (λ filesystem. nat_eq number filesystem.number) others))
         (no_filesystem number))
-    by true later = same.0
-    by false later = later
+    by b later = grind (arith, common_steps)
 
 -- the layers of the overlays
 layers_same : (some : Overlay ℕ → List (Layer ℕ)) (ones others : List (Filesystem ℕ)) → SameFilesystems ones others
@@ -34,17 +33,8 @@ layers_same : (some : Overlay ℕ → List (Layer ℕ)) (ones others : List (Fil
 layers_same some [] [] same = refl
 layers_same some [] (other ∷ others) same = absurd same
 layers_same some (one ∷ ones) [] same = absurd same
-layers_same some (one ∷ ones) (other ∷ others) same = step one (filter is_overlay ones) (is_overlay one)
-    ∙ (λ i. cond (is_some (same.0.overlay i))
-    (overlay_or [] some (same.0.overlay i) ++ layers_same some ones others same.1 i)
-    (layers_same some ones others same.1 i)) ∙ sym (step other (filter is_overlay others) (is_overlay other))
-  where
-    step : (first : Filesystem ℕ) (rest : List (Filesystem ℕ)) (b : Bool)
-        → flat_map (of_overlay [] some) (cond b (first ∷ rest) rest)
-        ≡ cond b (overlay_or [] some first.overlay ++ flat_map (of_overlay [] some) rest)
-        (flat_map (of_overlay [] some) rest)
-    step first rest true = refl
-    step first rest false = refl
+layers_same some (one ∷ ones) (other ∷ others) same =
+    grind (arith, common_steps, layers_same some ones others same.1, cond, is_some)
 
 -- some overlay passes
 any_same : (test again : Filesystem ℕ → Bool)
@@ -63,8 +53,7 @@ any_same test again alike (one ∷ ones) (other ∷ others) same = step test one
     step : (passes : Filesystem ℕ → Bool) (first : Filesystem ℕ) (rest : List (Filesystem ℕ)) (b : Bool)
         → list_any passes (cond b (first ∷ rest) rest)
         ≡ cond b (passes first || list_any passes rest) (list_any passes rest)
-    step passes first rest true = refl
-    step passes first rest false = refl
+    step passes first rest e = grind (arith, common_steps)
 
 -- what the mounter of an overlay is asked
 module _ (one other : Filesystem ℕ) (same : SameFilesystem one other) (overlay : Overlay ℕ) (change : Change ℕ)
@@ -75,18 +64,7 @@ module _ (one other : Filesystem ℕ) (same : SameFilesystem one other) (overlay
       → flat_map (directory_of_name nat_eq one.files) (filter (lies_only_in_lowers overlay) objects)
       ≡ flat_map (directory_of_name nat_eq other.files) (filter (lies_only_in_lowers overlay) objects)
   named_same [] = refl
-  named_same (object ∷ rest) = by (lies_only_in_lowers overlay object) refl (named_same rest)
-    where
-      by : (b : Bool) → lies_only_in_lowers overlay object ≡ b
-          → flat_map (directory_of_name nat_eq one.files) (filter (lies_only_in_lowers overlay) rest)
-          ≡ flat_map (directory_of_name nat_eq other.files) (filter (lies_only_in_lowers overlay) rest)
-          → flat_map (directory_of_name nat_eq one.files)
-          (cond b (object ∷ filter (lies_only_in_lowers overlay) rest) (filter (lies_only_in_lowers overlay) rest))
-          ≡ flat_map (directory_of_name nat_eq other.files)
-          (cond b (object ∷ filter (lies_only_in_lowers overlay) rest) (filter (lies_only_in_lowers overlay) rest))
-      by true below later = λ i.
-          directory_same one.files other.files same.files object (λ a b. alone object a b below) i ++ later i
-      by false below later = later
+  named_same (object ∷ rest) = grind (arith, common_steps, named_same rest, cond, directory_same)
 
   asked_same : directories_asked nat_eq one overlay change ≡ directories_asked nat_eq other overlay change
   asked_same = ap (λ directories. directories ++ directories_changed change) (named_same (object_copied change))
@@ -126,25 +104,18 @@ module _ (world : World ℕ) (others : List (Filesystem ℕ)) (same : SameFilesy
 
   lies_same : (filesystem object : ℕ) (layer : Layer ℕ)
       → lies_in_layer nat_eq world filesystem object layer ≡ lies_in_layer nat_eq other filesystem object layer
-  lies_same filesystem object layer =
-      ap (λ b. nat_eq filesystem layer.filesystem && b) (under_same _ _ (found filesystem).files layer.directory object)
+  lies_same filesystem object layer = cc (under_same _ _ (found filesystem).files layer.directory object)
 
   counts_same : (filesystem object : ℕ) (layer : Layer ℕ) (merged again : Filesystem ℕ) → SameFilesystem merged again
       → counts_in_layer nat_eq world filesystem object layer merged
       ≡ counts_in_layer nat_eq other filesystem object layer again
-  counts_same filesystem object layer merged again alike = λ i. overlay_or false (λ overlay.
-      holds_of (λ upper. lies_same upper.filesystem upper.directory layer i) overlay.upper
-      && (holds_of (λ upper. nat_eq filesystem upper.filesystem) overlay.upper
-      && list_any-IsPermutation (is_real_upper nat_eq overlay object) merged.files.numbers again.files.numbers
-      alike.files.numbers i)) (alike.overlay i)
+  counts_same filesystem object layer merged again alike =
+      grind (arith, common_steps, lies_same, list_any-IsPermutation)
 
   lies_or_counts_same : (filesystem object : ℕ) (layer : Layer ℕ)
       → lies_or_counts_under nat_eq world filesystem object layer
       ≡ lies_or_counts_under nat_eq other filesystem object layer
-  lies_or_counts_same filesystem object layer = λ i. lies_same filesystem object layer i
-      || any_same (counts_in_layer nat_eq world filesystem object layer)
-      (counts_in_layer nat_eq other filesystem object layer)
-      (counts_same filesystem object layer) world.filesystems others same i
+  lies_or_counts_same filesystem object layer = grind (arith, common_steps, lies_same, any_same, other, counts_same)
 
   live_same : live_layers world ≡ live_layers other
   live_same = layers_same layers_of world.filesystems others same

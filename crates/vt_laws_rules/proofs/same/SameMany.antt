@@ -1,7 +1,7 @@
 -- Whether what is attached leaves a namespace with too many mounts, in worlds that are the same but for change numbers
 -- and the order of numbers beside trees.
-use Rattle.std.proofs.Common.{arith, ◌≡◌, refl, sym, ap, ◌∙◌, ℕ, nat_eq, nat_lt, Bool, true, false, not, ◌&&◌, ◌||◌, List, [], ◌∷◌, ◌++◌, length, map, filter, flat_map, Option, Some, None, is_some}
-use Rattle.vt_spec.proofs.Common.{Bind, Call, Copies, Filesystem, Fresh, Graft, Layer, Location, Looks, Mount, MountFlags, MountOverlay, MountPlain, Namespace, Overlay, Permit, Propagation, SameFilesystem, SameFilesystems, Task, ToBind, ToMountOverlay, ToMountPlain, ToMove, Twig, World, attach, attached_at, bind_permit, bindable_children, bindable_tree, bound, bound_at, common_steps, copies_at, copies_from, copy_at, copy_type, evens, filesystem_numbered, graft_of, has_too_many, holds_of, judge, list_any, looks_of, most_mounts, mount_at, mount_numbered, mount_overlay_permit, mount_plain_permit, mount_tree, mounted, move_permit, new_mount, odds, open_layer, overfills, overlay_filesystem, parts_of, plain_filesystem, pushed_onto, receivers_of, stands_under, takes_part, top_of_copies, with_new_filesystem}
+use Rattle.std.proofs.Common.{arith, ◌≡◌, refl, sym, ap, ◌∙◌, ℕ, nat_eq, nat_lt, Bool, true, false, ◌&&◌, ◌||◌, List, [], ◌∷◌, ◌++◌, length, map, filter, flat_map, Option}
+use Rattle.vt_spec.proofs.Common.{Call, Copies, Filesystem, Fresh, Graft, Layer, Location, Looks, Mount, MountFlags, Namespace, Overlay, Permit, Propagation, SameFilesystem, SameFilesystems, Task, ToBind, ToMountOverlay, ToMountPlain, ToMove, Twig, World, attach, attached_at, bind_permit, bindable_children, bindable_tree, bound, bound_at, common_steps, copies_at, copies_from, copy_at, copy_type, evens, filesystem_numbered, graft_of, has_too_many, holds_of, judge, list_any, looks_of, most_mounts, mount_numbered, mount_overlay_permit, mount_plain_permit, mount_tree, mounted, move_permit, new_mount, odds, open_layer, overfills, overlay_filesystem, parts_of, plain_filesystem, pushed_onto, stands_under, takes_part, with_new_filesystem}
 use Rattle.vt_laws_rules.proofs.same.SameFiles.{as_many, directory_under_same}
 use Rattle.vt_laws_rules.proofs.same.SameJudged.{same_worlds_are_judged_alike}
 use Rattle.vt_laws_rules.proofs.same.SameLooks.{found_same}
@@ -62,13 +62,10 @@ module _ (world : World ℕ) (others : List (Filesystem ℕ)) (namespaces : List
 
   takes_same : (place : Location ℕ) (mount : Mount ℕ) → takes_part nat_eq world place mount
       ≡ takes_part nat_eq other place mount
-  takes_same place mount = ap (λ b. not (nat_eq place.mount mount.number) && is_some mount.namespace
-      && nat_eq (mount_at nat_eq world place).filesystem mount.filesystem && b)
-      (directory_under_same _ _ (found mount.filesystem).files mount.root place.node)
+  takes_same place mount = cc (directory_under_same _ _ (found mount.filesystem).files mount.root place.node)
 
   parts_same : (place : Location ℕ) → parts_of nat_eq world place ≡ parts_of nat_eq other place
-  parts_same place = λ i. mount_at nat_eq world place
-      ∷ filter (λ mount. takes_same place mount i) (receivers_of nat_eq world (mount_at nat_eq world place))
+  parts_same place = grind (arith, common_steps, takes_same)
 
   type_same : (new : Copies ℕ) (parts : List (Mount ℕ)) (destination : Mount ℕ) (twig : Twig ℕ) (kind : Propagation ℕ)
       → copy_type nat_eq world new parts destination twig kind ≡ copy_type nat_eq other new parts destination twig kind
@@ -85,19 +82,19 @@ module _ (world : World ℕ) (others : List (Filesystem ℕ)) (namespaces : List
 
     pushed_same : (mount : Mount ℕ) (below : Option (Mount ℕ))
         → pushed_onto nat_eq world new graft parts mount below ≡ pushed_onto nat_eq other new graft parts mount below
-    pushed_same mount None = refl
-    pushed_same mount (Some part) = λ i.
-        record mount { mount_point = Some (top_of_copies nat_eq (copies_same part i) graft.destination) }
+    pushed_same mount below = cc
 
     mounts_same : (attached_at nat_eq world new graft parts).mounts ≡ (attached_at nat_eq other new graft parts).mounts
     mounts_same = cc
 
     many_there : has_too_many nat_eq (attached_at nat_eq world new graft parts)
         ≡ has_too_many nat_eq (attached_at nat_eq other new graft parts)
-    many_there = any (λ number. nat_lt most_mounts (length (filter (λ mount. holds_of (nat_eq number) mount.namespace)
-        (attached_at nat_eq world new graft parts).mounts)))
-        ∙ (λ i. list_any (λ (namespace : Namespace ℕ). nat_lt most_mounts
-        (length (filter (λ mount. holds_of (nat_eq namespace.number) mount.namespace) (mounts_same i)))) namespaces)
+    many_there =
+        cc (
+          any (λ number. nat_lt most_mounts (length (filter (λ mount. holds_of (nat_eq number) mount.namespace)
+              (attached_at nat_eq world new graft parts).mounts))),
+          mounts_same,
+        )
 
   attach_same : (fresh : Fresh ℕ) (place : Location ℕ) (moves : Bool) (mounts : List (Mount ℕ))
       → has_too_many nat_eq (attach nat_eq world fresh place moves mounts)
@@ -111,9 +108,7 @@ module _ (world : World ℕ) (others : List (Filesystem ℕ)) (namespaces : List
 
   under : (source : Location ℕ) (mount : Mount ℕ) → stands_under nat_eq world source mount
       ≡ stands_under nat_eq other source mount
-  under source mount = λ i.
-      holds_of (λ (place : Location ℕ). directory_under_same _ _ (found (mount_at nat_eq world source).filesystem).files
-      source.node place.node i) mount.mount_point
+  under source mount = grind (arith, common_steps, directory_under_same, found)
 
   bound_same : (fresh : Fresh ℕ) (source place : Location ℕ) (recursive : Bool)
       → has_too_many nat_eq (bound_at nat_eq fresh world source place recursive)
@@ -153,9 +148,11 @@ module _ (world : World ℕ) (others : List (Filesystem ℕ)) (namespaces : List
   many_same fresh task (ToMountPlain place flags) =
       mounted_same (odds fresh) place (plain_filesystem nat_eq fresh) flags
   many_same fresh task (ToMountOverlay place overlay flags) =
-      mounted_same (odds fresh) place (overlay_filesystem nat_eq (evens fresh) world overlay) flags
-      ∙ (λ i. has_too_many nat_eq (mounted nat_eq (odds fresh) again place
-      (overlay_same world others namespaces tasks change same any (evens fresh) overlay i) flags))
+      cc (
+        mounted_same (odds fresh) place (overlay_filesystem nat_eq (evens fresh) world overlay) flags,
+        overlay_same
+            world others namespaces tasks change same any (evens fresh) overlay,
+      )
   many_same fresh task (ToBind source place recursive) =
       bound_same world others namespaces tasks change same any fresh source place recursive
   many_same fresh task (ToMove mount place) = attach_same world others namespaces tasks change same any fresh place true
@@ -172,9 +169,7 @@ same_worlds_judge_alike one other same alone fresh task call =
   where
     any : (test : ℕ → Bool) → list_any (λ (namespace : Namespace ℕ). test namespace.number) one.namespaces
         ≡ list_any (λ (namespace : Namespace ℕ). test namespace.number) other.namespaces
-    any test = sym (any_bare test one.namespaces)
-        ∙ ap (list_any (λ (namespace : Namespace ℕ). test namespace.number)) same.namespaces
-        ∙ any_bare test other.namespaces
+    any test = cc (any_bare test one.namespaces, same.namespaces, any_bare test other.namespaces)
 
     many : (permit : Permit ℕ) → (attaches permit && overfills nat_eq fresh one task permit)
         ≡ (attaches permit && overfills nat_eq fresh other task permit)

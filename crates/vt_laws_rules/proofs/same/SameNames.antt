@@ -1,11 +1,10 @@
 -- What lies only below in an overlay has one name in a world that has the invariants: its real object is of a path, and
 -- the names that lead to it are that path.
-use Rattle.std.proofs.Common.{◌≡◌, refl, sym, ap, subst, ◌∙◌, true≢false, eq-eqb, eqb-true, suc, zero, ℕ, nat_eq, Bool, true, false, cond, List, [], ◌∷◌, ◌++◌, map, find, reverse, Option, Some, None, is_some, option_map, unwrap_or, All}
-use Rattle.vt_spec.proofs.Common.{All-head, All-tail, Filesystem, IsMerged, IsReached, IsTree, Lower, Overlay, Real, SameObject, Tree, Upper, World, cons-rest, directory_from_entry, entry_at, entry_from, entry_named, filesystem_numbered, has_entry_to, is_overlay, led, led-append, lies_only_in_lowers, no_filesystem, none_is_some, not-true, nothing_is_no_object, open_layer, real_node, real_object, real_shown, reverse-append, reverse-reverse, root_reached, shown, shown_layers, then_some, upper_object}
+use Rattle.std.proofs.Common.{◌≡◌, refl, sym, ap, subst, ◌∙◌, true≢false, eq-eqb, eqb-true, ℕ, nat_eq, Bool, true, false, cond, List, [], ◌∷◌, ◌++◌, find, Option, Some, None, is_some, unwrap_or, All, arith}
+use Rattle.vt_spec.proofs.Common.{All-head, All-tail, Filesystem, IsMerged, IsReached, IsTree, Lower, Overlay, Real, Tree, Upper, World, directory_from_entry, entry_at, entry_from, entry_named, filesystem_numbered, has_entry_to, is_overlay, led, led-append, lies_only_in_lowers, no_filesystem, none_is_some, not-true, real_shown, root_reached, upper_object, common_steps}
 use Rattle.vt_laws_rules.proofs.same.SameJudged.{same_worlds_look_alike}
 use Rattle.vt_laws_rules.proofs.same.SameMany.{same_worlds_judge_alike}
 use Rattle.vt_laws_rules.specs.Same.{SameInvariantWorldsJudgeAlike, SameInvariantWorldsLookAlike, WorldsHaveOneName}
-use Rattle.vt_spec.specs.Machine.Views.{Shown}
 
 -- an overlay that is found is a filesystem of the world, so its tree is one
 tree_found : (number : ℕ) (list : List (Filesystem ℕ)) → All (λ filesystem. IsTree filesystem.files.tree) list
@@ -35,8 +34,7 @@ not_out_of_reach tree conditions directory name object e out =
 
 -- where one name more leads, the names before it are told by all of them
 names_before : (one other : List (List ℕ)) (a b : List ℕ) → (one ++ a ∷ []) ≡ (other ++ b ∷ []) → one ≡ other
-names_before one other a b e = sym (reverse-reverse one) ∙ ap reverse (cons-rest a b (reverse one) (reverse other)
-    (sym (reverse-append one (a ∷ [])) ∙ ap reverse e ∙ reverse-append other (b ∷ []))) ∙ reverse-reverse other
+names_before one other a b e = grind (arith, common_steps)
 
 -- the path of a real object that lies below
 abbrev path_or : List (List ℕ) → Option (Real ℕ) → List (List ℕ)
@@ -49,24 +47,7 @@ path_shown : (world : World ℕ) (overlay : Overlay ℕ) (path default : List (L
     → is_some (real_shown nat_eq world overlay path) ≡ true
     → is_some (upper_object (real_shown nat_eq world overlay path)) ≡ false
     → path_or default (real_shown nat_eq world overlay path) ≡ path
-path_shown world overlay path default =
-    by (is_some overlay.upper) (shown (map (open_layer nat_eq world) (shown_layers overlay)) path)
-  where
-    real_by : Bool → Option (Shown ℕ) → Option (Real ℕ)
-    real_by writable o = option_map (λ object. real_object writable object.seen.layer object)
-        (option_map (λ seen. record { path = path; seen = seen }) o)
-
-    at : (writable : Bool) (layer object : ℕ)
-        → is_some (upper_object (real_by writable (Some (record { layer = layer; object = object })))) ≡ false
-        → path_or default (real_by writable (Some (record { layer = layer; object = object }))) ≡ path
-    at true zero object h = absurd (true≢false h)
-    at true (suc layer) object h = refl
-    at false layer object h = refl
-
-    by : (writable : Bool) (o : Option (Shown ℕ)) → is_some (real_by writable o) ≡ true
-        → is_some (upper_object (real_by writable o)) ≡ false → path_or default (real_by writable o) ≡ path
-    by writable None t h = absurd (true≢false (sym t))
-    by writable (Some seen) t h = at writable seen.layer seen.object h
+path_shown world overlay path default = grind (arith, common_steps)
 
 module _ (world : World ℕ) (filesystem : Filesystem ℕ) (overlay : Overlay ℕ)
     (merged : IsMerged nat_eq world filesystem overlay) (conditions : IsTree filesystem.files.tree) where
@@ -75,13 +56,7 @@ module _ (world : World ℕ) (filesystem : Filesystem ℕ) (overlay : Overlay �
 
   -- what is there has a real object
   real_there : (object : ℕ) → is_some (tree.node object) ≡ true → is_some (overlay.real object) ≡ true
-  real_there object there = by (overlay.real object) refl
-    where
-      by : (o : Option (Real ℕ)) → overlay.real object ≡ o → is_some o ≡ true
-      by (Some real) e = refl
-      by None e = absurd (nothing_is_no_object (tree.node object) there
-          (subst (λ o. SameObject (tree.node object) (then_some o (real_node nat_eq world overlay))) e
-          (merged.real_objects object)))
+  real_there object there = grind (arith, common_steps)
 
   -- so names that lead to what lies below are the path of its real object
   path_of_names : (object : ℕ) (path : List (List ℕ)) → lies_only_in_lowers overlay object ≡ true
@@ -104,15 +79,12 @@ module _ (world : World ℕ) (filesystem : Filesystem ℕ) (overlay : Overlay �
           → entry_at tree other again ≡ Some object → is_some (tree.node object) ≡ true → IsReached tree one
           → IsReached tree other → one ≡ other
       reached_alike name again e f there way path =
-          let first = path_of_names object (way.0 ++ name ∷ []) below there
-          (led-append tree tree.root way.0 name one object way.1 e) in
-          let second = path_of_names object (path.0 ++ again ∷ []) below there
-          (led-append tree tree.root path.0 again other object path.1 f) in
+          let first = path_of_names object (way.0 ++ name ∷ []) below there (led-append tree tree.root way.0 name one
+          object way.1 e) in
+          let second = path_of_names object (path.0 ++ again ∷ []) below there (led-append tree tree.root path.0
+          again other object path.1 f) in
           let same = names_before way.0 path.0 name again (sym first ∙ second) in
-          ap unwrap_or_zero (sym way.1 ∙ ap (led tree tree.root) same ∙ path.1)
-        where
-          unwrap_or_zero : Option ℕ → ℕ
-          unwrap_or_zero o = unwrap_or o 0
+          cc (way.1, path.1)
 
       by : (name again : List ℕ) → entry_at tree one name ≡ Some object → entry_at tree other again ≡ Some object
           → is_some (tree.node object) ≡ true → (b : Bool) → nat_eq one other ≡ b → one ≡ other

@@ -1,43 +1,32 @@
 -- What lies in a layer of an overlay of a store is what the world that holds it locks.
-use Rattle.std.proofs.Common.{◌≡◌, refl, sym, ap, subst, ◌∙◌, ⊎_elim, inl, inr, true≢false, ℕ, nat_eq, eq-eqb, eqb-true, Bool, true, false, cond, not, ◌&&◌, ◌||◌, List, [], ◌∷◌, ◌++◌, flat_map, map, Option, Some, None, is_some, unwrap_or, ltb-true}
-use Rattle.vt_spec.proofs.Common.{Among, FileTree, Filesystem, HasOwnParents, IsTree, Layer, Node, Overlay, World, and-false, and_parts, and_true_left, counts_in_layer, entry_from, filesystem_numbered, found_among, has_entry_to, holds_of, is_directory_node, is_directory_under, is_file_under, is_locked, is_locked_at, is_object_of, is_overlay, is_plain_layer, is_under, layers_of, lies_in_layer, lies_or_counts_under, list_all, list_any, live_layers, mount_at, node_in, none_from_among, of_overlay, or-false, overlay_or, overlays}
-use Rattle.vt_ns.proofs.Common.{FilesystemEntry, Filesystems, IsHeld, StoreValue, WorldValue, among-from_filter, among-map, among_from_all, among_from_list_all, counted, counted_test, entry_of, files_at, filesystem_seen, is_own_number, is_small_node, location_of, no_entry, number_of, numbered_all, overlay_of_store, overlay_seen, overlays_of_store, overlays_seen, small_parts, with_store, world_of}
+use Rattle.std.proofs.Common.{◌≡◌, refl, sym, ap, subst, ◌∙◌, ⊎_elim, inl, inr, true≢false, ℕ, nat_eq, eq-eqb, eqb-true, Bool, true, false, cond, not, ◌&&◌, ◌||◌, List, [], ◌∷◌, ◌++◌, flat_map, map, Option, Some, None, is_some, unwrap_or, arith}
+use Rattle.vt_spec.proofs.Common.{Among, FileTree, Filesystem, HasOwnParents, IsTree, Layer, Node, Overlay, World, and-false, and_parts, counts_in_layer, entry_from, filesystem_numbered, found_among, has_entry_to, is_locked, is_locked_at, is_overlay, is_plain_layer, is_under, layers_of, lies_in_layer, lies_or_counts_under, list_all, list_any, live_layers, mount_at, none_from_among, of_overlay, or-false, overlays, not-true, common_steps}
+use Rattle.vt_ns.proofs.Common.{FilesystemEntry, Filesystems, IsHeld, StoreValue, WorldValue, among-from_filter, among-map, among_from_all, among_from_list_all, counted, counted_test, entry_of, files_at, filesystem_seen, is_own_number, is_small_node, location_of, no_entry, number_of, numbered_all, overlay_of_store, overlay_seen, overlays_of_store, overlays_seen, with_store, world_of}
 use Rattle.vt_group.proofs.IndexLemmas.{any_flat}
-use Rattle.vt_location.specs.declared.births.Birth.{Birth}
-use Rattle.vt_location.specs.declared.births.Birth.TheVariants.{Below, Here}
+use Rattle.vt_location.specs.declared.births.Birth.TheVariants.{Here}
 use Rattle.vt_location.specs.declared.locations.InodeRef.{InodeRef}
 use Rattle.vt_location.specs.declared.locations.Location.{Location}
 use Rattle.vt_location.specs.declared.locations.NodeRef.{NodeRef}
 use Rattle.vt_location.specs.Locations.{inode_of, plain_at}
-use Rattle.vt_location.proofs.NodeLemmas.{no_inodes}
-use Rattle.vt_location.proofs.NumberLemmas.{own_inode, slot_of}
 use Rattle.vt_fs.specs.FilesystemsValue.{files_seen}
 use Rattle.vt_fs.specs.Laws.{ParentsAreNamed}
 use Rattle.vt_fs.proofs.Parents.{parents_named}
 use Rattle.vt_overlay.specs.declared.merge.layers.LayerRef.{LayerRef}
 use Rattle.vt_overlay.specs.MergedTree.{layer_seen}
 use Rattle.vt_store.specs.Locks.{is_in_layer, lies_in, lies_in_overlay}
-use Rattle.vt_store.specs.OverlaysValue as stored
 use Rattle.vt_world.specs.Held.{HasOwnInodes}
 use Rattle.vt_mounting.specs.Detach.Looking.{is_seen}
 use Rattle.vt_mounting.proofs.detach.LookLemmas.{unseen_node}
 use Rattle.vt_mounting.proofs.detach.Overlaid.{overlays_are, plain_one_among}
 use Rattle.vt_mounting.proofs.detach.PlainFound.{counted_where_plain, overlay_among}
+use Rattle.vt_laws_trees.proofs.layers.layers.ShownFronts.{list_any_of_map}
+use Rattle.vt_store.specs.OverlaysValue as stored
 
 -- tests that agree on the elements of a list are passed by some alike
 any_alike : {A : Type 0} (one other : A → Bool) (list : List A) → ((a : A) → Among a list → one a ≡ other a)
     → list_any one list ≡ list_any other list
 any_alike one other [] same = refl
 any_alike one other (a ∷ rest) same = λ i. same a (inl refl) i || any_alike one other rest (λ b m. same b (inr m)) i
-
-any_mapped : {A B : Type 0} (test : B → Bool) (change : A → B) (list : List A)
-    → list_any test (map change list) ≡ list_any (λ a. test (change a)) list
-any_mapped test change [] = refl
-any_mapped test change (a ∷ rest) = ap (λ b. test (change a) || b) (any_mapped test change rest)
-
-not_so : (b : Bool) → not b ≡ true → b ≡ false
-not_so true e = absurd (true≢false (sym e))
-not_so false e = refl
 
 -- an inode of a plain filesystem was born there
 born_plain : (plain : Filesystems) → ((entry : FilesystemEntry) → Among entry plain → HasOwnInodes entry) → (count : ℕ)
@@ -51,13 +40,8 @@ born_plain plain own count node small there = by (entry_of plain count) refl the
     by (Some entry) e there = of_number (is_own_number entry.count (number_of node)) refl
       where
         of_number : (b : Bool) → is_own_number entry.count (number_of node) ≡ b → node.birth ≡ Here
-        of_number false other = absurd (true≢false (sym there ∙ ap (λ o. is_some (node_in o))
-            (own entry (found_among (λ (one : FilesystemEntry). nat_eq count one.count) plain entry e)
-            (number_of node) other)))
-        of_number true is =
-            let slot = slot_of entry.count (number_of node) (own_inode entry.count (number_of node) is) in
-            no_inodes node entry.count slot.0 (small_parts node small)
-            (ltb-true entry.count 18446744073709551616 (and_true_left _ _ is)) slot.1 slot.2
+        of_number false other = grind (arith, common_steps, is_some, own, found_among)
+        of_number true is = grind (arith, common_steps)
 
 -- the inode that a node is, if it was born in its filesystem
 pub record IsPlainNode (node : NodeRef) (inode : InodeRef) : Type 0 where
@@ -65,21 +49,10 @@ pub record IsPlainNode (node : NodeRef) (inode : InodeRef) : Type 0 where
   pub number : inode_of inode ≡ number_of node
 
 pub plain_number : (node : NodeRef) (inode : InodeRef) → plain_at node node.birth ≡ Some inode → IsPlainNode node inode
-plain_number node inode e = by node.birth refl e
-  where
-    by : (birth : Birth) → node.birth ≡ birth → plain_at node birth ≡ Some inode → IsPlainNode node inode
-    by Here here e =
-        let same : inode ≡ record { filesystem = node.filesystem; slot = node.slot } = cc in
-        record {
-          filesystem = ap (λ (one : InodeRef). one.filesystem.count) same;
-          number = ap inode_of same ∙ ap (λ (birth : Birth). number_of (record node { birth = birth })) (sym here);
-        }
-    by (Below layer directory rank) below e = absurd cc
+plain_number node inode e = grind (arith, common_steps)
 
 pub born_below : (node : NodeRef) → plain_at node node.birth ≡ None → node.birth ≡ Here → ⊥
-born_below node none here =
-    let wrong : plain_at node Here ≡ None = ap (plain_at node) (sym here) ∙ none in
-    absurd cc
+born_below node none here = cc
 
 module _ (base : WorldValue) (store : StoreValue) (held : IsHeld (with_store store base)) where
   abbrev kept : WorldValue
@@ -97,22 +70,10 @@ module _ (base : WorldValue) (store : StoreValue) (held : IsHeld (with_store sto
       of_overlay false (λ overlay. is_some overlay.upper) f ≡ false) world.filesystems held.overlays.read_only merged
       (among-from_filter is_overlay world.filesystems merged m).0))
     where
-      without : (merged : Filesystem ℕ) (overlay : Overlay ℕ) (o : Option (Layer ℕ)) → is_some o ≡ false
-          → (holds_of (λ upper. lies_in_layer nat_eq world upper.filesystem upper.directory layer) o
-          && is_object_of nat_eq filesystem number merged overlay) ≡ false
-      without merged overlay None e = refl
-      without merged overlay (Some upper) e = absurd (true≢false e)
-
       by : (merged : Filesystem ℕ) (o : Option (Overlay ℕ)) → merged.overlay ≡ o
           → of_overlay false (λ overlay. is_some overlay.upper) merged ≡ false
           → counts_in_layer nat_eq world filesystem number layer merged ≡ false
-      by merged None e none = ap (overlay_or false (λ overlay.
-          holds_of (λ upper. lies_in_layer nat_eq world upper.filesystem upper.directory layer) overlay.upper
-          && is_object_of nat_eq filesystem number merged overlay)) e
-      by merged (Some overlay) e none = ap (overlay_or false (λ overlay.
-          holds_of (λ upper. lies_in_layer nat_eq world upper.filesystem upper.directory layer) overlay.upper
-          && is_object_of nat_eq filesystem number merged overlay)) e ∙ without merged overlay overlay.upper
-          (sym (ap (overlay_or false (λ overlay. is_some overlay.upper)) e) ∙ none)
+      by merged o e none = grind (arith, common_steps)
 
   -- the layers of its overlays
   live_are : (entries : List stored.OverlayEntry)
@@ -137,7 +98,7 @@ module _ (base : WorldValue) (store : StoreValue) (held : IsHeld (with_store sto
       ∙ any_flat (lies_in_layer nat_eq world filesystem number)
       (λ (entry : stored.OverlayEntry). map layer_seen entry.overlay.lowers) store.overlays
       ∙ any_alike _ (in_entry filesystem number) store.overlays
-      (λ entry m. any_mapped (lies_in_layer nat_eq world filesystem number) layer_seen entry.overlay.lowers)
+      (λ entry m. list_any_of_map (lies_in_layer nat_eq world filesystem number) layer_seen entry.overlay.lowers)
 
   module _ (entry : stored.OverlayEntry) (m : Among entry store.overlays) (layer : LayerRef)
       (n : Among layer entry.overlay.lowers) where
@@ -155,7 +116,7 @@ module _ (base : WorldValue) (store : StoreValue) (held : IsHeld (with_store sto
         let all : list_all (is_plain_layer nat_eq world) (map layer_seen entry.overlay.lowers) ≡ true =
         among_from_list_all (of_overlay true (λ overlay. list_all (is_plain_layer nat_eq world) (layers_of overlay)))
         world.filesystems held.in_world.overlays.plain_layers seen among in
-        not_so _ (and_parts (not (is_overlay (filesystem_numbered nat_eq world (counted own)))) _
+        not-true _ (and_parts (not (is_overlay (filesystem_numbered nat_eq world (counted own)))) _
         (among_from_list_all (is_plain_layer nat_eq world) (map layer_seen entry.overlay.lowers) all (layer_seen layer)
         (among-map layer_seen entry.overlay.lowers layer n))).0
 
@@ -170,9 +131,7 @@ module _ (base : WorldValue) (store : StoreValue) (held : IsHeld (with_store sto
       where
         by : (b : Bool) → nat_eq count own ≡ b → lies_in_layer nat_eq world (counted count) number (layer_seen layer)
             ≡ lies_in store.plain count number layer
-        by false e = ap (λ b. b && is_under nat_eq (filesystem_numbered nat_eq world (counted count)).files
-            (inode_of layer.directory) number) (counted_test count own ∙ e)
-            ∙ sym (ap (λ b. b && is_under nat_eq (files_at store.plain count) (inode_of layer.directory) number) e)
+        by false e = cc (counted_test count own)
         by true e =
             let files = subst (λ k. (filesystem_numbered nat_eq world (counted k)).files ≡ files_at store.plain k)
             (sym (eqb-true count own e)) same_files in
@@ -202,21 +161,12 @@ module _ (base : WorldValue) (store : StoreValue) (held : IsHeld (with_store sto
       → (filesystem_numbered nat_eq (world_of (with_store store base)) filesystem).files.tree.node number ≡ None
       → is_under nat_eq (filesystem_numbered nat_eq (world_of (with_store store base)) filesystem).files top number
       ≡ false
-  nothing_under filesystem number top none =
-      let files = (filesystem_numbered nat_eq world filesystem).files in
-      ap (λ o. cond (is_directory_node o) (is_directory_under nat_eq files top number)
-      (is_file_under nat_eq files top number)) none
-      ∙ none_from_among (λ directory. has_entry_to nat_eq files.tree directory number
-      && is_directory_under nat_eq files top directory) files.numbers
-      (λ directory m. ap (λ b. b && is_directory_under nat_eq files top directory)
-      (no_entry_to filesystem number directory none))
+  nothing_under filesystem number top none = grind (arith, common_steps, cond, none_from_among, no_entry_to)
 
   not_there : (filesystem number : ℕ)
       → (filesystem_numbered nat_eq (world_of (with_store store base)) filesystem).files.tree.node number ≡ None
       → (layer : Layer ℕ) → lies_in_layer nat_eq (world_of (with_store store base)) filesystem number layer ≡ false
-  not_there filesystem number none layer =
-      ap (λ b. nat_eq filesystem layer.filesystem && b) (nothing_under filesystem number layer.directory none)
-      ∙ and-false _
+  not_there filesystem number none layer = cc (nothing_under filesystem number layer.directory none, and-false _)
 
   -- nor does what was born below a layer
   not_plain : (filesystem : ℕ) (node : NodeRef) → is_small_node node ≡ true → (node.birth ≡ Here → ⊥)
@@ -237,8 +187,7 @@ module _ (base : WorldValue) (store : StoreValue) (held : IsHeld (with_store sto
       by : (b : Bool) → nat_eq filesystem (counted own_count) ≡ b
           → lies_in_layer nat_eq (world_of (with_store store base)) filesystem (number_of node) (layer_seen layer)
           ≡ false
-      by false e = ap (λ b. b && is_under nat_eq (filesystem_numbered nat_eq world filesystem).files
-          (inode_of layer.directory) (number_of node)) e
+      by false e = cc
       by true e = not_there filesystem (number_of node)
           (ap (λ k. (filesystem_numbered nat_eq world k).files.tree.node (number_of node))
           (eqb-true filesystem (counted own_count) e)
@@ -293,21 +242,10 @@ module _ (base : WorldValue) (store : StoreValue) (held : IsHeld (with_store sto
     pub seen_locked : (inode : InodeRef) → plain_at at.node at.node.birth ≡ Some inode → is_seen value at ≡ true
         → is_in_layer store inode.filesystem.count (inode_of inode)
         ≡ is_locked_at nat_eq (world_of value) (location_of at)
-    seen_locked inode plain = subst (λ (v : WorldValue). is_seen v at ≡ true
-        → is_in_layer store inode.filesystem.count (inode_of inode)
-        ≡ is_locked_at nat_eq (world_of v) (location_of at)) is (λ seen.
-        let same = plain_number at.node inode plain in
-        locks_are inode.filesystem.count (inode_of inode)
-        ∙ (λ i. is_locked nat_eq (world_of kept) (counted (same.filesystem i)) (same.number i))
-        ∙ ap (λ n. is_locked nat_eq (world_of kept) n (number_of at.node))
-        (sym (eqb-true (mount_at nat_eq (world_of kept) (location_of at)).filesystem
-        (counted at.node.filesystem.count) seen)))
+    seen_locked inode plain = grind (arith, common_steps, is_seen, plain_number, locks_are, kept, counted, eqb-true)
 
     pub unseen_unlocked : is_seen value at ≡ false → is_locked_at nat_eq (world_of value) (location_of at) ≡ false
-    unseen_unlocked = subst (λ (v : WorldValue). is_seen v at ≡ false
-        → is_locked_at nat_eq (world_of v) (location_of at) ≡ false) is
-        (λ unseen. none_there (mount_at nat_eq (world_of kept) (location_of at)).filesystem (number_of at.node)
-        (unseen_node kept held at small unseen))
+    unseen_unlocked = grind (arith, common_steps, is_seen, none_there, kept, unseen_node)
 
     pub below_unlocked : plain_at at.node at.node.birth ≡ None
         → is_locked_at nat_eq (world_of value) (location_of at) ≡ false
@@ -317,7 +255,4 @@ module _ (base : WorldValue) (store : StoreValue) (held : IsHeld (with_store sto
 
     -- and so is everything where there are no overlays
     pub all_unlocked : store.overlays ≡ [] → is_locked_at nat_eq (world_of value) (location_of at) ≡ false
-    all_unlocked none = subst (λ (v : WorldValue). is_locked_at nat_eq (world_of v) (location_of at) ≡ false) is
-        (locked_by (mount_at nat_eq (world_of kept) (location_of at)).filesystem (number_of at.node)
-        ∙ ap (list_any (in_entry (mount_at nat_eq (world_of kept) (location_of at)).filesystem (number_of at.node)))
-        none)
+    all_unlocked none = grind (arith, common_steps, locked_by, kept)

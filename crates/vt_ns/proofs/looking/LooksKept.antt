@@ -1,6 +1,6 @@
 -- What code finds in what is kept of a world is what the definitions see of its value.
-use Rattle.std.proofs.Common.{◌≡◌, refl, sym, ap, subst, ◌∙◌, ℕ, nat_eq, eqb-true, true≢false, Bool, true, false, cond, is_some, not, ◌&&◌, ◌||◌, List, [], ◌∷◌, zero, suc, length, Option, Some, None, option_map, unwrap_or, find}
-use Rattle.vt_spec.proofs.Common.{Node, Tree, chain, child_at, filesystem_at, filesystem_numbered, holds_of, is_directory_under, is_removed, is_removed_at, last_or, list_any, mount_at, mount_numbered, mounts_on, no_mount, node_at, none_is_some, or-true, root_of, same_location, stands_on}
+use Rattle.std.proofs.Common.{◌≡◌, refl, sym, ap, subst, ◌∙◌, ℕ, nat_eq, true≢false, Bool, true, false, is_some, not, ◌&&◌, ◌||◌, [], ◌∷◌, zero, suc, length, Option, Some, None, option_map, unwrap_or, find, arith}
+use Rattle.vt_spec.proofs.Common.{Node, Tree, chain, child_at, filesystem_at, filesystem_numbered, is_directory_under, is_removed, is_removed_at, last_or, list_any, mount_at, mount_numbered, mounts_on, no_mount, node_at, none_is_some, or-true, root_of, stands_on, common_steps}
 use Rattle.vt_spec.specs.Machine.Mounts as meant
 use Rattle.vt_spec.specs.Machine.Looks.{topmost}
 use Rattle.vt_spec.specs.Machine.Walking.{is_lost}
@@ -11,13 +11,13 @@ use Rattle.vt_ns.proofs.Common.{IsHeld, StoreValue, WorldValue, counted, counted
 use Rattle.vt_location.specs.Numbers.{mount_number}
 use Rattle.vt_looks.specs.declared.look.Ground.{Ground}
 use Rattle.vt_looks.specs.Looking.{IsGround}
-use Rattle.vt_fs.proofs.Entries.{or_false_left, or_false_right}
 use Rattle.vt_fs.specs.Laws.{is_lost_under}
 use Rattle.vt_mounting.specs.Detach.Looking.{is_seen}
 use Rattle.vt_store.specs.StoreValue.{files_in}
 use Rattle.vt_mounting.proofs.detach.LookLemmas.{any_point, missing_root, under_another, unseen_node, unseen_removed, unseen_root}
 use Rattle.vt_ns.proofs.looking.StoreLooked.{lent_shown, under_shown}
 use Rattle.vt_ns.specs.Lent.{as_lent, real_of_value}
+use Rattle.vt_mount.proofs.PointLemmas.{none_at}
 
 -- the mount that is found, or what stands for one that is not there
 module _ (value : WorldValue) (number : ℕ) (got : Option Mount) (is_found : option_map mount_of got
@@ -45,8 +45,7 @@ module _ (base : WorldValue) (store : StoreValue) (value : WorldValue) (is : wit
   -- of one that is seen the mount shows its filesystem
   in_filesystem : is_seen kept at ≡ true
       → (mount_at nat_eq (world_of kept) (location_of at)).filesystem ≡ counted at.node.filesystem.count
-  in_filesystem seen =
-      eqb-true (mount_at nat_eq (world_of kept) (location_of at)).filesystem (counted at.node.filesystem.count) seen
+  in_filesystem seen = grind (arith, common_steps)
 
   -- the object of a node on the mount of a location that is seen is lent
   pub object_beside : (beside : ℕ) → is_seen value at ≡ true → lent_in store at.node.filesystem.count beside
@@ -194,20 +193,6 @@ module _ (base : WorldValue) (store : StoreValue) (value : WorldValue) (is : wit
     lost_missing none = subst (IsLost true) is (not_under kept
         (missing_root kept held at small (mount_missing kept (counted at.mount.count) got is_found none)))
 
--- no mount is over a location on a mount that none stands on
-not_on : (at : meant.Location ℕ) (place : Option (meant.Location ℕ))
-    → holds_of (λ (place : meant.Location ℕ). nat_eq at.mount place.mount) place ≡ false
-    → holds_of (same_location nat_eq at) place ≡ false
-not_on at None none = refl
-not_on at (Some place) none = ap (λ b. b && nat_eq at.node place.node) none
-
-none_at : (at : meant.Location ℕ) (mounts : List (meant.Mount ℕ)) → list_any (stands_on nat_eq at.mount) mounts ≡ false
-    → child_at nat_eq mounts at ≡ None
-none_at at [] none = refl
-none_at at (mount ∷ mounts) none =
-    ap (λ b. cond b (Some mount) (child_at nat_eq mounts at)) (not_on at mount.mount_point (or_false_left _ _ none))
-    ∙ none_at at mounts (or_false_right _ _ none)
-
 last_of_chain : (n : ℕ) (next : meant.Location ℕ → Option (meant.Location ℕ)) (at : meant.Location ℕ) → next at ≡ None
     → last_or at (chain n next at) ≡ at
 last_of_chain zero next at none = refl
@@ -233,5 +218,4 @@ bare_top value mount none at on = last_of_chain (length (mounts_in value.mounts)
 pub seen_on : (value : WorldValue) (at : Location) (ground : Ground) (b : Bool)
     → IsGround (looks_of_value value) at.mount ground
     → nat_eq ground.filesystem.count at.node.filesystem.count ≡ b → is_seen value at ≡ b
-seen_on value at ground b is same = ap (λ n. nat_eq n (counted at.node.filesystem.count)) (sym is.filesystem)
-    ∙ counted_test ground.filesystem.count at.node.filesystem.count ∙ same
+seen_on value at ground b is same = grind (arith, common_steps)

@@ -1,57 +1,29 @@
 -- What stat(2) and read(2) tell of what is lent is what the definitions tell of the inode.
-use Rattle.std.proofs.Common.{◌≡◌, refl, sym, ℕ, nat_eq, true, false, Option, Some, None, is_some, option_map}
-use Rattle.vt_spec.proofs.Common.{Content, Directory, Filesystem, Node, Overlay, Regular, Symlink, Whiteout, filesystem_at, is_opaque_in, is_overlay_at, mount_at, node_at, none_is_some, stat_line}
+use Rattle.std.proofs.Common.{◌≡◌, refl, sym, ℕ, nat_eq, true, false, Option, Some, None, is_some, option_map, arith}
+use Rattle.vt_spec.proofs.Common.{Filesystem, Node, Overlay, filesystem_at, is_opaque_in, is_overlay_at, mount_at, node_at, none_is_some, stat_line, common_steps}
 use Rattle.vt_spec.specs.Machine.Mounts as meant
 use Rattle.vt_ns.proofs.Common.{IsHeld, WorldValue, looks_of_value, node_seen, world_of}
 use Rattle.vt_world.specs.Lent.{count_of, lent_by}
-use Rattle.vt_ns.specs.Lent.{as_lent, real_of_value, with_names}
+use Rattle.vt_ns.specs.Lent.{as_lent, real_of_value}
 use Rattle.vt_ns.specs.Told.{told_by}
 
 -- what is lent of a plain tree has the mark
 plain_told : (count : ℕ) (node : Option (Node ℕ))
     → told_by false (as_lent node (option_map (node_seen count) node)) ≡ stat_line node
 plain_told count None = refl
-plain_told count (Some node) = by node.content
-  where
-    here : Content ℕ → Option (Node ℕ)
-    here content = Some (record { attr = node.attr; content = content })
-
-    by : (content : Content ℕ) → told_by false (as_lent (here content) (option_map (node_seen count) (here content)))
-        ≡ stat_line (here content)
-    by (Directory parent entries opaque) = refl
-    by (Regular bytes) = refl
-    by (Symlink text) = refl
-    by Whiteout = refl
+plain_told count (Some node) = grind (arith, common_steps)
 
 -- what is lent of an overlay is told without one
 merged_told : (node lent : Option (Node ℕ)) → is_opaque_in node ≡ false → told_by true (as_lent node lent) ≡ stat_line node
 merged_told None lent none = refl
 merged_told (Some node) None none = λ i. record (stat_line (Some node)) { opaque = sym none i }
-merged_told (Some node) (Some lent) none = by node.content lent.content none
-  where
-    here : Content ℕ → Option (Node ℕ)
-    here content = Some (record { attr = node.attr; content = content })
-
-    by : (content other : Content ℕ) → is_opaque_in (here content) ≡ false
-        → told_by true (here (with_names content other)) ≡ stat_line (here content)
-    by (Directory parent entries opaque) (Directory slot slots mark) none =
-        λ i. record (stat_line (here (Directory parent entries opaque))) { opaque = sym none i }
-    by (Directory parent entries opaque) (Regular bytes) none =
-        λ i. record (stat_line (here (Directory parent entries opaque))) { opaque = sym none i }
-    by (Directory parent entries opaque) (Symlink text) none =
-        λ i. record (stat_line (here (Directory parent entries opaque))) { opaque = sym none i }
-    by (Directory parent entries opaque) Whiteout none =
-        λ i. record (stat_line (here (Directory parent entries opaque))) { opaque = sym none i }
-    by (Regular bytes) other none = refl
-    by (Symlink text) other none = refl
-    by Whiteout other none = refl
+merged_told (Some node) (Some lent) none = grind (arith, common_steps)
 
 -- where nothing is lent, nothing is there
 pub none_lent : (node lent : Option (Node ℕ)) → as_lent node lent ≡ None → node ≡ None
 none_lent None lent e = refl
 none_lent (Some node) None e = none_is_some node (sym e)
-none_lent (Some node) (Some lent) e =
-    none_is_some (record { attr = node.attr; content = with_names node.content lent.content }) (sym e)
+none_lent (Some node) (Some lent) e = cc
 
 module _ (value : WorldValue) (held : IsHeld value) (at : meant.Location ℕ) where
   abbrev filesystem : Filesystem ℕ

@@ -1,17 +1,17 @@
 -- What a world shows of the overlay at a location, by who mounted it.
-use Rattle.std.proofs.Common.{◌≡◌, refl, sym, ap, subst, ◌∙◌, true≢false, ℕ, nat_eq, Bool, true, false, not, Option, Some, None, is_some, option_copied, option_map, [], Bor, IfSome}
-use Rattle.vt_spec.proofs.Common.{Credentials, Layer, Lower, Node, Overlay, Real, Upper, filesystem_at, filesystem_numbered, has_no_upper, holds_of, is_overlay_at, lies_only_in_lowers, mount_at, mount_numbered, mounter_allows, node_allows, node_at, overlay_or, upper_object}
+use Rattle.std.proofs.Common.{◌≡◌, refl, sym, ap, subst, ◌∙◌, true≢false, ℕ, nat_eq, Bool, true, false, Option, Some, None, is_some, option_copied, option_map, [], Bor, IfSome, arith}
+use Rattle.vt_spec.proofs.Common.{Credentials, Layer, Lower, Node, Overlay, Real, Upper, filesystem_at, filesystem_numbered, has_no_upper, holds_of, is_overlay_at, lies_only_in_lowers, mount_at, mount_numbered, node_allows, overlay_or, upper_object, common_steps}
 use Rattle.vt_spec.specs.Machine.Looks.{mounter_may}
-use Rattle.vt_spec.specs.Machine.Mounts as meant
-use Rattle.vt_ns.proofs.Common.{IsHeld, OverlayValue, StoreValue, WorldValue, counted, lent_of_world, looks_of_value, overlay_in, with_store, world_of}
+use Rattle.vt_ns.proofs.Common.{IsHeld, OverlayValue, StoreValue, WorldValue, counted, looks_of_value, overlay_in, with_store, world_of}
 use Rattle.vt_looks.specs.Looking.{is_only_below}
-use Rattle.vt_store.specs.OverlaysValue.{overlay_of}
 use Rattle.vt_mounting.proofs.detach.LookLemmas.{shown_counted}
 use Rattle.vt_ns.proofs.looking.Lending.{allows_alike}
 use Rattle.vt_ns.proofs.looking.OverlaysAt.{no_overlay_there, overlay_there}
 use Rattle.vt_ns.proofs.looking.UppersAsked.{found_without}
 use Rattle.vt_ns.specs.Lent.{lent_alike, real_of_value}
 use Rattle.vt_ns.specs.Mounters.{mounter_on}
+use Rattle.vt_store.specs.OverlaysValue.{overlay_of}
+use Rattle.vt_spec.specs.Machine.Mounts as meant
 
 -- The mounter is that of the overlay in the store.
 module _ (base : WorldValue) (store : StoreValue) (value : WorldValue) (is : with_store store base ≡ value)
@@ -27,8 +27,7 @@ module _ (base : WorldValue) (store : StoreValue) (value : WorldValue) (is : wit
           → option_map (λ (overlay : OverlayValue). overlay.mounter) o
           ≡ option_map (λ (overlay : Overlay ℕ). overlay.mounter)
           (filesystem_numbered nat_eq (world_of (with_store store base)) (counted count)).overlay
-      by None e =
-          sym (ap (option_map (λ (overlay : Overlay ℕ). overlay.mounter)) (no_overlay_there base store held count e))
+      by None e = cc (no_overlay_there base store held count e)
       by (Some overlay) e =
           let there = overlay_there base store held count overlay e in
           sym (ap (option_map (λ (one : Overlay ℕ). one.mounter)) there.is ∙ ap Some there.mounter)
@@ -37,9 +36,7 @@ module _ (base : WorldValue) (store : StoreValue) (value : WorldValue) (is : wit
   pub mounter_shown : (mount shown : ℕ) → counted shown ≡ (mount_numbered nat_eq (world_of value) mount).filesystem
       → option_map (λ (overlay : OverlayValue). overlay.mounter) (overlay_in store shown)
       ≡ mounter_on (world_of value) mount
-  mounter_shown mount shown shows = mounter_counted shown
-      ∙ ap (λ n. option_map (λ (overlay : Overlay ℕ). overlay.mounter)
-      (filesystem_numbered nat_eq (world_of value) n).overlay) shows
+  mounter_shown mount shown shows = cc (mounter_counted shown)
 
   -- and nobody's, where there are no overlays
   pub nobody_mounted : store.overlays ≡ [] → (count : ℕ) → mounter_on (world_of value) (counted count) ≡ None
@@ -51,8 +48,7 @@ module _ (base : WorldValue) (store : StoreValue) (value : WorldValue) (is : wit
 -- it is somebody's just if an overlay is lent
 pub mounted_by_some : (lent : Option (Bor OverlayValue))
     → is_some lent ≡ is_some (option_map (λ (overlay : OverlayValue). overlay.mounter) (option_copied lent))
-mounted_by_some None = refl
-mounted_by_some (Some overlay) = refl
+mounted_by_some lent = grind (arith, common_steps)
 
 -- Looks at a location
 
@@ -61,21 +57,11 @@ module _ (value : WorldValue) (at : meant.Location ℕ) where
   overlay_here = (filesystem_at nat_eq (world_of value) at).overlay
 
   pub overlay_is : is_some (mounter_on (world_of value) at.mount) ≡ is_overlay_at (looks_of_value value) at
-  overlay_is = by overlay_here
-    where
-      by : (o : Option (Overlay ℕ)) → is_some (option_map (λ (overlay : Overlay ℕ). overlay.mounter) o) ≡ is_some o
-      by None = refl
-      by (Some overlay) = refl
+  overlay_is = grind (arith, common_steps)
 
   -- it has no upper layer
   pub no_upper_is : is_some (mounter_on (world_of value) at.mount) ≡ has_no_upper (looks_of_value value) at
-  no_upper_is = by overlay_here (found_without value (mount_at nat_eq (world_of value) at).filesystem)
-    where
-      by : (o : Option (Overlay ℕ)) → overlay_or false (λ overlay. is_some overlay.upper) o ≡ false
-          → is_some (option_map (λ (overlay : Overlay ℕ). overlay.mounter) o)
-          ≡ overlay_or false (λ overlay. not (is_some overlay.upper)) o
-      by None none = refl
-      by (Some overlay) none = sym (ap not none)
+  no_upper_is = grind (arith, common_steps, found_without value (mount_at nat_eq (world_of value) at).filesystem)
 
   -- so all its objects are in lower ones
   pub only_below_is : IsHeld value
@@ -95,32 +81,17 @@ module _ (value : WorldValue) (at : meant.Location ℕ) where
       by : (o : Option (Overlay ℕ)) → overlay_here ≡ o → overlay_or false (λ overlay. is_some overlay.upper) o ≡ false
           → is_some (option_map (λ (overlay : Overlay ℕ). overlay.mounter) o)
           ≡ overlay_or false (λ overlay. lies_only_in_lowers overlay at.node) o
-      by None e none = refl
-      by (Some overlay) e none = sym (ap (λ o. not (is_some o))
-          (no_object overlay e overlay.upper refl none (overlay.real at.node) refl))
+      by o e none = grind (arith, common_steps, is_some, no_object)
 
   -- the mounter is asked with what is lent
   pub mounter_is : (who : Credentials) → mounter_on (world_of value) at.mount ≡ Some who → (wanted : ℕ)
       → node_allows who wanted (real_of_value value at) ≡ mounter_may (looks_of_value value) at wanted
-  mounter_is who some wanted = allows_alike who wanted (real_of_value value at) (node_at nat_eq (world_of value) at)
-      (lent_alike (node_at nat_eq (world_of value) at)
-      (lent_of_world (world_of value) (mount_at nat_eq (world_of value) at).filesystem at.node)) ∙ by overlay_here some
-    where
-      by : (o : Option (Overlay ℕ)) → option_map (λ (overlay : Overlay ℕ). overlay.mounter) o ≡ Some who
-          → node_allows who wanted (node_at nat_eq (world_of value) at)
-          ≡ mounter_allows o wanted (node_at nat_eq (world_of value) at)
-      by None e = absurd cc
-      by (Some overlay) e = cc
+  mounter_is who some wanted = grind (arith, common_steps, allows_alike, lent_alike)
 
   -- nobody is on a plain tree
   pub nobody_is : mounter_on (world_of value) at.mount ≡ None → (wanted : ℕ)
       → true ≡ mounter_may (looks_of_value value) at wanted
-  nobody_is none wanted = by overlay_here none
-    where
-      by : (o : Option (Overlay ℕ)) → option_map (λ (overlay : Overlay ℕ). overlay.mounter) o ≡ None
-          → true ≡ mounter_allows o wanted (node_at nat_eq (world_of value) at)
-      by None e = refl
-      by (Some overlay) e = absurd cc
+  nobody_is none wanted = grind (arith, common_steps)
 
 -- what the mounter of a filesystem is granted, where the mount of the location shows that
 module _ (base : WorldValue) (store : StoreValue) (value : WorldValue) (is : with_store store base ≡ value)
@@ -133,12 +104,10 @@ module _ (base : WorldValue) (store : StoreValue) (value : WorldValue) (is : wit
     where
       mounter : (o : Option OverlayValue) → overlay_in store shown ≡ o
           → mounter_on (world_of value) at.mount ≡ option_map (λ (overlay : OverlayValue). overlay.mounter) o
-      mounter o e = sym (mounter_shown base store value is held at.mount shown shows)
-          ∙ ap (option_map (λ (overlay : OverlayValue). overlay.mounter)) e
+      mounter o e = cc (mounter_shown base store value is held at.mount shown shows)
 
       by : (o : Option OverlayValue) → overlay_in store shown ≡ o
           → IfSome o (λ overlay. granted ≡ node_allows overlay.mounter wanted (Some node))
           → granted ≡ mounter_may (looks_of_value value) at wanted
       by None e allowed = plain e ∙ nobody_is value at (mounter None e) wanted
-      by (Some overlay) e allowed = allowed ∙ ap (node_allows overlay.mounter wanted) (sym lent)
-          ∙ mounter_is value at overlay.mounter (mounter (Some overlay) e) wanted
+      by (Some overlay) e allowed = cc (lent, mounter_is value at overlay.mounter (mounter (Some overlay) e) wanted)

@@ -1,11 +1,10 @@
 -- What is asked of overlays that have an upper layer alone: no overlay has one, so it is asked of plain trees.
-use Rattle.std.proofs.Common.{◌≡◌, refl, sym, ap, ◌∙◌, true≢false, ℕ, nat_eq, false, not, List, [], Option, Some, None, is_some, map, option_to_list}
-use Rattle.vt_spec.proofs.Common.{Change, Filesystem, Overlay, filesystem_at, filesystem_numbered, has_lower_directory, has_lower_directory_at, has_no_upper, mount_at, mounter_rules, of_overlay, open_layer, overlay_or, overlay_rules}
-use Rattle.vt_spec.specs.Machine.Filesystems.{path_of_name}
-use Rattle.vt_spec.specs.Machine.Mounts as meant
+use Rattle.std.proofs.Common.{◌≡◌, refl, ℕ, nat_eq, false, List, [], None, is_some, sym, ap, ◌∙◌, true≢false, not, Option, Some}
+use Rattle.vt_spec.proofs.Common.{Change, Filesystem, filesystem_at, filesystem_numbered, has_lower_directory_at, has_no_upper, mount_at, mounter_rules, of_overlay, Overlay, overlay_or}
 use Rattle.vt_laws_trees.proofs.trees.TreesOfWorlds.{numbered_anyhow}
 use Rattle.vt_ns.proofs.Common.{WorldValue, looks_of_value, world_of}
 use Rattle.vt_ns.proofs.WithoutUppers.{none_has_upper}
+use Rattle.vt_spec.specs.Machine.Mounts as meant
 
 -- no overlay that is found has an upper layer
 pub found_without : (value : WorldValue) (number : ℕ)
@@ -26,11 +25,7 @@ module _ (value : WorldValue) (at : meant.Location ℕ)
       by (Some overlay) none other = absurd (true≢false (sym (ap not none) ∙ other))
 
   pub no_lower_directory : (name : List ℕ) → has_lower_directory_at nat_eq (world_of value) at name ≡ false
-  no_lower_directory name = ap (overlay_or false (λ overlay. has_lower_directory
-      (map (open_layer nat_eq (world_of value)) (option_to_list overlay.upper))
-      (map (open_layer nat_eq (world_of value)) overlay.lowers)
-      (path_of_name nat_eq (world_of value) at name))) plain_there
+  no_lower_directory name = cc plain_there
 
   pub unasked : (change : Change ℕ) → mounter_rules nat_eq (world_of value) at change ≡ []
-  unasked change =
-      ap (overlay_or [] (overlay_rules nat_eq (filesystem_at nat_eq (world_of value) at) change)) plain_there
+  unasked change = cc plain_there

@@ -1,10 +1,9 @@
 -- What the events that attach mounts find: the places of their permits, and the parts.
-use Rattle.std.proofs.Common.{◌≡◌, sym, ap, ◌∙◌, ℕ, nat_eq, Bool, true, map, List}
-use Rattle.vt_spec.proofs.Common.{TaskName, ToBind, World, and_parts, is_among, is_located_well, parts_of}
-use Rattle.vt_spec.specs.Machine.Mounts as meant
+use Rattle.std.proofs.Common.{◌≡◌, sym, ap, ◌∙◌, ℕ, nat_eq, Bool, true, map, List, arith}
+use Rattle.vt_spec.proofs.Common.{TaskName, ToBind, World, is_located_well, parts_of, common_steps}
 use Rattle.vt_location.specs.declared.locations.Location.{Location}
 use Rattle.vt_location.specs.declared.mounts.Mount.{Mount}
-use Rattle.vt_ns.proofs.Common.{IsHeld, IsSeen, Permits, WorldValue, counted, is_seen, location_of, mount_of, mounts_in, permit_fits, world_of}
+use Rattle.vt_ns.proofs.Common.{IsHeld, IsSeen, Permits, WorldValue, counted, is_seen, location_of, mount_of, permit_fits, world_of}
 use Rattle.vt_propagate.specs.Seen.{ReachesAs, is_mounted}
 use Rattle.vt_mounting.proofs.attach.Binding.{found_some}
 use Rattle.vt_ns.specs.LyingUnder.{lies_under}
@@ -13,9 +12,7 @@ use Rattle.vt_ns.specs.LyingUnder.{lies_under}
 pub place_mounted : (value : WorldValue) (place : Location)
     → is_located_well nat_eq (world_of value) (location_of place) ≡ true
     → is_mounted value.mounts (counted place.mount.count) ≡ true
-place_mounted value place well = found_some (counted place.mount.count) (mounts_in value.mounts)
-    (and_parts (is_among nat_eq (counted place.mount.count)
-    (map (λ (mount : meant.Mount ℕ). mount.number) (mounts_in value.mounts))) _ well).0
+place_mounted value place well = grind (arith, common_steps, found_some, counted, map)
 
 -- the mount point of a bind is a location of the world
 pub bind_place_there : (value : WorldValue) → IsHeld value

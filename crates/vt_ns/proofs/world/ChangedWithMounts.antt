@@ -1,7 +1,6 @@
 -- A tree is changed first, and then mounts are detached that stand on what is removed: rmdir(2), rename(2).
-use Rattle.std.proofs.Common.{◌≡◌, refl, sym, ap, subst, ◌∙◌, ℕ, nat_eq, eq-eqb, Bool, true, false, cond, not, ◌&&◌, List, [], ◌∷◌, ◌++◌, map, filter, flat_map, Option, None, Some, option_map, is_some, filter_map}
-use Rattle.vt_spec.proofs.Common.{Change, Filesystem, Fresh, IsTree, IsWorld, ListsNumbers, Location, Mount, Overlay, OverlayInvariants, Permit, SameWorlds, TaskName, ToChange, TreeInvariants, World, all_locations, apply, filesystem_at, filesystem_changed, filesystem_numbered, has_too_many, inheriting, is_among, is_overlay, is_within_limits, layers_in, list_all, list_any, located_in, lost_a_group, mount_at, named_in, objects_of_overlay, overlay_or, regrouped, regrouped_by, replaced_if_numbered, root_of, settled, shown-mapped, with_change, with_files, with_filesystem}
-use Rattle.vt_spec.specs.Language.Changes as Trees
+use Rattle.std.proofs.Common.{◌≡◌, refl, sym, ap, subst, ◌∙◌, ℕ, nat_eq, eq-eqb, Bool, true, false, cond, not, ◌&&◌, List, [], ◌∷◌, ◌++◌, map, filter, flat_map, Option, None, Some, option_map, is_some, filter_map, arith}
+use Rattle.vt_spec.proofs.Common.{Change, Filesystem, Fresh, IsTree, IsWorld, ListsNumbers, Location, Mount, Overlay, OverlayInvariants, Permit, SameWorlds, TaskName, ToChange, TreeInvariants, World, all_locations, apply, filesystem_at, filesystem_changed, filesystem_numbered, has_too_many, inheriting, is_among, is_overlay, is_within_limits, layers_in, list_all, list_any, located_in, lost_a_group, mount_at, named_in, objects_of_overlay, overlay_or, regrouped, regrouped_by, replaced_if_numbered, root_of, settled, shown-mapped, with_change, with_files, with_filesystem, common_steps}
 use Rattle.vt_laws_mounts.specs.Counts.Changing.{filesystem_of}
 use Rattle.vt_ns.proofs.Common.{Among, ChangesFiles, CountsWhatIsInIt, Filesystems, Grouping, Has, HasChildrenOf, Inode, IsDone, IsHeld, IsKeptBut, IsUnderWay, LeaveInTurn, LeaveTogether, Merged, MountEntry, NamesWhatIsThere, Permits, WorldValue, all_from_among, among-append_right, among-map, among_from_all, detached_world, filesystem_seen, found_plain_one, given_permits_are_under_way_without_upper, has_ordered, in_use_of, is_among_numbers, is_counted_before, keeps_itself, kept_of, kept_with, permit_named, remade_with, same_files_keep, sameness_is_an_equivalence, supply_of, taken_regroups, with_filesystems, world_of}
 use Rattle.vt_group.specs.Together.{TakesAway}
@@ -21,7 +20,7 @@ use Rattle.vt_laws_mounts.proofs.letting_go.sweeps.OfWorlds.{worlds_are_settled,
 use Rattle.vt_laws_mounts.proofs.letting_go.leaving.TreesWithOverlays.{unnamed_go_with_overlays}
 use Rattle.vt_laws_mounts.specs.LettingGo.FileChanges.{MayChange, names_lost}
 use Rattle.vt_laws_mounts.specs.LettingGo.InUse.{IsListedTree, is_inode_used}
-use Rattle.vt_laws_mounts.specs.LettingGo.Overlays.{is_plain, let_go_all_inodes, let_go_in, let_go_in_of, let_go_plain, uppers_in, uppers_of_inode_in, without_inode_of}
+use Rattle.vt_laws_mounts.specs.LettingGo.Overlays.{let_go_all_inodes, let_go_in, let_go_in_of, uppers_of_inode_in, without_inode_of}
 use Rattle.vt_laws_mounts.specs.LettingGo.TreeChanges.{ChangesTree}
 use Rattle.vt_laws_trees.proofs.runs.answered.AlikeMounts.{regrouped_alike}
 use Rattle.vt_laws_trees.proofs.runs.answered.AlikeSettled.{settled_alike}
@@ -46,6 +45,7 @@ use Rattle.vt_mounting.proofs.detach.Staying.{becomes_so}
 use Rattle.vt_mounting.proofs.detach.TypedEvents.{counts_typed, swept_typed, typed_value}
 use Rattle.vt_mounting.proofs.detach.TypedWorlds.{settled_typed, settled_typed_has, typed_world}
 use Rattle.vt_mounting.proofs.detach.UnmountedLazily.{all_detached}
+use Rattle.vt_spec.specs.Language.Changes as Trees
 
 -- whether an overlay has no upper layer is told by its layers
 
@@ -55,8 +55,7 @@ lacking (Some all) = not (is_some all.0)
 
 lacks_by_layers : (o : Option (Overlay ℕ))
     → overlay_or false (λ overlay. not (is_some overlay.upper)) o ≡ lacking (option_map layers o)
-lacks_by_layers None = refl
-lacks_by_layers (Some overlay) = refl
+lacks_by_layers o = grind (arith, common_steps)
 
 lacks_alike : (a b : Option (Overlay ℕ)) → option_map layers a ≡ option_map layers b
     → overlay_or false (λ overlay. not (is_some overlay.upper)) a
@@ -76,13 +75,11 @@ module _ (value : WorldValue) (held : IsHeld value) (location : Location ℕ) (c
       (Trees.changed nat_eq (filesystem_at nat_eq world location).files change)
 
   no_overlay : (filesystem_at nat_eq world location).overlay ≡ None
-  no_overlay = ap (λ (f : Filesystem ℕ). f.overlay)
-      (ap (filesystem_numbered nat_eq world) made.shows ∙ found_plain_one value held made.entry made.among)
+  no_overlay = grind (arith, common_steps, found_plain_one)
 
   -- the change of the world is that of one filesystem
   pub changed_is : (fresh : Fresh ℕ) → changed_first fresh ≡ with_filesystem nat_eq world changed_files
-  changed_is fresh = ap (λ overlay.
-      filesystem_changed nat_eq fresh world (filesystem_at nat_eq world location) overlay change) no_overlay
+  changed_is fresh = cc no_overlay
 
   -- it leaves each overlay its layers, so no descriptor is open for writing in one
   pub change_keeps_writers : (fresh : Fresh ℕ) → WritersHaveLayers (changed_first fresh)
@@ -141,8 +138,7 @@ module _ (value : WorldValue) (held : IsHeld value) (location : Location ℕ) (c
     -- what the permit leaves before the sweep, whatever numbers are handed in
     leaves : (supply : Fresh ℕ) → (apply nat_eq supply world permits.task permit).world
         ≡ regrouped nat_eq (detached_world gone (changed_first fresh))
-    leaves supply = applied supply ∙ changed_regrouped supply gone
-        ∙ ap (λ w. regrouped nat_eq (detached_world gone w)) (changed_is supply ∙ sym (changed_is fresh))
+    leaves supply = cc (applied supply, changed_regrouped supply gone, changed_is supply, changed_is fresh)
 
     -- the invariants of a world before the sweep
     abbrev IsReady : World ℕ → Type 0
@@ -244,11 +240,7 @@ module _ (value : WorldValue) (held : IsHeld value) (location : Location ℕ) (c
     changed_plainly = with_filesystem nat_eq world changed_files
 
     changed_among : Among changed_files changed_plainly.filesystems
-    changed_among = subst (λ f. Among f changed_plainly.filesystems)
-        (ap (λ b. cond b changed_files (filesystem_at nat_eq world location))
-        (eq-eqb changed_files.number (filesystem_at nat_eq world location).number refl))
-        (among-map (replaced_if_numbered nat_eq changed_files) world.filesystems
-        (filesystem_at nat_eq world location) seen_among)
+    changed_among = grind (arith, common_steps, cond, eq-eqb, among-map, seen_among)
 
     listed_after : IsListedTree changed_files.files
     listed_after =
@@ -326,21 +318,14 @@ module _ (value : WorldValue) (held : IsHeld value) (location : Location ℕ) (c
       no_object (f ∷ rest) = λ i. by (nat_eq changed_files.number f.number) refl i ++ no_object rest i
         where
           neither : (b : Bool) (none : List Inode) → none ≡ [] → cond b none [] ≡ []
-          neither true none e = e
-          neither false none e = refl
+          neither b none e = grind (arith, common_steps)
 
           by : (b : Bool) → nat_eq changed_files.number f.number ≡ b
               → uppers_of_inode_in (number, object) (cond b changed_files f) ≡ []
-          by true e =
-              neither (nat_eq changed_files.number number) (overlay_or [] (uppers_in object) changed_files.overlay)
-              (ap (overlay_or [] (uppers_in object)) no_overlay)
-          by false e = ap (λ b. cond b (overlay_or [] (uppers_in object) f.overlay) [])
-              (nat_eq_turned f.number number ∙ ap (λ n. nat_eq n f.number) (sym files_numbered) ∙ e)
+          by b e = grind (arith, common_steps, neither, no_overlay, cond, nat_eq_turned, files_numbered)
 
       object_stays : let_go_all_inodes changed_plainly ((number, object) ∷ []) ≡ changed_plainly
-      object_stays =
-          (λ i. let_go_plain (stays_in is_overlay i) ((number, object) ∷ (no_object world.filesystems i ++ [])))
-          ∙ stays_in is_plain
+      object_stays = grind (arith, common_steps, stays_in, no_object)
 
       -- after the change nothing goes that nothing used before
       pub nothing_goes : settled nat_eq (changed_first fresh) ≡ changed_first fresh
@@ -392,8 +377,7 @@ module _ (value : WorldValue) (held : IsHeld value) (location : Location ℕ) (c
         typed = typed_world groups after
 
         same_typed : SameWorlds (settled nat_eq (regrouped nat_eq last)) (settled nat_eq typed)
-        same_typed = subst (SameWorlds (settled nat_eq (regrouped nat_eq last)))
-            (settled_typed after groups has_after) same_left
+        same_typed = grind (arith, common_steps, settled_typed after groups has_after, same_left)
 
         typed_is_world : IsWorld nat_eq (settled nat_eq typed)
         typed_is_world =

@@ -1,7 +1,7 @@
 -- The store that code has after a change of a tree with which mounts go: rmdir(2), rename(2).
-use Rattle.std.proofs.Common.{◌≡◌, ◌≢◌, ◌∙◌, sym, subst, ℕ, List, [], map, length}
-use Rattle.vt_spec.proofs.Common.{Permit, TaskName}
-use Rattle.vt_ns.proofs.Common.{Filesystems, Grouping, IsDone, IsHeld, LeaveTogether, MountEntry, OverlaysLeft, Permits, StoreValue, WorldValue, counted, done_in_store, kept, kept_of, kept_with, merged_of, remade_with, with_filesystems, with_store}
+use Rattle.std.proofs.Common.{◌≡◌, ◌≢◌, ◌∙◌, sym, ℕ, List, [], map, length, arith}
+use Rattle.vt_spec.proofs.Common.{Permit, TaskName, common_steps}
+use Rattle.vt_ns.proofs.Common.{Filesystems, Grouping, IsDone, IsHeld, LeaveTogether, MountEntry, OverlaysLeft, Permits, StoreValue, WorldValue, counted, done_in_store, kept, kept_of, merged_of, remade_with, with_filesystems, with_store}
 use Rattle.vt_location.specs.declared.numbers.MountId.{MountId}
 use Rattle.vt_ns.proofs.world.MountsOn.{none_counted, some_counted}
 use Rattle.vt_ns.proofs.world.StoresKept.{kept_is}
@@ -25,10 +25,7 @@ module _ (base : WorldValue) (store : StoreValue) (held : IsHeld (with_store sto
     -- what is collected leaves what the world with the changed tree keeps
     pub collected_leave : LeaveTogether gone (kept_of (with_filesystems value plain)) base.groups (kept mounts last)
         groups
-    collected_leave = subst (λ k. LeaveTogether gone k base.groups (kept mounts last) groups)
-        (λ i. kept_with base.mounts plain (kept_is base store i).overlays)
-        (subst (λ numbers. LeaveTogether numbers (kept base.mounts (record store { plain = plain })) base.groups
-        (kept mounts last) groups) are left)
+    collected_leave = grind (arith, common_steps, kept_is base store, are, left)
 
     -- and the world then has the store that is left
     pub left_is_stored : OverlaysLeft store.overlays last.overlays → (name : TaskName) (permit : Permit ℕ)

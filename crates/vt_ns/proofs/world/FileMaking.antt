@@ -1,7 +1,6 @@
 -- The event that makes an inode: mkdir(2), symlink(2), mknod(2).
 use Rattle.std.proofs.Common.{◌≡◌, refl, sym, ap, subst, ◌∙◌, ⊎_elim, inl, inr, true≢false, ℕ, ◌<◌, ◌%◌, ◌/◌, ◌==◌, ◌&&◌, Bool, true, false, nat_eq, List, [], ◌∷◌, map, None, Some, option_map, unwrap_or, arith}
-use Rattle.vt_spec.proofs.Common.{Change, Content, Directory, Entries, Fits, Inodes, IsNewIn, Make, Node, Permit, Regular, Symlink, TaskName, ToMake, Whiteout, is_directory, kind_of, list_all, mount_at, odds, renamed_entry, renamed_node, tree_of, with_change}
-use Rattle.vt_spec.specs.Machine.Mounts as meant
+use Rattle.vt_spec.proofs.Common.{Change, Content, Directory, Entries, Fits, Inodes, IsNewIn, Make, Node, Permit, Regular, Symlink, TaskName, ToMake, Whiteout, list_all, mount_at, odds, renamed_entry, tree_of, with_change, common_steps}
 use Rattle.vt_spec.specs.Inodes.{changed}
 use Rattle.vt_ns.proofs.Common.{ChangesInodes, FilesystemEntry, Filesystems, IsFilesEvent, IsHeld, IsLocated, IsPlainAt, IsSmall, Permits, WorldValue, counted, counts_from, entry_of, files_are_changed, given_changes_fit, given_permits_are_seen_to, here_number, inode_number, inodes_at, inodes_seen, is_counted_before, is_own_number, is_small_node, located, located_filesystem, located_inodes, location_of, mounts_in, next_inode, next_seen, no_entry, node_seen, nodes_named, number_of, supply_of, with_filesystems, world_of}
 use Rattle.vt_fs.specs.FilesystemsValue.{entry_at}
@@ -10,8 +9,9 @@ use Rattle.vt_location.specs.declared.births.Birth.TheVariants.{Here}
 use Rattle.vt_location.specs.declared.locations.Location.{Location}
 use Rattle.vt_location.specs.declared.locations.NodeRef.{NodeRef}
 use Rattle.vt_location.specs.Numbers.{exchanged}
+use Rattle.vt_location.proofs.NodeLemmas.{here_is_own, small_parts}
 use Rattle.vt_location.proofs.NumberLemmas.{exchanged_same, exchanged_slot}
-use Rattle.vt_permits.specs.GrantValue.{node_in, number_beside}
+use Rattle.vt_permits.specs.GrantValue.{node_in}
 use Rattle.vt_laws_worlds.proofs.overlays_read.Changes.{plain_ones_are_changed}
 use Rattle.vt_laws_worlds.proofs.worlds.FitPermitsNamed.{all_permits_fit}
 use Rattle.vt_laws_worlds.specs.Permits.Left.{IsGiven}
@@ -23,12 +23,12 @@ use Rattle.vt_ns.specs.Vacancy.{IsVacant, NextInodeIsVacant}
 use Rattle.vt_ns.proofs.Granting.{counts, given_with, handed, permitted}
 use Rattle.vt_ns.proofs.world.SlotsFilled.{made_was_nowhere}
 use Rattle.vt_ns.proofs.world.VacantNumbers.{is_vacant}
+use Rattle.vt_spec.specs.Machine.Mounts as meant
 
 -- what is made in a directory of a tree has its slots
 pub made_in_tree : (directory : Location) → directory.node.birth ≡ Here → (node : Node ℕ)
     → node_in directory node ≡ node_seen directory.node.filesystem.count node
-made_in_tree directory here node =
-    λ i. renamed_node (number_beside directory.node (here i)) (exchanged directory.node.filesystem.count) node
+made_in_tree directory here node = cc
 
 -- a new node, in the slots of its filesystem
 pub new_in_slot : (count slot : ℕ) → slot < 18446744073709551616 → (node : Node ℕ)
@@ -56,14 +56,7 @@ new_in_slot count slot small node fits = by node.content fits
 -- what a new inode names is what its permit names
 pub new_is_named : (named : ℕ → Bool) (directory : ℕ) (node : Node ℕ) → named directory ≡ true → IsNewIn directory node
     → content_named named node.content ≡ true
-new_is_named named directory node there new =
-    ⊎_elim (λ same. ap (content_named named) same ∙ (λ i. there i && true)) (λ other. by node.content other) new
-  where
-    by : (content : Content ℕ) → is_directory (kind_of content) ≡ false → content_named named content ≡ true
-    by (Directory parent entries opaque) e = absurd (true≢false e)
-    by (Regular bytes) e = refl
-    by (Symlink text) e = refl
-    by Whiteout e = refl
+new_is_named named directory node there new = grind (arith, common_steps)
 
 -- the next inode of a filesystem that a location shows
 pub next_of_entry : (value : WorldValue) (at : meant.Location ℕ) (entry : FilesystemEntry) (count : ℕ)
@@ -79,9 +72,19 @@ next_of_entry value at entry count shows found is =
     quarter : counted entry.count / 4 ≡ entry.count
     quarter = omega arith
 
-module _ (value : WorldValue) (held : IsHeld value) (name : TaskName) (directory : Location) (entry : List ℕ)
-    (node : Node ℕ) (small : IsSmall directory)
-    (granted : Grants value name (ToMake (location_of directory) entry (node_in directory node))) where
+-- A task is granted to make an inode in a directory.
+pub record MayMake (value : WorldValue) : Type 0 where
+  pub held : IsHeld value
+  pub name : TaskName
+  pub directory : Location
+  pub entry : List ℕ
+  pub node : Node ℕ
+  pub small : IsSmall directory
+  pub granted : Grants value name (ToMake (location_of directory) entry (node_in directory node))
+
+module _ (value : WorldValue) (may : MayMake value) where
+  open may use {held, name, directory, entry, node, small, granted}
+
   abbrev count : ℕ
   count = directory.node.filesystem.count
 
@@ -110,8 +113,7 @@ module _ (value : WorldValue) (held : IsHeld value) (name : TaskName) (directory
   directory_seen = located value held directory small directory_plain asked_fits.names.reached.there
 
   given : IsGiven (counts_from value.next) (world_of value) granted.task permit
-  given = subst (λ n. IsGiven (counts_from value.next) (world_of value) granted.task
-      (ToMake (location_of directory) entry n)) (made_in_tree directory directory_seen.born_here node) given_asked
+  given = grind (arith, common_steps, made_in_tree directory directory_seen.born_here node, given_asked)
 
   sees : MayBeMade (world_of value) (location_of directory) entry (node_seen count node)
   sees = given_permits_are_seen_to (world_of value) (counts_from value.next) granted.task permit held.in_world given
@@ -138,13 +140,23 @@ module _ (value : WorldValue) (held : IsHeld value) (name : TaskName) (directory
   make_fits = fits_in (inodes_at value.filesystems count) (located_inodes value directory directory_seen)
 
   -- an inode is made under its name
-  module _ (odd : list_all (λ mount. mount.number % 4 == 1) (mounts_in value.mounts) ≡ true)
-      (sources : list_all has_counted_source (mounts_in value.mounts) ≡ true)
-      (filesystems : Filesystems) (made : NodeRef) (small_made : is_small_node made ≡ true)
-      (own_made : is_own_number made.filesystem.count (number_of made) ≡ true)
-      (here : made.birth ≡ Here) (inside : made.filesystem ≡ directory.node.filesystem)
-      (number : number_of made ≡ next_seen (entry_at value.filesystems count)) (changes : ChangesInodes count
-      (λ inodes. changed nat_eq inodes (change (number_of made))) value.filesystems filesystems) where
+  pub record IsMade (filesystems : Filesystems) : Type 0 where
+    pub odd : list_all (λ mount. mount.number % 4 == 1) (mounts_in value.mounts) ≡ true
+    pub sources : list_all has_counted_source (mounts_in value.mounts) ≡ true
+    pub made : NodeRef
+    pub small_made : is_small_node made ≡ true
+    pub born : made.birth ≡ Here
+    pub inside : made.filesystem ≡ directory.node.filesystem
+    pub number : number_of made ≡ next_seen (entry_at value.filesystems count)
+    pub changes : ChangesInodes count (λ inodes. changed nat_eq inodes (change (number_of made))) value.filesystems
+        filesystems
+
+  module _ (filesystems : Filesystems) (it : IsMade filesystems) where
+    open it use {odd, sources, made, small_made, born, inside, number, changes}
+
+    own_made : is_own_number made.filesystem.count (number_of made) ≡ true
+    own_made = let small = small_parts made small_made in here_is_own made small.filesystem small.slot born
+
     next_is : next_inode value (location_of directory) ≡ number_of made
     next_is = next_of_entry value (location_of directory) directory_seen.entry count directory_seen.shows
         directory_seen.found directory_seen.count_is ∙ sym number
@@ -157,7 +169,7 @@ module _ (value : WorldValue) (held : IsHeld value) (name : TaskName) (directory
 
     pub make_vacant : NextInodeIsVacant value (location_of directory)
     make_vacant = subst (IsVacant value) (sym next_is)
-        (is_vacant value held odd sources directory_seen.entry directory_seen.among made small_made here
+        (is_vacant value held odd sources directory_seen.entry directory_seen.among made small_made born
         (ap (λ filesystem. filesystem.count) inside ∙ sym directory_seen.count_is) was_nowhere)
 
     -- so it is permitted, and done
@@ -166,8 +178,7 @@ module _ (value : WorldValue) (held : IsHeld value) (name : TaskName) (directory
         (handed value held 0 (next_inode value (location_of directory)) make_vacant)
 
     permits : Permits value name permit
-    permits = subst (λ n. Permits value name (ToMake (location_of directory) entry n))
-        (made_in_tree directory directory_seen.born_here node) make_permitted
+    permits = grind (arith, common_steps, made_in_tree directory directory_seen.born_here node, make_permitted)
 
     pub make_is_done : IsFilesEvent value name asked (with_filesystems value filesystems)
     make_is_done = subst (λ n. IsFilesEvent value name (ToMake (location_of directory) entry n)

@@ -1,7 +1,6 @@
 -- The event that writes a part of a file: pwrite(2).
-use Rattle.std.proofs.Common.{◌≡◌, refl, sym, ap, subst, ◌∙◌, inr, true≢false, ℕ, ◌+◌, ◌≤◌, Bool, true, false, nat_eq, List, [], ◌∷◌, map, length, OnErr, OnOk, ltb-false, eqb-true, eq-eqb, arith, Result, ◌==◌}
-use Rattle.vt_spec.proofs.Common.{AllocError, Change, Descriptor, Fits, Inodes, OnOk_then, Permit, SameWorlds, SetBytes, Task, TaskName, ToWritePart, all_locations, among_from_list_all, bytes_in, is_directory_node, is_located_well, largest_file, locations_of, node_at, overwritten, same_name, tree_of}
-use Rattle.vt_spec.specs.Machine.Mounts as meant
+use Rattle.std.proofs.Common.{◌≡◌, refl, sym, ap, subst, ◌∙◌, inr, ℕ, ◌+◌, ◌≤◌, Bool, true, false, nat_eq, List, [], ◌∷◌, map, length, OnErr, OnOk, ltb-false, arith, Result, ◌==◌}
+use Rattle.vt_spec.proofs.Common.{AllocError, Change, Descriptor, Fits, Inodes, OnOk_then, Permit, SetBytes, Task, TaskName, ToWritePart, all_locations, among_from_list_all, bytes_in, is_directory_node, is_located_well, largest_file, locations_of, node_at, overwritten, same_name, tree_of, common_steps}
 use Rattle.vt_spec.specs.Inodes.{changed}
 use Rattle.vt_ns.proofs.Common.{Among, Becomes, ChangesInodes, Filesystems, IsHeld, IsLocated, IsSmall, Permits, SeesTo, WorldValue, among-map, changed_is_plain, files_are_changed, files_at, given_changes_fit, given_permits_are_seen_to, inodes_at, inodes_seen, located, located_filesystem, located_inodes, location_of, number_of, sameness_is_an_equivalence, supply_of, with_filesystems, world_of}
 use Rattle.vt_laws_mounts.proofs.letting_go.Lists.{among-flat_map}
@@ -9,6 +8,7 @@ use Rattle.vt_location.specs.declared.locations.Location.{Location}
 use Rattle.vt_laws_worlds.specs.Permits.Sees.{HasOpen}
 use Rattle.vt_laws_worlds.proofs.worlds.ReachedWalks.{found_among}
 use Rattle.vt_ns.proofs.world.FileAnswers.{IsAnswered, answered}
+use Rattle.vt_spec.specs.Machine.Mounts as meant
 
 -- what a task has open is there
 pub open_there : (value : WorldValue) → IsHeld value
@@ -30,23 +30,18 @@ open_there value held name permit permits file fits held_open =
 
 -- a list of length zero has no bytes
 pub no_bytes : (bytes : List ℕ) (b : Bool) → b ≡ (length bytes == 0) → b ≡ true → bytes ≡ []
-no_bytes [] b is e = refl
-no_bytes (byte ∷ bytes) b is e =
-    let none = eqb-true (length (byte ∷ bytes)) 0 (sym is ∙ e) in absurd (omega (arith, none))
+no_bytes bytes b is e = grind (arith, common_steps)
 
 -- and one of another length has some
 pub some_bytes : (bytes : List ℕ) (b : Bool) → b ≡ (length bytes == 0) → b ≡ false → length bytes ≡ 0 → ⊥
-some_bytes [] b is e none = true≢false (sym (is ∙ eq-eqb 0 0 refl) ∙ e)
-some_bytes (byte ∷ bytes) b is e none = omega (arith, none)
+some_bytes bytes b is e none = cc
 
 -- no bytes change nothing
 pub nothing_is_written : (value : WorldValue) → IsHeld value
     → (name : TaskName) (file : meant.Location ℕ) (offset : ℕ) (bytes : List ℕ)
     → bytes ≡ [] → Becomes value name (ToWritePart file offset bytes) value
 nothing_is_written value held name file offset bytes none =
-    subst (λ others. Becomes value name (ToWritePart file offset others) value) (sym none) (λ task called.
-    subst (λ world. SameWorlds world (world_of value)) (sym held.in_world.nothing_unused)
-    (sameness_is_an_equivalence.itself (world_of value)))
+    grind (arith, common_steps, held.in_world.nothing_unused, sameness_is_an_equivalence.itself (world_of value))
 
 module _ (value : WorldValue) (held : IsHeld value) (name : TaskName) (file : Location) (offset byte : ℕ)
     (rest : List ℕ) (small : IsSmall file)

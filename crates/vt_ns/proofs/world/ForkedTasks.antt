@@ -1,7 +1,6 @@
 -- A task forks: fork(2).
 use Rattle.std.proofs.Common.{◌≡◌, refl, sym, ap, subst, ◌∙◌, inl, inr, ℕ, ◌+◌, nat_eq, Bool, true, false, cond, ◌&&◌, List, [], ◌∷◌, ◌++◌, Some, arith, leb-false, append-nil}
-use Rattle.vt_spec.proofs.Common.{Credentials, Task, TaskName, ToFork, all_locations, child_of, flat_map-append, is_located_well, locations_of, map_alike, map_twice, mount_at, same_Some, task_called, without_dead_mounts}
-use Rattle.vt_spec.specs.Machine.Mounts as meant
+use Rattle.vt_spec.proofs.Common.{Credentials, Task, TaskName, ToFork, all_locations, child_of, flat_map-append, is_located_well, locations_of, map_alike, map_twice, mount_at, same_Some, task_called, without_dead_mounts, common_steps}
 use Rattle.vt_ns.proofs.Common.{Among, CountsWhatIsInIt, Filesystems, IsDone, IsHeld, Kept, Merged, MountEntry, Moves, NamespaceEntry, Permits, Tasks, WorldValue, after, all_in_use, among-append_right, among-from_map, among_from_all, among_from_list_all, called, counted, counted_test, given_permits_are_seen_to, is_small_node, kept_of, kept_with, location_of, mounts_of_worlds_stand, namespace_of, number_of, replaced, replaced_split, seen_where_located, standing, supply_of, task_of, times, with_location, with_use, world_of, writes_of, writes_of_task}
 use Rattle.vt_laws_mounts.proofs.letting_go.Lists.{among-append_left}
 use Rattle.vt_laws_mounts.proofs.letting_go.sweeps.OneByOne.{mounts_go_one_by_one}
@@ -10,12 +9,13 @@ use Rattle.vt_location.specs.declared.locations.Location.{Location}
 use Rattle.vt_laws_worlds.specs.Permits.Left.{IsGiven}
 use Rattle.vt_tasks.specs.Counts.{locations_in, one_if}
 use Rattle.vt_tasks.specs.declared.task.Task.{Task as Own}
-use Rattle.vt_tasks.specs.TasksValue.{MayFork, forked, forked_by, forked_once, with_child_behind}
+use Rattle.vt_tasks.specs.TasksValue.{MayFork, forked, forked_once, with_child_behind, forked_by}
 use Rattle.vt_laws_mounts.proofs.letting_go.sweeps.UpperUses.{times_append}
 use Rattle.vt_mounting.specs.Detach.Forking.{more_tasks, with_task_more}
 use Rattle.vt_mounting.proofs.detach.Moving.{nat_eq_turned, only_left}
 use Rattle.vt_ns.proofs.world.RemainingTasks.{CountsTasks, remade_in, remains_done_in}
 use Rattle.vt_mounting.proofs.detach.Splits.{IsSplit, locations_around, locations_stay, times_replaced, writes_replaced}
+use Rattle.vt_spec.specs.Machine.Mounts as meant
 
 writes_append : (mount : ℕ) (xs ys : Tasks) → writes_of mount (xs ++ ys) ≡ writes_of mount xs + writes_of mount ys
 writes_append mount [] ys = omega arith
@@ -44,21 +44,13 @@ module _ (value : WorldValue) (whole : IsHeld value) (count : ℕ) (tasks : Task
     where
       same_namespace : (entry : NamespaceEntry) (b : Bool)
           → namespace_of (cond b (more_tasks entry) entry) ≡ namespace_of entry
-      same_namespace entry true = refl
-      same_namespace entry false = refl
+      same_namespace entry b = grind (arith, common_steps)
 
       counts_so : (entry : NamespaceEntry)
           → entry.tasks ≡ times (λ task. nat_eq (counted entry.count) task.namespace) value.tasks
           → (b : Bool) → nat_eq (counted entry.count) (counted count) ≡ b → (cond b (more_tasks entry) entry).tasks
           ≡ times (λ task. nat_eq (counted (cond b (more_tasks entry) entry).count) task.namespace) tasks
-      counts_so entry was true e =
-          let later = more (counted entry.count) in
-          let one : one_if (nat_eq (counted entry.count) (counted count)) ≡ 1 = ap one_if e in
-          omega (arith, was, later, one)
-      counts_so entry was false e =
-          let later = more (counted entry.count) in
-          let one : one_if (nat_eq (counted entry.count) (counted count)) ≡ 0 = ap one_if e in
-          omega (arith, was, later, one)
+      counts_so entry was b e = grind (arith, common_steps)
 
 -- The child is where its parent is.
 

@@ -1,13 +1,13 @@
 -- The mounts on a directory that goes, with all that stands on them.
-use Rattle.std.proofs.Common.{◌≡◌, ◌≢◌, refl, sym, ap, subst, ◌∙◌, inl, inr, true≢false, ℕ, zero, suc, nat_eq, eq-eqb, eqb-true, Bool, true, ◌&&◌, List, [], ◌∷◌, ◌++◌, map, filter, flat_map, length, Option, None, Some}
-use Rattle.vt_spec.proofs.Common.{Mount, World, and_parts, holds_of, is_located_well, is_point, list_any, map-append, mount_at, mount_in, mount_tree, mounts_on, or-false, points_of, tree_from}
-use Rattle.vt_spec.specs.Machine.Mounts as meant
+use Rattle.std.proofs.Common.{◌≡◌, ◌≢◌, refl, sym, ap, subst, ◌∙◌, inl, inr, ℕ, nat_eq, eq-eqb, eqb-true, Bool, true, ◌&&◌, List, [], ◌∷◌, ◌++◌, map, filter, flat_map, length, Option, None, Some, arith}
+use Rattle.vt_spec.proofs.Common.{Mount, World, and_parts, holds_of, is_located_well, is_point, list_any, map-append, mount_at, mount_in, mount_tree, mounts_on, or-false, points_of, tree_from, common_steps}
 use Rattle.vt_ns.proofs.Common.{Among, IsHeld, WorldValue, among-from_filter, counted, found_itself, is_small_node, location_of, mounts_in, number_of, numbers_of_trees, seen_where_located, stands_over, tree_numbers, world_of}
 use Rattle.vt_laws_mounts.proofs.letting_go.Lists.{filter_alike}
 use Rattle.vt_location.specs.declared.locations.Location.{Location}
 use Rattle.vt_location.specs.declared.numbers.MountId.{MountId}
 use Rattle.vt_mounting.proofs.detach.LazilyUnmounted.{to_spec}
 use Rattle.vt_mounting.proofs.detach.LookLemmas.{point_seen, points_are}
+use Rattle.vt_spec.specs.Machine.Mounts as meant
 
 -- Trees by the numbers of their mounts
 
@@ -24,24 +24,20 @@ tree_by_numbers mounts (top ∷ tops) itself =
 
 trees_are_some : (depth : ℕ) (mounts : List (Mount ℕ)) (top : Mount ℕ) (rest : List (Mount ℕ))
     → map (λ (mount : Mount ℕ). mount.number) (tree_from nat_eq depth mounts top ++ rest) ≢ []
-trees_are_some zero mounts top rest e = absurd cc
-trees_are_some (suc depth) mounts top rest e = absurd cc
+trees_are_some depth mounts top rest e = grind (arith, common_steps)
 
 -- trees without mounts have no tops
 pub none_on : (world : World ℕ) (all : List (Mount ℕ)) → numbers_of_trees world all ≡ [] → all ≡ []
 none_on world [] e = refl
-none_on world (top ∷ rest) e =
-    absurd (trees_are_some (length world.mounts) world.mounts top (flat_map (mount_tree nat_eq world.mounts) rest) e)
+none_on world (top ∷ rest) e = grind (arith, common_steps, trees_are_some)
 
 -- a list that is empty has none
 pub none_counted : (ids : List MountId) → length ids ≡ 0 → map (λ id. counted id.count) ids ≡ []
-none_counted [] none = refl
-none_counted (id ∷ ids) none = absurd cc
+none_counted ids none = grind (arith, common_steps)
 
 -- one that is not empty has some
 pub some_counted : (ids : List MountId) → length ids ≢ 0 → map (λ id. counted id.count) ids ≢ []
-some_counted [] some e = some refl
-some_counted (id ∷ ids) some e = absurd cc
+some_counted ids some e = grind (arith, common_steps)
 
 -- The mounts on a directory
 
@@ -90,9 +86,7 @@ module _ (value : WorldValue) (held : IsHeld value) (at : Location) (small : is_
       by : (mount : Mount ℕ) → Among mount world.mounts → (o : Option (meant.Location ℕ)) → mount.mount_point ≡ o
           → is_point nat_eq world (mount_at nat_eq world (location_of at)).filesystem (number_of at.node) mount ≡ true
           → IsOn value at
-      by mount m None p on =
-          absurd (true≢false (sym on ∙ ap (holds_of (λ (place : meant.Location ℕ). nat_eq place.node (number_of at.node)
-          && nat_eq (mount_at nat_eq world place).filesystem (mount_at nat_eq world (location_of at)).filesystem)) p))
+      by mount m None p on = cc
       by mount m (Some place) p on =
           let parts = and_parts (nat_eq place.node (number_of at.node))
           (nat_eq (mount_at nat_eq world place).filesystem (mount_at nat_eq world (location_of at)).filesystem)

@@ -1,16 +1,13 @@
 -- A new file is made in a directory, and opened: open(2) with O_CREAT.
-use Rattle.std.proofs.Common.{◌≡◌, refl, sym, ap, subst, ◌∙◌, inl, inr, true≢false, ℕ, ◌&&◌, true, cond, nat_eq, eq-eqb, List, [], ◌∷◌, map, Some, unwrap_or, leb-false}
-use Rattle.vt_spec.proofs.Common.{Change, Descriptor, Fits, Fresh, Inodes, IsNewIn, IsWorld, Make, Node, OverlayInvariants, Permit, SameWorlds, Task, TaskName, ToMake, ToOpenNew, World, all_locations, among_from_list_all, apply, free_number, is_located_well, is_within_limits, list_all, locations_of, node_with_entry, odds, opens_for_reading, opens_for_writing, replaced_if_called, settled, tree_of, uses_in, with_change, with_changed, with_descriptor, with_task, without_dead_mounts}
-use Rattle.vt_spec.specs.Language.Calls as spoken
+use Rattle.std.proofs.Common.{◌≡◌, refl, sym, ap, subst, ◌∙◌, inl, inr, true≢false, ℕ, ◌&&◌, true, nat_eq, eq-eqb, List, [], ◌∷◌, map, Some, leb-false, arith, unwrap_or}
+use Rattle.vt_spec.proofs.Common.{Change, Descriptor, Fits, Fresh, Inodes, IsNewIn, IsWorld, Make, Node, OverlayInvariants, Permit, SameWorlds, Task, ToMake, ToOpenNew, World, all_locations, among_from_list_all, apply, free_number, is_located_well, is_within_limits, list_all, locations_of, odds, opens_for_reading, opens_for_writing, settled, tree_of, uses_in, with_change, with_descriptor, with_task, without_dead_mounts, common_steps}
 use Rattle.vt_spec.specs.Inodes.{changed}
 use Rattle.vt_laws_mounts.proofs.counts.changing.Changes.{only_files_change_beside_overlays}
 use Rattle.vt_laws_mounts.proofs.counts.changing.KeptAll.{names_keep_all_beside_overlays}
-use Rattle.vt_ns.proofs.Common.{Among, ChangesFiles, ChangesInodes, Filesystems, Has, IsDone, IsHeld, IsLocated, IsPlainAt, IsSmall, IsSwept, IsUnderWay, Merged, MountEntry, Moves, Permits, Tasks, WorldValue, after, among-append_right, among-map, called, changed_called, changed_is_plain, counted, entry_of, given_changes_fit, given_permits_are_seen_to, given_permits_are_under_way_without_upper, here_number, inode_at, inodes_at, inodes_seen, is_counted_before, is_own_number, is_small_node, kept_of, kept_with, located, located_filesystem, located_inodes, location_of, next_inode, next_seen, no_entry, node_seen, nodes_named, number_of, permit_fits, permit_named, remade, replaced, replaced_split, sameness_is_an_equivalence, seen_where_located, supply_of, with_filesystems, with_location, with_use, world_of}
+use Rattle.vt_ns.proofs.Common.{Among, ChangesFiles, ChangesInodes, Filesystems, Has, IsDone, IsHeld, IsLocated, IsSwept, IsUnderWay, Merged, MountEntry, Moves, Permits, Tasks, WorldValue, after, among-append_right, among-map, called, changed_called, counted, entry_of, given_changes_fit, given_permits_are_seen_to, given_permits_are_under_way_without_upper, here_number, inode_at, inodes_at, inodes_seen, is_counted_before, is_own_number, kept_of, kept_with, located_filesystem, located_inodes, location_of, next_inode, next_seen, node_seen, nodes_named, number_of, permit_fits, permit_named, remade, replaced, replaced_split, sameness_is_an_equivalence, seen_where_located, supply_of, with_filesystems, with_location, with_use, world_of, no_entry}
 use Rattle.vt_fs.specs.FilesystemsValue.{entry_at}
 use Rattle.vt_laws_mounts.proofs.letting_go.Lists.{among-flat_map}
-use Rattle.vt_location.specs.declared.births.Birth.TheVariants.{Here}
 use Rattle.vt_location.specs.declared.locations.Location.{Location}
-use Rattle.vt_location.specs.declared.locations.NodeRef.{NodeRef}
 use Rattle.vt_permits.specs.GrantValue.{node_in}
 use Rattle.vt_laws_worlds.specs.Permits.Sees.{HasRoom, MayBeMade}
 use Rattle.vt_laws_worlds.proofs.permits.named.PermitsKeepTo.{permits_keep_to_numbers}
@@ -24,7 +21,7 @@ use Rattle.vt_mounting.proofs.detach.Writers.{left_writers}
 use Rattle.vt_ns.proofs.world.ChangedWithMounts.{change_keeps_writers}
 use Rattle.vt_laws_worlds.proofs.overlay_permits.worlds.SweptWorlds.{settling_leaves_every_world}
 use Rattle.vt_laws_worlds.proofs.overlays_stay.left.Given.{given_permits_give_no_upper}
-use Rattle.vt_tasks.specs.TasksValue.{MayOpenMore, changed_by}
+use Rattle.vt_tasks.specs.TasksValue.{MayOpenMore}
 use Rattle.vt_laws_worlds.specs.Worlds.Permits.{IsFitPermit}
 use Rattle.vt_laws_worlds.proofs.kept.MountsKept.{all_mounts_kept}
 use Rattle.vt_laws_worlds.proofs.kept.NamespacesKept.{all_namespaces_kept}
@@ -34,6 +31,7 @@ use Rattle.vt_laws_worlds.proofs.worlds.PermitsShow.{all_permits_keep_mounts_sho
 use Rattle.vt_mounting.proofs.detach.Bridging.{swept_is_same}
 use Rattle.vt_mounting.proofs.detach.Grouped.{left_has}
 use Rattle.vt_mounting.proofs.detach.ChangedFiles.{change_is_held, change_is_swept, inodes_after, is_change, partner}
+use Rattle.vt_ns.proofs.world.OpeningGranted.{IsNext, MayOpen, directory_seen, made_is_numbered, open_permitted, own_made}
 use Rattle.vt_ns.proofs.world.FileMaking.{made_in_tree, new_in_slot, new_is_named, next_of_entry}
 use Rattle.vt_ns.proofs.world.FilesOpened.{inserted_goes, opened_moves, opened_stays, opened_tasks}
 use Rattle.vt_mounting.proofs.detach.FilesSeen.{one_entry}
@@ -46,28 +44,19 @@ use Rattle.vt_mounting.proofs.detach.Staying.{becomes_so}
 -- a new inode has one use
 used_when_made : (inodes : Inodes ℕ) (directory : ℕ) (name : List ℕ) (number : ℕ) (node : Node ℕ)
     → uses_in ((changed nat_eq inodes (Make directory name number node)).inode number) ≡ 1
-used_when_made inodes directory name number node = ap (λ b. uses_in (cond b (Some (record { node = node; uses = 1 }))
-    ((with_changed nat_eq inodes directory (node_with_entry name number)).inode number))) (eq-eqb number number refl)
+used_when_made inodes directory name number node = cc (eq-eqb number number refl)
 
-module _ (value : WorldValue) (held : IsHeld value) (name : TaskName) (directory : Location) (entry : List ℕ)
-    (node : Node ℕ) (access : spoken.Access) (small : IsSmall directory)
-    (asked : Permits value name (ToOpenNew (location_of directory) entry (node_in directory node) access)) where
-  -- what is made is made in no overlay
-  directory_plain : IsPlainAt value directory
-  directory_plain =
-      changed_is_plain value held name (ToOpenNew (location_of directory) entry (node_in directory node) access) asked
-      (location_of directory) _ refl
+module _ (value : WorldValue) (may : MayOpen value) (it : IsNext value may) where
+  open may use {held, name, directory, entry, node, access, small}
+  open it use {made, inside, small_made}
 
-  here : directory.node.birth ≡ Here
-  here =
-      let fits = permit_fits value held name
-      (ToOpenNew (location_of directory) entry (node_in directory node) access) asked in
-      (located value held directory small directory_plain fits.names.0.reached.there).born_here
+  -- the directory stands where the world has it
+  abbrev stands : IsLocated value directory
+  stands = directory_seen value may
 
   permits : Permits value name (ToOpenNew (location_of directory) entry
       (node_seen directory.node.filesystem.count node) access)
-  permits = subst (λ n. Permits value name (ToOpenNew (location_of directory) entry n access))
-      (made_in_tree directory here node) asked
+  permits = grind (arith, common_steps, made_in_tree directory stands.born_here node, open_permitted value may it)
 
   abbrev count : ℕ
   count = directory.node.filesystem.count
@@ -88,17 +77,14 @@ module _ (value : WorldValue) (held : IsHeld value) (name : TaskName) (directory
   permit_is_fit : IsFitPermit handed (world_of value) permits.task permit
   permit_is_fit = permit_fits value held name permit permits
 
-  -- the directory stands where the world has it
-  directory_seen : IsLocated value directory
-  directory_seen = located value held directory small directory_plain permit_is_fit.names.0.reached.there
-
   sees : MayBeMade (world_of value) (location_of directory) entry (node_seen count node) × HasRoom permits.task
   sees = given_permits_are_seen_to (world_of value) handed permits.task permit held.in_world permits.given
 
   -- the new file is new in its directory
   pub new_in_directory : IsNewIn directory.node.slot node
   new_in_directory = new_in_slot count directory.node.slot small node
-      (subst (λ number. IsNewIn number (node_seen count node)) (here_number directory.node here) sees.0.fits)
+      (subst (λ number. IsNewIn number (node_seen count node)) (here_number directory.node stands.born_here)
+      sees.0.fits)
 
   -- the task may open another file
   pub may_open_one : MayOpenMore (called name value.tasks)
@@ -107,18 +93,18 @@ module _ (value : WorldValue) (held : IsHeld value) (name : TaskName) (directory
   abbrev change : ℕ → Change ℕ
   change number = Make (number_of directory.node) entry number (node_seen count node)
 
-  fits_next : (inodes : Inodes ℕ) → inodes ≡ inodes_seen directory_seen.entry → Fits inodes (change next_number)
+  fits_next : (inodes : Inodes ℕ) → inodes ≡ inodes_seen stands.entry → Fits inodes (change next_number)
   fits_next inodes same = given_changes_fit (world_of value) handed permits.task permit (location_of directory)
       (change next_number) inodes held.in_world permits.given refl
       (ap tree_of same ∙ ap (λ filesystem. filesystem.files.tree)
-      (sym (located_filesystem value held directory directory_seen)))
+      (sym (located_filesystem value held directory stands)))
 
   -- the parent is a directory, and the name is free
   pub make_fits : Fits (inodes_at value.filesystems count) (change next_number)
-  make_fits = fits_next (inodes_at value.filesystems count) (located_inodes value directory directory_seen)
+  make_fits = fits_next (inodes_at value.filesystems count) (located_inodes value directory stands)
 
   named : permit_named (is_counted_before value.next) making ≡ true
-  named = λ i. directory_seen.named i
+  named = λ i. stands.named i
       && new_is_named (is_counted_before value.next) (number_of directory.node) (node_seen count node)
       (nodes_named value.next directory.node) sees.0.fits i
 
@@ -136,33 +122,31 @@ module _ (value : WorldValue) (held : IsHeld value) (name : TaskName) (directory
   making_fits = record { names = permit_is_fit.names.0; few_mounts = permit_is_fit.few_mounts }
 
   -- the file is made
-  module _ (made_in : Filesystems) (made : NodeRef) (small_made : is_small_node made ≡ true)
-      (own_made : is_own_number made.filesystem.count (number_of made) ≡ true)
-      (inside : made.filesystem ≡ directory.node.filesystem)
-      (number : number_of made ≡ next_seen (entry_at value.filesystems count)) (changes : ChangesInodes count
-      (λ inodes. changed nat_eq inodes (change (number_of made))) value.filesystems made_in) where
+  module _ (made_in : Filesystems) (changes : ChangesInodes count (λ inodes.
+      changed nat_eq inodes (change (next_seen (entry_at value.filesystems count)))) value.filesystems made_in) where
     abbrev mid : WorldValue
     mid = with_filesystems value made_in
 
     next_is : next_number ≡ number_of made
-    next_is = next_of_entry value (location_of directory) directory_seen.entry count directory_seen.shows
-        directory_seen.found directory_seen.count_is ∙ sym number
+    next_is = next_of_entry value (location_of directory) stands.entry count stands.shows
+        stands.found stands.count_is ∙ sym (made_is_numbered value may it)
 
     is_made : ChangesFiles value (location_of directory) (change (number_of made)) made_in
     is_made = record {
-      entry = directory_seen.entry;
-      among = directory_seen.among;
-      found = directory_seen.found;
-      shows = directory_seen.shows;
-      fits = subst (λ n. Fits (inodes_seen directory_seen.entry) (change n)) next_is
-          (fits_next (inodes_seen directory_seen.entry) refl);
+      entry = stands.entry;
+      among = stands.among;
+      found = stands.found;
+      shows = stands.shows;
+      fits = subst (λ n. Fits (inodes_seen stands.entry) (change n)) next_is
+          (fits_next (inodes_seen stands.entry) refl);
       links = tt;
       changes = subst (λ n. ChangesInodes n (λ inodes.
-          changed nat_eq inodes (change (number_of made))) value.filesystems made_in)
-          (sym directory_seen.count_is) changes;
+          changed nat_eq inodes (change (number_of made))) value.filesystems made_in) (sym stands.count_is)
+          (subst (λ n. ChangesInodes count (λ inodes. changed nat_eq inodes (change n)) value.filesystems made_in)
+          (sym (made_is_numbered value may it)) changes);
       own = λ n other same. true≢false (sym (ap (λ k. is_own_number k (number_of made))
-          (directory_seen.count_is ∙ ap (λ filesystem. filesystem.count) (sym inside)) ∙ own_made)
-          ∙ ap (is_own_number directory_seen.entry.count) (sym same) ∙ other);
+          (stands.count_is ∙ ap (λ filesystem. filesystem.count) (sym inside)) ∙ own_made value may it)
+          ∙ ap (is_own_number stands.entry.count) (sym same) ∙ other);
     }
 
     -- the world once it is made, whatever numbers are left over
@@ -244,11 +228,11 @@ module _ (value : WorldValue) (held : IsHeld value) (name : TaskName) (directory
 
     -- the new inode has one use
     pub used_once : uses_in ((inodes_at made_in count).inode (number_of made)) ≡ 1
-    unfolding is_made directory_seen
+    unfolding is_made
     used_once =
         let with_file = partner value held (location_of directory) (change (number_of made)) made_in is_made in
         let found : entry_of made_in count ≡ Some with_file.entry =
-        ap (entry_of made_in) (sym (with_file.is.count_is ∙ directory_seen.count_is))
+        ap (entry_of made_in) (sym (with_file.is.count_is ∙ stands.count_is))
         ∙ one_entry made_in (plain_ones_apart mid mid_held) with_file.entry with_file.among in
         ap (λ o. uses_in ((inodes_seen (unwrap_or o (no_entry count))).inode (number_of made))) found
         ∙ ap (λ (inodes : Inodes ℕ). uses_in (inodes.inode (number_of made)))
@@ -281,19 +265,10 @@ module _ (value : WorldValue) (held : IsHeld value) (name : TaskName) (directory
     opened_at rest = with_task (with_made rest) opens
 
     opened_same : (rest : Fresh ℕ) → SameWorlds (opened_at rest) next
-    opened_same rest = let same = made_same rest in record {
-      mounts = same.mounts;
-      master = same.master;
-      filesystems = same.filesystems;
-      namespaces = same.namespaces;
-      tasks = ap (λ all. map (λ (task : Task ℕ). record task { change = 0 }) (map (replaced_if_called opens) all))
-          (same_tasks rest);
-    }
+    opened_same rest = grind (arith, common_steps, made_same, tasks, map, same_tasks)
 
     opened_applied : (apply nat_eq handed (world_of value) permits.task permit).world ≡ opened_at (odds handed)
-    opened_applied =
-        ap (λ n. with_task (with_change nat_eq (odds handed) (world_of value) (location_of directory) (change n))
-        (with_descriptor permits.task (record { mount = counted directory.mount.count; node = n }) access)) next_is
+    opened_applied = grind (arith, common_steps, next_is)
 
     under_next : IsUnderWay next
     under_next =
@@ -309,7 +284,8 @@ module _ (value : WorldValue) (held : IsHeld value) (name : TaskName) (directory
       where
         opens_among : Among opens tasks
         opens_among =
-            let split = replaced_split name value.tasks permits.task opens held.in_world.tasks.one_task permits.called refl in
+            let split = replaced_split name value.tasks permits.task opens held.in_world.tasks.one_task permits.called
+            refl in
             subst (λ all. Among opens all) (sym split.is)
             (among-append_right split.front (opens ∷ split.back) opens (inl refl))
 
@@ -393,8 +369,5 @@ module _ (value : WorldValue) (held : IsHeld value) (name : TaskName) (directory
           → opened ≡ changed_called name (λ task. with_descriptor task (location_of file) access) value.tasks
           → IsDone value name (ToOpenNew (location_of directory) entry (node_in directory node) access)
           (remade mid mounts filesystems opened)
-      new_opens opened is = subst (λ n. IsDone value name (ToOpenNew (location_of directory) entry n access)
-          (remade mid mounts filesystems opened)) (sym (made_in_tree directory here node))
-          (subst (λ all. IsDone value name permit (remade mid mounts filesystems all))
-          (sym (is ∙ ap (changed_by (λ task.
-          with_descriptor task (location_of file) access) value.tasks) permits.called)) new_is_opened)
+      new_opens opened is =
+          grind (arith, common_steps, made_in_tree directory stands.born_here node, permits.called, new_is_opened)

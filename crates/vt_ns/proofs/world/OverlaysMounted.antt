@@ -1,7 +1,6 @@
 -- The event that mounts an overlay, as code does it: what it attaches, and the world that it leaves.
-use Rattle.std.proofs.Common.{◌≡◌, ◌<◌, ◌∙◌, refl, sym, ap, subst, ℕ, nat_eq, true, false, ◌+◌, ◌*◌, ◌%◌, ◌==◌, List, [], ◌∷◌, ◌++◌, length, map, Some, slice_get}
-use Rattle.vt_spec.proofs.Common.{Credentials, SameWorlds, Task, TaskName, ToMountOverlay as MeansToMerge, list_all, new_mount, parts_of, same_Some}
-use Rattle.vt_spec.specs.Machine.Mounts as meant
+use Rattle.std.proofs.Common.{◌≡◌, ◌<◌, ◌∙◌, refl, sym, ap, subst, ℕ, nat_eq, true, false, ◌+◌, ◌*◌, ◌%◌, ◌==◌, List, [], ◌∷◌, ◌++◌, length, map, Some, slice_get, arith}
+use Rattle.vt_spec.proofs.Common.{Credentials, SameWorlds, Task, TaskName, ToMountOverlay as MeansToMerge, list_all, new_mount, parts_of, same_Some, common_steps}
 use Rattle.vt_ns.proofs.Common.{Grouping, IsGrafted, IsHeld, MountEntry, StoreValue, WorldValue, are_ascending, counted, flags_of, inode_number, kept, layer_kept, layer_of, location_of, mount_of, mounts_in, overlay_of_store, supply_of, with_store, world_of}
 use Rattle.vt_laws_worlds.specs.Given.LeftWorlds.{IsGivenToTask}
 use Rattle.vt_location.specs.declared.locations.Location.{Location}
@@ -21,21 +20,38 @@ use Rattle.vt_mounting.proofs.attach.NewOverlayDone.{may_graft}
 use Rattle.vt_mounting.proofs.attach.OverlayMounted.{overlay_is_mounted}
 use Rattle.vt_ns.specs.OverlayMounts.{MountsOverlay}
 use Rattle.vt_ns.proofs.world.OverlayEvents.{PermitsOverlay, kept_is_overlay, layers_are_kept, root_is_top}
+use Rattle.vt_spec.specs.Machine.Mounts as meant
 
 -- the overlay that is kept, and a graft of the one mount of it
-module _ (base : WorldValue) (store : StoreValue) (whole : IsHeld (with_store store base)) (name : TaskName)
-    (new : ToMountOverlay) (permits : PermitsOverlay (with_store store base) name new) (lowers : List LayerRef)
-    (lowers_are : lowers ≡ map (λ lower. layer_kept (layer_of lower)) new.lowers.items)
-    (mounter : Credentials) (mounter_is : mounter ≡ permits.task.credentials)
-    (top : LayerRef) (top_is : slice_get lowers 0 ≡ Some top) (small : top.directory.slot < 18446744073709551616)
-    (mount : Mount) (mount_is : mount_of mount
-    ≡ new_mount (counted base.next) (inode_number base.next top.directory.slot) (flags_of new.flags))
-    (graft : Graft) (tree_is : graft.tree.now ≡ mount ∷ []) (place_is : graft.place ≡ new.destination)
-    (binds : graft.moves ≡ false) (parts_are : map mount_of graft.parts.now
-    ≡ parts_of nat_eq (world_of (with_store store base)) (location_of graft.place))
-    (counts : Counts) (first : counts.first ≡ base.next + 1) (step : counts.step ≡ 2)
-    (ascending : are_ascending (mounts_in base.mounts) ≡ true)
-    (odd : list_all (λ mount. mount.number % 4 == 1) (mounts_in base.mounts) ≡ true) where
+pub record MountsIt (base : WorldValue) (store : StoreValue) (name : TaskName) (new : ToMountOverlay) : Type 0 where
+  pub whole : IsHeld (with_store store base)
+  pub permits : PermitsOverlay (with_store store base) name new
+  pub lowers : List LayerRef
+  pub lowers_are : lowers ≡ map (λ lower. layer_kept (layer_of lower)) new.lowers.items
+  pub mounter : Credentials
+  pub mounter_is : mounter ≡ permits.task.credentials
+  pub top : LayerRef
+  pub top_is : slice_get lowers 0 ≡ Some top
+  pub small : top.directory.slot < 18446744073709551616
+  pub mount : Mount
+  pub mount_is : mount_of mount
+      ≡ new_mount (counted base.next) (inode_number base.next top.directory.slot) (flags_of new.flags)
+  pub graft : Graft
+  pub tree_is : graft.tree.now ≡ mount ∷ []
+  pub place_is : graft.place ≡ new.destination
+  pub binds : graft.moves ≡ false
+  pub parts_are : map mount_of graft.parts.now
+      ≡ parts_of nat_eq (world_of (with_store store base)) (location_of graft.place)
+  pub counts : Counts
+  pub first : counts.first ≡ base.next + 1
+  pub step : counts.step ≡ 2
+  pub ascending : are_ascending (mounts_in base.mounts) ≡ true
+  pub odd : list_all (λ mount. mount.number % 4 == 1) (mounts_in base.mounts) ≡ true
+
+module _ (base : WorldValue) (store : StoreValue) (name : TaskName) (new : ToMountOverlay)
+    (it : MountsIt base store name new) where
+  open it use {whole, permits, lowers, lowers_are, mounter, mounter_is, top, top_is, small, mount_is, graft, tree_is, place_is, binds, parts_are, counts, first, step, ascending, odd}
+
   abbrev value : WorldValue
   value = with_store store base
 
@@ -45,10 +61,7 @@ module _ (base : WorldValue) (store : StoreValue) (whole : IsHeld (with_store st
   given_there : IsGivenToTask (supply_of value (MeansToMerge (location_of graft.place) (overlay_of permits.task new)
       (flags_of new.flags))) (world_of value) permits.task
       (MeansToMerge (location_of graft.place) (overlay_of permits.task new) (flags_of new.flags))
-  given_there = subst (λ (place : Location). IsGivenToTask (supply_of value (MeansToMerge (location_of place)
-      (overlay_of permits.task new) (flags_of new.flags))) (world_of value) permits.task
-      (MeansToMerge (location_of place) (overlay_of permits.task new) (flags_of new.flags)))
-      (sym place_is) permits.given
+  given_there = grind (arith, common_steps)
 
   tree_seen : map mount_of graft.tree.now
       ≡ new_mount (counted base.next) (overlay_of_store store.plain entry).root (flags_of new.flags) ∷ []

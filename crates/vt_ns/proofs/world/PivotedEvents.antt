@@ -1,7 +1,6 @@
 -- A mount becomes the root mount, as code does it: pivot_root(2).
-use Rattle.std.proofs.Common.{◌≡◌, refl, sym, ap, subst, ◌∙◌, ℕ, ◌+◌, zero, suc, nat_eq, true, true≢false, List, [], ◌∷◌, find, map, Option, Some, None, is_some, unwrap_or}
-use Rattle.vt_spec.proofs.Common.{Location, Mount, Task, TaskName, ToPivot, chain, list_any, looks_of, mount_at, mount_numbered, no_mount, pivoted_task, rest_of, root_of, same_Some}
-use Rattle.vt_spec.specs.Machine.Looks
+use Rattle.std.proofs.Common.{◌≡◌, refl, sym, ap, ◌∙◌, ℕ, ◌+◌, nat_eq, true, true≢false, List, [], find, map, Option, Some, None, is_some, unwrap_or, arith, subst}
+use Rattle.vt_spec.proofs.Common.{Location, Mount, Task, TaskName, ToPivot, chain, list_any, looks_of, mount_at, mount_numbered, no_mount, pivoted_task, rest_of, root_of, same_Some, common_steps}
 use Rattle.vt_ns.proofs.Common.{Filesystems, HasRoom, IsDone, IsHeld, Merged, MountEntry, Permits, Tasks, WorldValue, called, counted, inode_of, is_small_node, kept_with, location_of, merged_seen, mount_of, mounts_in, pinned_in, remade, shown, task_of, unpinned_in, uses_of, world_of, writers_of}
 use Rattle.vt_location.specs.declared.locations.Location.{Location as At}
 use Rattle.vt_location.specs.declared.mounts.Mount.{Mount as Attached}
@@ -12,18 +11,16 @@ use Rattle.vt_ns.specs.Pivoting.{with_uses, without_uses}
 use Rattle.vt_ns.proofs.CountingLemmas.{counts_kept, room_pinned}
 use Rattle.vt_ns.proofs.world.PivotedUses.{kept_number}
 use Rattle.vt_ns.proofs.world.PivotedWorlds.{may, root_is_changed}
+use Rattle.vt_spec.specs.Machine.Looks
 
 -- a mount that is in a namespace is found
 pub found_there : (number : ℕ) (found : Option (Mount ℕ))
     → is_some (unwrap_or found (no_mount number)).namespace ≡ true → is_some found ≡ true
-found_there number None e = absurd (true≢false (sym e))
-found_there number (Some mount) e = refl
+found_there number found e = grind (arith, common_steps)
 
 -- nothing is above a place that has nothing above it
 no_rest : {A : Type 0} (above : A → Option A) (most : ℕ) (a : A) → above a ≡ None → rest_of (chain most above a) ≡ []
-no_rest above zero a none = refl
-no_rest above (suc most) a none =
-    ap (λ next. rest_of (elim next [ None ↦ a ∷ [] | Some b ↦ a ∷ chain most above b ])) none
+no_rest above most a none = grind (arith, common_steps)
 
 module _ (value : WorldValue) (whole : IsHeld value) (name : TaskName) (number : ℕ) (put : At)
     (permits : Permits value name (ToPivot number (location_of put))) where

@@ -1,17 +1,17 @@
 -- Where two mounts change places and tasks go from the root of one to that of the other, what is used more and less:
 -- pivot_root(2).
-use Rattle.std.proofs.Common.{◌≡◌, refl, sym, ap, ◌∙◌, ⊎_elim, ℕ, ◌+◌, zero, suc, nat_eq, eqb-true, eq-eqb, Bool, true, false, true≢false, cond, List, [], ◌∷◌, ◌++◌, map, filter, flat_map, Option, Some, None, arith, filter_map, option_to_list, replicate}
-use Rattle.vt_spec.proofs.Common.{Location, Mount, Task, World, all_locations, any_pair, cons_option, list_any, located_in, locations_of, mount_in, nat_eq_turned, or_parts, pivoted, pivoted_location, pivoted_mount, pivoted_task, root_of, shown-mapped}
+use Rattle.std.proofs.Common.{◌≡◌, refl, sym, ap, ◌∙◌, ⊎_elim, ℕ, ◌+◌, zero, suc, nat_eq, eq-eqb, Bool, true, false, cond, List, [], ◌∷◌, ◌++◌, map, filter, flat_map, Option, Some, None, arith, filter_map, option_to_list, replicate}
+use Rattle.vt_spec.proofs.Common.{Location, Mount, Task, World, all_locations, any_pair, list_any, located_in, locations_of, mount_in, nat_eq_turned, or_parts, pivoted, pivoted_location, pivoted_mount, pivoted_task, root_of, shown-mapped, common_steps}
 use Rattle.vt_ns.proofs.Common.{Among, Exchanges, Inode, Tasks, Use, inode_at, inodes_of_uses, mount_uses, standing, times, writes_of, writes_of_task}
 use Rattle.vt_laws_mounts.specs.Counts.Using.{is_inode}
 use Rattle.vt_laws_mounts.proofs.counts.using.Places.{count_append, count_in, count_places, located_uses, same_found}
 use Rattle.vt_laws_mounts.proofs.letting_go.Lists.{none_among}
 use Rattle.vt_laws_mounts.proofs.letting_go.sweeps.UpperUses.{times_append}
-use Rattle.vt_tasks.specs.Counts as counted_uses
 use Rattle.vt_tasks.specs.Counts.{all_places_at, uses}
 use Rattle.vt_tasks.proofs.PivotCounts.{pivoted_uses}
 use Rattle.vt_mounting.proofs.detach.Moving.{is_use_on, writes_on_mount}
 use Rattle.vt_mounting.proofs.detach.MountsChanged.{times_map}
+use Rattle.vt_tasks.specs.Counts as counted_uses
 
 -- Lists
 
@@ -21,16 +21,8 @@ times_kept test change same [] = refl
 times_kept test change same (a ∷ rest) = λ i. cond (same a i) 1 0 + times_kept test change same rest i
 
 times_replicate : {A : Type 0} (test : A → Bool) (n : ℕ) (a : A) → times test (replicate n a) ≡ cond (test a) n 0
-times_replicate test zero a = by (test a)
-  where
-    by : (b : Bool) → ◌≡◌ {A = ℕ} 0 (cond b 0 0)
-    by true = refl
-    by false = refl
-times_replicate test (suc n) a = ap (λ m. cond (test a) 1 0 + m) (times_replicate test n a) ∙ by (test a)
-  where
-    by : (b : Bool) → cond b 1 0 + cond b n 0 ≡ cond b (suc n) 0
-    by true = omega arith
-    by false = refl
+times_replicate test zero a = grind (arith, common_steps)
+times_replicate test (suc n) a = grind (arith, common_steps, times_replicate test n a, cond)
 
 -- what the tasks count is what the world does
 counted_so : {A B : Type 0} (test : B → Bool) (f : A → B) (list : List A)
@@ -83,23 +75,13 @@ one_weighs weight (first ∷ rest) mount one m =
     here : list_any (λ (other : Mount ℕ). nat_eq first.number other.number) rest ≡ false → mount ≡ first
         → cond (nat_eq mount.number first.number) (weight first) 0 + total (of_one mount.number weight) rest
         ≡ weight mount
-    here none same =
-        let own : cond (nat_eq mount.number first.number) (weight first) 0 ≡ weight mount =
-        (λ i. cond (eq-eqb mount.number first.number (ap (λ (x : Mount ℕ). x.number) same) i) (weight (sym same i)) 0) in
-        let others : total (of_one mount.number weight) rest ≡ 0 = none_weighs mount.number weight rest
-        (ap (λ (x : Mount ℕ). list_any (λ (other : Mount ℕ). nat_eq x.number other.number) rest) same ∙ none) in
-        omega (arith, own, others)
+    here none same = grind (arith, common_steps, cond, eq-eqb, of_one, none_weighs)
 
     later : list_any (λ (other : Mount ℕ). nat_eq first.number other.number) rest ≡ false
         → (Among mount rest → total (of_one mount.number weight) rest ≡ weight mount) → Among mount rest
         → cond (nat_eq mount.number first.number) (weight first) 0 + total (of_one mount.number weight) rest
         ≡ weight mount
-    later none others there =
-        let another : nat_eq mount.number first.number ≡ false = nat_eq_turned mount.number first.number
-        ∙ none_among (λ (other : Mount ℕ). nat_eq first.number other.number) rest none mount there in
-        let own : cond (nat_eq mount.number first.number) (weight first) 0 ≡ 0 =
-        ap (λ b. cond b (weight first) 0) another in
-        omega (arith, own, others there)
+    later none others there = grind (arith, common_steps, nat_eq_turned, none_among, cond)
 
 -- The mounts
 
@@ -111,13 +93,7 @@ module _ (root new : Mount ℕ) (put : Location ℕ) where
   pub kept_part : {A : Type 0} (part : Mount ℕ → A)
       → ((mount : Mount ℕ) (point : Option (Location ℕ)) → part (record mount { mount_point = point }) ≡ part mount)
       → (mount : Mount ℕ) → part (pivoting mount) ≡ part mount
-  kept_part part same mount = by (nat_eq mount.number new.number) (nat_eq mount.number root.number)
-    where
-      by : (b c : Bool) → part (cond b (record mount { mount_point = root.mount_point })
-          (cond c (record mount { mount_point = Some put }) mount)) ≡ part mount
-      by true c = same mount root.mount_point
-      by false true = same mount (Some put)
-      by false false = refl
+  kept_part part same mount = grind (arith, common_steps)
 
   pub kept_number : (mount : Mount ℕ) → (pivoting mount).number ≡ mount.number
   kept_number = kept_part (λ mount. mount.number) (λ mount point. refl)
@@ -129,8 +105,7 @@ module _ (root new : Mount ℕ) (put : Location ℕ) where
   pub kept_showing : (mounts : List (Mount ℕ)) (number : ℕ)
       → times (λ (mount : Mount ℕ). nat_eq number mount.filesystem) (map pivoting mounts)
       ≡ times (λ (mount : Mount ℕ). nat_eq number mount.filesystem) mounts
-  kept_showing mounts number = times_kept (λ (mount : Mount ℕ). nat_eq number mount.filesystem) pivoting
-      (λ mount. ap (nat_eq number) (kept_filesystem mount)) mounts
+  kept_showing mounts number = grind (arith, common_steps, times_kept, kept_filesystem)
 
   kept_roots : (mounts : List (Mount ℕ)) → map root_of (map pivoting mounts) ≡ map root_of mounts
   kept_roots [] = refl
@@ -150,23 +125,7 @@ module _ (root new : Mount ℕ) (put : Location ℕ) where
         → (point_weight (pivoting mount) + of_one new.number point_weight mount) + of_one root.number point_weight mount
         ≡ (point_weight mount + of_one new.number (λ one. weight_at root.mount_point) mount)
         + of_one root.number (λ one. weight put) mount
-    one_pivots another mount =
-        (λ i. (point_weight (pivoting mount) + cond (nat_eq_turned new.number mount.number i) (point_weight mount) 0)
-        + cond (nat_eq_turned root.number mount.number i) (point_weight mount) 0)
-        ∙ by (nat_eq mount.number new.number) refl (nat_eq mount.number root.number) refl ∙ (λ i. (point_weight mount
-        + cond (nat_eq_turned mount.number new.number i) (weight_at root.mount_point) 0)
-        + cond (nat_eq_turned mount.number root.number i) (weight put) 0)
-      where
-        by : (b : Bool) → nat_eq mount.number new.number ≡ b → (c : Bool) → nat_eq mount.number root.number ≡ c
-            → (weight_at (cond b (record mount { mount_point = root.mount_point })
-            (cond c (record mount { mount_point = Some put }) mount)).mount_point
-            + cond b (point_weight mount) 0) + cond c (point_weight mount) 0
-            ≡ (point_weight mount + cond b (weight_at root.mount_point) 0) + cond c (weight put) 0
-        by true e true f = absurd (true≢false (sym (eq-eqb new.number root.number
-            (sym (eqb-true mount.number new.number e) ∙ eqb-true mount.number root.number f)) ∙ another))
-        by true e false f = omega arith
-        by false e true f = omega arith
-        by false e false f = refl
+    one_pivots another mount = grind (arith, common_steps)
 
     points_weigh : (mounts : List (Mount ℕ)) → any_pair (λ (a b : Mount ℕ). nat_eq a.number b.number) mounts ≡ false
         → Among root mounts → Among new mounts → nat_eq new.number root.number ≡ false
@@ -188,26 +147,13 @@ module _ (root new : Mount ℕ) (put : Location ℕ) where
 
     point_counts : (point : Option (Location ℕ))
         → count_in mounts k n (option_to_list point) ≡ weight_at place_weight point
-    point_counts None = refl
-    point_counts (Some place) = refl
+    point_counts point = grind (arith, common_steps)
 
     points_count : (some : List (Mount ℕ))
         → count_in mounts k n (filter_map (λ (mount : Mount ℕ). mount.mount_point) some)
         ≡ total (point_weight place_weight) some
     points_count [] = refl
-    points_count (mount ∷ rest) = by mount.mount_point (points_count rest)
-      where
-        by : (point : Option (Location ℕ)) → count_in mounts k n (filter_map (λ (one : Mount ℕ). one.mount_point) rest)
-            ≡ total (point_weight place_weight) rest
-            → count_in mounts k n (cons_option point (filter_map (λ (one : Mount ℕ). one.mount_point) rest))
-            ≡ weight_at place_weight point + total (point_weight place_weight) rest
-        by None later = let same : count_in mounts k n (filter_map (λ (one : Mount ℕ). one.mount_point) rest)
-            ≡ total (point_weight place_weight) rest = later in omega arith
-        by (Some place) later =
-            let split : count_in mounts k n (place ∷ filter_map (λ (one : Mount ℕ). one.mount_point) rest)
-            ≡ place_weight place + count_in mounts k n (filter_map (λ (one : Mount ℕ). one.mount_point) rest) =
-            count_append mounts k n (place ∷ []) (filter_map (λ (one : Mount ℕ). one.mount_point) rest) in
-            split ∙ ap (λ m. place_weight place + m) later
+    points_count (mount ∷ rest) = grind (arith, common_steps, points_count rest)
 
     -- locations of tasks
     locations_count : (tasks : Tasks) → count_in mounts k n (flat_map locations_of tasks)
@@ -235,14 +181,7 @@ module _ (world : World ℕ) (namespace : ℕ) (root new : Mount ℕ) (put : Loc
   -- the uses of a mount
   pub mount_uses_pivot : (number : ℕ) → mount_uses pivoted_world number + times (is_use_on number) leaving
       ≡ mount_uses world number + times (is_use_on number) coming
-  mount_uses_pivot number =
-      let test : Location ℕ → Bool = λ (location : Location ℕ). nat_eq number location.mount in
-      let was = counted_too test (all_locations world) in
-      let is = counted_too test (all_locations pivoted_world) in
-      let all = pivoted_uses test world.tasks namespace root new in
-      let more = times_replicate (is_use_on number) moved (standing (root_of new)) in
-      let less = times_replicate (is_use_on number) moved (standing (root_of root)) in
-      omega (arith, was, is, all, more, less)
+  mount_uses_pivot number = grind (arith, common_steps, counted_too, pivoted_uses, times_replicate, standing)
 
   -- none of them is a file that is open for writing
   pub none_writes : (number count : ℕ) (place : Location ℕ)
@@ -286,9 +225,7 @@ module _ (world : World ℕ) (namespace : ℕ) (root new : Mount ℕ) (put : Loc
   moved_uses : (k n : ℕ) (place : Location ℕ)
       → times (is_inode k n) (inodes_of_uses world (replicate moved (standing place)))
       ≡ cond (is_inode k n (inode_at world place)) moved 0
-  moved_uses k n place =
-      times_map (is_inode k n) (λ (one : Use). inode_at world one.location) (replicate moved (standing place))
-      ∙ times_replicate (λ (one : Use). is_inode k n (inode_at world one.location)) moved (standing place)
+  moved_uses k n place = grind (arith, common_steps, times_map, is_inode, inode_at, standing, times_replicate)
 
   module _ (one : any_pair (λ (a b : Mount ℕ). nat_eq a.number b.number) world.mounts ≡ false)
       (root_there : Among root world.mounts) (new_there : Among new world.mounts)

@@ -1,6 +1,6 @@
 -- The root mount changes, and roots and working directories go along: pivot_root(2).
-use Rattle.std.proofs.Common.{◌≡◌, refl, sym, ap, subst, ◌∙◌, ⊎_elim, ℕ, ◌+◌, ◌-◌, zero, suc, nat_eq, true, false, ◌||◌, ◌&&◌, List, [], ◌∷◌, ◌++◌, map, filter, Some, is_some, arith, option_to_list, replicate}
-use Rattle.vt_spec.proofs.Common.{Filesystem, Location, Mount, TaskName, ToPivot, World, and_parts, any_pair, filesystem_lives, filesystem_numbered, folded, has_its_root, has_layer_on, is_located_well, is_mounted, list_any, map_alike, map_twice, mount_at, mount_lives, mount_numbered, pivoted_task, root_of, settled, with_mounts, without_dead_filesystems, without_dead_mounts}
+use Rattle.std.proofs.Common.{◌≡◌, refl, sym, ap, subst, ◌∙◌, ⊎_elim, ℕ, ◌+◌, ◌-◌, zero, suc, nat_eq, true, false, ◌&&◌, List, [], ◌∷◌, ◌++◌, map, filter, Some, is_some, arith, option_to_list, replicate}
+use Rattle.vt_spec.proofs.Common.{Filesystem, Location, Mount, TaskName, ToPivot, World, any_pair, filesystem_lives, folded, is_located_well, is_mounted, map_alike, map_twice, mount_at, mount_lives, mount_numbered, pivoted_task, root_of, settled, with_mounts, without_dead_filesystems, without_dead_mounts, common_steps, and_parts, filesystem_numbered, has_its_root}
 use Rattle.vt_ns.proofs.Common.{Among, CountsItsMounts, CountsItsUses, CountsWhatIsInIt, Exchanges, FilesystemEntry, Filesystems, Has, Inode, IsApplied, IsDone, IsHeld, IsSwept, Kept, Merged, MountEntry, Permits, Shown, Use, WorldValue, all_from_among, all_in_use, among-from_map, among-map, among_from_all, among_from_list_all, counted, directory_is_there, filesystem_seen, found_is_there, found_itself, in_use_of, inode_at, inode_of, inodes_of_uses, inodes_seen, is_among_numbers, is_small_node, keeps_itself, kept_with, layer_count, located_is_named, location_of, merged_seen, mount_uses, mounts_in, mounts_of_worlds_stand, mounts_showing, number-mount_in, number_of, permit_fits, pinned_in, remade, same_files_keep, seen_where_located, shown, shown_entry, standing, times, unpinned_in, with_use, world_of, writes_of}
 use Rattle.vt_laws_mounts.specs.Counts.Using.{AreThere, pinned_if, unpinned_if}
 use Rattle.vt_fs.specs.FilesystemsValue.{filesystems_seen}
@@ -119,9 +119,7 @@ module _ (value : WorldValue) (whole : IsHeld value) (name : TaskName) (number :
   -- Nothing goes
 
   same_mounted : (filesystem : ℕ) → is_mounted nat_eq next filesystem ≡ is_mounted nat_eq before filesystem
-  same_mounted filesystem =
-      any-map (λ (mount : Mount ℕ). nat_eq filesystem mount.filesystem) change (mounts_in value.mounts)
-      (λ mount. ap (nat_eq filesystem) (kept_filesystem root new place mount))
+  same_mounted filesystem = grind (arith, common_steps, any-map, kept_filesystem, root)
 
   living_is : in_use_of next ≡ next
   living_is = ap (without_dead_filesystems nat_eq) mounts_stay ∙ ap (λ all. record next { filesystems = all })
@@ -137,8 +135,7 @@ module _ (value : WorldValue) (whole : IsHeld value) (name : TaskName) (number :
           (ap is_some may.own_root) (ap is_some may.own)).live mount m refl))
 
       same_lives : (f : Filesystem ℕ) → filesystem_lives nat_eq next f ≡ filesystem_lives nat_eq before f
-      same_lives f = λ i. same_mounted f.number i
-          || list_any (λ merged. has_layer_on nat_eq f.number merged && same_mounted merged.number i) before.filesystems
+      same_lives f = grind (arith, common_steps, same_mounted)
 
   same_groups : Has (settled nat_eq next) value.groups
   same_groups = changed_has value whole next change refl (λ group. refl) (kept_number root new place)
@@ -213,18 +210,13 @@ module _ (value : WorldValue) (whole : IsHeld value) (name : TaskName) (number :
 
       all_so : kept_with mounts held_files overlays ≡ moved_kept before more less
           (kept_with between pinned_files (map merged_seen value.overlays))
-      all_so = left_so ∙ without_uses_so moving held
-          ∙ ap (λ k. folded (lose before) k less) (held_so ∙ with_uses_so moving
-          (kept_with between pinned_files (map merged_seen value.overlays)))
+      all_so = grind (arith, common_steps, without_uses_so, less, with_uses_so, map)
 
       abbrev final : MountEntry → MountEntry
       final entry = folded_entry more less (pivoted_entry root new place entry)
 
       entries_are : mounts ≡ map final value.mounts
-      entries_are = ap (λ (k : Kept). k.mounts) all_so ∙ mounts_moved before more less
-          (kept_with between pinned_files (map merged_seen value.overlays))
-          ∙ ap (map (folded_entry more less)) pivoted_so
-          ∙ map_twice (folded_entry more less) (pivoted_entry root new place) value.mounts
+      entries_are = grind (arith, common_steps, all_so, mounts_moved, more, less, map, map_twice, root)
 
       mounts_are : next.mounts ≡ mounts_in mounts
       mounts_are = map_twice change (λ (entry : MountEntry). entry.mount) value.mounts

@@ -1,10 +1,8 @@
 -- Mounts that get other mount points: what is kept of the world then.
-use Rattle.std.proofs.Common.{◌≡◌, refl, sym, ap, subst, ◌∙◌, ⊎_elim, inl, inr, ℕ, ◌+◌, nat_eq, eqb-true, Bool, true, false, true≢false, cond, not, ◌&&◌, ◌||◌, List, [], ◌∷◌, ◌++◌, filter, map, find, Option, Some, None, option_map, is_some, unwrap_or, option_and_then, option_to_list, append-nil, map-id}
-use Rattle.vt_spec.proofs.Common.{Filesystem, Location, Mount, World, all_locations, and_parts, filesystem_lives, filesystem_numbered, is_among, is_located_well, is_mounted, is_nowhere_or_attached, is_overlay, is_private, is_there, list_all, lookup, map_alike, map_twice, mount_at, mount_in, mount_lives, no_mount, node_in, or_else, same_Some, shown-mapped, with_mounts}
-use Rattle.vt_spec.specs.Inodes as Trees
+use Rattle.std.proofs.Common.{◌≡◌, refl, sym, ap, subst, ◌∙◌, ⊎_elim, inl, inr, ℕ, ◌+◌, nat_eq, eqb-true, Bool, true, false, true≢false, cond, not, ◌&&◌, ◌||◌, List, [], ◌∷◌, ◌++◌, filter, map, find, Option, Some, None, is_some, option_and_then, option_to_list, append-nil, map-id, arith, option_map, unwrap_or}
+use Rattle.vt_spec.proofs.Common.{Filesystem, Location, Mount, World, all_locations, and_parts, filesystem_lives, is_among, is_located_well, is_mounted, is_nowhere_or_attached, is_overlay, is_private, is_some-node_in, is_there, list_all, lookup, map_alike, map_twice, mount_at, mount_in, mount_lives, or_else, same_Some, shown-mapped, with_mounts, common_steps, no_mount}
 use Rattle.vt_ns.proofs.Common.{Among, CountsItsMounts, CountsItsUses, Exchanges, FilesystemEntry, Filesystems, Inode, IsHeld, IsKeptBut, Kept, Merged, MountEntry, Point, Shown, WorldValue, all_from_among, all_in_use, among-from_map, among-map, among_from_all, among_from_list_all, counted, entry_numbered, filesystem_seen, found_mapped, found_plain_one, inode_at, inodes_seen, is_small, kept_of, kept_with, layer_count, location_of, merged_seen, mounts_in, mounts_showing, moved_by, number_of, overlays_seen, point_seen, points_left, points_taken, seen_where_located, shown, shown_entry, with_planned, world_of}
 use Rattle.vt_laws_mounts.specs.Counts.Using.{AreThere, exchanged}
-use Rattle.vt_laws_mounts.proofs.counts.using.MountRoots as Roots
 use Rattle.vt_laws_mounts.specs.LettingGo.Keeping.{LocationsStand}
 use Rattle.vt_laws_mounts.specs.LettingGo.InUse.{FilesystemsInUse}
 use Rattle.vt_laws_mounts.specs.LettingGo.Leaving.{MountsStand, stands_on_attached}
@@ -19,23 +17,18 @@ use Rattle.vt_mounting.proofs.attach.PointsCounted.{points_count}
 use Rattle.vt_mounting.proofs.detach.BesideOverlays.{lives_alike}
 use Rattle.vt_mounting.proofs.detach.DetachingBegins.{pair_mapped}
 use Rattle.vt_mounting.proofs.detach.DetachingEnds.{held_is_kept, point_located}
-use Rattle.vt_mounting.proofs.detach.Grouped.{stays_private}
 use Rattle.vt_mounting.proofs.detach.Keeping.{IsShownIn}
 use Rattle.vt_mounting.proofs.detach.LostUses.{entry_found_at}
 use Rattle.vt_mounting.proofs.detach.MountsChanged.{times_map}
 use Rattle.vt_mounting.proofs.detach.Overlaid.{plain_ones_are}
 use Rattle.vt_mounting.proofs.detach.OverlaysGone.{layers_used, merged_in}
+use Rattle.vt_laws_mounts.proofs.counts.using.MountRoots as Roots
 
 -- what is looked up in a list stands there
 pub looked_up : {B : Type 0} (number : ℕ) (pairs : List (ℕ × B)) (b : B) → lookup (nat_eq number) pairs ≡ Some b
     → Among (number, b) pairs
 looked_up number [] b e = absurd (true≢false (sym (ap is_some e)))
-looked_up {B} number (pair ∷ rest) b e = by (nat_eq number pair.0) refl e (looked_up number rest b)
-  where
-    by : (t : Bool) → nat_eq number pair.0 ≡ t → cond t (Some pair.1) (lookup (nat_eq number) rest) ≡ Some b
-        → (lookup (nat_eq number) rest ≡ Some b → Among (number, b) rest) → Among (number, b) (pair ∷ rest)
-    by true is f later = inl (λ i. (eqb-true number pair.0 is i, sym (same_Some pair.1 b f) i))
-    by false is f later = inr (later f)
+looked_up {B} number (pair ∷ rest) b e = grind (arith, common_steps, looked_up number rest b, nat_eq number pair.0)
 
 module _ (value : WorldValue) (whole : IsHeld value) where
   abbrev world : World ℕ
@@ -69,9 +62,7 @@ module _ (value : WorldValue) (whole : IsHeld value) where
       (among-append (points_taken rest value.mounts) (taken_at point (with_points rest value.mounts)) at m)
     where
       here : (b : Bool) → Among at (cond b (point.place ∷ []) []) → is_located_well nat_eq world (location_of at) ≡ true
-      here true n = ⊎_elim (λ same. ap (λ (one : At). is_located_well nat_eq world (location_of one)) same
-          ∙ each point (inl refl)) (λ none. absurd none) n
-      here false n = absurd n
+      here b n = grind (arith, common_steps)
 
   left_located : (points : List Point)
       → ((point : Point) → Among point points → is_located_well nat_eq world (location_of point.place) ≡ true)
@@ -120,20 +111,10 @@ module _ (value : WorldValue) (whole : IsHeld value) where
       ap (λ (one : Inode). not (nat_eq (counted was.count) one.0) || is_some ((inodes_seen was).inode one.1)) from.2
       ∙ by from.0 (nat_eq (counted was.count) (mount_at nat_eq world from.0).filesystem) refl (there from.0 from.1))
     where
-      some_inode : (o : Option (Trees.Inode ℕ)) → is_some (node_in o) ≡ is_some o
-      some_inode None = refl
-      some_inode (Some inode) = refl
-
       by : (place : Location ℕ) (b : Bool) → nat_eq (counted was.count) (mount_at nat_eq world place).filesystem ≡ b
           → is_located_well nat_eq world place ≡ true → (not b || is_some ((inodes_seen was).inode place.node)) ≡ true
-      by place true e well =
-          let number : counted was.count ≡ (mount_at nat_eq world place).filesystem = eqb-true _ _ e in
-          let seen : is_there nat_eq world (mount_at nat_eq world place).filesystem place.node
-          ≡ true = (and_parts _ _ well).1 in
-          sym (some_inode ((inodes_seen was).inode place.node))
-          ∙ ap (λ (f : Filesystem ℕ). is_some (f.files.tree.node place.node)) (sym (found_plain_one value whole was m)
-          ∙ ap (filesystem_numbered nat_eq world) number) ∙ seen
-      by place false e well = refl
+      by place b e well =
+          grind (arith, common_steps, counted, eqb-true, is_there, is_some-node_in, is_some, found_plain_one)
 
 -- The mounts at their new mount points
 
@@ -187,19 +168,13 @@ module _ (value : WorldValue) (whole : IsHeld value) (points : List Point) (may 
           → (is_some mount.namespace ≡ false → (moved mount).mount_point ≡ None)
           → (is_some mount.namespace || (not (is_some (moved mount).mount_point) && is_private mount.propagation))
           ≡ true
-      outside mount true e is none = ap
-          (λ b. b || (not (is_some (moved mount).mount_point) && is_private mount.propagation)) e
-      outside mount false e is none =
-          (λ i. e i || (not (is_some (none e i)) && is_private (stays_private mount is false e i)))
+      outside mount b e is none = grind (arith, common_steps)
 
       on : (mount : Mount ℕ) → Among mount before.mounts → (o : Option (Location ℕ)) → (moved mount).mount_point ≡ o
           → list_all (λ place. is_some (mount_at nat_eq after place).namespace)
           (option_to_list (moved mount).mount_point) ≡ true
-      on mount m None e = ap (λ o. list_all (λ place. is_some (mount_at nat_eq after place).namespace)
-          (option_to_list o)) e
-      on mount m (Some place) e =
-          ap (λ o. list_all (λ place. is_some (mount_at nat_eq after place).namespace) (option_to_list o)) e
-          ∙ ap (λ b. b && true) (ap is_some (same_mount place.mount) ∙ may.attached mount m place e)
+      on mount m None e = cc
+      on mount m (Some place) e = cc (same_mount place.mount, may.attached mount m place e)
 
   located : LocationsStand after
   located = subst (λ numbers. list_all (λ (location : Location ℕ). is_among nat_eq location.mount numbers)

@@ -1,13 +1,13 @@
 -- Events of tasks after which all mounts are still in use, and in which tasks come to namespaces: fork(2).
 use Rattle.std.proofs.Common.{◌≡◌, refl, sym, ap, subst, ◌∙◌, ℕ, ◌+◌, nat_eq, List, map}
 use Rattle.vt_spec.proofs.Common.{Mount, Permit, Task, TaskName, World, without_dead_mounts}
-use Rattle.vt_spec.specs.Machine.World as meant
 use Rattle.vt_ns.proofs.Common.{Among, CountsItsMounts, CountsItsUses, CountsWhatIsInIt, Filesystems, IsApplied, IsDone, IsHeld, IsSwept, Merged, MountEntry, Moves, NamespaceEntry, Shown, Tasks, Use, WorldValue, after, all_from_among, among_from_all, counted, inodes_of_uses, kept_of, kept_with, layer_count, mounts_showing, namespace_of, remade, times, world_of}
 use Rattle.vt_mounting.proofs.detach.Finishing.{CountsBeside, finished}
 use Rattle.vt_mounting.proofs.detach.Grouped.{left_has}
 use Rattle.vt_mounting.proofs.detach.Moving.{entry_counts, moved_kept}
 use Rattle.vt_mounting.proofs.detach.Overlaid.{layers_kept, overlays_counted}
 use Rattle.vt_mounting.proofs.detach.Remaining.{entry_was, remains_swept, same_mounts, shown_was}
+use Rattle.vt_spec.specs.Machine.World as meant
 
 -- the code's world with other mounts, filesystems, namespaces and tasks
 abbrev pub remade_in : WorldValue → List MountEntry → Filesystems → List NamespaceEntry → Tasks → WorldValue

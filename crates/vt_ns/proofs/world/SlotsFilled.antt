@@ -1,6 +1,6 @@
 -- An inode is made in a slot that was empty: there is one inode more than before.
 use Rattle.std.proofs.Common.{◌≡◌, refl, sym, ap, ◌∙◌, ℕ, suc, ◌+◌, Bool, true, false, cond, nat_eq, eqb-true, List, [], ◌∷◌, map, slice_index_or, count_by, Option, Some, None, is_some, arith}
-use Rattle.vt_spec.proofs.Common.{Inode, Inodes, Make, Node, node_in, node_with_entry, renamed_inode, same_Some, sum_by-cons}
+use Rattle.vt_spec.proofs.Common.{Inode, Inodes, Make, Node, node_in, node_with_entry, sum_by-cons, common_steps}
 use Rattle.vt_spec.specs.Inodes.{changed, inode_with_node}
 use Rattle.vt_ns.proofs.Common.{ChangesInodes, FilesystemEntry, Filesystems, entry_of, inodes_seen, is_some_mapped, shown_entry}
 use Rattle.vt_fs.specs.FilesystemsValue.{shown_if}
@@ -24,9 +24,7 @@ count_by-same (one ∷ ones) (other ∷ others) same = sum_by-cons (λ one. cond
 -- a slot is filled, where its number has an inode
 filled : (entry : FilesystemEntry) (slot : ℕ) → is_some ((inodes_seen entry).inode (exchanged entry.count slot))
     ≡ is_some (slice_index_or entry.tree.slots slot None)
-filled entry slot = is_some_mapped (renamed_inode (exchanged entry.count) (exchanged entry.count))
-    (slice_index_or entry.tree.slots (exchanged entry.count (exchanged entry.count slot)) None)
-    ∙ ap (λ n. is_some (slice_index_or entry.tree.slots n None)) (exchanged_back entry.count slot)
+filled entry slot = grind (arith, common_steps, is_some_mapped, is_some, exchanged_back)
 
 -- A filesystem in which an inode is made
 module _ (was entry : FilesystemEntry) (same_count : entry.count ≡ was.count) (directory : ℕ) (name : List ℕ)
@@ -37,9 +35,7 @@ module _ (was entry : FilesystemEntry) (same_count : entry.count ≡ was.count) 
 
   filled_still : (change : Option (Node ℕ)) (inode : Option (Inode ℕ))
       → is_some (inode_with_node change inode) ≡ is_some inode
-  filled_still None inode = refl
-  filled_still (Some changed) None = refl
-  filled_still (Some changed) (Some inode) = refl
+  filled_still change inode = grind (arith, common_steps)
 
   -- if its number had an inode before, all numbers that have one had one
   had_already : is_some ((inodes_seen was).inode number) ≡ true → (other : ℕ)
@@ -54,10 +50,8 @@ module _ (was entry : FilesystemEntry) (same_count : entry.count ≡ was.count) 
           → is_some (cond is_new (Some (record { node = node; uses = 1 }))
           (cond is_parent (inode_with_node (node_with_entry name number (node_in parent)) parent)
           ((inodes_seen was).inode other))) ≡ is_some ((inodes_seen was).inode other)
-      by true is_parent e d =
-          sym (ap (λ n. is_some ((inodes_seen was).inode n)) (eqb-true other number e) ∙ had)
-      by false true e d = filled_still (node_with_entry name number (node_in parent)) parent
-          ∙ ap (λ n. is_some ((inodes_seen was).inode n)) (sym (eqb-true other directory d))
+      by true is_parent e d = grind (arith, common_steps)
+      by false true e d = grind (arith, common_steps, filled_still, is_some, eqb-true)
       by false false e d = refl
 
   was_empty : (inode : Option (Inode ℕ)) → (inodes_seen was).inode number ≡ inode → inode ≡ None
@@ -88,11 +82,7 @@ has_become count change (first ∷ olds) (entry ∷ news) same was found =
         → shown_entry entry ≡ cond b (record (shown_entry first) { inodes = change (inodes_seen first) })
         (shown_entry first) → cond b (Some first) (entry_of olds count) ≡ Some was
         → (entry_of olds count ≡ Some was → HasBecome change was) → HasBecome change was
-    by true head found later = let is = same_Some first was found in record {
-      entry = entry;
-      count_is = ap (λ s. s.count) head ∙ ap (λ (one : FilesystemEntry). one.count) is;
-      inodes_are = ap (λ s. s.inodes) head ∙ ap (λ one. change (inodes_seen one)) is;
-    }
+    by true head found later = grind (arith, common_steps)
     by false head found later = later found
 
 -- so nothing had the number of an inode that is made

@@ -1,21 +1,12 @@
 -- The store of a world, and an event that leaves all its overlays.
-use Rattle.std.proofs.Common.{◌≡◌, sym, ap, subst, ◌∙◌, ℕ, map}
-use Rattle.vt_spec.proofs.Common.{Layer, Permit, TaskName, map_alike, map_twice}
-use Rattle.vt_overlay.specs.MergedTree.{layer_seen}
-use Rattle.vt_store.specs.OverlaysValue.{Overlays}
-use Rattle.vt_ns.proofs.Common.{IsDone, IsHeld, Permits, StoreValue, WorldValue, kept, kept_of, left_itself, merged_of, merged_seen, overlay_of_store, overlays_of_store, with_store}
-use Rattle.vt_mounting.proofs.detach.OverlaysListed.{were_there}
-use Rattle.vt_mounting.proofs.detach.StoreStays.{store_stays}
+use Rattle.std.proofs.Common.{◌≡◌, sym, ap, subst, ◌∙◌, ℕ, map, arith}
+use Rattle.vt_spec.proofs.Common.{Permit, TaskName, map_alike, map_twice, common_steps}
+use Rattle.vt_ns.proofs.Common.{IsDone, IsHeld, Permits, StoreValue, WorldValue, kept, kept_of, left_itself, overlay_of_store, overlays_of_store, with_store}
+use Rattle.vt_mounting.proofs.detach.OverlaysListed.{done_in_store, kept_in_store}
 
 -- what a store keeps is what its world has
 pub kept_is : (base : WorldValue) (store : StoreValue) → kept base.mounts store ≡ kept_of (with_store store base)
-kept_is base store = λ i. record (kept base.mounts store) { overlays = overlays_are i }
-  where
-    overlays_are : map merged_of store.overlays ≡ map merged_seen (overlays_of_store store)
-    overlays_are = map_alike merged_of (λ entry. merged_seen (overlay_of_store store.plain entry)) store.overlays
-        (λ entry m. ap (λ layers. record (merged_of entry) { layers = layers })
-        (sym (map_twice (λ (layer : Layer ℕ). (layer.filesystem, layer.directory)) layer_seen entry.overlay.lowers)))
-        ∙ sym (map_twice merged_seen (overlay_of_store store.plain) store.overlays)
+kept_is base store = grind (arith, common_steps, kept, map, map_alike, map_twice)
 
 -- An event after which a store has the overlays that it had is done in the world of the store, if it is in the world
 -- that has them as they were.
@@ -25,12 +16,7 @@ pub same_in_store : (base new_base : WorldValue) (old new : StoreValue) → IsHe
     (record new_base { filesystems = new.plain; overlays = overlays_of_store old })
     → IsDone (with_store old base) name permit (with_store new new_base)
 same_in_store base new_base old new held same name permit permits done =
-    subst (IsDone (with_store old base) name permit)
-    (store_stays base new_base old new permits.task permit held permits.given there.held
-    (there.becomes permits.task permits.called)
-    (were_there old.overlays new.overlays (left_itself old.overlays new.overlays same))) there
-  where
-    there : IsDone (with_store old base) name permit
-        (record new_base { filesystems = new.plain; overlays = map (overlay_of_store old.plain) new.overlays })
-    there = subst (λ (all : Overlays). IsDone (with_store old base) name permit
-        (record new_base { filesystems = new.plain; overlays = map (overlay_of_store old.plain) all })) (sym same) done
+    let left = left_itself old.overlays new.overlays same in
+    done_in_store base new_base old new held left name permit permits (subst (λ overlays. IsDone (with_store old base)
+    name permit (record new_base { filesystems = new.plain; overlays = overlays }))
+    (ap (map (overlay_of_store old.plain)) (sym same) ∙ sym (kept_in_store base old new held left)) done)

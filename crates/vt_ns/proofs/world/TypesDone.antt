@@ -1,6 +1,6 @@
 -- The event of a change of types, as code does it.
 use Rattle.std.proofs.Common.{◌≡◌, ◌<◌, refl, sym, ap, subst, ◌∙◌, ⊎_elim, ℕ, ◌+◌, nat_eq, Bool, true, false, List, [], ◌∷◌, length, map, Some, is_some, arith, All, Contains}
-use Rattle.vt_spec.proofs.Common.{Mount, Propagation, TaskName, ToPrivate, ToSetType, ToShared, ToSlave, ToUnbindable, TypeWord, World, contains_from_among, index_of, length-map, map_twice, mount_numbered, named_mounts, numbers_by, retyped as policy_retyped}
+use Rattle.vt_spec.proofs.Common.{Mount, Propagation, TaskName, ToPrivate, ToSetType, ToShared, ToSlave, ToUnbindable, TypeWord, World, contains_from_among, index_of, length-map, map_twice, mount_numbered, named_mounts, numbers_by, retyped as policy_retyped, common_steps}
 use Rattle.vt_ns.proofs.Common.{Among, Grouping, Has, IsDone, IsHeld, MountEntry, Permits, WorldValue, all_from_among, counts_from, found_is_there, is_seen, mounts_in, numbers_of, permit_fits, retyped as retyped_entry, world_of}
 use Rattle.vt_group.specs.Grouping.{LacksGroup}
 use Rattle.vt_laws_mounts.proofs.mounts.Standing.{trees_have_each_once}
@@ -8,7 +8,6 @@ use Rattle.vt_mounting.proofs.detach.TypesKept.{counts_lack, group, types_are_ch
 use Rattle.vt_mounting.proofs.detach.TreesInNamespaces.{in_tree}
 use Rattle.vt_ns.specs.Retyped.{IsRetyped, NumbersGroups, counted_after, with_counts}
 use Rattle.vt_ns.proofs.RetypedMounts.{places_are_counted}
-use Rattle.vt_laws_worlds.proofs.permits.taken.TakenFirst.{tree_some}
 use Rattle.vt_laws_mounts.specs.Mounts.Attaching.{OneNumberAMount}
 
 module _ (value : WorldValue) (whole : IsHeld value) (name : TaskName) (number : ℕ) (word : TypeWord) (recursive : Bool)
@@ -45,11 +44,7 @@ module _ (value : WorldValue) (whole : IsHeld value) (name : TaskName) (number :
 
   -- and there is one at least
   named_some : 0 < length (named_mounts nat_eq (world_of value) number recursive)
-  named_some = by recursive
-    where
-      by : (b : Bool) → 0 < length (named_mounts nat_eq (world_of value) number b)
-      by true = tree_some (length world.mounts) world.mounts (mount_numbered nat_eq world number)
-      by false = omega arith
+  named_some = grind (arith, common_steps)
 
   module _ (mounts : List MountEntry) (groups : Grouping) (next : ℕ)
       (retyped : IsRetyped word value.next next (numbers_of
@@ -79,11 +74,7 @@ module _ (value : WorldValue) (whole : IsHeld value) (name : TaskName) (number :
     done_after : (later : ℕ) → counted_after word value.next (numbers_of named) ≡ later → IsDoneBy later
         → IsDone value name (ToSetType number word recursive)
         (record value { mounts = mounts; groups = groups; next = next })
-    done_after later same is = subst (λ entries. IsDone value name (ToSetType number word recursive)
-        (record value { mounts = entries; groups = groups; next = next })) (sym kinds.1)
-        (subst (λ one. IsDone value name (ToSetType number word recursive)
-        (record value { mounts = map (retyped_entry kinds.0) value.mounts; groups = groups; next = one }))
-        (sym (retyped.counts ∙ same)) is)
+    done_after later same is = grind (arith, common_steps)
 
     -- where no mount becomes shared
     unshared_done : ((numbers : ℕ → ℕ)

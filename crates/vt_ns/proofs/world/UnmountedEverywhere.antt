@@ -1,15 +1,15 @@
 -- Mounts are unmounted, with the mounts at the receivers of their parents: umount(2).
-use Rattle.std.proofs.Common.{◌∷◌, ◌≡◌, refl, sym, ap, subst, ◌∙◌, ℕ, nat_eq, eqb-true, Bool, true, false, true≢false, cond, List, [], map, find, Option, Some, None, option_map, is_some, unwrap_or, length, if◌then◌else◌, append-nil, IsPermutation, All}
-use Rattle.vt_spec.proofs.Common.{Location, Mount, Permit, Task, TaskName, ToUnmount, ToUnmountLazily, World, after_going, chain, detached, going, inheriting, is_going, last_or, lazily_unmounted, list_any, list_any-IsPermutation, lost_a_group, mount_at, mount_numbered, mount_point_left, no_mount, regrouped, regrouped_by, taken_away, unmounted, with_mounts, without_dead_groups}
+use Rattle.std.proofs.Common.{◌∷◌, ◌≡◌, refl, sym, ap, subst, ◌∙◌, ℕ, nat_eq, eqb-true, Bool, true, false, List, [], map, find, Option, Some, None, option_map, is_some, unwrap_or, length, if◌then◌else◌, append-nil, IsPermutation, All, arith, cond}
+use Rattle.vt_spec.proofs.Common.{Location, Mount, Permit, Task, TaskName, ToUnmount, ToUnmountLazily, World, after_going, chain, detached, going, inheriting, is_going, last_or, lazily_unmounted, list_any, list_any-IsPermutation, lost_a_group, mount_at, mount_numbered, mount_point_left, no_mount, regrouped, regrouped_by, taken_away, unmounted, with_mounts, without_dead_groups, common_steps}
 use Rattle.vt_ns.proofs.Common.{Filesystems, Grouping, Has, IsApplied, IsDone, IsHeld, Kept, LeaveTogether, Merged, MountEntry, Permits, Point, WorldValue, all_from_among, among-map, among_from_all, counted, found_mapped, has_ordered, kept_of, kept_with, location_of, moved_by, numbers_of, permit_fits, point_seen, remade_with, world_of}
-use Rattle.vt_group.specs.Grouping.{HasGroup, are_rising, peers_of}
+use Rattle.vt_group.specs.Grouping.{are_rising, peers_of}
 use Rattle.vt_group.specs.Together.{GrowsTo}
 use Rattle.vt_group.proofs.Showing.{has_one_grouping}
 use Rattle.vt_group.proofs.Typed.{regrouped_is_typed}
 use Rattle.vt_propagate.specs.Falling.{FallsTo, LeavesBy, left_by}
 use Rattle.vt_propagate.specs.LazyUnmounts.{gone_lazily}
 use Rattle.vt_propagate.proofs.LazyUnmounts.{lazy_unmounts_are_at_once}
-use Rattle.vt_mounting.specs.Attach.Planned.{placed_entry, with_points}
+use Rattle.vt_mounting.specs.Attach.Planned.{with_points}
 use Rattle.vt_retype.specs.Retyping.{AreTyped}
 use Rattle.vt_mounting.proofs.detach.FollowedTypes.{changed_typed, own_types}
 use Rattle.vt_mounting.proofs.detach.Leaving.{found_in}
@@ -25,8 +25,7 @@ regrouped_places world number = by (list_any (lost_a_group nat_eq world) world.m
   where
     found : (o : Option (Mount ℕ)) → (unwrap_or (option_map (inheriting nat_eq world) o) (no_mount number)).mount_point
         ≡ (unwrap_or o (no_mount number)).mount_point
-    found None = refl
-    found (Some mount) = refl
+    found o = grind (arith, common_steps)
 
     by : (b : Bool) → (mount_numbered nat_eq (regrouped_by nat_eq b world) number).mount_point
         ≡ (mount_numbered nat_eq world number).mount_point
@@ -45,13 +44,7 @@ fallen_to world gone number place falls =
     ∙ by (find (λ (mount : Mount ℕ). nat_eq number mount.number) world.mounts) refl falls.1
   where
     same_number : (mount : Mount ℕ) → (after_going nat_eq world gone mount).number ≡ mount.number
-    same_number mount = either (is_going nat_eq gone mount.number)
-      where
-        either : (b : Bool) → (cond b (detached mount)
-            (record mount { mount_point = option_map (mount_point_left nat_eq world gone) mount.mount_point })).number
-            ≡ mount.number
-        either true = refl
-        either false = refl
+    same_number mount = grind (arith, common_steps)
 
     none_some : None ≡ Some place → ⊥
     none_some e = cc
@@ -69,24 +62,14 @@ fallen_to world gone number place falls =
 
 -- groups that grow by nothing stay
 pub nothing_grows : (world : World ℕ) (old new : Grouping) → Has world old → GrowsTo old new [] [] → new ≡ old
-nothing_grows world old new has grows = has_one_grouping world new old (grows world world has (record {
-  order = has.order;
-  peers = refl;
-  master = λ group. refl;
-  stay = λ group there. there;
-  begin = all_from_among (λ (entry : ℕ × Option ℕ). is_some entry.1 ≡ true → HasGroup world entry.0) []
-      (λ entry m. absurd m);
-  named = λ group lacks there. absurd (true≢false (sym there ∙ lacks));
-})) has
+nothing_grows world old new has grows = grind (arith, common_steps, has_one_grouping, all_from_among, is_some)
 
 -- mounts that get other mount points keep their types
 points_typed : (groups : Grouping) (entries : List MountEntry) → AreTyped groups entries → (points : List Point)
     → AreTyped groups (with_points points entries)
 points_typed groups entries typed [] = typed
 points_typed groups entries typed (point ∷ rest) =
-    changed_typed groups (counted point.mount.count) (placed_entry point.place)
-    (λ entry is. λ i. record (placed_entry point.place entry).mount { propagation = (is i).propagation })
-    (with_points rest entries) (points_typed groups entries typed rest)
+    grind (arith, common_steps, points_typed groups entries typed rest, changed_typed, counted)
 
 -- groups of masters without members do not count
 same_groups : (one other : World ℕ) (groups : Grouping)

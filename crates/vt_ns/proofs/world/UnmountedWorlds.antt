@@ -1,6 +1,6 @@
 -- Mounts get other mount points, and then others are detached and leave their groups: an unmount at all receivers.
-use Rattle.std.proofs.Common.{◌≡◌, refl, sym, ap, subst, ◌∙◌, inl, ℕ, nat_eq, eqb-true, Bool, true, false, true≢false, cond, not, ◌&&◌, ◌||◌, List, [], map, find, Option, Some, None, option_map, is_some, unwrap_or, option_to_list}
-use Rattle.vt_spec.proofs.Common.{Location, Mount, Permit, Stands, Task, TaskName, World, and_parts, detached, filesystem_numbered, has_its_root, has_members, is_among, is_directory_at, is_directory_node, is_going, is_located, is_located_well, is_nowhere_or_attached, is_private, is_there, list_all, lookup, map_alike, map_twice, mount_at, mount_in, mount_numbered, no_mount, node_at, or_else, or_false_left, settled, shown-mapped, with_mounts, without_dead_groups}
+use Rattle.std.proofs.Common.{◌≡◌, refl, sym, ap, subst, ◌∙◌, inl, ℕ, nat_eq, eqb-true, Bool, true, false, true≢false, cond, ◌&&◌, List, [], map, find, Option, Some, None, option_map, is_some, unwrap_or, option_to_list, arith}
+use Rattle.vt_spec.proofs.Common.{Location, Mount, Permit, Stands, Task, TaskName, World, and_parts, filesystem_numbered, has_its_root, is_among, is_directory_at, is_directory_node, is_going, is_located, is_located_well, is_nowhere_or_attached, is_there, list_all, lookup, map_twice, mount_at, mount_in, mount_numbered, no_mount, node_at, or_else, or_false_left, settled, shown-mapped, with_mounts, without_dead_groups, common_steps}
 use Rattle.std.proofs.lemmas.Option.{none-some}
 use Rattle.vt_ns.proofs.Common.{Among, CountsWhatIsInIt, Filesystems, Grouping, Has, HasChildrenOf, IsApplied, IsDone, IsHeld, IsKeptBut, IsUnderWay, LeaveInTurn, Merged, MountEntry, Point, WorldValue, all_from_among, among-from_map, among-map, among_from_all, among_from_list_all, counted, detached_world, directory_is_there, found_is_there, found_itself, found_mapped, given_permits_are_under_way_without_upper, in_use_of, is_among_numbers, is_small, keeps_itself, kept_of, kept_with, location_of, mounts_of_worlds_stand, moved_by, point_seen, points_left, points_taken, remade_with, same_files_keep, supply_of, with_planned, world_of}
 use Rattle.vt_group.specs.Laws.{typed_by}
@@ -20,27 +20,18 @@ use Rattle.vt_mounting.proofs.detach.TypedWorlds.{typed_world}
 use Rattle.vt_laws_mounts.proofs.letting_go.SweptBetween.{settled_without_groups}
 use Rattle.vt_mounting.proofs.detach.UnmountedLazily.{all_detached}
 use Rattle.vt_laws_mounts.proofs.mounts.MountsFound.{placed_among}
-use Rattle.vt_ns.proofs.world.PointsMoved.{MayMove, gained, looked_up, lost, moved_is_kept, moved_world}
+use Rattle.vt_ns.proofs.world.PointsMoved.{MayMove, gained, lost, moved_is_kept, moved_world, looked_up}
 use Rattle.vt_laws_worlds.specs.Permits.Taken.{is_ungrouped}
 
 -- a mount with a mount point is in a namespace
 placed_is_attached : (mount : Mount ℕ) → is_nowhere_or_attached mount ≡ true → is_some mount.mount_point ≡ true
     → is_some mount.namespace ≡ true
-placed_is_attached mount is placed = by (is_some mount.namespace) (is_some mount.mount_point) is placed
-  where
-    by : (b c : Bool) → (b || (not c && is_private mount.propagation)) ≡ true → c ≡ true → b ≡ true
-    by true c e f = refl
-    by false true e f = e
-    by false false e f = absurd (true≢false (sym f))
+placed_is_attached mount is placed = grind (arith, common_steps)
 
 -- one that is in none has no mount point
 outside_is_placeless : (mount : Mount ℕ) → is_nowhere_or_attached mount ≡ true → is_some mount.namespace ≡ false
     → mount.mount_point ≡ None
-outside_is_placeless mount is none = by mount.mount_point refl
-  where
-    by : (o : Option (Location ℕ)) → mount.mount_point ≡ o → mount.mount_point ≡ None
-    by None e = e
-    by (Some place) e = absurd (true≢false (sym (placed_is_attached mount is (ap is_some e)) ∙ none))
+outside_is_placeless mount is none = grind (arith, common_steps)
 
 -- The policy's world, before what nothing uses goes: `gone` are detached, the others stand at these mount points, and
 -- each mount has
@@ -68,39 +59,24 @@ module _ (value : WorldValue) (whole : IsHeld value) (name : TaskName) (permit :
       whole.overlays.read_only is.given).0
 
   same_mounts : policy.mounts ≡ map final world.mounts
-  same_mounts = ap (λ (w : World ℕ). w.mounts) same
-      ∙ map_twice (typed_by groups) (left_by gone (map point_seen points)) world.mounts
+  same_mounts = grind (arith, common_steps, map_twice, map)
 
   same_filesystems : policy.filesystems ≡ world.filesystems
   same_filesystems = ap (λ (w : World ℕ). w.filesystems) same
 
   final_number : (mount : Mount ℕ) → (final mount).number ≡ mount.number
-  final_number mount = by (is_going nat_eq gone mount.number)
-    where
-      by : (b : Bool) → (cond b (detached mount) (moved mount)).number ≡ mount.number
-      by true = refl
-      by false = refl
+  final_number mount = grind (arith, common_steps)
 
   final_filesystem : (mount : Mount ℕ) → (final mount).filesystem ≡ mount.filesystem
-  final_filesystem mount = by (is_going nat_eq gone mount.number)
-    where
-      by : (b : Bool) → (cond b (detached mount) (moved mount)).filesystem ≡ mount.filesystem
-      by true = refl
-      by false = refl
+  final_filesystem mount = grind (arith, common_steps)
 
   final_gone : (mount : Mount ℕ) → is_going nat_eq gone mount.number ≡ true
       → ((final mount).namespace ≡ None) × ((final mount).mount_point ≡ None)
-  final_gone mount e = (
-    ap (λ b. (cond b (detached mount) (moved mount)).namespace) e,
-    ap (λ b. (cond b (detached mount) (moved mount)).mount_point) e,
-  )
+  final_gone mount e = grind (arith, common_steps)
 
   final_stays : (mount : Mount ℕ) → is_going nat_eq gone mount.number ≡ false
       → ((final mount).namespace ≡ mount.namespace) × ((final mount).mount_point ≡ (moved mount).mount_point)
-  final_stays mount e = (
-    ap (λ b. (cond b (detached mount) (moved mount)).namespace) e,
-    ap (λ b. (cond b (detached mount) (moved mount)).mount_point) e,
-  )
+  final_stays mount e = grind (arith, common_steps)
 
   final_among : (mount : Mount ℕ) → Among mount world.mounts → Among (final mount) policy.mounts
   final_among mount m = subst (Among (final mount)) (sym same_mounts) (among-map final world.mounts mount m)
@@ -128,8 +104,7 @@ module _ (value : WorldValue) (whole : IsHeld value) (name : TaskName) (permit :
 
           going : (b : Bool) → is_going nat_eq gone mount.number ≡ b
               → (is_going nat_eq gone number ≡ false) × (is_some mount.namespace ≡ true)
-          going true g = absurd (true≢false (sym f ∙ ap is_some (final_gone mount g).0))
-          going false g = (ap (is_going nat_eq gone) (sym its) ∙ g, ap is_some (sym (final_stays mount g).0) ∙ f)
+          going b g = grind (arith, common_steps, is_some, final_gone, its, final_stays)
 
   -- the mount that it stands on is attached
   parent_attached : (mount : Mount ℕ) → Among mount policy.mounts → (place : Location ℕ)
@@ -165,8 +140,7 @@ module _ (value : WorldValue) (whole : IsHeld value) (name : TaskName) (permit :
           (subst (λ o. Among place (option_to_list o)) (sym at) (inl refl)))
 
       shows : (mount_at nat_eq world place).filesystem ≡ (mount_at nat_eq policy place).filesystem
-      shows = sym (ap (λ all. (mount_in nat_eq all place.mount).filesystem) same_mounts
-          ∙ shown-mapped final final_number final_filesystem world.mounts place.mount)
+      shows = cc (same_mounts, shown-mapped final final_number final_filesystem world.mounts place.mount)
 
       there_before : is_there nat_eq world (mount_at nat_eq world place).filesystem place.node
           ≡ is_there nat_eq policy (mount_at nat_eq policy place).filesystem place.node
@@ -181,12 +155,15 @@ module _ (value : WorldValue) (whole : IsHeld value) (name : TaskName) (permit :
           → or_else o mount.mount_point ≡ mount.mount_point
       by None e = refl
       by (Some place) e =
-          let from = among-from_map point_seen points (mount.number, place)
-          (looked_up mount.number (map point_seen points) place e) in
-          absurd (none-some (location_of from.0.place)
-          (sym (final_gone mount goes).1 ∙ ap (λ (x : Mount ℕ). x.mount_point) (sym (final_found mount m))
-          ∙ ap (λ n. (mount_numbered nat_eq policy n).mount_point) (ap (λ (pair : ℕ × Location ℕ). pair.0) from.2)
-          ∙ tells from.0 from.1))
+          let from = among-from_map point_seen points (mount.number, place) (looked_up mount.number (map point_seen
+          points) place e) in
+          grind (
+            arith,
+            common_steps,
+            none-some (location_of from.0.place) (sym (final_gone mount goes).1 ∙ ap (λ (x
+                : Mount ℕ). x.mount_point) (sym (final_found mount m)) ∙ ap (λ n. (mount_numbered nat_eq policy
+                n).mount_point) (ap (λ (pair : ℕ × Location ℕ). pair.0) from.2) ∙ tells from.0 from.1),
+          )
 
   may : MayMove value points
   may = record {
@@ -211,9 +188,8 @@ module _ (value : WorldValue) (whole : IsHeld value) (name : TaskName) (permit :
 
       outside : (mount : Mount ℕ) → Among mount world.mounts → is_some mount.namespace ≡ false → (b : Bool)
           → is_going nat_eq gone mount.number ≡ b → (moved mount).mount_point ≡ None
-      outside mount m none true goes = gone_stays mount m goes
-          ∙ outside_is_placeless mount
-          (among_from_list_all is_nowhere_or_attached world.mounts whole.in_world.mounts.nowhere mount m) none
+      outside mount m none true goes =
+          grind (arith, common_steps, gone_stays, outside_is_placeless, among_from_list_all)
       outside mount m none false goes = sym (final_stays mount goes).1 ∙ outside_is_placeless (final mount)
           (among_from_list_all is_nowhere_or_attached policy.mounts under_way.mounts.nowhere (final mount)
           (final_among mount m))
@@ -238,14 +214,7 @@ module _ (value : WorldValue) (whole : IsHeld value) (name : TaskName) (permit :
   start = detached_world gone (moved_world value points)
 
   start_is : with_mounts world (map (left_by gone (map point_seen points)) world.mounts) ≡ start
-  start_is = ap (with_mounts world)
-      (map_alike (left_by gone (map point_seen points)) (λ mount. detached_in gone (moved mount)) world.mounts
-      (λ mount m. by mount (is_going nat_eq gone mount.number)) ∙ sym (map_twice (detached_in gone) moved world.mounts))
-    where
-      by : (mount : Mount ℕ) (b : Bool)
-          → cond b (detached mount) (moved mount) ≡ cond b (detached (moved mount)) (moved mount)
-      by mount true = refl
-      by mount false = refl
+  start_is = cc (map_twice (detached_in gone) moved world.mounts)
 
   abbrev typed : World ℕ
   typed = typed_world groups start
@@ -254,16 +223,7 @@ module _ (value : WorldValue) (whole : IsHeld value) (name : TaskName) (permit :
   same_typed = same ∙ ap (typed_world groups) start_is
 
   typed_has : Has typed groups
-  typed_has = subst (λ one. Has one groups) same_typed (record {
-    order = has.order;
-    peers = has.peers;
-    masters_order = has.masters_order;
-    masters = λ group. has.masters group ∙ twice (has_members nat_eq policy.mounts group) (policy.master group);
-  })
-    where
-      twice : (b : Bool) (o : Option ℕ) → cond b o None ≡ cond b (cond b o None) None
-      twice true o = refl
-      twice false o = refl
+  typed_has = grind (arith, common_steps, same_typed, cond)
 
   settled_typed_has : Has (settled nat_eq typed) groups
   settled_typed_has = settled_has typed groups typed_has (λ mount m dead.

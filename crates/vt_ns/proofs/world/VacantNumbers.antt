@@ -1,13 +1,11 @@
 -- The number of an inode that its filesystem does not have is not in use.
-use Rattle.std.proofs.Common.{◌≡◌, refl, sym, ap, ◌∙◌, inl, inr, ℕ, ◌<◌, ◌≤◌, ◌%◌, ◌==◌, nat_eq, ne_eqb, eqb-true, lt-ltb, Bool, true, false, ◌&&◌, ◌||◌, List, [], ◌∷◌, ◌++◌, map, flat_map, Option, Some, None, is_some, option_to_list, arith}
-use Rattle.vt_spec.proofs.Common.{Filesystem, IsTree, ListsNumbers, Namespace, Node, Private, Propagation, Shared, Slave, Unbindable, and_parts, filesystem_numbered, is_among, list_all, list_any-append, node_in, source_of, used_by_filesystem, used_by_mount}
+use Rattle.std.proofs.Common.{◌≡◌, refl, ap, ◌∙◌, inl, inr, ℕ, ◌<◌, ◌≤◌, ◌%◌, ◌==◌, nat_eq, ne_eqb, eqb-true, true, false, ◌||◌, List, [], ◌∷◌, ◌++◌, map, flat_map, Option, Some, None, is_some, arith}
+use Rattle.vt_spec.proofs.Common.{Filesystem, IsTree, ListsNumbers, Namespace, Node, and_parts, filesystem_numbered, is_among, list_all, list_any-append, node_in, used_by_filesystem, used_by_mount, common_steps}
 use Rattle.vt_ns.proofs.Common.{Among, FilesystemEntry, IsHeld, MountEntry, NamespaceEntry, WorldValue, among_from_all, counted, directory_is_there, found_plain_one, here_number, inode_number, inodes_seen, is_counted_before, is_small_node, mounts_in, namespace_of, number_of, small_parts, world_of}
 use Rattle.vt_laws_mounts.proofs.letting_go.sweeps.OfWorlds.{found_filesystem}
-use Rattle.vt_location.specs.declared.births.Birth.{Birth}
-use Rattle.vt_location.specs.declared.births.Birth.TheVariants.{Below, Here}
+use Rattle.vt_location.specs.declared.births.Birth.TheVariants.{Here}
 use Rattle.vt_location.specs.declared.locations.NodeRef.{NodeRef}
-use Rattle.vt_location.specs.Births.{IsSmallBirth, born_in, is_small_birth}
-use Rattle.vt_location.specs.NodeNumbers.{IsSmall}
+use Rattle.vt_location.specs.Births.{born_in}
 use Rattle.vt_mount.specs.Sources.{has_counted_source}
 use Rattle.vt_laws_worlds.proofs.permits.in_use.InUseServes.{leaves_two}
 use Rattle.vt_laws_worlds.specs.Permits.InUse.{is_in_use}
@@ -16,6 +14,7 @@ use Rattle.vt_world.specs.Held.{HasOwnNodes}
 use Rattle.vt_ns.specs.Vacancy.{IsVacant, NextFilesystemIsNew, NextRootIsVacant}
 use Rattle.vt_mounting.proofs.detach.NodesFound.{in_no_other, own_nodes}
 use Rattle.vt_mounting.proofs.attach.NewFilesystems.{found_below}
+use Rattle.vt_mounting.proofs.attach.OverlayNodes.{small_node}
 
 module _ (count slot : ℕ) (small : slot < 18446744073709551616) where
   abbrev number : ℕ
@@ -28,9 +27,6 @@ module _ (count slot : ℕ) (small : slot < 18446744073709551616) where
   not_counted : (c : ℕ) → nat_eq number (counted c) ≡ false
   not_counted c = ne_eqb number (counted c) (λ e. omega (arith, e))
 
-  not_odd : (other : ℕ) → other % 4 ≡ 1 → nat_eq number other ≡ false
-  not_odd other odd = ne_eqb number other (λ e. omega (arith, e, odd))
-
   in_no_mount : (all : List MountEntry) → list_all (λ mount. mount.number % 4 == 1) (mounts_in all) ≡ true
       → list_all has_counted_source (mounts_in all) ≡ true
       → is_among nat_eq number (flat_map used_by_mount (mounts_in all)) ≡ false
@@ -38,19 +34,7 @@ module _ (count slot : ℕ) (small : slot < 18446744073709551616) where
   in_no_mount (entry ∷ rest) odd sources =
       let odds = and_parts _ _ odd in
       let own = and_parts (has_counted_source entry.mount) _ sources in
-      by entry.mount.propagation own.0 (eqb-true (entry.mount.number % 4) 1 odds.0) (in_no_mount rest odds.1 own.1)
-    where
-      by : (propagation : Propagation ℕ)
-          → list_all (λ group. group % 4 == 1) (option_to_list (source_of propagation)) ≡ true
-          → entry.mount.number % 4 ≡ 1 → is_among nat_eq number (flat_map used_by_mount (mounts_in rest)) ≡ false
-          → is_among nat_eq number ((entry.mount.number ∷ option_to_list (source_of propagation))
-          ++ flat_map used_by_mount (mounts_in rest)) ≡ false
-      by (Shared group) e one none = λ i. not_odd entry.mount.number one i
-          || (not_odd group (eqb-true (group % 4) 1 (and_parts (group % 4 == 1) true e).0) i || none i)
-      by (Slave master) e one none = λ i. not_odd entry.mount.number one i
-          || (not_odd master (eqb-true (master % 4) 1 (and_parts (master % 4 == 1) true e).0) i || none i)
-      by Private e one none = λ i. not_odd entry.mount.number one i || none i
-      by Unbindable e one none = λ i. not_odd entry.mount.number one i || none i
+      grind (arith, common_steps, in_no_mount rest odds.1 own.1, eqb-true (entry.mount.number % 4) 1 odds.0)
 
   in_no_filesystem : (all : List (Filesystem ℕ)) → ((f : Filesystem ℕ) → Among f all
       → (nat_eq number f.number ≡ false) × (is_among nat_eq number f.files.numbers ≡ false))
@@ -85,14 +69,7 @@ module _ (value : WorldValue) (whole : IsHeld value)
 
   -- no filesystem has an inode of this number
   in_none : (f : Filesystem ℕ) → Among f (world_of value).filesystems → f.files.tree.node (number_of node) ≡ None
-  in_none f m = ap (λ (g : Filesystem ℕ). g.files.tree.node (number_of node)) (sym (found f m))
-      ∙ by (nat_eq f.number (counted node.filesystem.count)) refl
-    where
-      by : (b : Bool) → nat_eq f.number (counted node.filesystem.count) ≡ b
-          → (filesystem_numbered nat_eq (world_of value) f.number).files.tree.node (number_of node) ≡ None
-      by true e = ap (λ n. (filesystem_numbered nat_eq (world_of value) n).files.tree.node (number_of node))
-          (eqb-true f.number (counted node.filesystem.count) e) ∙ missing
-      by false e = in_no_other value whole f.number node small_node e
+  in_none f m = grind (arith, common_steps, found, counted, eqb-true, in_no_other, small_node)
 
   -- nor this number itself
   numbered_otherwise : (f : Filesystem ℕ) → Among f (world_of value).filesystems → nat_eq (number_of node) f.number ≡ false
@@ -133,16 +110,6 @@ none_there value whole node above =
         let below = found_below value whole (counted node.filesystem.count) (number_of node) (ap is_some e) in
         absurd (omega (arith, below, above))
 
--- what is small is so by test
-small_again : (node : NodeRef) → IsSmall node → is_small_node node ≡ true
-small_again node small = λ i. lt-ltb node.filesystem.count 18446744073709551616 small.filesystem i
-    && (lt-ltb node.slot 18446744073709551616 small.slot i && by node.birth small.birth i)
-  where
-    by : (birth : Birth) → IsSmallBirth birth → is_small_birth birth ≡ true
-    by Here is = refl
-    by (Below layer directory rank) is =
-        λ i. lt-ltb directory 18446744073709551616 is.0 i && lt-ltb layer 18446744073709551616 is.1 i
-
 module _ (value : WorldValue) (whole : IsHeld value)
     (odd : list_all (λ mount. mount.number % 4 == 1) (mounts_in value.mounts) ≡ true)
     (sources : list_all has_counted_source (mounts_in value.mounts) ≡ true) where
@@ -171,8 +138,7 @@ module _ (value : WorldValue) (whole : IsHeld value)
         root = record { filesystem = record { count = value.next }; slot = 0; birth = Here }
 
         small_root : is_small_node root ≡ true
-        small_root = λ i. lt-ltb value.next 18446744073709551616 small_next i
-            && (lt-ltb 0 18446744073709551616 (omega arith) i && true)
+        small_root = grind (arith, common_steps)
 
     -- so no number of a node of the next filesystem is in use
     pub next_is_new : NextFilesystemIsNew value
@@ -181,6 +147,6 @@ module _ (value : WorldValue) (whole : IsHeld value)
       counted_before = λ other used.
           used_numbers_are_named (is_counted_before value.next) (world_of value) whole.given (leaves_two value.next)
           other used;
-      nodes = λ node small same. is_unused value whole odd sources node (small_again node small)
+      nodes = λ node small same. is_unused value whole odd sources node (small_node node small)
           (none_there value whole node (let count = ap (λ id. id.count) same in omega (arith, count)));
     }

@@ -1,6 +1,6 @@
 -- A layer cuts at a path if something hides on the way.
-use Rattle.std.proofs.Common.{◌≡◌, ◌∷◌, ◌||◌, ◌∙◌, [], Bool, List, None, Option, Some, ap, false, map, refl, ℕ}
-use Rattle.vt_spec.proofs.Common.{OpenLayer, Tree, cuts, entry_at, hides, list_any, node_led, prefixes, view_of}
+use Rattle.std.proofs.Common.{◌≡◌, ◌∷◌, ◌||◌, ◌∙◌, [], Bool, List, None, Option, Some, ap, false, map, refl, ℕ, arith}
+use Rattle.vt_spec.proofs.Common.{OpenLayer, Tree, cuts, entry_at, hides, list_any, node_led, prefixes, view_of, common_steps}
 use Rattle.vt_overlay.specs.Merge.LayerValue.{cut_on}
 
 abbrev pub layer_in : Tree ℕ → ℕ → OpenLayer ℕ
@@ -18,9 +18,7 @@ any_some : (tree : Tree ℕ) (directory next : ℕ) (name : List ℕ) (paths : L
     → entry_at tree directory name ≡ Some next
     → any_cut tree directory (map (λ prefix. name ∷ prefix) paths) ≡ any_cut tree next paths
 any_some tree directory next name [] some = refl
-any_some tree directory next name (path ∷ paths) some =
-    rw some (ap (λ rest. hides (node_led (view_of (layer_in tree next)) path) || rest)
-    (any_some tree directory next name paths some))
+any_some tree directory next name (path ∷ paths) some = cc (any_some tree directory next name paths some)
 
 by_entry : (tree : Tree ℕ) (directory : ℕ) (name : List ℕ) (path : List (List ℕ)) (found : Option ℕ)
     → ((next : ℕ) → cuts (view_of (layer_in tree next)) path ≡ cut_on tree path next)
@@ -33,5 +31,4 @@ by_entry tree directory name path (Some next) rest some = rw some (ap (λ rest. 
 pub cuts_on : (tree : Tree ℕ) (path : List (List ℕ)) (directory : ℕ)
     → cuts (view_of (layer_in tree directory)) path ≡ cut_on tree path directory
 cuts_on tree [] directory = refl
-cuts_on tree (name ∷ path) directory =
-    by_entry tree directory name path (entry_at tree directory name) (cuts_on tree path) refl
+cuts_on tree (name ∷ path) directory = grind (arith, common_steps, cuts_on tree path, by_entry)

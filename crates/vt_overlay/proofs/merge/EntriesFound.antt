@@ -1,7 +1,6 @@
 -- What directories of layers have under a name, and where those lie that are merged under it.
-use Rattle.std.proofs.Common.{◌≡◌, ◌≢◌, ◌∙◌, ◌++◌, ◌∷◌, ◌+◌, ◌<◌, [], All, Bool, Contains, List, None, Option, Some, ap, drop, false, get_or, is_some, length, not, option_map, subst, sym, true, ℕ, IfSome, if◌then◌else◌}
-use Rattle.vt_spec.proofs.Common.{Shown, drop_more, entry_at, is_kind_in, led-append, shown, then_some, view_of}
-use Rattle.std.proofs.lemmas.List.Elements.{All-contains}
+use Rattle.std.proofs.Common.{◌≡◌, ◌≢◌, ◌∙◌, ◌++◌, ◌∷◌, ◌+◌, ◌<◌, [], All, Bool, Contains, List, None, Option, Some, ap, drop, get_or, is_some, length, not, option_map, sym, ℕ, IfSome, if◌then◌else◌, arith}
+use Rattle.vt_spec.proofs.Common.{Shown, entry_at, is_kind_in, led-append, shown, then_some, view_of, common_steps}
 use Rattle.vt_spec.specs.declared.attributes.Kind.TheVariants.{White}
 use Rattle.vt_laws_trees.specs.Layers.Layers.Directories.{shown_in}
 use Rattle.vt_location.specs.declared.locations.InodeRef.{InodeRef}
@@ -14,7 +13,7 @@ use Rattle.vt_overlay.specs.Merge.LayerValue.{layer_of, layers_of, opened, place
 use Rattle.vt_overlay.specs.declared.merge.layers.LayerEntry.{LayerEntry}
 use Rattle.vt_overlay.specs.declared.merge.layers.LayerRef.{LayerRef}
 use Rattle.vt_overlay.specs.declared.merge.layers.MergedDirectory.{MergedDirectory}
-use Rattle.vt_overlay.proofs.merge.NamesHad.{own_shows, when_is_some}
+use Rattle.vt_overlay.proofs.merge.NamesHad.{own_shows}
 use Rattle.vt_overlay.proofs.merge.TreesLent.{tree_lent}
 
 -- in the tree that is lent
@@ -24,8 +23,7 @@ module _ (fs : Filesystems) (top : MergedDirectory) (name : List ℕ) (lent : Op
     pub entry_lent : (found : Option ℕ)
         → found ≡ entry_at (tree_seen top.directory.filesystem.count lent) (inode_of top.directory) name
         → found ≡ entry_at (opened fs top.directory).tree (inode_of top.directory) name
-    entry_lent found at =
-        at ∙ ap (λ t. entry_at t (inode_of top.directory) name) (tree_lent fs top.directory.filesystem.count lent is)
+    entry_lent found at = cc (tree_lent fs top.directory.filesystem.count lent is)
 
     module _ (object : InodeRef) (beside : object.filesystem ≡ top.directory.filesystem) (leads : Some (inode_of object)
         ≡ entry_at (tree_seen top.directory.filesystem.count lent) (inode_of top.directory) name) where
@@ -47,13 +45,7 @@ module _ (fs : Filesystems) (top : MergedDirectory) (name : List ℕ) (lent : Op
         pub directory_further : (directory : Option MergedDirectory) (b : Bool)
             → directory ≡ (if b then Some (record { layer = top.layer; directory = object }) else None)
             → IfSome directory (IsMergedAt fs layers (path ++ name ∷ []))
-        directory_further directory b e =
-            subst (λ o. IfSome o (IsMergedAt fs layers (path ++ name ∷ []))) (sym e) (by b)
-          where
-            by : (b : Bool) → IfSome (if b then Some (record { layer = top.layer; directory = object }) else None)
-                (IsMergedAt fs layers (path ++ name ∷ []))
-            by true = merged_further
-            by false = tt
+        directory_further directory b e = grind (arith, common_steps, merged_further)
 
 -- directories that are looked through one after the other show the first entry
 module _ (fs : Filesystems) (merged : List MergedDirectory) (index : ℕ) (default : MergedDirectory) (name : List ℕ)
@@ -67,8 +59,7 @@ module _ (fs : Filesystems) (merged : List MergedDirectory) (index : ℕ) (defau
   step : (found : Option ℕ) → entry_at (opened fs here.directory).tree (inode_of here.directory) name ≡ found
       → shown_in (placed_views fs (drop index merged)) (name ∷ [])
       ≡ own_shows (view_of (opened fs here.directory)) here.layer found lower
-  step found at = ap (λ l. shown_in (placed_views fs l) (name ∷ [])) (drop_more merged index default within)
-      ∙ ap (λ o. own_shows (view_of (opened fs here.directory)) here.layer o lower) at
+  step found at = grind (arith, common_steps)
 
   pub goes_lower : entry_at (opened fs here.directory).tree (inode_of here.directory) name ≡ None
       → shown_in (placed_views fs (drop index merged)) (name ∷ []) ≡ lower
@@ -76,10 +67,7 @@ module _ (fs : Filesystems) (merged : List MergedDirectory) (index : ℕ) (defau
 
   pub shows_first : (found : LayerEntry) → found.above ≡ here → IsEntry fs name found
       → shown_in (placed_views fs (drop index merged)) (name ∷ []) ≡ entry_shown fs found
-  shows_first found same is = step (Some (inode_of found.object))
-      (ap (λ (top : MergedDirectory). entry_at (opened fs top.directory).tree (inode_of top.directory) name) (sym same)
-      ∙ is.leads)
-      ∙ ap (λ (top : MergedDirectory). entry_shown fs (record { above = top; object = found.object })) (sym same)
+  shows_first found same is = grind (arith, common_steps)
 
 -- the first entry of the directories that are merged at a path decides what layers show there
 module _ (fs : Filesystems) (layers : List LayerRef) (path : List (List ℕ)) (name : List ℕ)
@@ -97,24 +85,10 @@ module _ (fs : Filesystems) (layers : List LayerRef) (path : List (List ℕ)) (n
 
   pub decides_first : All (IsMergedAt fs layers path) merged → IfSome found (λ one. Contains merged one.above)
       → IfSome found (IsEntry fs name) → IfSome found (IsFirstEntry fs layers path name)
-  decides_first led = by found is_shown
-    where
-      by : (o : Option LayerEntry) → shown_there ≡ then_some o (entry_shown fs)
-          → IfSome o (λ one. Contains merged one.above) → IfSome o (IsEntry fs name)
-          → IfSome o (IsFirstEntry fs layers path name)
-      by None is above entry = tt
-      by (Some one) is above entry = record {
-        above = All-contains (IsMergedAt fs layers path) merged one.above led above;
-        entry = entry;
-        shows = is;
-      }
+  decides_first led = grind (arith, common_steps)
 
 -- something is shown of an entry unless it leads to a whiteout
 pub entry_is_shown : (fs : Filesystems) (name : List ℕ) (found : LayerEntry) (white : Bool) → IsEntry fs name found
     → white ≡ is_kind_in White ((files_at fs found.object.filesystem.count).tree.node (inode_of found.object))
     → not white ≡ is_some (entry_shown fs found)
-entry_is_shown fs name found white is is_white =
-    ap not (is_white ∙ ap (λ (id : FilesystemId). is_kind_in White ((files_at fs id.count).tree.node
-    (inode_of found.object))) is.filesystem)
-    ∙ sym (when_is_some (not (is_kind_in White ((opened fs found.above.directory).tree.node (inode_of found.object))))
-    (record { layer = found.above.layer; object = inode_of found.object }))
+entry_is_shown fs name found white is is_white = grind (arith, common_steps)

@@ -1,6 +1,6 @@
 -- Going up in a tree whose inodes are found by slots, as its directories are seen by numbers.
-use Rattle.std.proofs.Common.{◌≡◌, ◌≢◌, ◌∙◌, ◌+◌, ◌<◌, ◌≤◌, ◌∷◌, [], Bool, Bor, List, None, Option, Some, ap, arith, false, length, map, nat_eq, option_and_then, option_map, refl, subst, suc, sym, true, true≢false, zero, ℕ, ⊎_elim, slice_get, find, is_some, option_copied, unwrap_or}
-use Rattle.vt_spec.proofs.Common.{Content, Directory, Entries, IsDirectory, IsTree, Node, Regular, Symlink, Tree, Whiteout, cases_lt, common_steps, directory_used, entries_in, entry_at, entry_to, found, found_is_named, is_among, is_directory_node, is_sorted, led, list_any, name_cmp, none_is_some, parent_in, renamed_node, same_Some}
+use Rattle.std.proofs.Common.{◌≡◌, ◌≢◌, ◌∙◌, ◌+◌, ◌<◌, ◌≤◌, ◌∷◌, [], Bool, Bor, List, None, Option, Some, ap, arith, false, length, map, nat_eq, option_map, refl, subst, suc, sym, true, true≢false, zero, ℕ, slice_get, find, is_some, option_copied, unwrap_or}
+use Rattle.vt_spec.proofs.Common.{Entries, IsDirectory, IsTree, Node, Tree, common_steps, directory_used, entries_in, entry_at, entry_to, found, found_is_named, is_among, is_directory_node, is_sorted, led, list_any, name_cmp, none_is_some, parent_in, renamed_node, same_Some}
 use Rattle.vt_laws_trees.proofs.layers.layers.ShownDirectories.{last_of}
 use Rattle.vt_laws_trees.proofs.layers.layers.ShownNames.{last_name}
 use Rattle.vt_laws_trees.proofs.layers.layers.ShownPaths.{depth_of_led, length_longer, not_empty}
@@ -21,13 +21,10 @@ above_in tree directory = parent_in directory (tree.node directory)
 -- one step more
 pub climbed_once : (tree : Tree ℕ) (here steps directory : ℕ) → here ≡ climbed tree steps directory
     → above_in tree here ≡ climbed tree (steps + 1) directory
-climbed_once tree here steps directory is =
-    let next : steps + 1 ≡ suc steps = omega arith in
-    ap (above_in tree) is ∙ ap (λ n. climbed tree n directory) (sym next)
+climbed_once tree here steps directory is = grind (arith, common_steps)
 
 pub copied_some : (o : Option (Bor (List ℕ))) → is_some (option_copied o) ≡ is_some o
-copied_some None = refl
-copied_some (Some name) = refl
+copied_some o = grind (arith, common_steps)
 
 -- so many names, each that of a directory so many steps up
 pub length-names_up : (tree : Tree ℕ) (len directory : ℕ) → length (names_up tree len directory) ≡ len
@@ -37,17 +34,13 @@ length-names_up tree (suc len) directory = ap suc (length-names_up tree len dire
 pub name_at : (tree : Tree ℕ) (directory steps index len : ℕ) → len ≡ suc (steps + index)
     → slice_get (names_up tree len directory) index ≡ Some (unwrap_or (name_up tree (climbed tree steps directory)) [])
 name_at tree directory steps index zero e = absurd (let no : ⊥ = omega (arith, e) in no)
-name_at tree directory steps zero (suc len) e =
-    let is : len ≡ steps = omega (arith, e) in
-    ap (λ n. Some (unwrap_or (name_up tree (climbed tree n directory)) [])) is
+name_at tree directory steps zero (suc len) e = grind (arith, common_steps)
 name_at tree directory steps (suc index) (suc len) e = name_at tree directory steps index len (omega (arith, e))
 
 -- one more directory with a name
 pub named_more : (tree : Tree ℕ) (directory len : ℕ) → AreNamed tree len directory
     → is_some (name_up tree (climbed tree len directory)) ≡ true → AreNamed tree (len + 1) directory
-named_more tree directory len named last steps within = ⊎_elim (λ before. named steps before) (λ past.
-    let same : steps ≡ len = omega (arith, within, past) in
-    ap (λ n. is_some (name_up tree (climbed tree n directory))) same ∙ last) (cases_lt steps len)
+named_more tree directory len named last steps within = grind (arith, common_steps)
 
 some_found : (object : ℕ) (entries : Entries ℕ) → list_any (nat_eq object) (map (λ entry. entry.1) entries) ≡ true
     → is_some (find (λ entry. nat_eq object entry.1) entries) ≡ true
@@ -55,12 +48,10 @@ some_found object [] e = absurd (true≢false (sym e))
 some_found object (entry ∷ entries) e = grind (arith, common_steps, some_found object entries)
 
 some_name : (o : Option (List ℕ × ℕ)) → is_some (option_map (λ (entry : List ℕ × ℕ). entry.0) o) ≡ is_some o
-some_name None = refl
-some_name (Some entry) = refl
+some_name o = grind (arith, common_steps)
 
 filled : (n : ℕ) (list : List ℕ) → is_among nat_eq n list ≡ true → suc 0 ≤ length list
-filled n [] e = absurd (true≢false (sym e))
-filled n (m ∷ list) e = omega arith
+filled n list e = grind (arith, common_steps)
 
 module _ (f : ℕ) (tree : TreeValue) where
   abbrev pub slots : Tree ℕ
@@ -82,23 +73,13 @@ module _ (f : ℕ) (tree : TreeValue) where
   parent_renamed : (slot : ℕ) (o : Option (Node ℕ))
       → parent_in (number slot) (option_map (renamed_node (exchanged f) (exchanged f)) o) ≡ number (parent_in slot o)
   parent_renamed slot None = refl
-  parent_renamed slot (Some node) = by node.content
-    where
-      by : (content : Content ℕ) → parent_in (number slot) (Some (renamed_node (exchanged f) (exchanged f)
-          (record { attr = node.attr; content = content })))
-          ≡ number (parent_in slot (Some (record { attr = node.attr; content = content })))
-      by (Directory parent entries opaque) = refl
-      by (Regular bytes) = refl
-      by (Symlink text) = refl
-      by Whiteout = refl
+  parent_renamed slot (Some node) = grind (arith, common_steps)
 
   pub parent_seen : (slot : ℕ) → parent_in (number slot) (seen.node (number slot)) ≡ number (above slot)
-  parent_seen slot =
-      ap (parent_in (number slot)) (node_by_numbers f (inodes_of tree) slot) ∙ parent_renamed slot (slots.node slot)
+  parent_seen slot = cc (node_by_numbers f (inodes_of tree) slot, parent_renamed slot (slots.node slot))
 
   slot_back : (slot : ℕ) (o : Option ℕ) → option_map (exchanged f) o ≡ Some (number slot) → o ≡ Some slot
-  slot_back slot None e = none_is_some (number slot) e
-  slot_back slot (Some other) e = ap Some (exchanged_same f other slot (same_Some (number other) (number slot) e))
+  slot_back slot o e = grind (arith, common_steps, none_is_some, exchanged_same, same_Some)
 
   abbrev pub here : ℕ → ℕ → ℕ
   here lower steps = climbed slots steps lower
@@ -117,10 +98,9 @@ module _ (f : ℕ) (tree : TreeValue) where
     -- a directory has one name at most
     pub once_in_slots : NamesDirectoriesOnce slots
     once_in_slots directory name other object first second is =
-        conditions.one_name (number directory) name other (number object)
-        (entry_seen directory name ∙ ap (option_map (exchanged f)) first)
-        (entry_seen directory other ∙ ap (option_map (exchanged f)) second)
-        (plain_by_numbers f (inodes_of tree) Bool (λ A node. is_directory_node node) object ∙ is)
+        cc (conditions.one_name (number directory) name other (number object) (entry_seen directory name ∙ ap
+        (option_map (exchanged f)) first) (entry_seen directory other ∙ ap (option_map (exchanged f)) second)
+        (plain_by_numbers f (inodes_of tree) Bool (λ A node. is_directory_node node) object ∙ is))
 
     sorted : (slot : ℕ) → is_sorted name_cmp (entries_in (slots.node slot)) ≡ true
     sorted slot = sym (plain_by_numbers f (inodes_of tree) Bool (λ A node. is_sorted name_cmp (entries_in node)) slot)
@@ -144,17 +124,17 @@ module _ (f : ℕ) (tree : TreeValue) where
     pub unnamed : (slot : ℕ) → is_some (name_up slots slot) ≡ false → IsDirectory seen (number slot)
         → (parent : ℕ) (name : List ℕ) → entry_at seen parent name ≢ Some (number slot)
     unnamed slot none is parent name leads =
-        let up : number (above slot) ≡ parent =
-        sym (parent_seen slot) ∙ conditions.one_parent parent name (number slot) leads is in
-        let there = slot_back slot (entry_at slots (above slot) name)
-        (sym (entry_seen (above slot) name) ∙ ap (λ p. entry_at seen p name) up ∙ leads) in
-        true≢false (sym (some_found slot (entries_in (slots.node (above slot)))
-        (entry_to slots (above slot) name slot there))
-        ∙ sym (some_name (find (λ entry. nat_eq slot entry.1) (entries_in (slots.node (above slot))))) ∙ none)
+        let up : number (above slot) ≡ parent = sym (parent_seen slot) ∙ conditions.one_parent parent name (number
+        slot) leads is in
+        let there = slot_back slot (entry_at slots (above slot) name) (sym (entry_seen (above slot) name) ∙ ap (λ p.
+        entry_at seen p name) up ∙ leads) in
+        cc (
+          some_found slot (entries_in (slots.node (above slot))) (entry_to slots (above slot) name slot there),
+          some_name (find (λ entry. nat_eq slot entry.1) (entries_in (slots.node (above slot)))),
+        )
 
     pub above_is_directory : (slot : ℕ) → IsDirectory seen (number slot) → IsDirectory seen (number (above slot))
-    above_is_directory slot is =
-        subst (IsDirectory seen) (parent_seen slot) (conditions.parent_directory (number slot) is)
+    above_is_directory slot is = cc (parent_seen slot, conditions.parent_directory (number slot) is)
 
     module _ (top lower : ℕ) (is : IsDirectory seen (number lower)) where
       pub all_directories : (steps : ℕ) → IsDirectory seen (number (here lower steps))
@@ -163,9 +143,7 @@ module _ (f : ℕ) (tree : TreeValue) where
 
       pub leads_from_above : (steps next : ℕ) → next ≡ suc steps → LeadsDown lower steps
           → is_some (name_up slots (here lower steps)) ≡ true → LeadsDown lower next
-      leads_from_above steps next e so_far named = subst (LeadsDown lower) (sym e)
-          (ap (option_and_then (λ n. led seen n (names_up slots steps lower))) (name_leads (here lower steps) named)
-          ∙ so_far)
+      leads_from_above steps next e so_far named = grind (arith, common_steps, name_leads (here lower steps) named)
 
       abbrev own : FilesystemEntry
       own = record { count = f; tree = tree; mounts = 0 }
@@ -186,8 +164,7 @@ module _ (f : ℕ) (tree : TreeValue) where
           omega (arith, below, counted)
 
       pub comes_from_above : (steps : ℕ) → steps ≡ 0 → ComesFromAbove top lower steps
-      comes_from_above steps e = subst (ComesFromAbove top lower) (sym e) (λ path leads.
-          (path, leads, let short = shorter path leads in omega (arith, short)))
+      comes_from_above steps e = grind (arith, common_steps, shorter)
 
       -- a path to a place below the top has a last name
       last_step : (slot : ℕ) (front : List (List ℕ)) → led seen (number top) front ≡ Some (number slot) → top ≢ slot

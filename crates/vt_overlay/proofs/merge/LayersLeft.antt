@@ -1,11 +1,10 @@
 -- What layers show that are looked through one after the other.
-use Rattle.std.proofs.Common.{◌≡◌, ◌∙◌, ◌+◌, ◌<◌, Bool, List, None, Option, Some, ap, drop, false, get_or, length, map, option_map, subst, sym, true, ℕ, IfSome, slice_get}
-use Rattle.vt_spec.proofs.Common.{View, at_path, cuts, drop_more, shown_from, shown_over, slice_get-get_or, view_of}
+use Rattle.std.proofs.Common.{◌≡◌, ◌∙◌, ◌+◌, ◌<◌, Bool, List, None, Option, Some, ap, drop, false, get_or, length, map, option_map, subst, sym, true, ℕ, IfSome, slice_get, arith}
+use Rattle.vt_spec.proofs.Common.{View, at_path, cuts, drop_more, shown_from, shown_over, slice_get-get_or, view_of, common_steps}
 use Rattle.vt_spec.specs.Machine.Views.{Shown, visible}
 use Rattle.vt_location.specs.declared.locations.InodeRef.{InodeRef}
-use Rattle.vt_location.specs.declared.numbers.FilesystemId.{FilesystemId}
 use Rattle.vt_location.specs.Locations.{inode_of}
-use Rattle.vt_fs.specs.FilesystemsValue.{Filesystems, files_at}
+use Rattle.vt_fs.specs.FilesystemsValue.{Filesystems}
 use Rattle.vt_overlay.specs.Merge.LayerValue.{layer_of, layers_of, opened}
 use Rattle.vt_overlay.specs.declared.merge.layers.LayerRef.{LayerRef}
 use Rattle.vt_overlay.specs.declared.merge.layers.Real.{Real}
@@ -32,32 +31,21 @@ module _ (fs : Filesystems) (layers : List LayerRef) (place : ℕ) (default : La
     found = step ∙ (λ i. shown_over view place (sym leads i) (sym cutting i) (left_from (place + 1)))
 
     pub stops_here : object ≡ None → cut ≡ true → None ≡ left_from place
-    stops_here none is_cut =
-        sym (found ∙ (λ i. shown_over view place (option_map inode_of (none i)) (is_cut i) (left_from (place + 1))))
+    stops_here none is_cut = cc found
 
     pub goes_lower : object ≡ None → cut ≡ false → left_from place ≡ left_from (place + 1)
-    goes_lower none uncut =
-        found ∙ (λ i. shown_over view place (option_map inode_of (none i)) (uncut i) (left_from (place + 1)))
+    goes_lower none uncut = cc found
 
     module _ (inode : InodeRef) (is : object ≡ Some inode)
         (filesystem : IfSome object (λ o. o.filesystem ≡ here.directory.filesystem)) where
       same : inode.filesystem ≡ here.directory.filesystem
       same = subst (λ o. IfSome o (λ o. o.filesystem ≡ here.directory.filesystem)) is filesystem
 
-      abbrev view_in : FilesystemId → View ℕ
-      view_in id = view_of (record { tree = (files_at fs id.count).tree; directory = inode_of here.directory })
-
       pub shows_here : (result : Option (Shown ℕ))
           → result ≡ visible (view_of (opened fs inode)) place (inode_of inode) → result ≡ left_from place
-      shows_here result shown = shown ∙ (λ i. visible (view_in (same i)) place (inode_of inode))
-          ∙ sym (found ∙ (λ i. shown_over view place (option_map inode_of (is i)) cut (left_from (place + 1))))
+      shows_here result shown = grind (arith, common_steps)
 
       pub in_tree : (result : Option Real) → IfSome result (λ real. real ≡ record { layer = place; inode = inode })
           → IfSome result (λ real. option_map (λ (layer : LayerRef). layer.directory.filesystem)
           (slice_get layers real.layer) ≡ Some real.inode.filesystem)
-      in_tree None none = none
-      in_tree (Some real) is_real =
-          ap (λ (r : Real). option_map (λ (layer : LayerRef). layer.directory.filesystem) (slice_get layers r.layer))
-          is_real ∙ ap (option_map (λ (layer : LayerRef). layer.directory.filesystem))
-          (slice_get-get_or layers place default within)
-          ∙ ap Some (sym same ∙ ap (λ (r : Real). r.inode.filesystem) (sym is_real))
+      in_tree result none = grind (arith, common_steps, slice_get-get_or, same)

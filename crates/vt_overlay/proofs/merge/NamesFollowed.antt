@@ -1,16 +1,8 @@
 -- Names followed one after the other.
-use Rattle.std.proofs.Common.{◌≡◌, ◌∙◌, ◌+◌, ◌||◌, Bool, List, None, Some, ap, drop, false, option_and_then, refl, sym, true, ℕ, slice_get}
+use Rattle.std.proofs.Common.{◌≡◌, ◌∙◌, ◌+◌, ◌||◌, List, None, Some, ap, drop, false, option_and_then, sym, ℕ, slice_get}
 use Rattle.vt_spec.proofs.Common.{Tree, entry_at, hides, led}
-use Rattle.vt_overlay.specs.Merge.LayerValue.{cut_by, cut_on}
+use Rattle.vt_overlay.specs.Merge.LayerValue.{cut_on}
 use Rattle.vt_overlay.proofs.merge.NamesTaken.{drop_named}
-
-pub or_false : (b : Bool) → (b || false) ≡ b
-or_false true = refl
-or_false false = refl
-
-pub or_assoc : (a b c : Bool) → (a || (b || c)) ≡ ((a || b) || c)
-or_assoc true b c = refl
-or_assoc false b c = refl
 
 module _ (tree : Tree ℕ) (here : ℕ) (names : List (List ℕ)) (index : ℕ) (name : List ℕ)
     (is : slice_get names index ≡ Some name) where
@@ -19,12 +11,10 @@ module _ (tree : Tree ℕ) (here : ℕ) (names : List (List ℕ)) (index : ℕ) 
 
   -- where a name is missing they lead nowhere, and hide nothing more
   pub stops : None ≡ entry_at tree here name → None ≡ led tree here (drop index names)
-  stops none = ap (option_and_then (λ next. led tree next rest)) none
-      ∙ ap (led tree here) (sym (drop_named names index name is))
+  stops none = cc (drop_named names index name is)
 
   pub stops_cut : None ≡ entry_at tree here name → cut_on tree (drop index names) here ≡ false
-  stops_cut none = ap (λ l. cut_on tree l here) (drop_named names index name is)
-      ∙ ap (λ o. cut_by tree o (cut_on tree rest)) (sym none)
+  stops_cut none = cc (drop_named names index name is)
 
   -- else they go on from there
   module _ (next : ℕ) (at : Some next ≡ entry_at tree here name) where
@@ -32,5 +22,4 @@ module _ (tree : Tree ℕ) (here : ℕ) (names : List (List ℕ)) (index : ℕ) 
     goes_on = ap (led tree here) (drop_named names index name is) ∙ ap (option_and_then (λ n. led tree n rest)) (sym at)
 
     pub goes_on_cut : cut_on tree (drop index names) here ≡ (hides (tree.node next) || cut_on tree rest next)
-    goes_on_cut = ap (λ l. cut_on tree l here) (drop_named names index name is)
-        ∙ ap (λ o. cut_by tree o (cut_on tree rest)) (sym at)
+    goes_on_cut = cc (drop_named names index name is, at)

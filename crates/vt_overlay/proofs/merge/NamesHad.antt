@@ -1,6 +1,6 @@
 -- The names of directories that are merged, and what they show under a name.
-use Rattle.std.proofs.Common.{◌≡◌, ◌∙◌, ◌+◌, ◌++◌, ◌∷◌, ◌<◌, ◌||◌, [], Bool, List, None, Option, Some, ap, append_assoc, drop, false, get_or, is_some, length, map, option_and_then, refl, subst, sym, true, true≢false, ℕ, IsPermutation}
-use Rattle.vt_spec.proofs.Common.{Content, Directory, Entries, IsPermutation-append_left, IsPermutation-append_right, IsPermutation-trans, Node, Regular, Symlink, View, Whiteout, drop_more, entries_in, entry_at, eq_by_cmp, hides, is_some-find, list_any, name_cmp, names_in, renamed_entry, renamed_node, shown_over, then_some, view_of, when}
+use Rattle.std.proofs.Common.{◌≡◌, ◌∙◌, ◌+◌, ◌++◌, ◌∷◌, ◌<◌, ◌||◌, [], Bool, List, Option, Some, ap, append_assoc, drop, false, get_or, is_some, length, map, option_and_then, refl, subst, sym, true, true≢false, ℕ, IsPermutation, arith}
+use Rattle.vt_spec.proofs.Common.{Content, Directory, Entries, IsPermutation-append_left, IsPermutation-append_right, IsPermutation-trans, Node, Regular, Symlink, View, Whiteout, drop_more, entries_in, entry_at, eq_by_cmp, hides, is_some-find, list_any, name_cmp, names_in, renamed_entry, renamed_node, shown_over, then_some, view_of, when, list_any-append, common_steps}
 use Rattle.vt_spec.specs.Machine.Views.{Shown}
 use Rattle.vt_laws_trees.specs.Layers.Layers.Directories.{shown_in}
 use Rattle.vt_location.specs.Locations.{inode_of}
@@ -53,28 +53,17 @@ own_shows view layer found lower = shown_over view layer (option_and_then (λ ne
     (hides (then_some (option_and_then (λ next. Some next) found) view.node) || false) lower
 
 pub when_is_some : {A : Type 0} (b : Bool) (a : A) → is_some (when b a) ≡ b
-when_is_some true a = refl
-when_is_some false a = refl
+when_is_some b a = grind (arith, common_steps)
 
 -- what they show has a name there
 abbrev pub is_name : List ℕ → List ℕ → Bool
 is_name name other = eq_by_cmp name_cmp name other
 
-any_appended : {A : Type 0} (test : A → Bool) (a b : List A)
-    → list_any test (a ++ b) ≡ (list_any test a || list_any test b)
-any_appended test [] b = refl
-any_appended test (first ∷ a) b = by (test first) (any_appended test a b)
-  where
-    by : (c : Bool) → list_any test (a ++ b) ≡ (list_any test a || list_any test b)
-        → (c || list_any test (a ++ b)) ≡ ((c || list_any test a) || list_any test b)
-    by true rest = refl
-    by false rest = rest
-
 pub shown_is_had : (fs : Filesystems) (merged : List MergedDirectory) (name : List ℕ)
     → is_some (shown_in (placed_views fs merged) (name ∷ [])) ≡ true
     → list_any (is_name name) (names_had fs merged) ≡ true
 shown_is_had fs [] name shows = absurd (true≢false (sym shows))
-shown_is_had fs (top ∷ merged) name shows = any_appended (is_name name) (names_in own) (names_had fs merged)
+shown_is_had fs (top ∷ merged) name shows = list_any-append (is_name name) (names_in own) (names_had fs merged)
     ∙ ap (λ b. b || list_any (is_name name) (names_had fs merged)) (sym (is_some-find name_cmp name (entries_in own)))
     ∙ by (entry_at (opened fs top.directory).tree (inode_of top.directory) name) shows (shown_is_had fs merged name)
   where
@@ -86,5 +75,4 @@ shown_is_had fs (top ∷ merged) name shows = any_appended (is_name name) (names
         → (is_some (shown_in (placed_views fs merged) (name ∷ [])) ≡ true
         → list_any (is_name name) (names_had fs merged) ≡ true)
         → (is_some found || list_any (is_name name) (names_had fs merged)) ≡ true
-    by None shows rest = rest shows
-    by (Some object) shows rest = refl
+    by found shows rest = grind (arith, common_steps)

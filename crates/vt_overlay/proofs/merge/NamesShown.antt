@@ -1,6 +1,6 @@
 -- The names of merged directories under which these show something: those that pass, and all where there is no whiteout.
-use Rattle.std.proofs.Common.{◌≡◌, ◌∙◌, ◌++◌, ◌∷◌, ◌+◌, ◌<◌, ◌&&◌, ◌||◌, Bor, get_or, length, nat_eq, take, [], Bool, List, None, Option, Some, Vec, ap, false, filter, is_some, map, not, refl, sym, true, true≢false, ℕ, IsPermutation, if◌then◌else◌}
-use Rattle.vt_spec.proofs.Common.{any-filter_same, entries_in, entry_at, holds_of, is_kind_in, is_some-find, list_any, list_any-IsPermutation, list_any-append, name_cmp, or_false_left, or_false_right, pointwise, texts_ties, view_of}
+use Rattle.std.proofs.Common.{◌≡◌, ◌∙◌, ◌++◌, ◌∷◌, ◌+◌, ◌<◌, ◌&&◌, ◌||◌, Bor, get_or, length, nat_eq, take, [], Bool, List, Option, Vec, ap, false, filter, is_some, map, not, refl, sym, true, ℕ, IsPermutation, if◌then◌else◌, arith}
+use Rattle.vt_spec.proofs.Common.{any-filter_same, entries_in, entry_at, holds_of, is_kind_in, is_some-find, list_any, list_any-IsPermutation, list_any-append, name_cmp, or_false_left, or_false_right, pointwise, texts_ties, view_of, or-false, common_steps}
 use Rattle.std.proofs.lemmas.List.Folds.{list_any_more}
 use Rattle.indexmap.specs.IndexSet.{insert_key}
 use Rattle.vt_spec.proofs.Nodes.{same_name}
@@ -11,19 +11,10 @@ use Rattle.vt_location.specs.Locations.{inode_of}
 use Rattle.vt_fs.specs.FilesystemsValue.{Filesystems}
 use Rattle.vt_overlay.specs.Merge.LayerValue.{is_white_under, names_had, opened, own_names, placed_views}
 use Rattle.vt_overlay.specs.declared.merge.layers.MergedDirectory.{MergedDirectory}
-use Rattle.vt_overlay.proofs.merge.NamesHad.{is_name, own_shows, shown_is_had, when_is_some}
-
-pub or_false : (b : Bool) → (b || false) ≡ b
-or_false true = refl
-or_false false = refl
-
-and_true : (b : Bool) → (b && true) ≡ b
-and_true true = refl
-and_true false = refl
+use Rattle.vt_overlay.proofs.merge.NamesHad.{is_name, own_shows, shown_is_had}
 
 implied : (a b : Bool) → (a ≡ true → b ≡ true) → (a && b) ≡ a
-implied true b h = h refl
-implied false b h = refl
+implied a b h = grind (arith, common_steps)
 
 -- whether a name is among those that lead to whiteouts, and what it shows
 pub among_whites : (name : List ℕ) (keys : List (Bor (List ℕ)))
@@ -31,15 +22,11 @@ pub among_whites : (name : List ℕ) (keys : List (Bor (List ℕ)))
 among_whites name keys i = list_any (λ (one : Bor (List ℕ)). texts_ties name one.now i) keys
 
 pub not_white : (looked white shows : Bool) → looked ≡ white → looked ≡ false → not looked ≡ (not white || shows)
-not_white false false shows is none = refl
-not_white false true shows is none = absurd (true≢false (sym is))
-not_white true white shows is none = absurd (true≢false none)
+not_white looked white shows is none = cc
 
 pub looked_white : (looked white shows found : Bool) → looked ≡ white → looked ≡ true → found ≡ shows
     → found ≡ (not white || shows)
-looked_white true true shows found is some same = same
-looked_white true false shows found is some same = absurd (true≢false is)
-looked_white false white shows found is some same = absurd (true≢false (sym some))
+looked_white looked white shows found is some same = cc
 
 -- one name more that leads to a whiteout, or to something else
 pub any_inserted : (name key : List ℕ) (keys : List (Bor (List ℕ))) (one : Bor (List ℕ)) → one.now ≡ key
@@ -55,29 +42,16 @@ any_inserted name key keys one is = by (list_any (λ b. pointwise nat_eq one.now
     by true there = sym (present (is_name name key) refl)
       where
         present : (c : Bool) → is_name name key ≡ c → (list_any hits keys || c) ≡ list_any hits keys
-        present true same = ap (λ b. b || true)
-            (ap (λ n. list_any (λ b. is_name n b.now) keys) (same_name name key same)
-            ∙ ap (λ n. list_any (λ b. is_name n b.now) keys) (sym is) ∙ sym (among_whites one.now keys) ∙ there)
-            ∙ sym (ap (λ n. list_any (λ b. is_name n b.now) keys) (same_name name key same)
-            ∙ ap (λ n. list_any (λ b. is_name n b.now) keys) (sym is) ∙ sym (among_whites one.now keys) ∙ there)
-        present false same = or_false (list_any hits keys)
-    by false there = list_any-append hits keys (one ∷ [])
-        ∙ ap (λ b. list_any hits keys || b) (or_false (is_name name one.now) ∙ ap (is_name name) is)
+        present true same = grind (arith, common_steps, same_name name key same, is, among_whites one.now keys, there)
+        present false same = or-false (list_any hits keys)
+    by false there = grind (arith, common_steps)
 
 grow_yes : (old white any : Bool) → ((old || (white && any)) || (white && true)) ≡ (old || (white && (any || true)))
-grow_yes true white any = refl
-grow_yes false false any = refl
-grow_yes false true true = refl
-grow_yes false true false = refl
+grow_yes old white any = grind (arith, common_steps)
 
 grow_no : (old white any other : Bool)
     → ((old || (white && any)) || (other && false)) ≡ (old || (white && (any || false)))
-grow_no true white any other = refl
-grow_no false false any true = refl
-grow_no false false any false = refl
-grow_no false true true other = refl
-grow_no false true false true = refl
-grow_no false true false false = refl
+grow_no old white any other = grind (arith, common_steps)
 
 pub whites_grown : (fs : Filesystems) (top : MergedDirectory) (name key : List ℕ) (old any so_far new white : Bool)
     → so_far ≡ (old || (is_white_under fs top name && any)) → white ≡ is_white_under fs top key
@@ -88,9 +62,7 @@ whites_grown fs top name key old any so_far new white is is_white grown =
   where
     by : (b : Bool) → is_name name key ≡ b → ((old || (is_white_under fs top name && any)) || (white && b))
         ≡ (old || (is_white_under fs top name && (any || b)))
-    by true same = ap (λ b. (old || (is_white_under fs top name && any)) || (b && true))
-        (is_white ∙ ap (is_white_under fs top) (sym (same_name name key same)))
-        ∙ grow_yes old (is_white_under fs top name) any
+    by true same = cc (is_white, same_name name key same, grow_yes old (is_white_under fs top name) any)
     by false same = grow_no old (is_white_under fs top name) any white
 
 -- merged directories show something under a name that one of them has and that leads to no whiteout in any
@@ -111,23 +83,19 @@ had_is_shown fs (top ∷ merged) name none = list_any-append (is_name name) (own
         → (is_some found || list_any (is_name name) (names_had fs merged))
         ≡ is_some (own_shows (view_of (opened fs top.directory)) top.layer found
         (shown_in (placed_views fs merged) (name ∷ [])))
-    by None white rest = rest
-    by (Some object) white rest =
-        sym (when_is_some (not (is_kind_in White ((opened fs top.directory).tree.node object)))
-        (record { layer = top.layer; object = object }) ∙ ap not white)
+    by found white rest = grind (arith, common_steps)
 
 -- a name leads to a whiteout in a directory if it is one of those that do
 own_white : (fs : Filesystems) (top : MergedDirectory) (name : List ℕ)
     → (is_white_under fs top name && list_any (is_name name) (own_names fs top)) ≡ is_white_under fs top name
-own_white fs top name = ap (λ b. is_white_under fs top name && b)
-    (sym (is_some-find name_cmp name (entries_in ((opened fs top.directory).tree.node (inode_of top.directory)))))
-    ∙ by (entry_at (opened fs top.directory).tree (inode_of top.directory) name)
-  where
-    by : (found : Option ℕ)
-        → (holds_of (λ object. is_kind_in White ((opened fs top.directory).tree.node object)) found && is_some found)
-        ≡ holds_of (λ object. is_kind_in White ((opened fs top.directory).tree.node object)) found
-    by None = refl
-    by (Some object) = and_true (is_kind_in White ((opened fs top.directory).tree.node object))
+own_white fs top name =
+    grind (
+      arith,
+      common_steps,
+      is_some-find name_cmp name (entries_in ((opened fs top.directory).tree.node (inode_of
+          top.directory))),
+      entry_at (opened fs top.directory).tree (inode_of top.directory) name,
+    )
 
 module _ {A : Type 0} where
   abbrev hit : List ℕ → Vec ℕ A → Bool
@@ -165,12 +133,7 @@ module _ {A : Type 0} where
         has_name all (names_had fs merged) name had ∙ had_is_shown fs merged name (sym (whites name) ∙ none)
 
     looked : ((not (white name) || shows name) && list_any (is_name name) (names_had fs merged)) ≡ shows name
-    looked = by (white name) refl
-      where
-        by : (b : Bool) → white name ≡ b
-            → ((not b || shows name) && list_any (is_name name) (names_had fs merged)) ≡ shows name
-        by true e = implied (shows name) (list_any (is_name name) (names_had fs merged)) (shown_is_had fs merged name)
-        by false e = had_is_shown fs merged name (sym (whites name) ∙ e)
+    looked = grind (arith, common_steps, shows, implied, shown_is_had, had_is_shown)
 
     pub passing_shown : (kept : List (Vec ℕ A))
         → kept ≡ filter (λ key. not (white key.items) || shows key.items) all → list_any (hit name) kept ≡ shows name

@@ -1,6 +1,6 @@
 -- Names that are sorted, each once, are those that layers show.
-use Rattle.std.proofs.Common.{◌≡◌, ◌∙◌, ◌++◌, ◌∷◌, ◌||◌, [], Bool, List, None, Option, Ordering, Some, T, ap, cond, false, is_some, map, nat_eq, refl, subst, sym, true, true≢false, ℕ, Less, filter, IsPermutation, IsSorted, is_lt, nat_cmp}
-use Rattle.vt_spec.proofs.Common.{AllByRecursion, Entries, IsTotalOrder, OpenLayer, Shown, T_and, below_all, is_some-find, is_sorted, is_sorted-where_key, list_any, list_any-IsPermutation, name_cmp, names_at, names_shown, pointwise, same_entries, same_name-Equal, same_truth, shown, sorted_head, sorted_tail, texts_ties, view_of}
+use Rattle.std.proofs.Common.{◌≡◌, ◌∙◌, ◌++◌, ◌∷◌, ◌||◌, [], Bool, List, None, Option, Ordering, Some, T, ap, is_some, map, nat_eq, refl, subst, sym, true, true≢false, ℕ, Less, filter, IsPermutation, IsSorted, nat_cmp, arith}
+use Rattle.vt_spec.proofs.Common.{AllByRecursion, Entries, IsTotalOrder, OpenLayer, Shown, T_and, below_all, is_some-find, is_sorted, is_sorted-where_key, list_any, list_any-IsPermutation, name_cmp, names_at, names_shown, pointwise, same_entries, same_name-Equal, same_truth, shown, sorted_head, sorted_tail, texts_ties, view_of, common_steps}
 use Rattle.std.specs.declared.vec.Vec.{Vec}
 use Rattle.std.specs.Cmp.Lexicographic.{slice_cmp}
 use Rattle.std.proofs.lemmas.Cmp.{nat_list_cmp_total}
@@ -29,22 +29,13 @@ names-marked [] = refl
 names-marked (name ∷ names) = ap (λ rest. name ∷ rest) (names-marked names)
 
 same_presence : (a b : Option (Unit {0})) → is_some a ≡ is_some b → a ≡ b
-same_presence None None e = refl
-same_presence None (Some y) e = absurd (true≢false (sym e))
-same_presence (Some x) None e = absurd (true≢false e)
-same_presence (Some x) (Some y) e = refl
+same_presence a b e = grind (arith, common_steps)
 
 -- the names of the entries that pass
 names-where_key : (test : List ℕ → Bool) (entries : Entries (Unit {0}))
     → map (λ e. e.0) (where_key name_cmp test entries) ≡ filter test (map (λ e. e.0) entries)
 names-where_key test [] = refl
-names-where_key test (entry ∷ entries) = by (test entry.0) (names-where_key test entries)
-  where
-    by : (b : Bool) → map (λ e. e.0) (where_key name_cmp test entries) ≡ filter test (map (λ e. e.0) entries)
-        → map (λ e. e.0) (cond b (entry ∷ where_key name_cmp test entries) (where_key name_cmp test entries))
-        ≡ cond b (entry.0 ∷ filter test (map (λ e. e.0) entries)) (filter test (map (λ e. e.0) entries))
-    by true rest = ap (λ l. entry.0 ∷ l) rest
-    by false rest = rest
+names-where_key test (entry ∷ entries) = grind (arith, common_steps, names-where_key test entries, test entry.0)
 
 -- sorted names with the names of sorted entries are the names of those
 same_names : (names : List (List ℕ)) (entries : Entries (Unit {0})) → T (is_sorted name_cmp (marked names))
@@ -75,23 +66,14 @@ name_is_shown layers path name = same_truth _ _ (λ has.
 module _ {X : Type 0} (same : X → X → Bool) (hit : X → Bool) (alike : (x y : X) → same x y ≡ true → hit x ≡ hit y)
   where
     twice : (a b rest : Bool) → a ≡ b → (a || rest) ≡ (a || (b || rest))
-    twice true b rest e = refl
-    twice false b rest e = ap (λ c. c || rest) e
+    twice a b rest e = grind (arith, common_steps)
 
     any_dedup_from : (k : X) (xs : List X) → list_any hit (dedup_from same k xs) ≡ (hit k || list_any hit xs)
     any_dedup_from k [] = refl
-    any_dedup_from k (x ∷ xs) = by (same x k) refl (any_dedup_from k xs) (any_dedup_from x xs)
-      where
-        by : (b : Bool) → same x k ≡ b → list_any hit (dedup_from same k xs) ≡ (hit k || list_any hit xs)
-            → list_any hit (dedup_from same x xs) ≡ (hit x || list_any hit xs)
-            → list_any hit (cond b (dedup_from same k xs) (k ∷ dedup_from same x xs))
-            ≡ (hit k || (hit x || list_any hit xs))
-        by true e here rest = here ∙ twice (hit k) (hit x) (list_any hit xs) (sym (alike x k e))
-        by false e here rest = ap (λ b. hit k || b) rest
+    any_dedup_from k (x ∷ xs) = grind (arith, common_steps, any_dedup_from k xs, any_dedup_from x xs, same x k)
 
     any_dedup : (xs : List X) → list_any hit (dedup same xs) ≡ list_any hit xs
-    any_dedup [] = refl
-    any_dedup (x ∷ xs) = any_dedup_from x xs
+    any_dedup xs = grind (arith, common_steps, any_dedup_from)
 
 module _ {A : Type 0} where
   abbrev key_cmp : Vec ℕ A → Vec ℕ A → Ordering
@@ -113,8 +95,7 @@ module _ {A : Type 0} where
   below_all-bytes_of : (x : Vec ℕ A) (keys : List (Vec ℕ A)) → AllByRecursion (λ y. key_cmp x y ≡ Less) keys
       → T (below_all name_cmp x.items (marked (bytes_of keys)))
   below_all-bytes_of x [] h = tt
-  below_all-bytes_of x (key ∷ keys) h =
-      T_and _ _ (subst (λ r. T (is_lt r)) (sym h.0) tt) (below_all-bytes_of x keys h.1)
+  below_all-bytes_of x (key ∷ keys) h = grind (arith, common_steps, below_all-bytes_of x keys h.1)
 
   is_sorted-bytes_of : (keys : List (Vec ℕ A)) → IsStrictlySortedBy key_cmp keys
       → T (is_sorted name_cmp (marked (bytes_of keys)))

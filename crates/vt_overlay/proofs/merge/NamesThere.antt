@@ -1,6 +1,6 @@
 -- Whether layers show a name: whether merged directories show something under one that they have.
-use Rattle.std.proofs.Common.{◌≡◌, ◌∙◌, ◌++◌, ◌∷◌, ◌||◌, [], Bool, List, ap, false, flat_map, is_some, not, refl, sym, true, true≢false, ℕ, is_eq}
-use Rattle.vt_spec.proofs.Common.{OpenLayer, is_empty_list, list_any, list_any-append, names_shown, nat_list_cmp_total, shown, tied_itself}
+use Rattle.std.proofs.Common.{◌≡◌, ◌∙◌, ◌++◌, ◌∷◌, ◌||◌, [], Bool, List, ap, false, flat_map, is_some, not, refl, sym, true, true≢false, ℕ, is_eq, arith}
+use Rattle.vt_spec.proofs.Common.{OpenLayer, is_empty_list, list_any, list_any-append, names_shown, nat_list_cmp_total, shown, tied_itself, common_steps}
 use Rattle.vt_spec.proofs.Nodes.{same_name}
 use Rattle.vt_laws_trees.specs.Layers.Layers.Directories.{shown_in}
 use Rattle.vt_fs.specs.FilesystemsValue.{Filesystems}
@@ -8,21 +8,12 @@ use Rattle.vt_overlay.specs.Merge.LayerValue.{names_had, own_names, placed_views
 use Rattle.vt_overlay.specs.declared.merge.layers.MergedDirectory.{MergedDirectory}
 use Rattle.vt_overlay.proofs.merge.NamesHad.{is_name, shown_is_had}
 use Rattle.vt_overlay.proofs.merge.NamesSorted.{name_is_shown}
+use Rattle.vt_laws_trees.proofs.layers.directories.Later.{any_found}
 
 any_flat : {A B : Type 0} (test : B → Bool) (f : A → List B) (xs : List A)
     → list_any test (flat_map f xs) ≡ list_any (λ x. list_any test (f x)) xs
 any_flat test f [] = refl
-any_flat test f (x ∷ xs) =
-    list_any-append test (f x) (flat_map f xs) ∙ ap (λ b. list_any test (f x) || b) (any_flat test f xs)
-
-one_passes : {A : Type 0} (test : A → Bool) (xs : List A) → list_any test xs ≡ true → (x : A) × (test x ≡ true)
-one_passes test [] any = absurd (true≢false (sym any))
-one_passes {A} test (x ∷ xs) any = by (test x) refl any (one_passes test xs)
-  where
-    by : (b : Bool) → test x ≡ b → (b || list_any test xs) ≡ true
-        → (list_any test xs ≡ true → (x : A) × (test x ≡ true)) → (x : A) × (test x ≡ true)
-    by true e any rest = (x, e)
-    by false e any rest = rest any
+any_flat test f (x ∷ xs) = cc (list_any-append test (f x) (flat_map f xs), any_flat test f xs)
 
 -- a name that passes is one of those that do
 passes_there : (test : List ℕ → Bool) (name : List ℕ) (names : List (List ℕ)) → test name ≡ true
@@ -32,8 +23,7 @@ passes_there test name (first ∷ names) passes there =
     by (is_name name first) refl there (passes_there test name names passes)
   where
     later : (b : Bool) → list_any test names ≡ true → (b || list_any test names) ≡ true
-    later true rest = refl
-    later false rest = rest
+    later b rest = grind (arith, common_steps)
 
     by : (b : Bool) → is_name name first ≡ b → (b || list_any (is_name name) names) ≡ true
         → (list_any (is_name name) names ≡ true → list_any test names ≡ true)
@@ -61,15 +51,7 @@ module _ (fs : Filesystems) (merged : List MergedDirectory) (layers : List (Open
   shows_is name = ap is_some (is_merged (name ∷ []) (λ empty. cc)) ∙ sym (name_is_shown layers path name)
 
   pub has_names_if : list_any (shows_own fs merged) merged ≡ true → not (is_empty_list (names_shown layers path)) ≡ true
-  has_names_if any =
-      let top = one_passes (shows_own fs merged) merged any in
-      let name = one_passes shows (own_names fs top.0) top.1 in
-      by name.0 (names_shown layers path) (sym (shows_is name.0) ∙ name.1)
-    where
-      by : (name : List ℕ) (names : List (List ℕ)) → list_any (is_name name) names ≡ true
-          → not (is_empty_list names) ≡ true
-      by name [] any = absurd (true≢false (sym any))
-      by name (first ∷ names) any = refl
+  has_names_if any = grind (arith, common_steps, any_found, shows, shows_is)
 
   pub has_none_if : list_any (shows_own fs merged) merged ≡ false
       → not (is_empty_list (names_shown layers path)) ≡ false
@@ -79,6 +61,9 @@ module _ (fs : Filesystems) (merged : List MergedDirectory) (layers : List (Open
       by [] e = refl
       by (name ∷ names) e =
           let here : shows name ≡ true = shows_is name ∙ ap (list_any (is_name name)) e ∙ first_there name names in
-          absurd (true≢false (sym
-          (passes_there shows name (names_had fs merged) here (shown_is_had fs merged name here))
-          ∙ any_flat shows (own_names fs) merged ∙ none))
+          cc (
+            passes_there shows name (names_had fs merged) here (shown_is_had fs merged name here),
+            any_flat shows
+                (own_names fs) merged,
+            none,
+          )

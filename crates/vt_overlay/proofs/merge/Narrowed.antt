@@ -1,9 +1,9 @@
 -- Directories that are merged: those of all layers, and those under a name, moved to the front of a list.
-use Rattle.std.proofs.Common.{◌≡◌, ◌∙◌, ◌+◌, ◌++◌, ◌∷◌, ◌<◌, ◌≤◌, [], All, Bool, List, None, Option, Some, ap, append_assoc, arith, drop, false, get_or, length, map, refl, sym, subst, take, true, ℕ, get_or-drop, take_all, IfSome, if◌then◌else◌, option_to_list}
-use Rattle.vt_spec.proofs.Common.{All-append, All-cons, All-nil, drop_more, entry_at, map-append, slice_get-get_or, take-append-le, view_of}
+use Rattle.std.proofs.Common.{◌≡◌, ◌∙◌, ◌+◌, ◌++◌, ◌∷◌, ◌<◌, ◌≤◌, [], All, Bool, List, Option, ap, arith, drop, false, get_or, length, map, refl, sym, subst, take, true, ℕ, get_or-drop, IfSome, if◌then◌else◌, option_to_list}
+use Rattle.vt_spec.proofs.Common.{All-append, drop_more, entry_at, slice_get-get_or, view_of, common_steps}
 use Rattle.std.specs.List.{refill}
 use Rattle.vt_fs.specs.FilesystemsValue.{Filesystems}
-use Rattle.vt_laws_trees.specs.Layers.Layers.Directories.{PlacedLayer, PlacedView, directories_under, directory_over, placed_from, placed_view}
+use Rattle.vt_laws_trees.specs.Layers.Layers.Directories.{PlacedLayer, PlacedView, directories_under, directory_over, placed_from}
 use Rattle.vt_overlay.specs.Merge.EntryValue.{IsMergedAt}
 use Rattle.vt_overlay.specs.Merge.LayerValue.{layers_of, placed_layers, placed_of, placed_views}
 use Rattle.vt_overlay.specs.declared.merge.layers.LayerRef.{LayerRef}
@@ -33,18 +33,11 @@ pub one_placed : (fs : Filesystems) (layers : List LayerRef) (merged new : List 
     → placed_views fs new ++ left_from fs layers (place + 1) (drop (place + 1) layers)
     ≡ placed_views fs merged ++ left_from fs layers place (drop place layers)
 one_placed fs layers merged new place default within grown =
-    let rest = left_from fs layers (place + 1) (drop (place + 1) layers) in
-    let one : MergedDirectory = record { layer = place; directory = (get_or layers place default).directory } in
-    ap (λ l. placed_views fs l ++ rest) grown
-    ∙ ap (λ l. map placed_view l ++ rest) (map-append (placed_of fs) merged (one ∷ []))
-    ∙ ap (λ l. l ++ rest) (map-append placed_view (placed_layers fs merged) (placed_of fs one ∷ []))
-    ∙ append_assoc (placed_views fs merged) (placed_view (placed_of fs one) ∷ []) rest
-    ∙ ap (λ l. placed_views fs merged ++ left_from fs layers place l) (sym (drop_more layers place default within))
+    grind (arith, common_steps, drop_more layers place default within)
 
 -- a list that is written over by one of its own length is that one
 pub refilled : {X : Type 0} (xs ws : List X) → length ws ≡ length xs → refill (length xs) xs ws ≡ ws
-refilled xs ws same = take-append-le (length xs) ws (drop (length ws) xs) (omega (arith, same))
-    ∙ take_all (length xs) ws (omega (arith, same))
+refilled xs ws same = grind (arith, common_steps)
 
 -- what was not moved yet is where it was
 pub same_there : {X : Type 0} (now old : List X) (index : ℕ) (default : X)
@@ -56,8 +49,7 @@ same_there now old index default same = ap (λ n. get_or now n default) (omega a
 
 -- one more, if there is one
 pub All-option : {X : Type 0} (P : X → Type 0) (o : Option X) → IfSome o P → All P (option_to_list o)
-All-option P None h = All-nil P
-All-option P (Some x) h = All-cons P x [] h (All-nil P)
+All-option P o h = grind (arith, common_steps)
 
 -- one step: a directory is looked into, and what it has under the name is kept
 module _ (fs : Filesystems) (name : List ℕ) (old now new : List MergedDirectory) (index kept count : ℕ)

@@ -50,10 +50,7 @@ module _ (fs : Filesystems) (top : MergedDirectory) (name : List ℕ) (lent : Op
             layer = top.layer;
             open_layer = record { tree = tree; directory = inode_of object };
           } ∷ [] else []) ++ (if h then [] else lower)
-      by true h lower = (λ i. record {
-        layer = top.layer;
-        open_layer = record { tree = (files_at fs (same i).count).tree; directory = inode_of object };
-      } ∷ (if h then [] else lower))
+      by true h lower = cc same
       by false h lower = refl
 
       pub object_found : (directory : Option MergedDirectory) (h : Bool)

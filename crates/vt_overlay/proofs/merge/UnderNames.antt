@@ -1,6 +1,6 @@
 -- What layers show under a name is what the directories show that are merged under it, in whatever trees.
-use Rattle.std.proofs.Common.{◌≡◌, ◌≢◌, ◌∙◌, ◌+◌, ◌++◌, ◌∷◌, ◌<◌, ◌≤◌, ◌||◌, [], Bool, List, None, Option, Some, ap, append_assoc, drop, false, get_or, length, map, option_and_then, refl, sym, true, ℕ, append-nil, if◌then◌else◌, option_to_list}
-use Rattle.vt_spec.proofs.Common.{Content, Directory, Node, Regular, Symlink, Tree, Whiteout, at_drop_all, cuts, drop_more, entries_in, entry_at, entry_named, hides, is_directory_node, led, map-append, shown_over, view_of}
+use Rattle.std.proofs.Common.{◌≡◌, ◌≢◌, ◌+◌, ◌++◌, ◌∷◌, ◌<◌, ◌≤◌, ◌||◌, [], Bool, List, None, Option, Some, ap, drop, false, get_or, length, map, option_and_then, refl, sym, true, ℕ, append-nil, if◌then◌else◌, option_to_list, arith}
+use Rattle.vt_spec.proofs.Common.{Content, Directory, Node, Regular, Symlink, Tree, Whiteout, entries_in, entry_at, entry_named, hides, is_directory_node, led, shown_over, view_of, common_steps}
 use Rattle.vt_spec.specs.declared.attributes.Attr.{Attr}
 use Rattle.vt_spec.specs.Machine.Views.{Shown}
 use Rattle.vt_fs.specs.FilesystemsValue.{Filesystems}
@@ -34,9 +34,7 @@ module _ (top : PlacedLayer ℕ) (name first : List ℕ) (rest : List (List ℕ)
   -- an opaque directory shows what it has alone
   alone : (object : ℕ) (found : Option ℕ) (cut : Bool)
       → shown_over (view_of (own object).open_layer) top.layer found cut None ≡ over found true
-  alone object (Some other) cut = refl
-  alone object None true = refl
-  alone object None false = refl
+  alone object found cut = grind (arith, common_steps)
 
   abbrev Shows : ℕ → Option (Node ℕ) → Type 0
   Shows object node =
@@ -47,42 +45,34 @@ module _ (top : PlacedLayer ℕ) (name first : List ℕ) (rest : List (List ℕ)
   nothing : (object : ℕ) → entries_in (tree.node object) ≡ [] → led tree object path ≡ None
   nothing object none = ap (option_and_then (λ next. led tree next rest)) (no_entry tree object first none)
 
-  nothing_cut : (object : ℕ) → entries_in (tree.node object) ≡ [] → cut_on tree path object ≡ false
-  nothing_cut object none = ap (λ o. cut_by tree o (cut_on tree rest)) (no_entry tree object first none)
-
   of_content : (object : ℕ) (attr : Attr) (content : Content ℕ)
       → tree.node object ≡ Some (record { attr = attr; content = content })
       → Shows object (Some (record { attr = attr; content = content }))
-  of_content object attr (Directory parent entries true) is =
-      alone object (led tree object path) (cuts (view_of (own object).open_layer) path)
-  of_content object attr (Directory parent entries false) is =
-      (λ i. shown_over (view_of (own object).open_layer) top.layer (led tree object path)
-      (cuts_on tree path object i) (below i))
+  of_content object attr (Directory parent entries true) is = grind (arith, common_steps)
+  of_content object attr (Directory parent entries false) is = cc (cuts_on tree path object, below)
   of_content object attr (Regular bytes) is = sym (ap (λ o. over o true) (nothing object (ap entries_in is)))
   of_content object attr (Symlink text) is = sym (ap (λ o. over o true) (nothing object (ap entries_in is)))
   of_content object attr Whiteout is = sym (ap (λ o. over o true) (nothing object (ap entries_in is)))
 
   of_node : (object : ℕ) (node : Option (Node ℕ)) → tree.node object ≡ node → Shows object node
-  of_node object None is =
-      below ∙ sym (λ i. over (nothing object (ap entries_in is) i) (nothing_cut object (ap entries_in is) i))
+  of_node object None is = grind (arith, common_steps)
   of_node object (Some node) is = of_content object node.attr node.content is
 
   of_entry : (found : Option ℕ) → shown_in (views (directory_over top found under)) path
       ≡ over (option_and_then (λ next. led tree next path) found) (cut_by tree found (cut_on tree path))
-  of_entry None = below
-  of_entry (Some object) = of_node object (tree.node object) refl
+  of_entry found = grind (arith, common_steps, of_node)
 
 -- the same for all
 shown_under : (layers : List (PlacedLayer ℕ)) (name first : List ℕ) (rest : List (List ℕ))
     → shown_in (views (directories_under layers name)) (first ∷ rest) ≡ shown_in (views layers) (name ∷ first ∷ rest)
 shown_under [] name first rest = refl
 shown_under (top ∷ lower) name first rest =
-    of_entry top name first rest lower (directories_under lower name) (shown_under lower name first rest)
-    (entry_at top.open_layer.tree top.open_layer.directory name)
-    ∙ sym (ap (λ cut. shown_over (view_of top.open_layer) top.layer
-    (led top.open_layer.tree top.open_layer.directory (name ∷ first ∷ rest)) cut
-    (shown_in (views lower) (name ∷ first ∷ rest)))
-    (cuts_on top.open_layer.tree (name ∷ first ∷ rest) top.open_layer.directory))
+    cc (
+      of_entry top name first rest lower (directories_under lower name) (shown_under lower name first rest)
+          (entry_at top.open_layer.tree top.open_layer.directory name),
+      cuts_on top.open_layer.tree (name ∷ first ∷ rest)
+          top.open_layer.directory,
+    )
 
 pub shown_under_name : (layers : List (PlacedLayer ℕ)) (name : List ℕ) (path : List (List ℕ)) → path ≢ []
     → shown_in (views (directories_under layers name)) path ≡ shown_in (views layers) (name ∷ path)
@@ -105,12 +95,7 @@ module _ (fs : Filesystems) (name : List ℕ) (above merged new : List MergedDir
       ≡ directory_over here (entry_at here.open_layer.tree here.open_layer.directory name) lower)
       → new ≡ merged ++ option_to_list directory
       → placed_layers fs new ++ (if h then [] else below_index) ≡ directories_under (placed_layers fs above) name
-  one_more within so_far found grown = ap (λ l. placed_layers fs l ++ (if h then [] else below_index)) grown
-      ∙ ap (λ l. l ++ (if h then [] else below_index)) (map-append (placed_of fs) merged (option_to_list directory))
-      ∙ append_assoc (placed_layers fs merged) (placed_layers fs (option_to_list directory))
-      (if h then [] else below_index) ∙ ap (λ l. placed_layers fs merged ++ l) (found below_index)
-      ∙ ap (λ l. placed_layers fs merged ++ directories_under (placed_layers fs l) name)
-      (sym (drop_more above index default within)) ∙ so_far
+  one_more within so_far found grown = grind (arith, common_steps)
 
   -- it is the last one, or others follow
   module _ (within : index < length above)
@@ -120,26 +105,20 @@ module _ (fs : Filesystems) (name : List ℕ) (above merged new : List MergedDir
       ≡ directory_over here (entry_at here.open_layer.tree here.open_layer.directory name) lower)
       (grown : new ≡ merged ++ option_to_list directory) where
     pub last_one : h ≡ true → placed_layers fs new ≡ directories_under (placed_layers fs above) name
-    last_one hidden = sym (append-nil (placed_layers fs new))
-        ∙ ap (λ b. placed_layers fs new ++ (if b then [] else below_index)) (sym hidden)
-        ∙ one_more within so_far found grown
+    last_one hidden = cc (append-nil (placed_layers fs new), one_more within so_far found grown)
 
     pub next_one : h ≡ false → placed_layers fs new ++ below_index ≡ directories_under (placed_layers fs above) name
-    next_one open_below = ap (λ b. placed_layers fs new ++ (if b then [] else below_index)) (sym open_below)
-        ∙ one_more within so_far found grown
+    next_one open_below = cc (one_more within so_far found grown)
 
 -- none is left
 pub all_merged : (fs : Filesystems) (name : List ℕ) (above merged : List MergedDirectory) (index : ℕ)
     → length above ≤ index → placed_layers fs merged ++ directories_under (placed_layers fs (drop index above)) name
     ≡ directories_under (placed_layers fs above) name
     → placed_layers fs merged ≡ directories_under (placed_layers fs above) name
-all_merged fs name above merged index past so_far = sym (append-nil (placed_layers fs merged))
-    ∙ sym (at_drop_all (λ l. placed_layers fs merged ++ directories_under (placed_layers fs l) name) above index past)
-    ∙ so_far
+all_merged fs name above merged index past so_far = grind (arith, common_steps)
 
 -- what is merged so shows what was shown under the name
 pub shows : (fs : Filesystems) (name : List ℕ) (above merged : List MergedDirectory)
     → placed_layers fs merged ≡ directories_under (placed_layers fs above) name → (path : List (List ℕ)) → path ≢ []
     → shown_in (views (placed_layers fs merged)) path ≡ shown_in (views (placed_layers fs above)) (name ∷ path)
-shows fs name above merged is path some =
-    ap (λ l. shown_in (views l) path) is ∙ shown_under_name (placed_layers fs above) name path some
+shows fs name above merged is path some = cc (shown_under_name (placed_layers fs above) name path some)

@@ -1,6 +1,6 @@
 use Rattle.std.proofs.Common.{ap, arith, refl, subst, sym, ◌∙◌, ◌<◌, IfSome}
-use Rattle.vt_spec.proofs.Common.{option_copied_mut}
-use Rattle.vt_ns.proofs.Common.{NamespaceEntry, entries_of}
+use Rattle.vt_spec.proofs.Common.{option_copied_mut, common_steps}
+use Rattle.vt_ns.proofs.Common.{NamespaceEntry}
 use Rattle.vt_ns.proofs.CountingLemmas.{nothing_counted, task_counted}
 use Rattle.vt_mounting.proofs.detach.NamespaceEntries.{entry_found}
 use Rattle.vt_ns.proofs.forking.count_task.Goals as goal
@@ -19,6 +19,4 @@ returns-in-Some c =
     (sym c.get_mut.ensures.value ∙ ap option_copied_mut c.in-Some.is) (c.get_mut.follows.holds _).0 refl
 
 pub returns-in_default : goal.returns-in_default
-returns-in_default c = ap (λ map. entries_of map.entries) c.get_mut.follows.holds-at-none
-    ∙ nothing_counted c.args.id.count c.args.namespaces.now.entries
-    (sym c.get_mut.ensures.value ∙ ap option_copied_mut c.in_default.is)
+returns-in_default c = grind (arith, common_steps, nothing_counted)

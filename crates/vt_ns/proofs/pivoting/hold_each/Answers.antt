@@ -1,12 +1,12 @@
-use Rattle.std.proofs.Common.{add-one, ap, arith, false, subst, sym, ◌+◌, ◌-◌, ◌≡◌, ◌∙◌, ℕ}
+use Rattle.vt_spec.proofs.Common.{common_steps}
+use Rattle.std.proofs.Common.{add-one, arith, subst, ◌+◌, ◌-◌, ◌≡◌, ℕ, ap, false, sym, ◌∙◌}
 use Rattle.vt_ns.proofs.Common.{HasRoom, kept, with_location}
+use Rattle.vt_ns.proofs.CountingLemmas.{room_still}
 use Rattle.vt_ns.specs.Pivoting.{with_uses}
-use Rattle.vt_ns.proofs.CountingLemmas.{room_less, room_still}
 use Rattle.vt_ns.proofs.pivoting.hold_each.Goals as goal
 
 pub hold_once_more-requires : goal.hold_once_more-requires
-hold_once_more-requires c = room_less (c.args.uses - c.loop.counter) 1 c.args.at c.loop.mounts c.loop.store.plain
-    (omega (arith, c.loop-test.true)) c.loop.invariant.room
+hold_once_more-requires c = grind (arith, common_steps)
 
 pub loop-preserved : goal.loop-preserved
 loop-preserved c =
@@ -22,6 +22,4 @@ loop-preserved c =
     }
 
 pub returns-clause-held : goal.returns-clause-held
-returns-clause-held c =
-    let last : c.loop.counter ≡ c.args.uses = omega (arith, c.loop-test.false, c.loop.auto) in
-    c.loop.invariant.held ∙ ap (λ n. with_uses n c.args.at (kept c.args.mounts.now c.args.store.now)) last
+returns-clause-held c = grind (arith, common_steps)

@@ -1,19 +1,13 @@
-use Rattle.std.proofs.Common.{length, map, refl, subst, sym, IfOk}
-use Rattle.vt_spec.proofs.Common.{Private, ToPrivate, ToUnbindable, Unbindable, length-map}
+use Rattle.std.proofs.Common.{map, refl, arith, subst, sym}
+use Rattle.vt_spec.proofs.Common.{Private, ToPrivate, ToUnbindable, Unbindable, length-map, common_steps}
 use Rattle.vt_ns.proofs.Common.{counted}
+use Rattle.vt_ns.proofs.RetypedMounts.{set_retyped, shared_if_ok, slaves_retyped}
 use Rattle.vt_request.specs.Requests.{type_word_of}
 use Rattle.vt_ns.specs.Retyped.{IsRetyped}
-use Rattle.vt_ns.proofs.RetypedMounts.{set_retyped, shared_if_ok, slaves_retyped}
 use Rattle.vt_ns.proofs.retyping.change_types.Goals as goal
 
 pub returns-in-Shared-clause-ok : goal.returns-in-Shared-clause-ok
-returns-in-Shared-clause-ok c =
-    let numbers = map (λ id. counted id.count) c.args.ids.now in
-    subst (λ word. IfOk c.share_all.result (λ later. IsRetyped (type_word_of word) c.args.next later numbers
-    c.args.groups.now c.share_all.new.groups c.args.mounts.now c.share_all.new.mounts)) (sym c.in-Shared.is)
-    (shared_if_ok c.share_all.result c.args.next numbers c.args.groups.now c.share_all.new.groups c.args.mounts.now
-    c.share_all.new.mounts c.share_all.ensures.groups_ok c.share_all.ensures.types_ok
-    (length c.args.ids.now) (sym (length-map c.args.ids.now (λ id. counted id.count))) c.share_all.ensures.count)
+returns-in-Shared-clause-ok c = grind (arith, common_steps, map, counted, shared_if_ok, length-map)
 
 pub returns-in-Slave-clause-ok : goal.returns-in-Slave-clause-ok
 returns-in-Slave-clause-ok c =

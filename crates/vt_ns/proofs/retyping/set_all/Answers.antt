@@ -1,7 +1,5 @@
-use Rattle.std.proofs.Common.{ap, map, ◌∙◌, take_all}
+use Rattle.std.proofs.Common.{take_all}
 use Rattle.vt_location.specs.MountValue.{propagation_of}
-use Rattle.vt_ns.proofs.Common.{counted, retyped}
-use Rattle.vt_ns.specs.Retyped.{set_if}
 use Rattle.vt_ns.proofs.RetypedMounts.{none_set, set_next}
 use Rattle.vt_ns.proofs.retyping.set_all.Goals as goal
 
@@ -14,5 +12,4 @@ loop-id-preserved c = set_next c.args.mounts.now c.loop-id.mounts c.set_propagat
     c.loop-id-test.true c.set_propagation.ensures.mounts c.loop-id.invariant
 
 pub returns : goal.returns
-returns c = c.loop-id.invariant ∙ ap (λ ids. map (retyped (set_if (map (λ id. counted id.count) ids)
-    (propagation_of c.args.kind))) c.args.mounts.now) (take_all c.loop-id.id-index c.args.ids.now c.loop-id-test.false)
+returns c = cc (c.loop-id.invariant, take_all c.loop-id.id-index c.args.ids.now c.loop-id-test.false)

@@ -1,9 +1,9 @@
-use Rattle.std.proofs.Common.{ap, map, sym, ℕ, ◌∙◌}
+use Rattle.std.proofs.Common.{map, ℕ, ap, sym, ◌∙◌}
 use Rattle.vt_spec.proofs.Common.{map_twice}
 use Rattle.vt_group.specs.Together.{pair_of}
 use Rattle.vt_ns.proofs.Common.{counted}
-use Rattle.vt_retype.specs.Retyping.{shared_by}
 use Rattle.vt_ns.proofs.RetypedMounts.{each_numbered}
+use Rattle.vt_retype.specs.Retyping.{shared_by}
 use Rattle.vt_ns.proofs.retyping.share_all.Goals as goal
 
 pub returns-clause-types_ok : goal.returns-clause-types_ok

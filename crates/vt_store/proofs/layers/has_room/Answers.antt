@@ -1,3 +1,4 @@
+use Rattle.vt_spec.proofs.Common.{common_steps}
 use Rattle.std.proofs.Common.{ap, arith, ◌∙◌, le-leb, leb-true}
 use Rattle.vt_location.specs.declared.locations.NodeRef.{NodeRef}
 use Rattle.vt_store.proofs.LayersCounted.{IsAt, layer_used, mounts_are_shown}
@@ -19,12 +20,4 @@ returns-then-uses-more c =
     )
 
 pub returns-else-uses-more : goal.returns-else-uses-more
-returns-else-uses-more c =
-    let is : IsAt c.args.layer c.node_ref.result = record {
-      filesystem = ap (λ (node : NodeRef). node.filesystem) c.node_ref.ensures.value;
-      number = c.node_ref.ensures.number;
-    } in
-    let uses = c.uses.ensures ∙ layer_used c.args.layer c.node_ref.result is c.args.plain.now in (
-      λ e. absurd (let less = leb-true _ _ e in omega (arith, less, c.if-uses-more.false)),
-      λ room. absurd (let most = room.uses in omega (arith, uses, most, c.if-uses-more.false)),
-    )
+returns-else-uses-more c = grind (arith, common_steps, layer_used, leb-true)

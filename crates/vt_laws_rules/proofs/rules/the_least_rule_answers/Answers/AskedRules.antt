@@ -1,6 +1,6 @@
 -- Each call is answered by what it asks: its first rules, its walks, and its last table.
-use Rattle.std.proofs.Common.{arith, ◌≡◌, refl, subst, sym, ℕ, nat_eq, Bool, true, false, not, List, [], ◌∷◌, ◌++◌, ◌||◌, Option, Some, None, ok_or, Result, Ok, Err, is_ok, length, nat_lt, unwrap_or, is_some, option_map, is_err, is_none}
-use Rattle.vt_spec.proofs.Common.{Access, Allowed, Bind, Call, Chdir, Chmod, Chown, Chroot, Close, Exclusive, Exec, Fork, Fresh, Judgement, Lazy, LinkTo, Location, Ls, Lstat, MakeWhiteout, Mkdir, MountFlags, MountOverlay, MountPlain, MoveMount, NoCreation, Opaque, OpenFile, OrCreate, Outcome, OverlayWords, PivotRoot, Place, Pread, Pwrite, Read, Readlink, Remount, Rename, Rmdir, Rules, SetType, Setns, Stat, Symlink, SymlinkAt, Task, TaskName, Umount, Unlink, Unshare, World, Write, admin_rules, after, and_then, apply, attr_with_mode, attr_with_owner, bind_permit, bound_at, call_outcome, cap_sys_admin, cap_sys_chroot, chdir_permit, child_credentials, chmod_permit, chown_permit, chroot_permit, close_permit, common_steps, denial, descriptor_rules, directory_mode, evens, exact_attr, exec_permit, file_mode, file_word_rules, filesystems_changed_by, finished, finished_by, fork_permit, fork_rules, hard_link_permit, is_special, judge_in, largest_file, lazy_permit, linking, list_permit, looks_of, lstat_permit, making, may_chown, mkdir_permit, mount_overlay_permit, mount_plain_permit, mounted, move_permit, moved_to, new_attr, new_directory, new_file, object_there, odds, old_word_rules, only_looks, opaque_permit, open_permit, opened_or_created_permit, overfills, overlay_mounted, overlay_permit_by, owns, pivot_permit, plain_filesystem, policy, pread_permit, pwrite_permit, read_permit, readlink_permit, remount_permit, rename_permit, renamed_permit, result_err, rmdir_permit, rmdir_word_rules, setns_permit, stat_permit, symlink_mode, symlink_permit, symlink_text_rules, task_called, type_permit, umount_permit, unless, unlink_permit, unshare_permit, walk_end, whiteout_permit, write_permit, written_permit}
+use Rattle.std.proofs.Common.{arith, ◌≡◌, refl, ℕ, nat_eq, Bool, true, false, not, List, [], ◌∷◌, ◌++◌, ◌||◌, Option, Some, None, ok_or, Result, Ok, Err, is_ok, length, nat_lt, unwrap_or, is_some, option_map, is_err, is_none}
+use Rattle.vt_spec.proofs.Common.{Access, Bind, Call, Chdir, Chmod, Chown, Chroot, Close, Exclusive, Exec, Fork, Fresh, Judgement, Lazy, LinkTo, Location, Ls, Lstat, MakeWhiteout, Mkdir, MountFlags, MountOverlay, MountPlain, MoveMount, NoCreation, Opaque, OpenFile, OrCreate, Outcome, OverlayWords, PivotRoot, Place, Pread, Pwrite, Read, Readlink, Remount, Rename, Rmdir, Rules, SetType, Setns, Stat, Symlink, SymlinkAt, Task, TaskName, Umount, Unlink, Unshare, World, Write, admin_rules, after, and_then, apply, attr_with_mode, attr_with_owner, bind_permit, bound_at, call_outcome, cap_sys_admin, cap_sys_chroot, chdir_permit, child_credentials, chmod_permit, chown_permit, chroot_permit, close_permit, common_steps, denial, descriptor_rules, directory_mode, evens, exact_attr, exec_permit, file_mode, file_word_rules, finished_by, fork_permit, fork_rules, hard_link_permit, is_special, judge_in, largest_file, lazy_permit, linking, list_permit, looks_of, lstat_permit, making, may_chown, mkdir_permit, mount_overlay_permit, mount_plain_permit, mounted, move_permit, moved_to, new_attr, new_directory, new_file, object_there, odds, old_word_rules, only_looks, opaque_permit, open_permit, opened_or_created_permit, overfills, overlay_mounted, overlay_permit_by, owns, pivot_permit, plain_filesystem, policy, pread_permit, pwrite_permit, read_permit, readlink_permit, remount_permit, rename_permit, renamed_permit, result_err, rmdir_permit, rmdir_word_rules, setns_permit, stat_permit, symlink_mode, symlink_permit, symlink_text_rules, task_called, type_permit, umount_permit, unless, unlink_permit, unshare_permit, walk_end, whiteout_permit, write_permit, written_permit}
 use Rattle.vt_spec.specs.declared.errors.Deny.{Deny}
 use Rattle.vt_spec.specs.declared.errors.Rule.{Rule}
 use Rattle.vt_spec.specs.declared.errors.Rule.TheVariants.{E1, E2, E6, K1, S2, S4}
@@ -54,8 +54,7 @@ descriptor_asked : {A : Type 0} (rule : Rule) (object : Option A) (next : A → 
     (last : A → Result Rules Deny) → ((a : A) → IsAnsweredAs (next a) (decided (last a)))
     → IsAnsweredAs (and_then (ok_or object (denial rule)) next)
     (unless ((is_err (ok_or object (denial rule)), rule) ∷ []) (decided (and_then (ok_or object (denial rule)) last)))
-descriptor_asked rule (Some a) next last e = e a
-descriptor_asked rule None next last e = refl
+descriptor_asked rule object next last e = grind (arith, common_steps)
 
 -- one of which no more is asked
 descriptor_asked_alone : {A : Type 0} (rule : Rule) (object : Option A) (next : A → Judgement ℕ)
@@ -68,8 +67,7 @@ task_asked : {A B : Type 0} (rule : Rule) (object : Option A) (part : A → B) (
     → ((b : B) → IsAnsweredAs (next b) (unless rows (Ok true)))
     → IsAnsweredAs (and_then (ok_or (option_map part object) (denial rule)) next)
     (unless ((is_none object, rule) ∷ rows) (Ok true))
-task_asked rule (Some a) part next rows e = e (part a)
-task_asked rule None part next rows e = refl
+task_asked rule object part next rows e = grind (arith, common_steps)
 
 -- what a call is answered by
 abbrev pub asked : Fresh ℕ → World ℕ → Task ℕ → Call → Result Bool Deny
@@ -257,25 +255,18 @@ call_asked fresh world task call = refl
 applied_asked : (fresh : Fresh ℕ) (world : World ℕ) (task : Task ℕ) (judgement : Judgement ℕ)
     (result : Result Bool Deny) → IsAnsweredAs judgement result
     → IsAnsweredAs (after world judgement (apply nat_eq fresh world task)).answer result
-applied_asked fresh world task (Ok Allowed) result e = e
-applied_asked fresh world task (Ok permit) result e = e
-applied_asked fresh world task (Err deny) result e = e
+applied_asked fresh world task judgement result h = grind (arith, common_steps)
 
 finished_asked : (finished : Bool) (before : World ℕ) (name : TaskName) (changed : List ℕ) (outcome : Outcome ℕ)
     (result : Result Bool Deny) → IsAnsweredAs outcome.answer result
     → IsAnsweredAs (finished_by nat_eq finished before name changed outcome).answer result
-finished_asked true before name changed outcome result e = e
-finished_asked false before name changed outcome result e = e
+finished_asked finished before name changed outcome result e = grind (arith, common_steps)
 
 -- a task's call is answered by what it asks
 pub policy_asked : (fresh : Fresh ℕ) (world : World ℕ) (name : TaskName) (task : Task ℕ) (call : Call)
     → task_called world name ≡ Some task
     → IsAnsweredAs (policy nat_eq fresh world name call).answer (asked fresh world task call)
-policy_asked fresh world name task call there = subst (λ found. IsAnsweredAs
-    (after world (ok_or found (denial S2)) (λ one.
-    finished nat_eq world name call (filesystems_changed_by nat_eq world (judge_in nat_eq fresh world one call))
-    (call_outcome nat_eq fresh world one call))).answer (asked fresh world task call)) (sym there)
-    (finished_asked (only_looks call || not (is_ok (call_outcome nat_eq fresh world task call).answer)) world name _
-    (call_outcome nat_eq fresh world task call) (asked fresh world task call)
-    (applied_asked fresh world task (judge_in nat_eq fresh world task call) (asked fresh world task call)
-    (call_asked fresh world task call)))
+policy_asked fresh world name task call there =
+    cc (finished_asked (only_looks call || not (is_ok (call_outcome nat_eq fresh world task call).answer)) world name
+    _ (call_outcome nat_eq fresh world task call) (asked fresh world task call) (applied_asked fresh world task
+    (judge_in nat_eq fresh world task call) (asked fresh world task call) (call_asked fresh world task call)))

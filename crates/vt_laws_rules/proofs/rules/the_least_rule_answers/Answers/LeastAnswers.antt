@@ -1,6 +1,6 @@
 -- Of the rules that fail, the least answers a call.
-use Rattle.std.proofs.Common.{◌≡◌, ◌∙◌, ◌+◌, refl, sym, subst, ap, ℕ, nat_eq, true, ok_or, [], ◌∷◌, Result, Ok, Err, IfOk}
-use Rattle.vt_spec.proofs.Common.{Call, Fresh, Rules, Task, World, after, call_outcome, denial, filesystems_changed_by, finished, judge_in, policy, result_err, unless}
+use Rattle.std.proofs.Common.{◌≡◌, ◌∙◌, ◌+◌, subst, ap, ℕ, nat_eq, true, [], ◌∷◌, Result, Ok, Err, IfOk, arith}
+use Rattle.vt_spec.proofs.Common.{Call, Fresh, Rules, Task, World, policy, result_err, unless, common_steps}
 use Rattle.vt_laws_rules.proofs.rules.the_least_rule_answers.Answers.AskedRules.{asked, decided, policy_asked}
 use Rattle.vt_laws_rules.proofs.rules.the_least_rule_answers.Answers.LeastRule.{before_least, denied_as, front_in_order, least_as, none_fails, refused_as, table_least}
 use Rattle.vt_laws_rules.proofs.rules.TableOrder.{first_in_order, last_in_order}
@@ -8,27 +8,27 @@ use Rattle.vt_laws_rules.specs.Asked.{IsLeastOf, asked_first, asked_last, failin
 use Rattle.vt_laws_rules.specs.RuleOrder.{FirstRulesAnswer, LastRulesAnswer, NoTaskIsRefused, WalksAnswerNext}
 use Rattle.vt_laws_rules.specs.RuleRanks.{IsInOrderAfterWalk, rank}
 use Rattle.vt_spec.specs.declared.errors.Deny.{Deny}
-use Rattle.vt_spec.specs.declared.errors.Rule.TheVariants.{S2, W1, W9}
+use Rattle.vt_spec.specs.declared.errors.Rule.TheVariants.{W1, W9}
 
 pub no_task_is_refused : NoTaskIsRefused
-no_task_is_refused fresh world name call none = subst (λ found. (after world (ok_or found (denial S2)) (λ task.
-    finished nat_eq world name call (filesystems_changed_by nat_eq world (judge_in nat_eq fresh world task call))
-    (call_outcome nat_eq fresh world task call))).answer ≡ Err (denial S2)) (sym none) refl
+no_task_is_refused fresh world name call none = cc
 
 pub first_rules_answer : FirstRulesAnswer
 first_rules_answer fresh world name task call there some =
-    refused_as (λ deny. IsLeastOf deny.rule (failing (asked_first world task call)))
-    (policy nat_eq fresh world name call).answer (asked fresh world task call)
-    (policy_asked fresh world name task call there)
-    (before_least 0 (asked_first world task call) (decided (asked_last fresh world task call))
-    (front_in_order 0 (asked_first world task call) ((true, W1) ∷ []) (first_in_order world task call)) some)
+    grind (
+      arith,
+      common_steps,
+      refused_as (λ deny. IsLeastOf deny.rule (failing (asked_first world task call)))
+          (policy nat_eq fresh world name call).answer (asked fresh world task call) (policy_asked fresh world name task
+          call there) (before_least 0 (asked_first world task call) (decided (asked_last fresh world task call))
+          (front_in_order 0 (asked_first world task call) ((true, W1) ∷ []) (first_in_order world task call)) some),
+    )
 
 -- where no first rule fails, what is left decides
 left_to_decide : (fresh : Fresh ℕ) (world : World ℕ) (task : Task ℕ) (call : Call) (last : Result Rules Deny)
     → failing (asked_first world task call) ≡ [] → asked_last fresh world task call ≡ last
     → asked fresh world task call ≡ decided last
-left_to_decide fresh world task call last none e =
-    none_fails (asked_first world task call) (decided (asked_last fresh world task call)) none ∙ ap decided e
+left_to_decide fresh world task call last none e = grind (arith, common_steps, none_fails, decided)
 
 pub walks_answer_next : WalksAnswerNext
 walks_answer_next fresh world name task call deny there none e =

@@ -8,8 +8,7 @@ use Rattle.vt_spec.specs.declared.errors.Rule.{Rule}
 use Rattle.vt_spec.specs.Errors.{rule_name}
 
 either_so : {P : Type 0} (a b : Bool) → (a || b) ≡ true → (a ≡ true → P) → (b ≡ true → P) → P
-either_so true b e first second = first refl
-either_so false b e first second = second e
+either_so b c e first second = grind (arith, common_steps)
 
 below_all : {a b c : ℕ} → a ≤ b → b ≤ c → a ≤ c
 below_all e f = omega arith
@@ -81,11 +80,8 @@ module _ {A B : Type 0} where
 
   pub refused_as : (P : Deny → Type 0) (answer : Result A Deny) (other : Result B Deny)
       → result_err answer ≡ result_err other → IsErrAnd other P → IsErrAnd answer P
-  refused_as P answer (Ok b) e h = absurd h
-  refused_as P (Ok a) (Err other) e h = cc
-  refused_as P (Err deny) (Err other) e h = let same : other ≡ deny = cc in subst P same h
+  refused_as P answer other e h = grind (arith, common_steps)
 
   pub denied_as : (answer : Result A Deny) (other : Result B Deny) (deny : Deny) → result_err answer ≡ result_err other
       → other ≡ Err deny → answer ≡ Err deny
-  denied_as (Ok a) other deny e denied = cc
-  denied_as (Err one) other deny e denied = cc
+  denied_as answer other deny e denied = grind (arith, common_steps)

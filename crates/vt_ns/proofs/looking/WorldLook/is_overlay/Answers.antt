@@ -1,8 +1,6 @@
-use Rattle.std.proofs.Common.{ap, is_some, ◌∙◌}
-use Rattle.vt_ns.proofs.Common.{location_of}
-use Rattle.vt_ns.proofs.looking.OverlaysLooked.{mounted_by_some, overlay_is}
+use Rattle.vt_spec.proofs.Common.{common_steps}
+use Rattle.std.proofs.Common.{arith}
 use Rattle.vt_ns.proofs.looking.WorldLook.is_overlay.Goals as goal
 
 pub returns : goal.returns
-returns c = c.is_some.ensures ∙ mounted_by_some c.overlay_on.result ∙ ap is_some c.overlay_on.ensures.mounter
-    ∙ overlay_is c.args.self.now (location_of c.args.at)
+returns c = grind (arith, common_steps)

@@ -1,8 +1,8 @@
-use Rattle.std.proofs.Common.{ap, option_copied, option_map, sym, ◌∙◌}
-use Rattle.vt_spec.proofs.Common.{Credentials, node_allows}
+use Rattle.std.proofs.Common.{ap, option_copied, option_map, sym, ◌∙◌, arith}
+use Rattle.vt_spec.proofs.Common.{Credentials, node_allows, common_steps}
 use Rattle.vt_cred.specs.Rights.{right_bits}
 use Rattle.vt_ns.proofs.Common.{OverlayValue, location_of}
-use Rattle.vt_ns.proofs.looking.OverlaysLooked.{mounter_is, nobody_is}
+use Rattle.vt_ns.proofs.looking.OverlaysLooked.{mounter_is}
 use Rattle.vt_ns.proofs.looking.WorldLook.mounter_may.Goals as goal
 
 pub returns-in-Some : goal.returns-in-Some
@@ -14,6 +14,4 @@ returns-in-Some c = c.grants.ensures
     (right_bits c.args.wanted)
 
 pub returns-in-None : goal.returns-in-None
-returns-in-None c = nobody_is c.args.self.now (location_of c.args.at) (sym c.overlay_on.ensures.mounter
-    ∙ ap (λ lent. option_map (λ (overlay : OverlayValue). overlay.mounter) (option_copied lent)) c.in-None.is)
-    (right_bits c.args.wanted)
+returns-in-None c = grind (arith, common_steps)

@@ -1,8 +1,8 @@
-use Rattle.std.proofs.Common.{ap, nat_eq, ◌∙◌}
-use Rattle.vt_spec.proofs.Common.{is_busy}
-use Rattle.vt_ns.proofs.Common.{WorldValue, counted, is_seen, world_of}
+use Rattle.vt_ns.proofs.Common.{is_seen, world_of, WorldValue, counted}
 use Rattle.vt_ns.specs.contracts.world.World.{the_view}
 use Rattle.vt_ns.proofs.WorldSeen.{uses_seen}
+use Rattle.std.proofs.Common.{ap, nat_eq, ◌∙◌}
+use Rattle.vt_spec.proofs.Common.{is_busy}
 use Rattle.vt_ns.proofs.mount_looks.WorldLookAtMounts.is_busy.Goals as goal
 
 pub returns-clause-ok : goal.returns-clause-ok

@@ -8,8 +8,8 @@ use Rattle.vt_ns.proofs.CountingLemmas.{room_left}
 use Rattle.vt_mounting.proofs.detach.Entered.{namespace_has_a_root, task_enters}
 use Rattle.vt_ns.specs.Entering.{HasRoomToEnter}
 use Rattle.vt_ns.proofs.world.StoresKept.{kept_is}
-use Rattle.vt_ns.proofs.world.World.enter_namespace.Goals as goal
 use Rattle.vt_ns.proofs.world.World.enter_namespace.Goals.{then-not-has_room-via-then-not-has_room, then-not-has_room-via-else-not-has_room+then-not-has_room_for_task}
+use Rattle.vt_ns.proofs.world.World.enter_namespace.Goals as goal
 
 pub unwrap-root-requires : goal.unwrap-root-requires
 unwrap-root-requires c =

@@ -1,8 +1,8 @@
-use Rattle.std.proofs.Common.{ap, nat_eq, ◌∙◌}
 use Rattle.vt_spec.specs.Machine.Detach.{is_written_through}
-use Rattle.vt_ns.proofs.Common.{WorldValue, counted, world_of}
+use Rattle.vt_ns.proofs.Common.{counted, WorldValue, world_of}
 use Rattle.vt_ns.specs.contracts.world.World.{the_view}
 use Rattle.vt_ns.proofs.MountLooks.{written_through}
+use Rattle.std.proofs.Common.{ap, nat_eq, ◌∙◌}
 use Rattle.vt_ns.proofs.world.World.has_writer.Goals as goal
 
 pub returns : goal.returns

@@ -1,18 +1,13 @@
-use Rattle.std.proofs.Common.{Ok, Err, OnOk, Result, ap, arith, nat_eq, refl, rules, subst, sym, true, ℕ, ◌≡◌, ◌∙◌, IsErr, ◌↔◌}
+use Rattle.std.proofs.Common.{ap, arith, nat_eq, rules, subst, sym, true, ◌≡◌, ◌∙◌}
 use Rattle.vt_spec.proofs.Common.{ToMove, is_shared, mount_at, mount_numbered}
 use Rattle.vt_ns.proofs.Common.{Becomes, IsDone, Permits, WorldValue, counted, inode_of, is_small_node, location_of, number_of, pinned_in, pins, shown, unpinned_in, unpins, with_store, world_of}
 use Rattle.vt_location.specs.declared.locations.Location.{Location}
 use Rattle.vt_ns.specs.contracts.world.World.{the_view}
 use Rattle.vt_mounting.specs.Detach.Uses.{unpinned_at}
 use Rattle.vt_ns.proofs.world.MovedEvents.{moved_in_store}
-use Rattle.vt_ns.proofs.world.World.move_alone.Goals as goal
 use Rattle.vt_ns.proofs.world.World.move_alone.Goals.{In_default}
-
--- one use more is counted, where there was room
-surely : {A E P : Type 0} (r : Result A E) (uses : ℕ) → IsErr r ↔ (uses ≡ 18446744073709551615)
-    → ((uses ≡ 18446744073709551615) → ⊥) → OnOk r P → P
-surely (Ok a) uses limit room so = so
-surely (Err refused) uses limit room so = absurd (room (limit.0 refl))
+use Rattle.vt_store.proofs.LayersCounted.{unlimited}
+use Rattle.vt_ns.proofs.world.World.move_alone.Goals as goal
 
 abbrev after : (c : goal.After-self-in-Some-1) → WorldValue
 after c = with_store (record c.self.inside.store { plain = c.unpin.new.self })
@@ -27,9 +22,9 @@ done c =
     subst (λ value. Permits value c.args.name.now (ToMove (counted c.args.mount.count) (location_of c.args.place)))
     (sym c.self.view_is) c.requires.permitted in
     let small : is_small_node c.args.place.node ≡ true = search rules in
-    let pinned_so = surely c.pin.result _ (rw c.plain_mut.ensures.value at c.pin.ensures.limit)
-    (λ full. absurd (omega (arith, c.if-uses.false, (rw c.plain.ensures at c.uses.ensures), full)))
-    (rw c.plain_mut.ensures.value at c.pin.ensures.ok) in
+    let pinned_so = unlimited c.pin.result (rw c.plain_mut.ensures.value at c.pin.ensures.ok)
+    (rw c.plain_mut.ensures.value at c.pin.ensures.limit)
+    (λ full. absurd (omega (arith, c.if-uses.false, (rw c.plain.ensures at c.uses.ensures), full))) in
     moved_in_store (the_view c.self.inside) c.self.inside.store c.self.invariant c.args.name.now
     (counted c.args.mount.count) c.args.place c.mount_point-left.result c.move_to.new.self c.unpin.new.self permits
     (ap (λ (value : WorldValue). is_shared (mount_at nat_eq (world_of value) (location_of c.args.place)).propagation)
@@ -66,9 +61,9 @@ done_none c =
     subst (λ value. Permits value c.args.name.now (ToMove (counted c.args.mount.count) (location_of c.args.place)))
     (sym c.self.view_is) c.requires.permitted in
     let small : is_small_node c.args.place.node ≡ true = search rules in
-    let pinned_so = surely c.pin.result _ (rw c.plain_mut.ensures.value at c.pin.ensures.limit)
-    (λ full. absurd (omega (arith, c.if-uses.false, (rw c.plain.ensures at c.uses.ensures), full)))
-    (rw c.plain_mut.ensures.value at c.pin.ensures.ok) in
+    let pinned_so = unlimited c.pin.result (rw c.plain_mut.ensures.value at c.pin.ensures.ok)
+    (rw c.plain_mut.ensures.value at c.pin.ensures.limit)
+    (λ full. absurd (omega (arith, c.if-uses.false, (rw c.plain.ensures at c.uses.ensures), full))) in
     moved_in_store (the_view c.self.inside) c.self.inside.store c.self.invariant c.args.name.now
     (counted c.args.mount.count) c.args.place c.mount_point-left.result c.move_to.new.self c.pin.new.self permits
     (ap (λ (value : WorldValue). is_shared (mount_at nat_eq (world_of value) (location_of c.args.place)).propagation)

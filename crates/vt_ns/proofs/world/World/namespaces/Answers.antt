@@ -1,12 +1,8 @@
-use Rattle.std.proofs.Common.{ap, map, ◌∙◌, ℕ}
-use Rattle.vt_spec.proofs.Common.{Namespace}
-use Rattle.vt_location.specs.declared.numbers.NamespaceId.{NamespaceId}
-use Rattle.vt_ns.proofs.Common.{WorldValue, counted, namespace_of}
+use Rattle.std.proofs.Common.{map, arith}
+use Rattle.vt_spec.proofs.Common.{common_steps}
+use Rattle.vt_ns.proofs.Common.{counted, namespace_of}
 use Rattle.vt_ns.proofs.world.ListedWorlds.{namespaces_kept}
 use Rattle.vt_ns.proofs.world.World.namespaces.Goals as goal
 
 pub returns : goal.returns
-returns c = ap (map (λ (id : NamespaceId). counted id.count)) (c.as_slice.ensures ∙ c.keys.ensures.rest)
-    ∙ namespaces_kept c.self.inside.namespaces.entries
-    ∙ ap (λ (value : WorldValue). map (λ (namespace : Namespace ℕ). namespace.number)
-    (map namespace_of value.namespaces)) c.self.view_is
+returns c = grind (arith, common_steps, map, counted, namespaces_kept, namespace_of)

@@ -1,7 +1,7 @@
-use Rattle.std.proofs.Common.{ap, subst, sym, ◌∙◌}
+use Rattle.std.proofs.Common.{ap, ◌∙◌, subst, sym}
 use Rattle.vt_location.specs.declared.numbers.FilesystemId.{FilesystemId}
 use Rattle.vt_mounting.specs.Attach.Opening.{first_shown}
-use Rattle.vt_ns.proofs.Common.{IsHeld, StoreValue, entries_of, overlays_of_store, world_of}
+use Rattle.vt_ns.proofs.Common.{StoreValue, entries_of, overlays_of_store, world_of, IsHeld}
 use Rattle.vt_mounting.proofs.attach.OpeningLemmas.{mounts_made, namespaces_made, opening_held, opening_seen, tasks_made}
 use Rattle.vt_ns.proofs.world.World.new.Goals as goal
 

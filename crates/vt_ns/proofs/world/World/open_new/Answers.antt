@@ -1,184 +1,114 @@
-use Rattle.std.proofs.Common.{◌≡◌, sym, subst, ap, ◌∙◌, arith, nat_eq, rules, ℕ, Result, Ok, Err, IfSome, OnOk, refl, map, IsErr}
-use Rattle.vt_spec.proofs.Common.{Make, uses_in}
+use Rattle.std.proofs.Common.{◌≡◌, sym, subst, ap, ◌∙◌, arith, rules, ℕ, Result, OnOk, map, IsErr}
+use Rattle.vt_spec.proofs.Common.{TaskName, uses_in, common_steps}
 use Rattle.vt_permits.specs.GrantValue.{descriptor_permit}
 use Rattle.vt_permits.specs.declared.grant.DescriptorGrant.TheVariants.{OpenNew}
-use Rattle.vt_spec.specs.Inodes.{changed}
-use Rattle.vt_ns.proofs.Common.{Becomes, ChangesInodes, access_of, changed as changed_mounts, counted, inodes_at, location_of, merged_seen, node_seen, number_of, pins, with_store}
-use Rattle.vt_location.specs.declared.births.Birth.TheVariants.{Here}
-use Rattle.vt_location.specs.declared.locations.NodeRef.{NodeRef}
-use Rattle.vt_location.proofs.NodeLemmas.{here_is_own}
+use Rattle.vt_permits.specs.declared.grant.ToOpenNew.{ToOpenNew}
+use Rattle.vt_ns.proofs.Common.{Becomes, IsDone, IsHeld, IsSmall, WorldValue, access_of, changed as changed_mounts, counted, inodes_at, merged_seen, number_of, pins, with_store, location_of}
 use Rattle.vt_mount.specs.MountsValue.{held}
 use Rattle.vt_mount.proofs.KeptLemmas.{of-ok}
 use Rattle.vt_ns.specs.contracts.world.World.{the_view}
 use Rattle.vt_ns.specs.Grants.{Grants}
-use Rattle.vt_ns.specs.Vacancy.{NextInodeIsVacant}
-use Rattle.vt_ns.proofs.world.OpeningGranted.{has_next, next_is_numbered, open_permitted, open_vacant}
+use Rattle.vt_ns.proofs.world.OpeningGranted.{IsNext, MayOpen, has_next, open_permitted, open_vacant}
 use Rattle.vt_ns.proofs.world.OpeningNew.{make_fits, may_open_one, new_in_directory, new_opens, used_once}
 use Rattle.vt_ns.proofs.world.PlainStored.{done_plainly}
+use Rattle.vt_ns.proofs.world.World.open_new.Goals.{After-alloc}
+use Rattle.vt_ns.specs.Vacancy.{NextInodeIsVacant}
 use Rattle.vt_ns.proofs.world.World.open_new.Goals as goal
 
 -- a new inode has one use, and room for another
 new_pinned : {A E P : Type 0} (r : Result A E) (uses : ℕ) → (IsErr r → uses ≡ 18446744073709551615) → uses ≡ 1
     → OnOk r P → P
-new_pinned (Ok done) uses full once p = p
-new_pinned (Err refused) uses full once p =
-    let most : uses ≡ 18446744073709551615 = full refl in absurd (omega (arith, most, once))
+new_pinned r uses full once p = grind (arith, common_steps)
+
+-- what the task is granted
+abbrev may_open : (value same : WorldValue) → value ≡ same → IsHeld value → (name : TaskName) (new : ToOpenNew)
+    → IsSmall new.directory → Grants same name (descriptor_permit (OpenNew new)) → MayOpen value
+may_open value same is held name new small granted = record {
+  held = held;
+  name = name;
+  directory = new.directory;
+  entry = new.name.items;
+  node = new.node;
+  access = access_of new.access;
+  small = small;
+  granted = subst (λ one. Grants one name (descriptor_permit (OpenNew new))) (sym is) granted;
+}
+
+abbrev may : (c : After-alloc) → MayOpen (the_view c.self.inside)
+may c = may_open (the_view c.self.inside) _ c.self.view_is c.self.invariant c.args.name.now c.args.new (omega arith)
+    c.requires
+
+-- the next inode, in which the file is made
+abbrev next : (c : After-alloc) → IsNext (the_view c.self.inside) (may c)
+next c = record {
+  odd = c.alloc.ensures.counted;
+  sources = c.alloc.ensures.sources;
+  made = c.unwrap-file.result;
+  number = rw c.unwrap-file.ensures at (rw c.plain.ensures at c.next_number.ensures.number);
+  inside = rw c.unwrap-file.ensures at c.next_number.ensures.filesystem;
+  born = rw c.unwrap-file.ensures at c.next_number.ensures.birth;
+  nowhere = rw c.unwrap-file.ensures at (rw c.plain.ensures at c.next_number.ensures.vacant);
+  small_made = search rules;
+}
 
 pub unwrap-file-requires : goal.unwrap-file-requires
-unwrap-file-requires c =
-    let granted = subst (λ value. Grants value c.args.name.now (descriptor_permit (OpenNew c.args.new)))
-    (sym c.self.view_is) c.requires in
-    has_next (the_view c.self.inside) c.self.invariant c.args.name.now c.args.new.directory c.args.new.name.items c.args.new.node
-    (access_of c.args.new.access) (omega arith) granted c.next_number.result
-    (rw c.plain.ensures at c.next_number.ensures.number)
+unwrap-file-requires c = has_next (the_view c.self.inside)
+    (may_open (the_view c.self.inside) _ c.self.view_is c.self.invariant c.args.name.now c.args.new (omega arith)
+    c.requires) c.next_number.result (rw c.plain.ensures at c.next_number.ensures.number)
 
 pub open_next-requires-clause-may : goal.open_next-requires-clause-may
-open_next-requires-clause-may c =
-    let permits = open_permitted (the_view c.self.inside) c.self.invariant c.args.name.now c.args.new.directory
-    c.args.new.name.items c.args.new.node (access_of c.args.new.access) (omega arith)
-    (subst (λ value. Grants value c.args.name.now (descriptor_permit (OpenNew c.args.new))) (sym c.self.view_is)
-    c.requires) c.alloc.ensures.counted c.alloc.ensures.sources c.next_number.result
-    (rw c.plain.ensures at c.next_number.ensures.number) c.next_number.ensures.filesystem c.next_number.ensures.birth
-    (rw c.plain.ensures at c.next_number.ensures.vacant) c.unwrap-file.result c.unwrap-file.ensures (search rules) in
-    may_open_one (the_view c.self.inside) c.self.invariant c.args.name.now c.args.new.directory c.args.new.name.items c.args.new.node
-    (access_of c.args.new.access) (omega arith) permits
+open_next-requires-clause-may c = may_open_one (the_view c.self.inside) (may c) (next c)
 
 pub open_next-requires-clause-directory : goal.open_next-requires-clause-directory
 open_next-requires-clause-directory c =
-    let permits = open_permitted (the_view c.self.inside) c.self.invariant c.args.name.now c.args.new.directory
-    c.args.new.name.items c.args.new.node (access_of c.args.new.access) (omega arith)
-    (subst (λ value. Grants value c.args.name.now (descriptor_permit (OpenNew c.args.new))) (sym c.self.view_is)
-    c.requires) c.alloc.ensures.counted c.alloc.ensures.sources c.next_number.result
-    (rw c.plain.ensures at c.next_number.ensures.number) c.next_number.ensures.filesystem c.next_number.ensures.birth
-    (rw c.plain.ensures at c.next_number.ensures.vacant) c.unwrap-file.result c.unwrap-file.ensures (search rules) in
-    rw c.plain_mut-filesystems.ensures.value ((make_fits (the_view c.self.inside) c.self.invariant c.args.name.now
-    c.args.new.directory c.args.new.name.items c.args.new.node
-    (access_of c.args.new.access) (omega arith) permits).0)
+    rw c.plain_mut-filesystems.ensures.value ((make_fits (the_view c.self.inside) (may c) (next c)).0)
 
 pub open_next-requires-clause-free : goal.open_next-requires-clause-free
 open_next-requires-clause-free c =
-    let permits = open_permitted (the_view c.self.inside) c.self.invariant c.args.name.now c.args.new.directory
-    c.args.new.name.items c.args.new.node (access_of c.args.new.access) (omega arith)
-    (subst (λ value. Grants value c.args.name.now (descriptor_permit (OpenNew c.args.new))) (sym c.self.view_is)
-    c.requires) c.alloc.ensures.counted c.alloc.ensures.sources c.next_number.result
-    (rw c.plain.ensures at c.next_number.ensures.number) c.next_number.ensures.filesystem c.next_number.ensures.birth
-    (rw c.plain.ensures at c.next_number.ensures.vacant) c.unwrap-file.result c.unwrap-file.ensures (search rules) in
-    rw c.plain_mut-filesystems.ensures.value ((make_fits (the_view c.self.inside) c.self.invariant c.args.name.now
-    c.args.new.directory c.args.new.name.items c.args.new.node
-    (access_of c.args.new.access) (omega arith) permits).1)
+    rw c.plain_mut-filesystems.ensures.value ((make_fits (the_view c.self.inside) (may c) (next c)).1)
 
 pub open_next-requires-clause-node : goal.open_next-requires-clause-node
-open_next-requires-clause-node c =
-    let permits = open_permitted (the_view c.self.inside) c.self.invariant c.args.name.now c.args.new.directory
-    c.args.new.name.items c.args.new.node (access_of c.args.new.access) (omega arith)
-    (subst (λ value. Grants value c.args.name.now (descriptor_permit (OpenNew c.args.new))) (sym c.self.view_is)
-    c.requires) c.alloc.ensures.counted c.alloc.ensures.sources c.next_number.result
-    (rw c.plain.ensures at c.next_number.ensures.number) c.next_number.ensures.filesystem c.next_number.ensures.birth
-    (rw c.plain.ensures at c.next_number.ensures.vacant) c.unwrap-file.result c.unwrap-file.ensures (search rules) in
-    (new_in_directory (the_view c.self.inside) c.self.invariant c.args.name.now
-    c.args.new.directory c.args.new.name.items c.args.new.node
-    (access_of c.args.new.access) (omega arith) permits)
+open_next-requires-clause-node c = new_in_directory (the_view c.self.inside) (may c) (next c)
+
+abbrev after : (c : goal.After-self-2-1) → WorldValue
+after c = with_store (record c.self.inside.store { plain = c.pin.new.self })
+    (record (the_view c.self.inside) { mounts = c.hold.new.self; tasks = c.open_next.new.tasks })
+
+-- the world then is the one that the permit leaves
+done : (c : goal.After-self-2-1) → IsDone (the_view c.self.inside) c.args.name.now
+    (descriptor_permit (OpenNew c.args.new)) (after c)
+done c =
+    let at = (goal.at.returns-clause-ok c).After-alloc in
+    let value = the_view c.self.inside in
+    let made = rw c.plain_mut-filesystems.ensures.value at c.in_ok-number.ensures.made.made in
+    let once = ap (λ filesystem. uses_in ((inodes_at c.open_next.new.filesystems filesystem.count).inode
+    (number_of c.unwrap-file.result))) (next at).inside
+    ∙ used_once value (may at) (next at) c.open_next.new.filesystems made in
+    let room = c.mount_has_room.ensures (let room = c.if-not-mount_has_room.false in search rules) in
+    let mounts = of-ok c.hold.result (c.hold.ensures.few room.0 room.1) c.hold.ensures.ok in
+    let filesystems = new_pinned c.pin.result _ (rw c.plain_mut.ensures.value at c.pin.ensures.limit).0 once
+    (rw c.plain_mut.ensures.value at c.pin.ensures.ok) in
+    done_plainly value c.self.inside.store c.self.invariant c.args.name.now (descriptor_permit (OpenNew c.args.new))
+    (open_permitted value (may at) (next at)) c.pin.new.self
+    (record value { mounts = c.hold.new.self; tasks = c.open_next.new.tasks })
+    (new_opens value (may at) (next at) c.open_next.new.filesystems made c.hold.new.self c.pin.new.self
+    (map merged_seen value.overlays) (λ i. record {
+      mounts = (mounts ∙ ap (λ writes. changed_mounts (counted c.args.new.directory.mount.count)
+          (held writes) c.self.inside.mounts) c.writes.ensures) i;
+      filesystems = pins c.unwrap-file.result.filesystem.count
+          (number_of c.unwrap-file.result) c.open_next.new.filesystems c.pin.new.self filesystems i;
+      overlays = map merged_seen value.overlays;
+    }) c.open_next.new.tasks c.in_ok-number.ensures.ok)
 
 pub invariant_of-self-2 : goal.invariant_of-self-2
-invariant_of-self-2 c =
-    let granted = subst (λ value. Grants value c.args.name.now (descriptor_permit (OpenNew c.args.new)))
-    (sym c.self.view_is) c.requires in
-    let permits = open_permitted (the_view c.self.inside) c.self.invariant c.args.name.now c.args.new.directory
-    c.args.new.name.items c.args.new.node (access_of c.args.new.access) (omega arith)
-    granted c.alloc.ensures.counted c.alloc.ensures.sources c.next_number.result
-    (rw c.plain.ensures at c.next_number.ensures.number) c.next_number.ensures.filesystem c.next_number.ensures.birth
-    (rw c.plain.ensures at c.next_number.ensures.vacant) c.unwrap-file.result c.unwrap-file.ensures (search rules) in
-    let number = next_is_numbered (the_view c.self.inside) c.self.invariant c.args.name.now c.args.new.directory
-    c.args.new.name.items c.args.new.node (access_of c.args.new.access) (omega arith)
-    granted c.next_number.result c.unwrap-file.result (rw c.plain.ensures at c.next_number.ensures.number)
-    c.unwrap-file.ensures in
-    let inside = subst (λ next. IfSome next (λ (node : NodeRef). node.filesystem
-    ≡ c.args.new.directory.node.filesystem)) c.unwrap-file.ensures c.next_number.ensures.filesystem in
-    let own = here_is_own c.unwrap-file.result (omega arith) (omega arith)
-    (subst (λ next. IfSome next (λ (node : NodeRef). node.birth ≡ Here)) c.unwrap-file.ensures
-    c.next_number.ensures.birth) in
-    let made = subst (λ n. ChangesInodes c.args.new.directory.node.filesystem.count (λ inodes. changed nat_eq inodes
-    (Make (number_of c.args.new.directory.node) c.args.new.name.items n
-    (node_seen c.args.new.directory.node.filesystem.count c.args.new.node)))
-    c.self.inside.store.plain c.open_next.new.filesystems) (sym number)
-    (rw c.plain_mut-filesystems.ensures.value at c.in_ok-number.ensures.made.made) in
-    let once = ap (λ filesystem. uses_in ((inodes_at c.open_next.new.filesystems filesystem.count).inode
-    (number_of c.unwrap-file.result))) inside
-    ∙ used_once (the_view c.self.inside) c.self.invariant c.args.name.now c.args.new.directory c.args.new.name.items
-    c.args.new.node (access_of c.args.new.access) (omega arith)
-    permits c.open_next.new.filesystems c.unwrap-file.result (search rules) own inside number made in
-    let room = c.mount_has_room.ensures (let room = c.if-not-mount_has_room.false in search rules) in
-    let mounts = of-ok c.hold.result (c.hold.ensures.few room.0 room.1) c.hold.ensures.ok in
-    let filesystems = new_pinned c.pin.result _ (rw c.plain_mut.ensures.value at c.pin.ensures.limit).0 once
-    (rw c.plain_mut.ensures.value at c.pin.ensures.ok) in
-    (done_plainly (the_view c.self.inside) c.self.inside.store c.self.invariant c.args.name.now
-    (descriptor_permit (OpenNew c.args.new)) permits c.pin.new.self
-    (record (the_view c.self.inside) { mounts = c.hold.new.self; tasks = c.open_next.new.tasks })
-    (new_opens (the_view c.self.inside) c.self.invariant c.args.name.now c.args.new.directory c.args.new.name.items c.args.new.node
-    (access_of c.args.new.access) (omega arith)
-    permits c.open_next.new.filesystems c.unwrap-file.result (search rules) own inside number made
-    c.hold.new.self c.pin.new.self (map merged_seen (the_view c.self.inside).overlays) (λ i. record {
-      mounts = (mounts ∙ ap (λ writes. changed_mounts (counted c.args.new.directory.mount.count)
-          (held writes) c.self.inside.mounts) c.writes.ensures) i;
-      filesystems = pins c.unwrap-file.result.filesystem.count
-          (number_of c.unwrap-file.result) c.open_next.new.filesystems c.pin.new.self filesystems i;
-      overlays = map merged_seen (the_view c.self.inside).overlays;
-    }) c.open_next.new.tasks c.in_ok-number.ensures.ok)).held
+invariant_of-self-2 c = (done c).held
 
 pub returns-clause-ok : goal.returns-clause-ok
-returns-clause-ok c =
-    let granted = subst (λ value. Grants value c.args.name.now (descriptor_permit (OpenNew c.args.new)))
-    (sym c.self.view_is) c.requires in
-    let permits = open_permitted (the_view c.self.inside) c.self.invariant c.args.name.now c.args.new.directory
-    c.args.new.name.items c.args.new.node (access_of c.args.new.access) (omega arith)
-    granted c.alloc.ensures.counted c.alloc.ensures.sources c.next_number.result
-    (rw c.plain.ensures at c.next_number.ensures.number) c.next_number.ensures.filesystem c.next_number.ensures.birth
-    (rw c.plain.ensures at c.next_number.ensures.vacant) c.unwrap-file.result c.unwrap-file.ensures (search rules) in
-    let number = next_is_numbered (the_view c.self.inside) c.self.invariant c.args.name.now c.args.new.directory
-    c.args.new.name.items c.args.new.node (access_of c.args.new.access) (omega arith)
-    granted c.next_number.result c.unwrap-file.result (rw c.plain.ensures at c.next_number.ensures.number)
-    c.unwrap-file.ensures in
-    let inside = subst (λ next. IfSome next (λ (node : NodeRef). node.filesystem
-    ≡ c.args.new.directory.node.filesystem)) c.unwrap-file.ensures c.next_number.ensures.filesystem in
-    let own = here_is_own c.unwrap-file.result (omega arith) (omega arith)
-    (subst (λ next. IfSome next (λ (node : NodeRef). node.birth ≡ Here)) c.unwrap-file.ensures
-    c.next_number.ensures.birth) in
-    let made = subst (λ n. ChangesInodes c.args.new.directory.node.filesystem.count (λ inodes. changed nat_eq inodes
-    (Make (number_of c.args.new.directory.node) c.args.new.name.items n
-    (node_seen c.args.new.directory.node.filesystem.count c.args.new.node)))
-    c.self.inside.store.plain c.open_next.new.filesystems) (sym number)
-    (rw c.plain_mut-filesystems.ensures.value at c.in_ok-number.ensures.made.made) in
-    let once = ap (λ filesystem. uses_in ((inodes_at c.open_next.new.filesystems filesystem.count).inode
-    (number_of c.unwrap-file.result))) inside
-    ∙ used_once (the_view c.self.inside) c.self.invariant c.args.name.now c.args.new.directory c.args.new.name.items
-    c.args.new.node (access_of c.args.new.access) (omega arith)
-    permits c.open_next.new.filesystems c.unwrap-file.result (search rules) own inside number made in
-    let room = c.mount_has_room.ensures (let room = c.if-not-mount_has_room.false in search rules) in
-    let mounts = of-ok c.hold.result (c.hold.ensures.few room.0 room.1) c.hold.ensures.ok in
-    let filesystems = new_pinned c.pin.result _ (rw c.plain_mut.ensures.value at c.pin.ensures.limit).0 once
-    (rw c.plain_mut.ensures.value at c.pin.ensures.ok) in
-    subst (λ value. Becomes value c.args.name.now (descriptor_permit (OpenNew c.args.new))
-    (with_store (record c.self.inside.store { plain = c.pin.new.self })
-    (record (the_view c.self.inside) { mounts = c.hold.new.self; tasks = c.open_next.new.tasks }))) c.self.view_is
-    (done_plainly (the_view c.self.inside) c.self.inside.store c.self.invariant c.args.name.now
-    (descriptor_permit (OpenNew c.args.new)) permits c.pin.new.self
-    (record (the_view c.self.inside) { mounts = c.hold.new.self; tasks = c.open_next.new.tasks })
-    (new_opens (the_view c.self.inside) c.self.invariant c.args.name.now c.args.new.directory c.args.new.name.items c.args.new.node
-    (access_of c.args.new.access) (omega arith)
-    permits c.open_next.new.filesystems c.unwrap-file.result (search rules) own inside number made
-    c.hold.new.self c.pin.new.self (map merged_seen (the_view c.self.inside).overlays) (λ i. record {
-      mounts = (mounts ∙ ap (λ writes. changed_mounts (counted c.args.new.directory.mount.count)
-          (held writes) c.self.inside.mounts) c.writes.ensures) i;
-      filesystems = pins c.unwrap-file.result.filesystem.count
-          (number_of c.unwrap-file.result) c.open_next.new.filesystems c.pin.new.self filesystems i;
-      overlays = map merged_seen (the_view c.self.inside).overlays;
-    }) c.open_next.new.tasks c.in_ok-number.ensures.ok)).becomes
+returns-clause-ok c = subst (λ value. Becomes value c.args.name.now (descriptor_permit (OpenNew c.args.new)) (after c))
+    c.self.view_is (done c).becomes
 
 pub returns-clause-vacant : goal.returns-clause-vacant
-returns-clause-vacant c = subst (λ value. NextInodeIsVacant value (location_of c.args.new.directory)) c.self.view_is
-    (open_vacant (the_view c.self.inside) c.self.invariant c.args.name.now c.args.new.directory
-    c.args.new.name.items c.args.new.node (access_of c.args.new.access) (omega arith)
-    (subst (λ value. Grants value c.args.name.now (descriptor_permit (OpenNew c.args.new))) (sym c.self.view_is)
-    c.requires) c.alloc.ensures.counted c.alloc.ensures.sources c.next_number.result
-    (rw c.plain.ensures at c.next_number.ensures.number) c.next_number.ensures.filesystem c.next_number.ensures.birth
-    (rw c.plain.ensures at c.next_number.ensures.vacant) c.unwrap-file.result c.unwrap-file.ensures (search rules))
+returns-clause-vacant c =
+    let at = (goal.at.returns-clause-vacant c).After-alloc in
+    subst (λ value. NextInodeIsVacant value (location_of c.args.new.directory)) c.self.view_is
+    (open_vacant (the_view c.self.inside) (may at) (next at))

@@ -1,8 +1,8 @@
-use Rattle.std.proofs.Common.{ap, option_map, sym, ◌∙◌}
+use Rattle.std.proofs.Common.{sym, ap, option_map, ◌∙◌}
 use Rattle.vt_location.specs.Numbers.{mount_number}
-use Rattle.vt_ns.proofs.Common.{OverlayValue}
 use Rattle.vt_ns.specs.contracts.world.World.{the_view}
 use Rattle.vt_ns.proofs.looking.OverlaysLooked.{mounter_shown, nobody_mounted}
+use Rattle.vt_ns.proofs.Common.{OverlayValue}
 use Rattle.vt_ns.proofs.world.World.overlay_on.Goals as goal
 
 pub returns-then-has_overlays-clause-mounter : goal.returns-then-has_overlays-clause-mounter

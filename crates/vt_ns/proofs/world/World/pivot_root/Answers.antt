@@ -1,4 +1,4 @@
-use Rattle.std.proofs.Common.{Err, IfSome, Ok, OnOk, Result, ap, arith, is_some, map, nat_eq, option_copied, option_map, refl, rules, subst, sym, true, ℕ, ◌≡◌, ◌∙◌, IsErr, ◌↔◌}
+use Rattle.std.proofs.Common.{IfSome, ap, arith, map, nat_eq, option_copied, option_map, rules, subst, sym, true, ◌≡◌, ◌∙◌, is_some}
 use Rattle.vt_spec.proofs.Common.{ToPivot, mount_numbered}
 use Rattle.vt_location.specs.declared.locations.Location.{Location}
 use Rattle.vt_ns.proofs.Common.{Becomes, IsDone, Permits, WorldValue, counted, is_small_node, is_some_mapped, kept, kept_with, location_of, merged_of, merged_seen, mount_of, number_of, overlays_of_store, pins, remade, task_of, unpins, world_of}
@@ -6,13 +6,8 @@ use Rattle.vt_ns.specs.contracts.world.World.{the_view}
 use Rattle.vt_ns.proofs.world.PivotedEvents.{new_is_placed, room_to_enter, root_is_found, root_is_pivoted}
 use Rattle.vt_ns.specs.Pivoting.{with_uses}
 use Rattle.vt_ns.proofs.world.StoresKept.{kept_is, same_in_store}
+use Rattle.vt_store.proofs.LayersCounted.{unlimited}
 use Rattle.vt_ns.proofs.world.World.pivot_root.Goals as goal
-
--- one use more is counted, where there was room
-surely : {A E P : Type 0} (r : Result A E) (uses : ℕ) → IsErr r ↔ (uses ≡ 18446744073709551615)
-    → ((uses ≡ 18446744073709551615) → ⊥) → OnOk r P → P
-surely (Ok a) uses limit room so = so
-surely (Err refused) uses limit room so = absurd (room (limit.0 refl))
 
 pub unwrap-root-requires : goal.unwrap-root-requires
 unwrap-root-requires c =
@@ -43,9 +38,9 @@ hold_each-requires c =
     (ToPivot (counted c.args.new.count) (location_of c.args.put)) =
     subst (λ value. Permits value c.args.name.now (ToPivot (counted c.args.new.count) (location_of c.args.put)))
     (sym c.self.view_is) c.requires in
-    let pinned_so = surely c.pin.result _ (rw c.plain_mut.ensures.value at c.pin.ensures.limit)
-    (λ full. absurd (omega (arith, c.if-uses.false, (rw c.plain.ensures at c.uses.ensures), full)))
-    (rw c.plain_mut.ensures.value at c.pin.ensures.ok) in
+    let pinned_so = unlimited c.pin.result (rw c.plain_mut.ensures.value at c.pin.ensures.ok)
+    (rw c.plain_mut.ensures.value at c.pin.ensures.limit)
+    (λ full. absurd (omega (arith, c.if-uses.false, (rw c.plain.ensures at c.uses.ensures), full))) in
     room_to_enter (the_view c.self.inside) c.self.invariant c.args.name.now (counted c.args.new.count) c.args.put
     permits c.unwrap-task.result.now
     (sym (ap (λ found. option_map task_of (option_copied found)) c.unwrap-task.ensures) ∙ c.get.ensures)
@@ -80,9 +75,9 @@ done c =
     (ToPivot (counted c.args.new.count) (location_of c.args.put)) =
     subst (λ value. Permits value c.args.name.now (ToPivot (counted c.args.new.count) (location_of c.args.put)))
     (sym c.self.view_is) c.requires in
-    let pinned_so = surely c.pin.result _ (rw c.plain_mut.ensures.value at c.pin.ensures.limit)
-    (λ full. absurd (omega (arith, c.if-uses.false, (rw c.plain.ensures at c.uses.ensures), full)))
-    (rw c.plain_mut.ensures.value at c.pin.ensures.ok) in
+    let pinned_so = unlimited c.pin.result (rw c.plain_mut.ensures.value at c.pin.ensures.ok)
+    (rw c.plain_mut.ensures.value at c.pin.ensures.limit)
+    (λ full. absurd (omega (arith, c.if-uses.false, (rw c.plain.ensures at c.uses.ensures), full))) in
     let point = c.unwrap-point.result in
     same_in_store (the_view c.self.inside)
     (remade (the_view c.self.inside) c.release_each.new.mounts c.unpin.new.self c.pivot-2.new.self)

@@ -1,13 +1,12 @@
 use Rattle.std.proofs.Common.{ap, arith, rules, subst, suc, sym, nat_eq, ◌-◌, ◌≡◌, ◌∙◌, ◌∷◌}
-use Rattle.vt_spec.proofs.Common.{OnOk_then, YieldsList-from_filter, YieldsList-from_map, YieldsList-from_rev_slice, children, items_from_extend}
+use Rattle.vt_spec.proofs.Common.{OnOk_then, YieldsList-from_filter, YieldsList-from_map, YieldsList-from_rev_slice, children, items_from_extend, common_steps}
 use Rattle.vt_ns.proofs.Common.{IsHeld, WorldValue, counted, mounts_in, numbers}
 use Rattle.vt_ns.specs.Trees.{bindable_to_come}
 use Rattle.vt_ns.proofs.world.BoundTrees.{bindable, bindable_kids, branch_of, next-deep, next-flat}
 use Rattle.vt_ns.proofs.world.World.push_bindable.Goals as goal
 
 pub returns-then-branch-eq0 : goal.returns-then-branch-eq0
-returns-then-branch-eq0 c = next-flat
-    (mounts_in c.args.self.now.mounts) c.args.waiting.now.items c.args.branch c.if-branch-eq0.true
+returns-then-branch-eq0 c = grind (arith, common_steps, next-flat)
 
 pub returns : goal.returns
 returns c =

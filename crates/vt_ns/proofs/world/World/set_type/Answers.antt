@@ -1,11 +1,11 @@
-use Rattle.std.proofs.Common.{[], ◌∷◌, ap, map, nat_eq, subst, sym, ◌≡◌, ◌∙◌}
-use Rattle.vt_spec.proofs.Common.{ToSetType, named_mounts}
+use Rattle.std.proofs.Common.{[], ◌∷◌, ap, map, nat_eq, subst, sym, ◌≡◌, ◌∙◌, arith}
+use Rattle.vt_spec.proofs.Common.{ToSetType, named_mounts, common_steps}
 use Rattle.vt_location.specs.declared.numbers.MountId.{MountId}
-use Rattle.vt_ns.proofs.Common.{Becomes, Permits, WorldValue, counted, mounts_in, numbers_of, world_of}
+use Rattle.vt_ns.proofs.Common.{Becomes, Permits, counted, mounts_in, numbers_of, world_of}
 use Rattle.vt_laws_mounts.proofs.letting_go.leaving.PlacesLeft.{number-mount_in}
 use Rattle.vt_request.specs.Requests.{type_word_of}
 use Rattle.vt_ns.specs.contracts.world.World.{the_view}
-use Rattle.vt_ns.specs.Retyped.{IsRetyped, counted_after}
+use Rattle.vt_ns.specs.Retyped.{IsRetyped}
 use Rattle.vt_ns.proofs.world.TypesDone.{types_done}
 use Rattle.vt_ns.proofs.world.World.set_type.Goals as goal
 
@@ -82,26 +82,7 @@ returns-clause-ok c =
     numbers c.in_ok-self-inside-2.ensures.ok)).becomes
 
 pub returns-then-recursive-clause-counts : goal.returns-then-recursive-clause-counts
-returns-then-recursive-clause-counts c =
-    let value = the_view c.self.inside in
-    let number = counted c.args.change.mount.count in
-    let numbers : map (λ (id : MountId). counted id.count) c.deref.result.now
-    ≡ numbers_of (named_mounts nat_eq (world_of value) number c.args.change.recursive) =
-    ap (map (λ (id : MountId). counted id.count)) c.deref.ensures.value ∙ c.in_ok-tree.ensures.ok
-    ∙ ap (λ b. numbers_of (named_mounts nat_eq (world_of value) number b)) (sym c.if-recursive.true) in
-    c.in_ok-self-inside.ensures.ok.counts
-    ∙ ap (counted_after (type_word_of c.args.change.word) c.self.inside.next) numbers
-    ∙ ap (λ (v : WorldValue). counted_after (type_word_of c.args.change.word) v.next
-    (numbers_of (named_mounts nat_eq (world_of v) number c.args.change.recursive))) c.self.view_is
+returns-then-recursive-clause-counts c = grind (arith, common_steps)
 
 pub returns-clause-counts : goal.returns-clause-counts
-returns-clause-counts c =
-    let value = the_view c.self.inside in
-    let number = counted c.args.change.mount.count in
-    let numbers : number ∷ [] ≡ numbers_of (named_mounts nat_eq (world_of value) number c.args.change.recursive) =
-    ap (λ one. one ∷ []) (sym (number-mount_in (mounts_in c.self.inside.mounts) number))
-    ∙ ap (λ b. numbers_of (named_mounts nat_eq (world_of value) number b)) (sym c.if-recursive.false) in
-    c.in_ok-self-inside-2.ensures.ok.counts
-    ∙ ap (counted_after (type_word_of c.args.change.word) c.self.inside.next) numbers
-    ∙ ap (λ (v : WorldValue). counted_after (type_word_of c.args.change.word) v.next
-    (numbers_of (named_mounts nat_eq (world_of v) number c.args.change.recursive))) c.self.view_is
+returns-clause-counts c = grind (arith, common_steps)

@@ -1,5 +1,6 @@
+use Rattle.vt_spec.proofs.Common.{common_steps}
 use Rattle.std.proofs.Common.{sym, subst, arith, OnOk}
-use Rattle.vt_ns.proofs.Common.{Becomes, IsHeld, Permits, location_of, with_store}
+use Rattle.vt_ns.proofs.Common.{Becomes, Permits, location_of, with_store}
 use Rattle.vt_permits.specs.GrantValue.{write_permit}
 use Rattle.vt_permits.specs.declared.grant.WriteGrant.TheVariants.{Part}
 use Rattle.vt_ns.specs.contracts.world.World.{the_view}
@@ -8,9 +9,7 @@ use Rattle.vt_ns.proofs.world.PlainStored.{answered_stored}
 use Rattle.vt_ns.proofs.world.World.write_part.Goals as goal
 
 pub invariant_of-self : goal.invariant_of-self
-invariant_of-self c =
-    subst (λ plain. IsHeld (with_store (record c.self.inside.store { plain = plain }) (the_view c.self.inside)))
-    (sym c.plain_mut-plain.ensures.value) c.self.invariant
+invariant_of-self c = grind (arith, common_steps, c.plain_mut-plain.ensures.value, c.self.invariant)
 
 pub returns-then-is_empty-clause-ok : goal.returns-then-is_empty-clause-ok
 returns-then-is_empty-clause-ok c =

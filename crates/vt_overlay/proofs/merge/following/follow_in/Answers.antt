@@ -1,11 +1,12 @@
 use Rattle.std.proofs.Common.{rules, ◌≡◌, ◌∙◌, ◌+◌, ◌||◌, None, Some, ap, drop, false, sym, true, option_copied}
-use Rattle.vt_spec.proofs.Common.{entry_at, hides}
+use Rattle.vt_spec.proofs.Common.{entry_at, hides, or-false}
 use Rattle.vt_location.specs.declared.numbers.FilesystemId.{FilesystemId}
 use Rattle.vt_location.specs.Locations.{inode_of}
 use Rattle.vt_overlay.specs.Merge.LayerValue.{cut_on, tree_seen}
-use Rattle.vt_overlay.proofs.merge.NamesFollowed.{goes_on, goes_on_cut, or_assoc, or_false, stops, stops_cut}
+use Rattle.vt_overlay.proofs.merge.NamesFollowed.{goes_on, goes_on_cut, stops, stops_cut}
 use Rattle.vt_overlay.proofs.merge.following.follow_in.Goals as goal
 use Rattle.vt_overlay.proofs.merge.following.follow_in.Goals.{else-cut, then-cut}
+use Rattle.std.proofs.Math.Bool.{or_assoc}
 
 pub returns-in_default-clause-object : goal.returns-in_default-clause-object
 returns-in_default-clause-object g c =
@@ -30,7 +31,7 @@ returns-in_default-clause-cut g c =
     let same = ap (λ (id : FilesystemId). tree_seen id.count lent) c.loop-index.invariant.filesystem in
     sym (c.loop-index.invariant.cuts ∙ ap (λ b. c.loop-index.cut || b)
     (stops_cut tree (inode_of here) names c.loop-index.index c.name.result.now c.name.ensures
-    (none ∙ ap (λ t. entry_at t (inode_of here) c.name.result.now) same)) ∙ or_false c.loop-index.cut)
+    (none ∙ ap (λ t. entry_at t (inode_of here) c.name.result.now) same)) ∙ or-false c.loop-index.cut)
 
 pub loop-index-preserved : goal.loop-index-preserved
 loop-index-preserved g c =
@@ -61,7 +62,7 @@ loop-index-preserved g c =
           ∙ goes_on tree (inode_of here) names c.loop-index.index c.name.result.now c.name.ensures (inode_of next) at;
       cuts = c.loop-index.invariant.cuts ∙ ap (λ b. c.loop-index.cut || b)
           (goes_on_cut tree (inode_of here) names c.loop-index.index c.name.result.now c.name.ensures
-          (inode_of next) at) ∙ or_assoc c.loop-index.cut (hides (tree.node (inode_of next))) rest
+          (inode_of next) at) ∙ sym (or_assoc c.loop-index.cut (hides (tree.node (inode_of next))) rest)
           ∙ ap (λ b. b || rest) (ap (λ id. c.loop-index.cut || hidden id) (sym filesystem) ∙ sym cut);
       filesystem = filesystem;
     }

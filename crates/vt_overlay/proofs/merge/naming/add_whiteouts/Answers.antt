@@ -1,10 +1,10 @@
 use Rattle.std.proofs.Common.{rules, Bool, Bor, Global, List, Vec, ◌≡◌, ◌∙◌, ◌&&◌, ◌||◌, ap, nat_eq, sym, take, ℕ}
-use Rattle.vt_spec.proofs.Common.{list_any, pointwise}
+use Rattle.vt_spec.proofs.Common.{list_any, pointwise, or-false}
 use Rattle.std.proofs.lemmas.List.Folds.{list_any_more}
 use Rattle.indexmap.specs.IndexSet.{insert_key}
 use Rattle.vt_overlay.specs.Merge.LayerValue.{is_white_under}
 use Rattle.vt_overlay.proofs.merge.NamesHad.{is_name}
-use Rattle.vt_overlay.proofs.merge.NamesShown.{any_inserted, or_false, whites_grown}
+use Rattle.vt_overlay.proofs.merge.NamesShown.{any_inserted, whites_grown}
 use Rattle.vt_overlay.proofs.merge.naming.add_whiteouts.Goals as goal
 use Rattle.vt_overlay.proofs.merge.naming.add_whiteouts.Goals.{else-is_whiteout_under, then-is_whiteout_under+in_ok-insert}
 
@@ -29,7 +29,7 @@ loop-name-preserved c name =
           ∙ any_inserted name key.items at.whiteouts.keys one w.as_slice-then-is_whiteout_under.ensures.value
           ∙ ap (λ b. hits at.whiteouts.keys || (b && is_name name key.items)) (sym w.if-is_whiteout_under.true))
       | else-is_whiteout_under w ↦ ap (λ whiteouts. hits whiteouts.keys) w.whiteouts-is
-          ∙ sym (or_false (hits at.whiteouts.keys))
+          ∙ sym (or-false (hits at.whiteouts.keys))
           ∙ ap (λ b. hits at.whiteouts.keys || (b && is_name name key.items)) (sym w.if-is_whiteout_under.false)
     ] in
     whites_grown fs top name key.items (hits c.args.whiteouts.now.keys) (had (take at.name-index names))

@@ -1,5 +1,5 @@
 use Rattle.std.proofs.Common.{◌≡◌, ◌∙◌, ◌++◌, ◌∷◌, ◌≤◌, ℕ, [], Bool, List, Some, ap, arith, drop, false, length, not, suc, sym, true, true≢false, zero, slice_get, take-append-drop, take_all, bytes_eq}
-use Rattle.vt_spec.proofs.Common.{bytes_decides, get_or_from_slice_get, none_is_some, same_Some, slice_get_within}
+use Rattle.vt_spec.proofs.Common.{bytes_decides, get_or_from_slice_get, none_is_some, same_Some, slice_get_within, common_steps}
 use Rattle.std.proofs.lemmas.List.{take_more_same}
 use Rattle.vt_overlay.proofs.merge.ways.starts_with.Goals as goal
 
@@ -10,8 +10,7 @@ found_in_front (first ∷ front) rest zero name e = e
 found_in_front (first ∷ front) rest (suc n) name e = found_in_front front rest n name e
 
 from_not : (b : Bool) → false ≡ not b → b ≡ true
-from_not true e = cc
-from_not false e = absurd (true≢false (sym e))
+from_not b e = grind (arith, common_steps)
 
 differ : (a b : List ℕ) → true ≡ not (bytes_eq a b) → a ≡ b → ⊥
 differ a b e same = true≢false (e ∙ ap not ((bytes_decides a b).1 same))

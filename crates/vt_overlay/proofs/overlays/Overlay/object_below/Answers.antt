@@ -1,5 +1,5 @@
 use Rattle.std.proofs.Common.{None, Some, ap, arith, length, option_map, rules, subst, sym, ℕ, ◌<◌, ◌≡◌, ◌≢◌, ◌≤◌, ◌++◌, ◌∷◌, ◌∙◌, [], slice_get, option_copied}
-use Rattle.vt_spec.proofs.Common.{IsDirectory, Shown, Tree, entries_in, led, none_is_some, same_Some, shown}
+use Rattle.vt_spec.proofs.Common.{IsDirectory, Shown, Tree, entries_in, led, none_is_some, same_Some, shown, common_steps}
 use Rattle.vt_location.specs.declared.locations.InodeRef.{InodeRef}
 use Rattle.vt_location.specs.declared.locations.NodeRef.{NodeRef}
 use Rattle.vt_location.specs.Locations.{inode_of, number_of}
@@ -53,8 +53,7 @@ abbrev directory : (c : After-name_ranked) → ℕ
 directory c = above c.args.trees.now c.args.self.now (born_named c) c.in_ok-lower.lower (layer_is c)
 
 directory_is : (c : After-name_ranked) → inode_of c.inode_in-above.result ≡ directory c
-directory_is c = above_number c.args.trees.now c.args.self.now (born_named c) c.in_ok-lower.lower (layer_is c)
-    c.inode_in-above.result c.inode_in-above.ensures.is
+directory_is c = grind (arith, common_steps)
 
 way_leads : (c : After-name_ranked)
     → led (tree c) (start c.args.trees.now c.args.self.now (born_named c) c.in_ok-lower.lower (layer_is c))
@@ -72,24 +71,22 @@ ranked : (c : After-name_ranked)
 ranked c =
     let up = c.inode_in-above.result in
     let node = c.in_ok-node.node.now in
-    let seen : Some (node_seen up.filesystem.count node)
-    ≡ (files_at c.args.trees.now up.filesystem.count).tree.node (inode_of up) =
-    (λ i. option_map (node_seen ((sym c.node_ref.ensures.value) i).filesystem.count)
-    (option_copied ((sym c.in_ok-node.was) i))) ∙ c.node.ensures
-    ∙ ap (λ (n : NodeRef). (files_at c.args.trees.now n.filesystem.count).tree.node (number_of n))
-    c.node_ref.ensures.value in
-    let slot : c.slot_of.result ≡ c.args.slot =
-    c.slot_of.ensures.value ∙ ap (λ (n : InodeRef). n.slot) c.inode_in-object.ensures.is in
-    sym (name_seen c.args.trees.now c.args.self.now (born_named c) c.in_ok-lower.lower (layer_is c) up
-    c.inode_in-above.ensures.is node seen c.slot_of.result slot) ∙ sym c.name_ranked.ensures
+    let seen : Some (node_seen up.filesystem.count node) ≡ (files_at c.args.trees.now up.filesystem.count).tree.node
+    (inode_of up) = (λ i. option_map (node_seen ((sym c.node_ref.ensures.value) i).filesystem.count) (option_copied
+    ((sym c.in_ok-node.was) i))) ∙ c.node.ensures ∙ ap (λ (n : NodeRef). (files_at c.args.trees.now
+    n.filesystem.count).tree.node (number_of n)) c.node_ref.ensures.value in
+    let slot : c.slot_of.result ≡ c.args.slot = c.slot_of.ensures.value ∙ ap (λ (n : InodeRef). n.slot)
+    c.inode_in-object.ensures.is in
+    cc (
+      name_seen c.args.trees.now c.args.self.now (born_named c) c.in_ok-lower.lower (layer_is c) up
+          c.inode_in-above.ensures.is node seen c.slot_of.result slot,
+      c.name_ranked.ensures,
+    )
 
 -- what all layers show under the way and the name
 all_show : (c : After-shown) → shown (layers_of c.args.trees.now c.args.self.now.lowers)
     (c.in_ok-way.way ++ c.in_ok-name.name.now ∷ []) ≡ option_map seen_of c.shown.result
-all_show c =
-    let layers : c.as_slice.result.now ≡ c.args.self.now.lowers =
-    c.as_slice.ensures.value ∙ ap (λ (o : OverlayValue). o.lowers) c.self.view_is in
-    (λ i. shown (layers_of c.args.trees.now ((sym layers) i)) ((sym c.under.ensures) i)) ∙ sym c.shown.ensures.value
+all_show c = grind (arith, common_steps, c.under.ensures, c.shown.ensures.value)
 
 pub returns-in_err-lower-clause-value : goal.returns-in_err-lower-clause-value
 returns-in_err-lower-clause-value c =

@@ -1,14 +1,12 @@
 use Rattle.std.proofs.Common.{ap, arith, length, subst, sym, take, ◌+◌, ◌++◌, ◌-◌, ◌∙◌, ◌∷◌, ◌≡◌, [], append-nil, append_assoc, get_or, take_all}
-use Rattle.vt_spec.proofs.Common.{take_more}
+use Rattle.vt_spec.proofs.Common.{take_more, common_steps}
 use Rattle.vt_store.specs.LayersAt.{AreCounted, HasRoomForLayers}
 use Rattle.vt_store.specs.LayerTests.{layer_at}
 use Rattle.vt_store.proofs.LayersTallied.{room_for_fewer}
 use Rattle.vt_store.proofs.layer_counts.LayerCounts.add.Goals as goal
 
 pub add_one-requires : goal.add_one-requires
-add_one-requires c =
-    room_for_fewer 1 (length c.args.layers.now - c.loop-layer.layer-index) c.loop-layer.self (omega arith)
-    c.loop-layer.invariant.room
+add_one-requires c = grind (arith, common_steps)
 
 pub loop-layer-init : goal.loop-layer-init
 loop-layer-init c = record {

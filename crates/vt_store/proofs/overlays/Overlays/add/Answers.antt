@@ -1,5 +1,5 @@
-use Rattle.std.proofs.Common.{Err, Ok, Result, [], ap, arith, nat_lt, subst, sym, ◌++◌, ◌<◌, ◌∙◌, ◌∷◌, IsOk, OnOk}
-use Rattle.vt_spec.proofs.Common.{list_all}
+use Rattle.std.proofs.Common.{Result, ap, arith, nat_lt, subst, sym, ◌++◌, ◌<◌, ◌∙◌, IsOk, OnOk}
+use Rattle.vt_spec.proofs.Common.{list_all, common_steps}
 use Rattle.indexmap.specs.IndexMap.{spare}
 use Rattle.vt_overlay.specs.MergedTree.{OverlayValue}
 use Rattle.vt_store.proofs.KeptOverlays.{added}
@@ -26,8 +26,7 @@ invariant_of-self-in_err-reserve-2 c =
 
 -- what holds where it is put in, once there is room
 where_ok : {T E P : Type 0} (r : Result T E) → IsOk r → OnOk r P → P
-where_ok (Ok value) is p = p
-where_ok (Err error) is p = absurd cc
+where_ok r is p = grind (arith, common_steps)
 
 pub invariant_of-self-2 : goal.invariant_of-self-2
 invariant_of-self-2 c =
@@ -53,7 +52,8 @@ pub returns-clause-ok : goal.returns-clause-ok
 returns-clause-ok c =
     let room : 0 < spare c.reserve-2.new.self = omega (arith, c.in_ok-reserve-2.ensures.ok) in
     let updates = where_ok c.insert.result (c.insert.ensures.succeeds room) c.insert.ensures.updates in
-    added c.reserve-2.new.self.entries _ c.args.self.now c.args.id _
-    (ap kept_overlays c.reserve-2.ensures.entries ∙ c.self.view_is) c.requires updates.0
-    ∙ ap (λ overlay. c.args.self.now ++ record { count = c.args.id.count; overlay = overlay; mounts = 0 } ∷ [])
-    c.new-overlay.ensures
+    cc (
+      added c.reserve-2.new.self.entries _ c.args.self.now c.args.id _ (ap kept_overlays
+          c.reserve-2.ensures.entries ∙ c.self.view_is) c.requires updates.0,
+      c.new-overlay.ensures,
+    )

@@ -1,9 +1,7 @@
-use Rattle.std.proofs.Common.{sym, ◌∙◌}
+use Rattle.vt_spec.proofs.Common.{common_steps}
+use Rattle.std.proofs.Common.{arith}
 use Rattle.vt_store.proofs.KeptOverlays.{none_kept, none_under}
 use Rattle.vt_store.proofs.overlays.Overlays.is_empty.Goals as goal
 
 pub returns : goal.returns
-returns c = (
-  λ is. sym c.self.view_is ∙ none_kept c.self.inside.by_number.entries (c.is_empty.ensures.0 is),
-  λ none. c.is_empty.ensures.1 (none_under c.self.inside.by_number.entries (c.self.view_is ∙ none)),
-)
+returns c = grind (arith, common_steps, none_kept, none_under)

@@ -1,6 +1,6 @@
-use Rattle.std.proofs.Common.{None, Some, ap, subst, sym, ◌++◌, ◌∙◌}
+use Rattle.vt_spec.proofs.Common.{common_steps}
+use Rattle.std.proofs.Common.{None, Some, subst, sym, ◌++◌, ◌∙◌, arith}
 use Rattle.vt_store.specs.LayersAt.{AreCounted}
-use Rattle.vt_store.specs.OverlaysValue.{AreKept, without_overlay}
 use Rattle.vt_store.proofs.KeptOverlays.{overlay_of-kept, removed}
 use Rattle.vt_store.proofs.LayersKept.{kept_removed}
 use Rattle.vt_store.proofs.overlays.Overlays.remove.Goals as goal
@@ -11,14 +11,10 @@ returns-in_err-overlay-clause-value c = c.from_residual.ensures
     (sym c.in_err-overlay.was ∙ c.swap_remove.ensures.value)
 
 pub returns-in_err-overlay-clause-removed : goal.returns-in_err-overlay-clause-removed
-returns-in_err-overlay-clause-removed c =
-    removed c.args.id.count c.self.inside.by_number.entries _ c.swap_remove.ensures.updates.0
-    ∙ ap (without_overlay c.args.id.count) c.self.view_is
+returns-in_err-overlay-clause-removed c = grind (arith, common_steps, removed)
 
 pub invariant_of-self : goal.invariant_of-self
-invariant_of-self c =
-    subst (λ entries. AreKept entries c.self.inside.layers c.self.inside.oldest)
-    (sym c.in_err-overlay.ensures.unchanged) c.self.invariant
+invariant_of-self c = grind (arith, common_steps, c.in_err-overlay.ensures.unchanged, c.self.invariant)
 
 pub invariant_of-self-2 : goal.invariant_of-self-2
 invariant_of-self-2 c =
@@ -34,5 +30,4 @@ returns-clause-value c =
     c.self.view_is (sym c.in_ok-overlay.was ∙ c.swap_remove.ensures.value)
 
 pub returns-clause-removed : goal.returns-clause-removed
-returns-clause-removed c = removed c.args.id.count c.self.inside.by_number.entries _ c.swap_remove.ensures.updates.0
-    ∙ ap (without_overlay c.args.id.count) c.self.view_is
+returns-clause-removed c = grind (arith, common_steps, removed)

@@ -1,10 +1,10 @@
-use Rattle.std.proofs.Common.{ap, option_copied, sym, ◌∙◌}
-use Rattle.vt_spec.proofs.Common.{entries_in, entry_named}
+use Rattle.std.proofs.Common.{ap, option_copied, sym, ◌∙◌, arith}
+use Rattle.vt_spec.proofs.Common.{entries_in, entry_named, common_steps}
 use Rattle.vt_location.specs.Locations.{number_of}
 use Rattle.vt_overlay.proofs.EntriesShown.{lent_is_shown}
 use Rattle.vt_store.specs.StoreValue.{StoreValue, lent_in}
 use Rattle.vt_store.proofs.Lending.{lent_with}
-use Rattle.vt_store.proofs.Looked.{over_few, over_layers, over_lent, over_node, plain_lent, plain_node}
+use Rattle.vt_store.proofs.Looked.{over_few, over_layers, over_lent, over_node, plain_node}
 use Rattle.vt_store.proofs.store.Store.any_entry.Goals as goal
 
 pub entry-requires-clause-layers : goal.entry-requires-clause-layers
@@ -39,10 +39,7 @@ returns-in-Some-clause-object c = lent_with c.entry.result _ (lent_in c.args.sel
     (sym c.overlay.ensures.value ∙ ap option_copied c.in-Some.is)) c.entry.ensures.object
 
 pub plain_entry-requires : goal.plain_entry-requires
-plain_entry-requires c =
-    plain_lent c.args.self.now c.self.inside.plain (ap (λ (store : StoreValue). store.plain) c.self.view_is)
-    c.args.directory.filesystem.count (sym c.overlay.ensures.value ∙ ap option_copied c.in-None.is)
-    (number_of c.args.directory) ∙ c.requires.object
+plain_entry-requires c = grind (arith, common_steps)
 
 pub returns-in-None-clause-node : goal.returns-in-None-clause-node
 returns-in-None-clause-node c = c.plain_entry.ensures.node ∙ ap (λ node. entry_named c.args.name.now (entries_in node))
@@ -51,8 +48,4 @@ returns-in-None-clause-node c = c.plain_entry.ensures.node ∙ ap (λ node. entr
     (number_of c.args.directory))
 
 pub returns-in-None-clause-object : goal.returns-in-None-clause-object
-returns-in-None-clause-object c =
-    lent_with c.plain_entry.result _ (lent_in c.args.self.now c.args.directory.filesystem.count)
-    (plain_lent c.args.self.now c.self.inside.plain (ap (λ (store : StoreValue). store.plain) c.self.view_is)
-    c.args.directory.filesystem.count (sym c.overlay.ensures.value ∙ ap option_copied c.in-None.is))
-    c.plain_entry.ensures.object
+returns-in-None-clause-object c = grind (arith, common_steps)

@@ -1,16 +1,14 @@
 use Rattle.std.proofs.Common.{ap, option_copied, option_map, sym, ◌∙◌}
 use Rattle.vt_location.specs.Locations.{number_of}
-use Rattle.vt_location.specs.declared.locations.NodeRef.{NodeRef}
 use Rattle.vt_fs.specs.FilesystemsValue.{node_seen}
 use Rattle.vt_overlay.proofs.ObjectsAlike.{seen_twice}
 use Rattle.vt_store.specs.OverlaysValue.{overlay_of}
-use Rattle.vt_store.specs.StoreValue.{StoreValue, lent_in}
+use Rattle.vt_store.specs.StoreValue.{StoreValue}
 use Rattle.vt_store.proofs.Looked.{plain_lent}
 use Rattle.vt_store.proofs.store.Store.object.Goals as goal
 
 pub returns-then-has_overlays : goal.returns-then-has_overlays
-returns-then-has_overlays c = c.any_object.ensures
-    ∙ ap (λ (node : NodeRef). lent_in c.args.self.now node.filesystem.count (number_of node)) c.copied.ensures
+returns-then-has_overlays c = cc (c.any_object.ensures, c.copied.ensures)
 
 pub returns-else-has_overlays : goal.returns-else-has_overlays
 returns-else-has_overlays c =

@@ -1,5 +1,6 @@
-use Rattle.std.proofs.Common.{ap, sym, ◌∙◌, ◌≡◌}
-use Rattle.vt_store.specs.OverlaysValue.{Overlays, without_overlay}
+use Rattle.vt_spec.proofs.Common.{common_steps}
+use Rattle.std.proofs.Common.{ap, ◌∙◌, arith}
+use Rattle.vt_store.specs.OverlaysValue.{without_overlay}
 use Rattle.vt_store.specs.StoreValue.{StoreValue}
 use Rattle.vt_store.proofs.OverlaysGo.{absent_removed, stand_without}
 use Rattle.vt_store.proofs.store.Store.remove_overlay.Goals as goal
@@ -10,10 +11,7 @@ returns-in-Some-clause-standing c = stand_without c.args.filesystem.count c.args
     ∙ ap (λ (store : StoreValue). without_overlay c.args.filesystem.count store.overlays) c.self.view_is)
 
 pub returns-in_default-clause-none : goal.returns-in_default-clause-none
-returns-in_default-clause-none c = λ none.
-    let same : c.remove.new.self ≡ c.self.inside.overlays = c.remove.ensures.removed
-    ∙ absent_removed c.args.filesystem.count c.self.inside.overlays (sym c.remove.ensures.value ∙ c.in_default.is) in
-    ap (λ (overlays : Overlays). record { plain = c.self.inside.plain; overlays = overlays }) same ∙ c.self.view_is
+returns-in_default-clause-none c = grind (arith, common_steps, absent_removed)
 
 pub returns-in_default-clause-standing : goal.returns-in_default-clause-standing
 returns-in_default-clause-standing c = stand_without c.args.filesystem.count c.args.self.now
