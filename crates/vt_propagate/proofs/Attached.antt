@@ -1,6 +1,6 @@
 -- An attachment is what its plans say.
-use Rattle.std.proofs.Common.{◌≡◌, ℕ, false, List, [], ◌∷◌, ◌++◌, map, nat_eq, refl, sym, ap, ◌∙◌, arith, drop, length, take, ◌+◌, ◌*◌, append_assoc, length-append, None, Option, flat_map, if◌then◌else◌, option_map}
-use Rattle.vt_spec.proofs.Common.{Location, Mount, World, added_mounts, contains_from_among, copies_at, drop-append_seam, first_of_list, folded, holds_of, length-map, map_alike, masters_with, mount_at, parts_of, pushed_up, rest_of, take-append_seam, with_mount, with_moved_mounts}
+use Rattle.std.proofs.Common.{◌≡◌, ℕ, false, List, [], ◌∷◌, ◌++◌, map, nat_eq, refl, sym, ap, ◌∙◌, arith, drop, length, take, ◌*◌, append_assoc, None, Option, flat_map, if◌then◌else◌, option_map}
+use Rattle.vt_spec.proofs.Common.{Location, Mount, World, added_mounts, common_steps, contains_from_among, copies_at, drop-append_seam, first_of_list, folded, holds_of, length-map, map_alike, masters_with, mount_at, parts_of, pushed_up, rest_of, take-append_seam, with_mount, with_moved_mounts}
 use Rattle.vt_location.specs.Locations.{location_of}
 use Rattle.vt_location.specs.MountValue.{mount_of}
 use Rattle.vt_location.specs.Numbers.{counted}
@@ -16,20 +16,14 @@ use Rattle.vt_propagate.proofs.Moved.{all_pushed}
 pub length-rows : {A B C : Type 0} (f : A → B → C) (row : List B) (list : List A)
     → length (flat_map (λ a. map (f a) row) list) ≡ length list * length row
 length-rows f row [] = omega arith
-length-rows f row (a ∷ list) =
-    let whole : length (map (f a) row ++ flat_map (λ a. map (f a) row) list)
-    ≡ length (map (f a) row) + length (flat_map (λ a. map (f a) row) list) =
-    length-append (map (f a) row) (flat_map (λ a. map (f a) row) list) in
-    let one : length (map (f a) row) ≡ length row = length-map row (f a) in
-    let rest : length (flat_map (λ a. map (f a) row) list) ≡ length list * length row = length-rows f row list in
-    omega (arith, whole, one, rest)
+length-rows f row (a ∷ list) = grind (arith, common_steps, length-rows f row list)
 
 -- A world to which a graft is attached is the one that the planned copies, groups and points make.
-pub attached_by_plans : (world : World ℕ) (graft : Graft) (counts : Counts) (copies : List (Mount ℕ)) (new : List
-    (ℕ × Option ℕ)) (points : List (ℕ × Location ℕ)) → copies ≡ planned_copies world graft counts → new
+pub attached_by_plans : (world : World ℕ) (graft : Graft) (counts : Counts) (copies : List (Mount ℕ)) {new : List
+    (ℕ × Option ℕ)} (points : List (ℕ × Location ℕ)) → copies ≡ planned_copies world graft counts → new
     ≡ planned_groups world graft counts
     → PushesBy world graft counts points → KeepsLeaver graft points → AttachesBy world graft counts copies new points
-attached_by_plans world graft counts copies new points copies_are groups_are pushes keeps = record {
+attached_by_plans world graft counts copies points copies_are groups_are pushes keeps = record {
   copies_are = copies_are;
   groups_are = groups_are;
   pushes = pushes;
@@ -49,7 +43,7 @@ attached_by_plans world graft counts copies new points copies_are groups_are pus
         ∙ (λ j. map pushed (with_moved_mounts nat_eq (moves j) world.mounts moved) ++ (added_mounts
         (moves j) moved ++ elsewhere)) ∙ ap (λ mounts. mounts ++ elsewhere)
         (map_alike pushed (moved_by points) (folded (with_mount nat_eq) world.mounts moved)
-        (all_pushed world graft counts points pushes keeps moves is))
+        (all_pushed graft counts points pushes keeps moves is))
         ∙ (λ j. map (moved_by points) (folded (with_mount nat_eq) world.mounts (sym first_copies j))
         ++ sym other_copies j)) i;
     master = folded (masters_with nat_eq) world.master (sym groups_are i);

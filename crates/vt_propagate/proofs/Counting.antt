@@ -1,6 +1,6 @@
 -- How many mounts namespaces have once a tree is attached.
-use Rattle.std.proofs.Common.{◌≡◌, ℕ, Bool, true, false, cond, ◌+◌, ◌-◌, ◌*◌, ◌≤◌, ◌||◌, ◌&&◌, List, [], ◌∷◌, map, filter, length, nat_eq, nat_lt, Option, None, Some, option_map, suc, refl, sym, ap, ◌∙◌, arith, true≢false, inl, ⊎_elim, subst, Contains, option_to_list, unwrap_or, eqb-true, le-ltb, ltb-false, ltb-true, find, min, not, ◌<◌}
-use Rattle.vt_spec.proofs.Common.{Among, Copies, Location, Mount, Namespace, NamespaceInvariants, World, among-from_filter, among-from_map, among_from_all, among_from_contains, among_from_list_all, among_numbers, and_parts, any_among, any_from_among, attached_by, common_steps, group_of, has_too_many, holds_of, is_listed, list_all, list_any, most_mounts, mount_at, nat_tests, no_mount, none_among, none_from_among, none_is_some, parts_of, receivers, receivers_of, receives, same_truth, takes_part}
+use Rattle.std.proofs.Common.{◌≡◌, ℕ, Bool, true, false, cond, ◌+◌, ◌-◌, ◌*◌, ◌≤◌, ◌||◌, ◌&&◌, List, [], ◌∷◌, map, filter, length, nat_eq, nat_lt, Option, None, Some, option_map, suc, refl, sym, ap, ◌∙◌, arith, true≢false, inl, ⊎_elim, subst, Contains, unwrap_or, eqb-true, le-ltb, ltb-false, ltb-true, find, min, not, ◌<◌}
+use Rattle.vt_spec.proofs.Common.{Among, Copies, Location, Mount, Namespace, NamespaceInvariants, World, among-from_filter, among-from_map, among_from_all, among_from_contains, among_from_list_all, among_numbers, and_parts, any_among, any_from_among, attached_by, common_steps, group_of, has_too_many, holds_of, is_listed, list_any, most_mounts, mount_at, nat_tests, no_mount, none_among, none_from_among, none_is_some, parts_of, receivers, receivers_of, receives, same_truth, takes_part}
 use Rattle.std.proofs.lemmas.List.Sums.{count_by-le-length, length-filter}
 use Rattle.std.proofs.Math.Nat.{le_trans, min-eq_left, min-eq_right, mul-le-mul_right}
 use Rattle.vt_laws_mounts.proofs.Counting.{count-cons, count-inside, moved_fewer}
@@ -56,19 +56,27 @@ parts_counted parts namespace = all parts ∙ length-filter (is_part_in namespac
 
 -- a mount in a namespace is in one that is listed
 module _ (world : World ℕ) (invariants : NamespaceInvariants nat_eq world) where
-  listed : (mount : Mount ℕ) (namespace : ℕ) → Among mount world.mounts → mount.namespace ≡ Some namespace
+  listed : (mount : Mount ℕ) {namespace : ℕ} → Among mount world.mounts → mount.namespace ≡ Some namespace
       → is_listed nat_eq world namespace ≡ true
-  listed mount namespace m is = (and_parts (is_listed nat_eq world namespace) true
-      (ap (λ o. list_all (is_listed nat_eq world) (option_to_list o)) (sym is)
-      ∙ among_from_list_all (λ (one : Mount ℕ). list_all (is_listed nat_eq world)
-      (option_to_list one.namespace)) world.mounts invariants.mounts_listed mount m)).0
+  listed mount {namespace} m is = grind (arith, common_steps, and_parts, among_from_list_all)
+
+-- What code counts of a world: its mounts, and how many parts each namespace has.
+pub record AreCounted (world : World ℕ) (parts mounts : List (Mount ℕ)) (kept : List Kept) (counts : NamespaceId → ℕ)
+    : Type 0 where
+  pub invariants : NamespaceInvariants nat_eq world
+  pub same : mounts ≡ world.mounts
+  pub are : map mount_of kept ≡ parts
+  pub right : (namespace : NamespaceId) → counts namespace ≡ parts_in kept namespace
 
 -- These parts tell whether a namespace has too many mounts, if a namespace without a part gets no more.
-module _ (world : World ℕ) (parts : List (Mount ℕ)) (invariants : NamespaceInvariants nat_eq world)
+module _ {world : World ℕ} {parts mounts : List (Mount ℕ)} {kept : List Kept} {counts : NamespaceId → ℕ}
+    (counted_so : AreCounted world parts mounts kept counts)
     (part_listed : (part : Mount ℕ) (namespace : ℕ) → Among part parts → part.namespace ≡ Some namespace
     → is_listed nat_eq world namespace ≡ true) (after : World ℕ) (same : after.namespaces ≡ world.namespaces)
     (small : (namespace : ℕ) → count_in parts namespace ≡ 0
     → count_in after.mounts namespace ≤ count_in world.mounts namespace) where
+  open counted_so use {invariants, are, right}
+
   abbrev full : ℕ → Bool
   full namespace = nat_lt most_mounts (count_in after.mounts namespace)
 
@@ -126,14 +134,11 @@ module _ (world : World ℕ) (parts : List (Mount ℕ)) (invariants : NamespaceI
               (of_it part.namespace inside.1)
 
   -- the parts as they are kept tell it
-  kept_tell : (mounts : List (Mount ℕ)) → mounts ≡ world.mounts → (kept : List Kept) → map mount_of kept ≡ parts
-      → (load : Load) (counts : NamespaceId → ℕ)
-      → ((namespace : NamespaceId) → counts namespace ≡ parts_in kept namespace)
-      → ((namespace : NamespaceId) → count_in after.mounts (counted namespace.count)
+  kept_tell : (load : Load) → ((namespace : NamespaceId) → count_in after.mounts (counted namespace.count)
       ≡ count_in world.mounts (counted namespace.count) - leaving load namespace + count_in parts
       (counted namespace.count) * load.count)
       → list_any (λ part. is_overfilled mounts load counts part.namespace) kept ≡ has_too_many nat_eq after
-  kept_tell mounts same_mounts kept are load counts right exact =
+  kept_tell load exact =
       over kept ∙ ap (list_any (λ part. holds_of full part.namespace)) are ∙ parts_tell
       ∙ ap (list_any (λ (namespace : Namespace ℕ). full namespace.number)) (sym same)
     where
@@ -141,7 +146,7 @@ module _ (world : World ℕ) (parts : List (Mount ℕ)) (invariants : NamespaceI
           → is_overfilled mounts load counts o ≡ holds_of full (option_map (λ n. counted n.count) o)
       one None = refl
       one (Some namespace) = ap (nat_lt most_mounts) (
-          (λ i. count_in (same_mounts i) (counted namespace.count) - leaving load namespace
+          (λ i. count_in (counted_so.same i) (counted namespace.count) - leaving load namespace
           + (right namespace ∙ sym (parts_counted kept namespace)
           ∙ ap (λ list. count_in list (counted namespace.count)) are) i * load.count) ∙ sym (exact namespace))
 
@@ -155,11 +160,11 @@ module _ (world : World ℕ) (place : Location ℕ) where
   parts = parts_of nat_eq world place
 
   -- a part in a namespace is a mount of the world
-  part_listed : NamespaceInvariants nat_eq world → (part : Mount ℕ) (namespace : ℕ)
+  part_listed : NamespaceInvariants nat_eq world → (part : Mount ℕ) {namespace : ℕ}
       → Among part (parts_of nat_eq world place) → part.namespace ≡ Some namespace
       → is_listed nat_eq world namespace ≡ true
-  part_listed invariants part namespace m is = ⊎_elim (λ e. first (numbered world.mounts place.mount) refl e)
-      (λ l. listed world invariants part namespace (rest l) is) m
+  part_listed invariants part {namespace} m is = ⊎_elim (λ e. first (numbered world.mounts place.mount) refl e)
+      (λ l. listed world invariants part (rest l) is) m
     where
       rest : Among part (filter (takes_part nat_eq world place)
           (receivers_of nat_eq world (mount_at nat_eq world place))) → Among part world.mounts
@@ -172,7 +177,7 @@ module _ (world : World ℕ) (place : Location ℕ) where
       first None e same = absurd (true≢false (ap (λ (found : Option ℕ). holds_of (λ n. true) found)
           (sym is ∙ ap (λ (mount : Mount ℕ). mount.namespace)
           (same ∙ ap (λ found. unwrap_or found (no_mount place.mount)) e))))
-      first (Some mount) e same = listed world invariants mount namespace
+      first (Some mount) e same = listed world invariants mount
           (found_in (λ (one : Mount ℕ). nat_eq place.mount one.number) world.mounts mount e).0
           (ap (λ (one : Mount ℕ). one.namespace) (sym (same ∙ ap (λ found. unwrap_or found (no_mount place.mount)) e))
           ∙ is)
@@ -183,12 +188,10 @@ module _ (world : World ℕ) (place : Location ℕ) where
     abbrev added : World ℕ
     added = attached_by nat_eq world new place false tree
 
-    pub added_tell : NamespaceInvariants nat_eq world → (mounts : List (Mount ℕ)) → mounts ≡ world.mounts
-        → (kept : List Kept) → map mount_of kept ≡ parts → (load : Load) → length tree ≡ load.count → load.leaves ≡ None
-        → (counts : NamespaceId → ℕ) → ((namespace : NamespaceId) → counts namespace ≡ parts_in kept namespace)
+    pub added_tell : {mounts : List (Mount ℕ)} {kept : List Kept} {counts : NamespaceId → ℕ}
+        → AreCounted world parts mounts kept counts → (load : Load) → length tree ≡ load.count → load.leaves ≡ None
         → list_any (λ part. is_overfilled mounts load counts part.namespace) kept ≡ has_too_many nat_eq added
-    added_tell invariants mounts same kept are load size stay counts right = kept_tell world parts invariants
-        (part_listed invariants) added refl small mounts same kept are load counts right exact
+    added_tell are load size stay = kept_tell are (part_listed are.invariants) added refl small load exact
       where
         small : (namespace : ℕ) → count_in parts namespace ≡ 0
             → count_in added.mounts namespace ≤ count_in world.mounts namespace
@@ -217,13 +220,11 @@ module _ (world : World ℕ) (place : Location ℕ) where
 
     module _ (own : OneNumberAMount world.mounts) (apart : OneNumberAMount tree)
         (within : (mount : Mount ℕ) → Among mount tree → Among mount world.mounts) where
-      moved_tell : NamespaceInvariants nat_eq world → (mounts : List (Mount ℕ)) → mounts ≡ world.mounts
-          → (kept : List Kept) → map mount_of kept ≡ parts → (load : Load) → length tree ≡ load.count
+      moved_tell : {mounts : List (Mount ℕ)} {kept : List Kept} {counts : NamespaceId → ℕ}
+          → AreCounted world parts mounts kept counts → (load : Load) → length tree ≡ load.count
           → ((mount : Mount ℕ) → Among mount tree → mount.namespace ≡ option_map (λ n. counted n.count) load.leaves)
-          → (counts : NamespaceId → ℕ) → ((namespace : NamespaceId) → counts namespace ≡ parts_in kept namespace)
           → list_any (λ part. is_overfilled mounts load counts part.namespace) kept ≡ has_too_many nat_eq moved
-      moved_tell invariants mounts same kept are load size inside counts right = kept_tell world parts invariants
-          (part_listed invariants) moved refl small mounts same kept are load counts right exact
+      moved_tell are load size inside = kept_tell are (part_listed are.invariants) moved refl small load exact
         where
           small : (namespace : ℕ) → count_in parts namespace ≡ 0
               → count_in moved.mounts namespace ≤ count_in world.mounts namespace
@@ -256,30 +257,26 @@ module _ (world : World ℕ) (place : Location ℕ) where
               omega (arith, all, gone, fewer, sized)
 
 -- What code counts tells whether a namespace overfills where a tree moves with copies.
-pub moves_tell : (world : World ℕ) (place : Location ℕ) (new : Copies ℕ) (tree : List (Mount ℕ))
-    → NamespaceInvariants nat_eq world → (mounts : List (Mount ℕ)) → mounts ≡ world.mounts → (kept : List Kept)
-    → map mount_of kept ≡ parts_of nat_eq world place
-    → (load : Load) → length tree ≡ load.count → MovesFrom world load.leaves tree
-    → (counts : NamespaceId → ℕ) → ((namespace : NamespaceId) → counts namespace ≡ parts_in kept namespace)
-    → list_any (λ part. is_overfilled mounts load counts part.namespace) kept
+pub moves_tell : {world : World ℕ} {mounts : List (Mount ℕ)} {kept : List Kept} {counts : NamespaceId → ℕ}
+    (place : Location ℕ) (new : Copies ℕ) {tree : List (Mount ℕ)}
+    → AreCounted world (parts_of nat_eq world place) mounts kept counts → (load : Load) → length tree ≡ load.count
+    → MovesFrom world load.leaves tree → list_any (λ part. is_overfilled mounts load counts part.namespace) kept
     ≡ has_too_many nat_eq (attached_by nat_eq world new place true tree)
-moves_tell world place new tree invariants mounts same kept are load size moves counts right =
+moves_tell {world} place new {tree} are load size moves =
     moved_tell world place new tree moves.one_number moves.each_once (λ mount m. among_from_contains world.mounts mount
-    (among_from_all (Contains world.mounts) tree moves.there mount m)) invariants mounts same kept are load size
+    (among_from_all (Contains world.mounts) tree moves.there mount m)) are load size
     (λ mount m. among_from_all (λ (one : Mount ℕ). one.namespace
-    ≡ option_map (λ (n : NamespaceId). counted n.count) load.leaves) tree moves.inside mount m) counts right
+    ≡ option_map (λ (n : NamespaceId). counted n.count) load.leaves) tree moves.inside mount m)
 
 -- a world that has so many more mounts in the namespace of each part
-pub more_tell : (world after : World ℕ) → NamespaceInvariants nat_eq world → (mounts : List (Mount ℕ))
-    → mounts ≡ world.mounts
-    → (kept : List Kept) (load : Load) → load.leaves ≡ None → GrowsBy world after (map mount_of kept) load.count
-    → (counts : NamespaceId → ℕ) → ((namespace : NamespaceId) → counts namespace ≡ parts_in kept namespace)
+pub more_tell : {world : World ℕ} {mounts : List (Mount ℕ)} {kept : List Kept} {counts : NamespaceId → ℕ}
+    (after : World ℕ) → AreCounted world (map mount_of kept) mounts kept counts → (load : Load) → load.leaves ≡ None
+    → GrowsBy world after (map mount_of kept) load.count
     → list_any (λ part. is_overfilled mounts load counts part.namespace) kept ≡ has_too_many nat_eq after
-more_tell world after invariants mounts same kept load stay grows counts right =
-    kept_tell world (map mount_of kept) invariants (λ part namespace m is. listed world invariants part namespace
-    (among_from_contains world.mounts part
-    (among_from_all (Contains world.mounts) (map mount_of kept) grows.there part m)) is)
-    after grows.namespaces small mounts same kept refl load counts right exact
+more_tell {world} {kept = kept} after are load stay grows =
+    kept_tell are (λ part namespace m is. listed world are.invariants part (among_from_contains world.mounts part
+    (among_from_all (Contains world.mounts) (map mount_of kept) grows.there part m)) is) after grows.namespaces small
+    load exact
   where
     small : (namespace : ℕ) → count_in (map mount_of kept) namespace ≡ 0
         → count_in after.mounts namespace ≤ count_in world.mounts namespace

@@ -1,6 +1,6 @@
 -- Mounts that are found by their numbers.
-use Rattle.std.proofs.Common.{◌≡◌, ℕ, Bool, true, false, cond, List, [], ◌∷◌, filter, nat_eq, nat_lt, Option, None, Some, refl, sym, ap, ◌∙◌, arith, inl, inr, ⊎_elim, eq-eqb, ne_eqb, find, ltb-true}
-use Rattle.vt_spec.proofs.Common.{Among, Mount, among_from_list_all, and_parts, cons_option, list_all}
+use Rattle.std.proofs.Common.{◌≡◌, ℕ, Bool, true, false, cond, List, [], ◌∷◌, filter, nat_eq, Option, None, Some, refl, sym, ap, ◌∙◌, arith, inl, inr, eq-eqb, ne_eqb, find, ltb-true}
+use Rattle.vt_spec.proofs.Common.{Among, Mount, among_from_list_all, and_parts, common_steps, cons_option}
 use Rattle.vt_location.specs.declared.numbers.MountId.{MountId}
 use Rattle.vt_location.specs.Numbers.{counted}
 use Rattle.vt_mount.specs.MountsValue.{are_ascending}
@@ -24,39 +24,23 @@ module _ (test : Mount ℕ → Bool) (all : List (Mount ℕ)) where
   passing-missing id ids e = ap (λ o. filter test (cons_option o (mounts_numbered all (counts ids)))) (sym e)
 
   -- a mount that passes is added
-  pub passing-here : (id : MountId) (ids : List MountId) (mount : Mount ℕ)
+  pub passing-here : (id : MountId) (ids : List MountId) {mount : Mount ℕ}
       → Some mount ≡ numbered all (counted id.count) → test mount ≡ true → passing (id ∷ ids) ≡ mount ∷ passing ids
-  passing-here id ids mount e passes = ap (λ o. filter test (cons_option o (mounts_numbered all (counts ids)))) (sym e)
+  passing-here id ids {mount} e passes = ap (λ o. filter test (cons_option o (mounts_numbered all (counts ids))))
+      (sym e)
       ∙ ap (λ b. cond b (mount ∷ passing ids) (passing ids)) passes
 
   -- and one that does not is not
-  pub passing-not : (id : MountId) (ids : List MountId) (mount : Mount ℕ) → Some mount ≡ numbered all (counted id.count)
+  pub passing-not : (id : MountId) (ids : List MountId) {mount : Mount ℕ} → Some mount ≡ numbered all (counted id.count)
       → test mount ≡ false → passing (id ∷ ids) ≡ passing ids
-  passing-not id ids mount e fails = ap (λ o. filter test (cons_option o (mounts_numbered all (counts ids)))) (sym e)
+  passing-not id ids {mount} e fails = ap (λ o. filter test (cons_option o (mounts_numbered all (counts ids)))) (sym e)
       ∙ ap (λ b. cond b (mount ∷ passing ids) (passing ids)) fails
 
 -- each mount of an ascending list is found by its number
 pub numbered_among : (all : List (Mount ℕ)) → are_ascending all ≡ true → (mount : Mount ℕ) → Among mount all
     → numbered all mount.number ≡ Some mount
 numbered_among [] up mount m = absurd m
-numbered_among (first ∷ rest) up mount m = ⊎_elim here (later (numbered_among rest parts.1 mount)) m
-  where
-    parts : (list_all (λ later. nat_lt first.number later.number) rest ≡ true) × (are_ascending rest ≡ true)
-    parts = and_parts _ _ up
-
-    here : mount ≡ first → numbered (first ∷ rest) mount.number ≡ Some mount
-    here e = ap (λ b. cond b (Some first) (numbered rest mount.number))
-        (eq-eqb mount.number first.number (ap (λ x. x.number) e)) ∙ ap Some (sym e)
-
-    later : (Among mount rest → numbered rest mount.number ≡ Some mount) → Among mount rest
-        → numbered (first ∷ rest) mount.number ≡ Some mount
-    later again l = ap (λ b. cond b (Some first) (numbered rest mount.number))
-        (ne_eqb mount.number first.number (λ same. omega (
-          arith,
-          same,
-          ltb-true first.number mount.number
-              (among_from_list_all (λ later. nat_lt first.number later.number) rest parts.0 mount l),
-        ))) ∙ again l
+numbered_among (first ∷ rest) up mount m = grind (arith, common_steps, numbered_among rest, eq-eqb, and_parts, among_from_list_all, ne_eqb, ltb-true)
 
 -- the mounts of an ascending list that are numbered like some of them are these
 pub numbered_again : (all some : List (Mount ℕ)) → are_ascending all ≡ true

@@ -1,19 +1,11 @@
 -- Where a mount stands in a list, by its number or by its group.
-use Rattle.std.proofs.Common.{◌≡◌, ℕ, Bool, true, false, cond, ◌||◌, suc, List, [], ◌∷◌, map, nat_eq, Option, Some, refl, sym, ap, ◌∙◌, eq-eqb, ne_eqb, eqb-true, find}
-use Rattle.vt_spec.proofs.Common.{chain, chain_goes_on, eqb-false, list_any}
+use Rattle.std.proofs.Common.{◌≡◌, ℕ, Bool, false, cond, ◌||◌, suc, List, [], ◌∷◌, map, nat_eq, Option, Some, refl, sym, ap, ◌∙◌, eq-eqb, ne_eqb, eqb-true, find, arith}
+use Rattle.vt_spec.proofs.Common.{chain, chain_goes_on, common_steps, eqb-false, list_any}
 use Rattle.vt_location.specs.Numbers.{counted}
-use Rattle.vt_mount.proofs.EntryLemmas.{counted_test}
 
 -- numbers are compared as counts are, either way round
 pub turned_count : (a b : ℕ) → nat_eq a b ≡ nat_eq (counted b) (counted a)
-turned_count a b = turned ∙ sym (counted_test b a)
-  where
-    turned : nat_eq a b ≡ nat_eq b a
-    turned = by (nat_eq b a) (eqb-true b a) (eqb-false b a)
-      where
-        by : (t : Bool) → (t ≡ true → b ≡ a) → (t ≡ false → (b ≡ a → ⊥)) → nat_eq a b ≡ t
-        by true is apart = eq-eqb a b (sym (is refl))
-        by false is apart = ne_eqb a b (λ is. apart refl (sym is))
+turned_count a b = grind (arith, common_steps, eqb-true, eq-eqb, eqb-false, ne_eqb)
 
 module _ {A B : Type 0} (f : A → B) (test : A → Bool) (seen : B → Bool) (agree : (a : A) → test a ≡ seen (f a)) where
   -- some pass a test by what they are where some do by what is seen of them
@@ -22,8 +14,8 @@ module _ {A B : Type 0} (f : A → B) (test : A → Bool) (seen : B → Bool) (a
   any-seen (a ∷ list) = λ i. agree a i || any-seen list i
 
 -- one step up a chain, past one that does not pass
-pub find_up : (test : ℕ → Bool) (next : ℕ → Option ℕ) (here above n k : ℕ) → n ≡ suc k → test here ≡ false
+pub find_up : (test : ℕ → Bool) (next : ℕ → Option ℕ) (here : ℕ) {above n k : ℕ} → n ≡ suc k → test here ≡ false
     → next here ≡ Some above → find test (chain k next above) ≡ find test (chain n next here)
-find_up test next here above n k e fails is = sym (ap (λ m. find test (chain m next here)) e
+find_up test next here {above} {k} e fails is = sym (ap (λ m. find test (chain m next here)) e
     ∙ ap (find test) (chain_goes_on next k here above is)
     ∙ ap (λ b. cond b (Some here) (find test (chain k next above))) fails)

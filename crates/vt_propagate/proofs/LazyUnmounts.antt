@@ -138,10 +138,10 @@ lazy_unmounts_take_the_tree world number kept there =
 -- What the two worlds are seen as, and settled
 
 -- worlds that differ in the masters of groups without members have the same groups
-seen_alike : (one other : World ℕ) (kept : List MountEntry) (grouping : Grouping)
+seen_alike : {one : World ℕ} (other : World ℕ) {kept : List MountEntry} {grouping : Grouping}
     → without_dead_groups nat_eq other ≡ without_dead_groups nat_eq one → AllGroupsLive other
     → IsSeen one kept grouping → IsSeen other kept grouping
-seen_alike one other kept grouping same live seen =
+seen_alike {one} other same live seen =
     let mounts : other.mounts ≡ one.mounts = ap (λ (w : World ℕ). w.mounts) same in
     record {
       mounts = seen.mounts ∙ sym mounts;
@@ -157,8 +157,8 @@ seen_alike one other kept grouping same live seen =
 -- Where the mounts that go are detached at once, code has the mounts and groups of the world after the lazy unmount.
 pub seen_lazily : LazyUnmountsAreSeen
 seen_lazily world number kept grouping invariants seen =
-    seen_alike (taken_away nat_eq world (gone_lazily world number)) (lazily_unmounted nat_eq world number) kept grouping
-    (lazy_unmounts_are_at_once world number invariants) (lazy_unmount_keeps_mounts world number invariants).groups seen
+    seen_alike (lazily_unmounted nat_eq world number) (lazy_unmounts_are_at_once world number invariants)
+    (lazy_unmount_keeps_mounts world number invariants).groups seen
 
 -- Parts that are taken in turn settle to the world from which all of them are taken at once.
 parts_settle_alike : (world : World ℕ) (parts : List (List ℕ)) → KeepsMounts (taken_away nat_eq) world parts

@@ -1,6 +1,6 @@
 -- Which mounts an unmount detaches, by their numbers.
 use Rattle.std.proofs.Common.{◌≡◌, ℕ, Bool, true, false, cond, ◌||◌, List, [], ◌∷◌, filter, length, nat_eq, nat_lt, Option, None, Some, option_map, is_some, refl, sym, ap, ◌∙◌, arith, true≢false, eq-eqb, ◌+◌, ◌*◌, find, filter_map, if◌then◌else◌, unwrap_or, eqb-true}
-use Rattle.vt_spec.proofs.Common.{Location, Mount, World, all_locations, and_parts, any_among, any_from_among, child_at, children, cons_option, filter_here, filter_skip, goes_at, going, going_at, going_from, group_of, holds_of, is_among, is_busy, is_located, is_shared, is_used, length-map, list_any, mount_at, mount_numbered, no_mount, only_cover, receivers, receivers_of, root_of, same_Some, same_location, same_truth, stands_at, stands_on, then_some, when}
+use Rattle.vt_spec.proofs.Common.{Location, Mount, World, and_parts, any_among, any_from_among, child_at, children, common_steps, cons_option, goes_at, going, going_at, holds_of, is_busy, is_shared, is_used, length-map, list_any, mount_numbered, no_mount, only_cover, receivers, receivers_of, root_of, same_Some, stands_at, stands_on, then_some, when}
 use Rattle.vt_spec.specs.Machine.Detach.{covers_root}
 use Rattle.vt_group.specs.Grouping.{Grouping}
 use Rattle.vt_location.specs.declared.numbers.MountId.{MountId}
@@ -18,14 +18,7 @@ module _ {A : Type 0} where
   pub find-filter : (q p : A → Bool) → ((x : A) → q x ≡ true → p x ≡ true) → (xs : List A)
       → find q xs ≡ find q (filter p xs)
   find-filter q p weaker [] = refl
-  find-filter q p weaker (y ∷ ys) = by (p y) refl (q y) refl (find-filter q p weaker ys)
-    where
-      by : (a : Bool) → p y ≡ a → (b : Bool) → q y ≡ b → find q ys ≡ find q (filter p ys)
-          → find q (y ∷ ys) ≡ find q (filter p (y ∷ ys))
-      by true e b is rest = ap (cond (q y) (Some y)) rest ∙ sym (ap (find q) (filter_here p y ys e))
-      by false e true is rest = absurd (true≢false (sym (weaker y is) ∙ e))
-      by false e false is rest = ap (λ t. cond t (Some y) (find q ys)) is ∙ rest
-          ∙ sym (ap (find q) (filter_skip p y ys e))
+  find-filter q p weaker (y ∷ ys) = grind (arith, common_steps, find-filter q p weaker ys)
 
 -- options that are seen as one are both there or both not
 pub is_some-same : {A B : Type 0} (f : A → ℕ) (g : B → ℕ) (a : Option A) (b : Option B)
@@ -39,12 +32,7 @@ is_some-same f g (Some a) (Some b) e = refl
 
 at_on : (place : Location ℕ) (mount : Mount ℕ) → stands_at nat_eq place mount ≡ true
     → stands_on nat_eq place.mount mount ≡ true
-at_on place mount h = by mount.mount_point h
-  where
-    by : (point : Option (Location ℕ)) → holds_of (same_location nat_eq place) point ≡ true
-        → holds_of (λ at. nat_eq place.mount at.mount) point ≡ true
-    by None h = absurd (true≢false (sym h))
-    by (Some at) h = (and_parts _ _ h).0
+at_on place mount h = grind (arith, common_steps, and_parts)
 
 -- a mount that is found by its number has it
 pub numbered-number : (mounts : List (Mount ℕ)) (number : ℕ) (mount : Mount ℕ) → Some mount ≡ numbered mounts number
@@ -52,7 +40,7 @@ pub numbered-number : (mounts : List (Mount ℕ)) (number : ℕ) (mount : Mount 
 numbered-number mounts number mount found =
     eqb-true number mount.number (found_in (λ (m : Mount ℕ). nat_eq number m.number) mounts mount (sym found)).1
 
-module _ (mounts : List (Mount ℕ)) (number : ℕ) (mount : Mount ℕ) (found : Some mount ≡ numbered mounts number)
+module _ (mounts : List (Mount ℕ)) (number : ℕ) {mount : Mount ℕ} (found : Some mount ≡ numbered mounts number)
     (ids : List MountId) (told : counts ids ≡ numbers_of (children nat_eq mounts number)) where
   length-kids : length ids ≡ length (children nat_eq mounts mount.number)
   length-kids = sym (length-map ids (λ (id : MountId). 4 * id.count + 1)) ∙ ap length told
@@ -99,31 +87,31 @@ module _ (mounts : List (Mount ℕ)) (number : ℕ) (mount : Mount ℕ) (found :
       by (kid ∷ other ∷ kids) none one = refl
 
 -- the mount at a place is found by its number
-found_by_number : (mounts : List (Mount ℕ)) → are_ascending mounts ≡ true → (place : Location ℕ) (number : ℕ)
-    → (child : Mount ℕ) → child_at nat_eq mounts place ≡ Some child → number ≡ child.number
+found_by_number : (mounts : List (Mount ℕ)) → are_ascending mounts ≡ true → (place : Location ℕ) {number : ℕ}
+    → {child : Mount ℕ} → child_at nat_eq mounts place ≡ Some child → number ≡ child.number
     → numbered mounts number ≡ Some child
-found_by_number mounts up place number child e same =
+found_by_number mounts up place {child} e same =
     ap (numbered mounts) same ∙ numbered_among mounts up child (found_in (stands_at nat_eq place) mounts child e).0
 
 -- the mount at a place is free where none stands on it
-pub free-childless : (mounts : List (Mount ℕ)) → are_ascending mounts ≡ true → (place : Location ℕ) (number : ℕ)
+pub free-childless : (mounts : List (Mount ℕ)) → are_ascending mounts ≡ true → (place : Location ℕ) {number : ℕ}
     → Some number ≡ option_map (λ child. child.number) (child_at nat_eq mounts place)
     → (ids : List MountId) → counts ids ≡ numbers_of (children nat_eq mounts number) → length ids ≡ 0
     → true ≡ holds_of (is_free mounts) (numbered mounts number)
-free-childless mounts up place number told ids on none = by (child_at nat_eq mounts place) refl told
+free-childless mounts up place {number} told ids on none = by (child_at nat_eq mounts place) refl told
   where
     by : (o : Option (Mount ℕ)) → child_at nat_eq mounts place ≡ o → Some number ≡ option_map (λ child. child.number) o
         → true ≡ holds_of (is_free mounts) (numbered mounts number)
     by None e t = absurd (true≢false (ap is_some t))
-    by (Some child) e t = free-none mounts number child
-        (sym (found_by_number mounts up place number child e (same_Some number child.number t))) ids on none
+    by (Some child) e t = free-none mounts number
+        (sym (found_by_number mounts up place e (same_Some number child.number t))) ids on none
 
 -- the mount at a place is free just where the one that is found by its number is
-pub free_at-told : (mounts : List (Mount ℕ)) → are_ascending mounts ≡ true → (place : Location ℕ) (number : ℕ)
+pub free_at-told : (mounts : List (Mount ℕ)) → are_ascending mounts ≡ true → (place : Location ℕ) {number : ℕ}
     → Some number ≡ option_map (λ child. child.number) (child_at nat_eq mounts place)
-    → (free : Bool) → free ≡ holds_of (is_free mounts) (numbered mounts number)
+    → {free : Bool} → free ≡ holds_of (is_free mounts) (numbered mounts number)
     → cond free (Some number) None ≡ option_map (λ mount. mount.number) (free_at mounts place)
-free_at-told mounts up place number told free is = by (child_at nat_eq mounts place) refl told
+free_at-told mounts up place {number} told {free} is = by (child_at nat_eq mounts place) refl told
   where
     goes : (b : Bool) (child : Mount ℕ) → number ≡ child.number
         → cond b (Some number) None ≡ option_map (λ (m : Mount ℕ). m.number) (when b child)
@@ -136,7 +124,7 @@ free_at-told mounts up place number told free is = by (child_at nat_eq mounts pl
     by None e t = absurd (true≢false (ap is_some t))
     by (Some child) e t =
         let same : number ≡ child.number = same_Some number child.number t in
-        let found : numbered mounts number ≡ Some child = found_by_number mounts up place number child e same in
+        let found : numbered mounts number ≡ Some child = found_by_number mounts up place e same in
         ap (λ b. cond b (Some number) None) (is ∙ ap (holds_of (is_free mounts)) found)
         ∙ goes (is_free mounts child) child same
 
@@ -150,75 +138,30 @@ filter_map-numbers f (mount ∷ mounts) = ap (cons_option (f mount.number)) (fil
 abbrev at_group : Location ℕ → ℕ → Location ℕ × ℕ
 at_group place group = (place, group)
 
-module _ (world : World ℕ) (kept : List MountEntry) (grouping : Grouping) (seen : IsSeen world kept grouping) where
+module _ {world : World ℕ} {kept : List MountEntry} {grouping : Grouping} (seen : IsSeen world kept grouping) where
   numbered-world : (number : ℕ) → numbered world.mounts number ≡ numbered (mounts_in kept) number
   numbered-world number = ap (λ mounts. numbered mounts number) (sym seen.mounts)
 
   -- what goes with a mount at a place, by the mount that is found there
-  going_with : (mount : Mount ℕ) (place : Location ℕ) (o : Option (Mount ℕ)) → numbered (mounts_in kept) place.mount ≡ o
-      → going_at nat_eq world mount (Some place) ≡ (if is_shared (unwrap_or o (no_mount place.mount)).propagation
-      then numbers_of (filter_map (goes_at nat_eq world place.node)
+  going_with : (mount : Mount ℕ) (place : Location ℕ) {o : Option (Mount ℕ)} → numbered (mounts_in kept) place.mount ≡ o
+      → going_at nat_eq world mount (Some place) ≡ (if is_shared (unwrap_or o (no_mount place.mount)).propagation then
+      numbers_of (filter_map (goes_at nat_eq world place.node)
       (receivers_of nat_eq world (unwrap_or o (no_mount place.mount)))) else (mount.number ∷ []))
-  going_with mount place o e = by (is_shared (mount_at nat_eq world place).propagation)
-      ∙ (λ i. if is_shared (at i).propagation
-      then numbers_of (filter_map (goes_at nat_eq world place.node) (receivers_of nat_eq world (at i)))
-      else (mount.number ∷ []))
-    where
-      at : mount_at nat_eq world place ≡ unwrap_or o (no_mount place.mount)
-      at = ap (λ found. unwrap_or found (no_mount place.mount)) (numbered-world place.mount ∙ e)
-
-      by : (shared : Bool) → going_from nat_eq world mount place shared
-          ≡ (if shared then numbers_of (filter_map (goes_at nat_eq world place.node)
-          (receivers_of nat_eq world (mount_at nat_eq world place))) else (mount.number ∷ []))
-      by true = refl
-      by false = refl
+  going_with mount place {o} e = grind (arith, common_steps)
 
   going-place : (mount : Mount ℕ) (place : Location ℕ) → group_at (mounts_in kept) place ≡ None
       → going_at nat_eq world mount (Some place) ≡ mount.number ∷ []
-  going-place mount place none = by (numbered (mounts_in kept) place.mount) refl none
-    where
-      shared_by : (mount parent : Mount ℕ) (group : Option ℕ) → group_of parent.propagation ≡ group
-          → option_map (at_group place) group ≡ None → is_shared parent.propagation ≡ false
-      shared_by mount parent None e none = ap is_some e
-      shared_by mount parent (Some group) e none = absurd (true≢false (ap is_some none))
-
-      by : (o : Option (Mount ℕ)) → numbered (mounts_in kept) place.mount ≡ o
-          → option_map (at_group place) (then_some o (λ parent. group_of parent.propagation)) ≡ None
-          → going_at nat_eq world mount (Some place) ≡ mount.number ∷ []
-      by None e none = going_with mount place None e
-      by (Some parent) e none = going_with mount place (Some parent) e ∙ ap (λ b. if b then numbers_of
-          (filter_map (goes_at nat_eq world place.node) (receivers_of nat_eq world parent)) else (mount.number ∷ []))
-          (shared_by mount parent (group_of parent.propagation) refl none)
+  going-place mount place none = grind (arith, common_steps)
 
   going-shared : (mount : Mount ℕ) (place : Location ℕ) (found : Location ℕ × ℕ)
       → group_at (mounts_in kept) place ≡ Some found → going_at nat_eq world mount (Some place)
       ≡ numbers_of (filter_map (goes_at nat_eq world found.0.node) (receivers nat_eq world found.1))
-  going-shared mount place found some = by (numbered (mounts_in kept) place.mount) refl some
-    where
-      with_group : (parent : Mount ℕ) (group : Option ℕ) → group_of parent.propagation ≡ group
-          → option_map (at_group place) group ≡ Some found → (if is_shared parent.propagation
-          then numbers_of (filter_map (goes_at nat_eq world place.node) (receivers_of nat_eq world parent))
-          else (mount.number ∷ []))
-          ≡ numbers_of (filter_map (goes_at nat_eq world found.0.node) (receivers nat_eq world found.1))
-      with_group parent None e is = absurd (true≢false (sym (ap is_some is)))
-      with_group parent (Some group) e is = ap (λ (o : Option ℕ). if is_some o
-          then numbers_of (filter_map (goes_at nat_eq world place.node)
-          (unwrap_or (option_map (receivers nat_eq world) o) [])) else (mount.number ∷ [])) e
-          ∙ ap (λ (f : Location ℕ × ℕ). numbers_of
-          (filter_map (goes_at nat_eq world f.0.node) (receivers nat_eq world f.1))) (same_Some (place, group) found is)
-
-      by : (o : Option (Mount ℕ)) → numbered (mounts_in kept) place.mount ≡ o
-          → option_map (at_group place) (then_some o (λ parent. group_of parent.propagation)) ≡ Some found
-          → going_at nat_eq world mount (Some place)
-          ≡ numbers_of (filter_map (goes_at nat_eq world found.0.node) (receivers nat_eq world found.1))
-      by None e is = absurd (true≢false (sym (ap is_some is)))
-      by (Some parent) e is = going_with mount place (Some parent) e
-          ∙ with_group parent (group_of parent.propagation) refl is
+  going-shared mount place found some = grind (arith, common_steps, same_Some)
 
   -- what goes with a number, by the mount that has it
-  going-number : (number : ℕ) (o : Option (Mount ℕ)) → numbered (mounts_in kept) number ≡ o
+  going-number : (number : ℕ) {o : Option (Mount ℕ)} → numbered (mounts_in kept) number ≡ o
       → going nat_eq world (mount_numbered nat_eq world number) ≡ going nat_eq world (unwrap_or o (no_mount number))
-  going-number number o e = ap (λ found. going nat_eq world (unwrap_or found (no_mount number)))
+  going-number number e = ap (λ found. going nat_eq world (unwrap_or found (no_mount number)))
       (numbered-world number ∙ e)
 
   -- a mount that stands where nothing propagates goes alone
@@ -235,10 +178,10 @@ module _ (world : World ℕ) (kept : List MountEntry) (grouping : Grouping) (see
       by : (o : Option (Mount ℕ)) → numbered (mounts_in kept) number ≡ o
           → then_some (then_some o (λ (m : Mount ℕ). m.mount_point)) (group_at (mounts_in kept)) ≡ None
           → number ∷ [] ≡ going nat_eq world (mount_numbered nat_eq world number)
-      by None e none = sym (going-number number None e)
+      by None e none = sym (going-number number e)
       by (Some mount) e none =
           at mount (numbered-number (mounts_in kept) number mount (sym e)) mount.mount_point refl none
-          ∙ sym (going-number number (Some mount) e)
+          ∙ sym (going-number number e)
 
   -- one that stands on a shared mount goes with those at the receivers that are free
   pub going-everywhere : (number : ℕ) (found : Location ℕ × ℕ) → shared_point (mounts_in kept) number ≡ Some found
@@ -262,39 +205,19 @@ module _ (world : World ℕ) (kept : List MountEntry) (grouping : Grouping) (see
           → numbers_of (filter_map (goes_at nat_eq world found.0.node) (receivers nat_eq world found.1))
           ≡ going nat_eq world (mount_numbered nat_eq world number)
       by None e is = absurd (true≢false (sym (ap is_some is)))
-      by (Some mount) e is = at mount mount.mount_point refl is ∙ sym (going-number number (Some mount) e)
+      by (Some mount) e is = at mount mount.mount_point refl is ∙ sym (going-number number e)
 
   -- Mounts that are in use
 
   used-told : CountsUses world kept → (gone : List ℕ)
       → list_any (λ number. nat_lt 0 (uses_of kept number)) gone ≡ is_used nat_eq world gone
-  used-told counted_right gone = ap (λ test. list_any test gone) (λ i number. sym (counted_right number) i)
-      ∙ same_truth _ _ there back
-    where
-      there : list_any (is_located nat_eq world) gone ≡ true → is_used nat_eq world gone ≡ true
-      there h =
-          let number = any_among (is_located nat_eq world) gone h in
-          let place = any_among (λ (location : Location ℕ). nat_eq number.0 location.mount)
-          (all_locations world) number.2 in
-          any_from_among (λ (location : Location ℕ). is_among nat_eq location.mount gone)
-          (all_locations world) place.0 place.1 (any_from_among (nat_eq place.0.mount) gone number.0 number.1
-          (eq-eqb place.0.mount number.0 (sym (eqb-true number.0 place.0.mount place.2))))
-
-      back : is_used nat_eq world gone ≡ true → list_any (is_located nat_eq world) gone ≡ true
-      back h =
-          let place = any_among (λ (location : Location ℕ). is_among nat_eq location.mount gone)
-          (all_locations world) h in
-          let number = any_among (nat_eq place.0.mount) gone place.2 in
-          any_from_among (is_located nat_eq world) gone number.0 number.1
-          (any_from_among (λ (location : Location ℕ). nat_eq number.0 location.mount)
-          (all_locations world) place.0 place.1
-          (eq-eqb number.0 place.0.mount (sym (eqb-true place.0.mount number.0 number.2))))
+  used-told counted_right gone = grind (arith, common_steps, eqb-true, eq-eqb, any_from_among, any_among)
 
   -- a mount is busy just where one that goes with it is used, and none stands on it
   pub busy-told : CountsUses world kept → (number : ℕ) → list_any (stands_on nat_eq number) (mounts_in kept) ≡ false
-      → (gone : List ℕ) → gone ≡ going nat_eq world (mount_numbered nat_eq world number)
+      → {gone : List ℕ} → gone ≡ going nat_eq world (mount_numbered nat_eq world number)
       → list_any (λ number. nat_lt 0 (uses_of kept number)) gone ≡ is_busy nat_eq world number
-  busy-told counted_right number childless gone told = used-told counted_right gone ∙ ap (is_used nat_eq world) told
+  busy-told counted_right number childless {gone} told = used-told counted_right gone ∙ ap (is_used nat_eq world) told
       ∙ ap (λ b. b || is_used nat_eq world (going nat_eq world (mount_numbered nat_eq world number)))
       (sym childless ∙ ap (list_any (stands_on nat_eq number)) seen.mounts)
 

@@ -1,11 +1,9 @@
 -- A tree of mounts moves: what its plans say of the world then.
-use Rattle.std.proofs.Common.{◌≡◌, ℕ, Bool, true, false, ◌&&◌, List, [], ◌∷◌, ◌⊎◌, inl, inr, ⊎_elim, map, nat_eq, Option, None, Some, is_some, refl, sym, ap, subst, true≢false, ◌∙◌, eq-eqb, Contains, if◌then◌else◌, option_map, unwrap_or}
-use Rattle.vt_spec.proofs.Common.{Among, Copies, Location, Mount, Twig, World, among-from_map, among-map, among_from_all, contains_from_among, copies_at, copy_at, copy_number, first_of_list, folded, group_of, holds_of, is_top, mount_at, mount_point_on_copy, nat_eq-swapped, number-mount_in, or_else, parts_of, pushed_onto, pushed_up, replaced_if_same, rest_of, same_location, stands_at, twig_of, with_mount}
+use Rattle.std.proofs.Common.{◌≡◌, ℕ, Bool, true, false, ◌&&◌, List, [], ◌∷◌, ◌⊎◌, inl, inr, ⊎_elim, map, nat_eq, Option, None, Some, is_some, refl, sym, ap, subst, true≢false, ◌∙◌, eq-eqb, Contains, if◌then◌else◌, option_map, unwrap_or, arith}
+use Rattle.vt_spec.proofs.Common.{Among, Copies, Location, Mount, Twig, World, among-from_map, among-map, among_from_all, common_steps, contains_from_among, copies_at, copy_at, copy_number, first_of_list, folded, group_of, holds_of, is_top, mount_at, mount_point_on_copy, nat_eq-swapped, number-mount_in, or_else, parts_of, pushed_onto, pushed_up, replaced_if_same, rest_of, same_location, stands_at, twig_of, with_mount}
 use Rattle.vt_spec.specs.Machine.Attach as meant
-use Rattle.vt_location.specs.declared.mounts.Mount.{Mount as Kept}
 use Rattle.vt_location.specs.Locations.{location_of}
 use Rattle.vt_location.specs.MountValue.{mount_of}
-use Rattle.vt_location.specs.Numbers.{counted}
 use Rattle.vt_propagate.specs.declared.copying.Counts.{Counts}
 use Rattle.vt_propagate.specs.declared.copying.Graft.{Graft}
 use Rattle.vt_propagate.specs.Attaching.{IsMoved}
@@ -59,7 +57,7 @@ in_rest new group origin (top ∷ tree) e m =
     ⊎_elim (λ same. absurd (true≢false (sym (eq-eqb origin.number top.number (ap (λ x. x.number) same)) ∙ e)))
     (λ later. later) m
 
-module _ (world : World ℕ) (graft : Graft) (counts : Counts) (points : List (ℕ × Location ℕ))
+module _ {world : World ℕ} (graft : Graft) (counts : Counts) (points : List (ℕ × Location ℕ))
     (pushes : PushesBy world graft counts points) (keeps : KeepsLeaver graft points) (moves : graft.moves ≡ true)
     (is : IsMoved world (map mount_of graft.tree.now)) where
   abbrev place : Location ℕ
@@ -101,15 +99,7 @@ module _ (world : World ℕ) (graft : Graft) (counts : Counts) (points : List (�
       ∙ ap (λ b. if b then number else new.copy destination.number number) (eq-eqb destination.number place.mount own)
 
   top_leaves : (number : ℕ) → holds_of (nat_eq number) (leaver graft) ≡ is_top nat_eq seen number
-  top_leaves number = ap (λ b. holds_of (nat_eq number)
-      (if b then option_map (λ top. counted top.number.count) (first_of_list graft.tree.now) else None)) moves
-      ∙ by graft.tree.now
-    where
-      by : (tree : List Kept) → holds_of (nat_eq number)
-          (option_map (λ top. counted top.number.count) (first_of_list tree))
-          ≡ holds_of (λ twig. nat_eq number twig.origin.number) (first_of_list (map twig (map mount_of tree)))
-      by [] = refl
-      by (top ∷ tree) = refl
+  top_leaves number = grind (arith, common_steps)
 
   -- the first mount stands at the destination, which is no receiver's place
   first_stays : (origin : Mount ℕ) → is_top nat_eq seen origin.number ≡ true

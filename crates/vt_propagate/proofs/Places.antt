@@ -1,6 +1,6 @@
 -- Where the first that passes stands in a list, and what notes it.
 use Rattle.std.proofs.Common.{◌≡◌, ℕ, Bool, true, false, cond, List, [], ◌∷◌, ◌++◌, ◌+◌, ◌<◌, ◌||◌, map, nat_eq, Option, None, Some, refl, sym, ap, ◌∙◌, arith, get_or, length, take, eq-eqb, ne_eqb, is_some, true≢false, if◌then◌else◌, unwrap_or, eqb-true, length-take-le}
-use Rattle.vt_spec.proofs.Common.{Mount, eqb-false, index_from, length-map, list_any, map-append, or_else, same_Some, take_more}
+use Rattle.vt_spec.proofs.Common.{Mount, common_steps, eqb-false, index_from, length-map, list_any, map-append, or_else, same_Some, take_more}
 use Rattle.std.specs.List.{position_from}
 use Rattle.vt_location.specs.declared.mounts.Mount.{Mount as Kept}
 use Rattle.vt_location.specs.MountValue.{mount_of}
@@ -16,16 +16,7 @@ module _ {K : Type 0} (count : K → ℕ) (one : (a b : K) → count a ≡ count
   pub noted : (before after : K → Option ℕ) (key : K) (index : ℕ)
       → ((q : K) → after q ≡ cond (nat_eq (count key) (count q)) (Some index) (before q)) → before key ≡ None
       → (q : K) → after q ≡ or_else (before q) (if nat_eq (count q) (count key) then Some index else None)
-  noted before after key index updates none q = by (nat_eq (count q) (count key)) refl
-    where
-      by : (b : Bool) → nat_eq (count q) (count key) ≡ b → after q ≡ or_else (before q) (if b then Some index else None)
-      by true e =
-          let same : count q ≡ count key = eqb-true (count q) (count key) e in
-          updates q ∙ ap (λ b. cond b (Some index) (before q)) (eq-eqb (count key) (count q) (sym same))
-          ∙ sym (ap (λ o. or_else o (Some index)) (ap before (one q key same) ∙ none))
-      by false e = updates q ∙ ap (λ b. cond b (Some index) (before q))
-          (ne_eqb (count key) (count q) (λ same. eqb-false (count q) (count key) e (sym same)))
-          ∙ sym (or_none (before q))
+  noted before after key index updates none q = grind (arith, common_steps, eqb-true, eq-eqb, eqb-false, ne_eqb)
 
 module _ {A : Type 0} (test : A → Bool) where
   index_from-last : (k : ℕ) (list : List A) (a : A) → index_from test k (list ++ a ∷ [])
@@ -66,11 +57,11 @@ place_more test mounts i default less = ap (λ l. index_from test 0 (map mount_o
 
 -- what is noted of one more mount
 pub place_noted : (test : Mount ℕ → Bool) (mounts : List Kept) (i : ℕ) (default : Kept) → i < length mounts
-    → (before after : Option ℕ) (b : Bool)
+    → {before after : Option ℕ} {b : Bool}
     → after ≡ or_else before (if b then Some i else None) → b ≡ test (mount_of (get_or mounts i default))
     → before ≡ index_from test 0 (map mount_of (take i mounts))
     → after ≡ index_from test 0 (map mount_of (take (i + 1) mounts))
-place_noted test mounts i default less before after b is tested sofar =
+place_noted test mounts i default less is tested sofar =
     is ∙ (λ j. or_else (sofar j) (if tested j then Some i else None)) ∙ sym (place_more test mounts i default less)
 
 -- a place is found just where some element passes

@@ -1,6 +1,6 @@
 -- Which mounts move onto copied trees, by a list of their new mount points.
-use Rattle.std.proofs.Common.{◌≡◌, ℕ, Bool, true, false, cond, List, [], ◌∷◌, ◌++◌, ◌&&◌, map, nat_eq, not, Option, None, Some, option_map, is_some, refl, sym, ap, ◌∙◌, arith, inl, inr, ⊎_elim, eq-eqb, ne_eqb, true≢false, length, take, drop, get_or, suc, zero, ◌+◌, ◌*◌, ◌<◌, filter, eqb-true, append_assoc, length-drop, find, flat_map, if◌then◌else◌}
-use Rattle.vt_spec.proofs.Common.{Among, Location, Mount, World, among-from_filter, among_from_contains, and_from, and_parts, any_from_among, any_pair, child_at, cons_option, copies_at, drop-append_seam, drop_more, eqb-false, holds_of, length-map, list_any, lookup, mount_at, not-true, number-mount_in, or_else, or_parts, parts_of, pushed_onto, receivers_of, same_Some, same_location, same_option, share_a_mount_point, stands_at, take-append_seam, takes_part, then_some, top_of_copies}
+use Rattle.std.proofs.Common.{◌≡◌, ℕ, Bool, true, false, cond, List, [], ◌∷◌, ◌++◌, map, nat_eq, not, Option, None, Some, option_map, refl, sym, ap, ◌∙◌, arith, inl, inr, ⊎_elim, eq-eqb, ne_eqb, true≢false, length, take, drop, get_or, suc, zero, ◌+◌, ◌*◌, ◌<◌, filter, eqb-true, append_assoc, length-drop, find, flat_map, if◌then◌else◌}
+use Rattle.vt_spec.proofs.Common.{Among, Location, Mount, World, among-from_filter, among_from_contains, and_parts, any_from_among, any_pair, child_at, common_steps, cons_option, copies_at, drop-append_seam, drop_more, eqb-false, holds_of, length-map, lookup, mount_at, not-true, number-mount_in, or_else, or_parts, parts_of, pushed_onto, receivers_of, same_Some, same_location, share_a_mount_point, stands_at, take-append_seam, takes_part, then_some, top_of_copies}
 use Rattle.vt_location.specs.declared.mounts.Mount.{Mount as Kept}
 use Rattle.vt_location.specs.Locations.{location_of}
 use Rattle.vt_location.specs.MountValue.{mount_of}
@@ -32,13 +32,13 @@ cons-one (Some a) list = refl
 -- one more part pushes what stands at its receiver
 pub push_more : (mounts : List (Mount ℕ)) (left : Option ℕ) (place : Location ℕ) (size : ℕ) (parts : List Kept)
     (i : ℕ) (default : Kept) → i < length parts
-    → (rest here later : List Kept) → here ≡ take size rest → later ≡ drop size rest
-    → (before after all : List (ℕ × Location ℕ))
+    → (rest : List Kept) {here later : List Kept} → here ≡ take size rest → later ≡ drop size rest
+    → (before : List (ℕ × Location ℕ)) {after all : List (ℕ × Location ℕ)}
     → after ≡ before ++ cons_option (pushed_at mounts left place (counted (get_or parts i default).number.count)
     (map mount_of here)) []
     → before ++ pushes_from mounts left place size (map mount_of (drop i parts)) (map mount_of rest) ≡ all
     → after ++ pushes_from mounts left place size (map mount_of (drop (i + 1) parts)) (map mount_of later) ≡ all
-push_more mounts left place size parts i default less rest here later front back before after all one so_far =
+push_more mounts left place size parts i default less rest {here} {later} front back before one so_far =
     ap (λ l. l ++ pushes_from mounts left place size (map mount_of (drop (i + 1) parts)) (map mount_of later)) one
     ∙ append_assoc before (cons_option (pushed_at mounts left place (counted (get_or parts i default).number.count)
     (map mount_of here)) []) _ ∙ ap (λ l. before ++ l) (sym (cons-one (pushed_at mounts left place (counted
@@ -51,9 +51,9 @@ push_more mounts left place size parts i default less rest here later front back
     (drop_more parts i default less)) ∙ so_far
 
 -- what is left of the copies is that of the parts that are left
-pub rest_more : (parts : List Kept) (i : ℕ) → i < length parts → (size all later : ℕ) → all
+pub rest_more : (parts : List Kept) (i : ℕ) → i < length parts → (size : ℕ) {all : ℕ} (later : ℕ) → all
     ≡ length (drop i parts) * size → later + size ≡ all → later ≡ length (drop (i + 1) parts) * size
-rest_more parts i less size all later so_far one =
+rest_more parts i less size {all} later so_far one =
     let count : length (drop i parts)
     ≡ suc (length (drop (i + 1) parts)) = omega (arith, less, length-drop i parts, length-drop (i + 1) parts) in
     by (length (drop (i + 1) parts)) (so_far ∙ ap (λ n. n * size) count)
@@ -80,34 +80,11 @@ module _ (world : World ℕ) (one_child : OneChild world) (up : are_ascending wo
       → Among a list → Among b list
       → share_a_mount_point nat_eq a b ≡ true → share_a_mount_point nat_eq b a ≡ true → a ≡ b
   one_at [] apart a b m n one two = absurd m
-  one_at (first ∷ rest) apart a b m n one two =
-      let parts : (list_any (share_a_mount_point nat_eq first) rest ≡ false)
-      × (any_pair (share_a_mount_point nat_eq) rest ≡ false) = or_parts _ _ apart in
-      ⊎_elim (λ e. ⊎_elim (λ f. e ∙ sym f)
-      (λ l. absurd (true≢false (sym (any_from_among (share_a_mount_point nat_eq first) rest b l (ap
-      (λ x. share_a_mount_point nat_eq x b) (sym e) ∙ one)) ∙ parts.0))) n) (λ k. ⊎_elim
-      (λ f. absurd (true≢false (sym (any_from_among (share_a_mount_point nat_eq first) rest a k (ap
-      (λ x. share_a_mount_point nat_eq x a) (sym f) ∙ two)) ∙ parts.0))) (λ l. one_at rest parts.1 a b k l one two) n) m
+  one_at (first ∷ rest) apart a b m n one two = grind (arith, common_steps, one_at rest, or_parts, any_from_among)
 
   both_at : (place : Location ℕ) (a b : Mount ℕ) → stands_at nat_eq place a ≡ true → stands_at nat_eq place b
       ≡ true → share_a_mount_point nat_eq a b ≡ true
-  both_at place a b one two = by a.mount_point refl b.mount_point refl one two
-    where
-      by : (p : Option (Location ℕ)) → a.mount_point ≡ p → (q : Option (Location ℕ)) → b.mount_point ≡ q
-          → holds_of (same_location nat_eq place) a.mount_point ≡ true
-          → holds_of (same_location nat_eq place) b.mount_point ≡ true
-          → (is_some a.mount_point && same_option (same_location nat_eq) a.mount_point b.mount_point) ≡ true
-      by None e q f s t = absurd (true≢false (sym s ∙ ap (holds_of (same_location nat_eq place)) e))
-      by (Some x) e None f s t = absurd (true≢false (sym t ∙ ap (holds_of (same_location nat_eq place)) f))
-      by (Some x) e (Some y) f s t =
-          let xs : (nat_eq place.mount x.mount ≡ true) × (nat_eq place.node x.node
-          ≡ true) = and_parts _ _ (sym (ap (holds_of (same_location nat_eq place)) e) ∙ s) in
-          let ys : (nat_eq place.mount y.mount ≡ true) × (nat_eq place.node y.node
-          ≡ true) = and_parts _ _ (sym (ap (holds_of (same_location nat_eq place)) f) ∙ t) in
-          (λ i. is_some (e i) && same_option (same_location nat_eq) (e i) (f i))
-          ∙ and_from _ _ (eq-eqb x.mount y.mount (sym (eqb-true place.mount x.mount xs.0)
-          ∙ eqb-true place.mount y.mount ys.0))
-          (eq-eqb x.node y.node (sym (eqb-true place.node x.node xs.1) ∙ eqb-true place.node y.node ys.1))
+  both_at place a b one two = grind (arith, common_steps, eqb-true, eq-eqb, and_parts)
 
   child_is : (place : Location ℕ) (mount : Mount ℕ) → Among mount world.mounts → stands_at nat_eq place mount ≡ true
       → child_at nat_eq world.mounts place ≡ Some mount
@@ -293,27 +270,10 @@ module _ (mounts : List (Mount ℕ)) (left : Option ℕ) (place : Location ℕ) 
       (option_map (λ n. (n, top)) (then_some (option_map (λ (child : Mount ℕ). child.number) child)
       (λ n. if holds_of (nat_eq n) left then None else Some n))) rest) ≡ lookup (nat_eq number) rest
   other_stands None top rest = refl
-  other_stands (Some child) top rest = by (holds_of (nat_eq child.number) left) refl (nat_eq number child.number) refl
-    where
-      by : (b : Bool) → holds_of (nat_eq child.number) left ≡ b → (c : Bool) → nat_eq number child.number ≡ c
-          → lookup (nat_eq number) (cons_option
-          (option_map (λ n. (n, top)) (if b then None else Some child.number)) rest) ≡ lookup (nat_eq number) rest
-      by true e c is = refl
-      by false e true is =
-          absurd (true≢false (sym leaves ∙ ap (λ n. holds_of (nat_eq n) left) (eqb-true number child.number is) ∙ e))
-      by false e false is = ap (λ c. cond c (Some top) (lookup (nat_eq number) rest)) is
+  other_stands (Some child) top rest = grind (arith, common_steps, eqb-true)
 
   -- the mount that moves away is pushed by none
   pub leaver_stays : (parts copies : List (Mount ℕ))
       → lookup (nat_eq number) (pushes_from mounts left place size parts copies) ≡ None
   leaver_stays [] copies = refl
-  leaver_stays (part ∷ parts) copies = by (nat_eq part.number place.mount) ∙ leaver_stays parts (drop size copies)
-    where
-      by : (b : Bool) → lookup (nat_eq number) (cons_option (if b then None
-          else option_map (λ n. (n, top_of_copies nat_eq (take size copies) place))
-          (stander mounts left (record { mount = part.number; node = place.node })))
-          (pushes_from mounts left place size parts (drop size copies)))
-          ≡ lookup (nat_eq number) (pushes_from mounts left place size parts (drop size copies))
-      by true = refl
-      by false = other_stands (child_at nat_eq mounts (record { mount = part.number; node = place.node }))
-          (top_of_copies nat_eq (take size copies) place) (pushes_from mounts left place size parts (drop size copies))
+  leaver_stays (part ∷ parts) copies = grind (arith, common_steps, leaver_stays parts)

@@ -1,6 +1,6 @@
 -- Mounts and groups that change together, and the world that they are.
-use Rattle.std.proofs.Common.{◌≡◌, ℕ, Bool, true, false, List, [], ◌∷◌, map, nat_eq, refl, ap, subst, sym, true≢false, ◌∙◌, All, Contains, if◌then◌else◌}
-use Rattle.vt_spec.proofs.Common.{Among, Mount, Private, Propagation, Shared, Slave, ToShared, ToSlave, TypeWord, Unbindable, World, all_from_among, among-from_map, among-map, among_from_all, among_from_contains, detached, is_among, is_going, is_unbindable, list_any, map_alike, map_twice, regrouped, retyped, retyped_mount, taken_away, type_after, with_mounts, with_new_groups}
+use Rattle.std.proofs.Common.{◌≡◌, ℕ, Bool, true, false, List, [], ◌∷◌, map, nat_eq, refl, ap, subst, sym, true≢false, ◌∙◌, All, Contains, if◌then◌else◌, arith}
+use Rattle.vt_spec.proofs.Common.{Among, Mount, Private, Propagation, Shared, Slave, ToShared, ToSlave, TypeWord, Unbindable, World, all_from_among, among-from_map, among-map, among_from_all, among_from_contains, common_steps, detached, is_among, is_going, is_unbindable, list_any, map_alike, map_twice, regrouped, retyped, retyped_mount, taken_away, type_after, with_mounts, with_new_groups}
 use Rattle.vt_group.specs.Grouping.{Grouping, Has, LacksGroup, propagation_in}
 use Rattle.vt_group.specs.Laws.{shown, typed_by}
 use Rattle.vt_group.proofs.Sharing.{sharing_lives, sharing_regroups}
@@ -13,7 +13,7 @@ use Rattle.vt_laws_mounts.proofs.GroupsLiving.{all_live, tested_live}
 use Rattle.vt_laws_mounts.proofs.GroupsRetyped as retyping
 use Rattle.vt_propagate.specs.Falling.{left_by, moved_by}
 use Rattle.vt_propagate.specs.Laws.{DetachingIsSeen, RetypingIsSeen, SharingIsSeen, SlavesAreSeen}
-use Rattle.vt_retype.specs.Retyping.{AreTypedBut, shared_by, typed_entry, with_kind}
+use Rattle.vt_retype.specs.Retyping.{AreTypedBut, shared_by, typed_entry}
 use Rattle.vt_propagate.specs.Seen.{IsSeen}
 use Rattle.vt_laws_mounts.specs.Mounts.Attaching.{numbers_of}
 use Rattle.vt_laws_mounts.specs.Mounts.Receivers.{AllGroupsLive}
@@ -57,11 +57,11 @@ mounts-typed now [] = refl
 mounts-typed now (entry ∷ left) = ap (λ rest. typed_by now entry.mount ∷ rest) (mounts-typed now left)
 
 -- the mounts of a regrouped world are typed
-seen_after : (base : World ℕ) (left after : List MountEntry) (now : Grouping)
+seen_after : (base : World ℕ) (left : List MountEntry) {after : List MountEntry} {now : Grouping}
     → map (typed_by now) (mounts_in left) ≡ map (typed_by now) base.mounts → Has (regrouped nat_eq base) now
     → AllGroupsLive (regrouped nat_eq base) → after ≡ map (typed_entry now) left
     → IsSeen (regrouped nat_eq base) after now
-seen_after base left after now same has live is = record {
+seen_after base left {now} same has live is = record {
   mounts = ap mounts_in is ∙ mounts-typed now left ∙ same ∙ sym (ap (λ w. w.mounts) (regrouped_is_typed base now has));
   groups = has;
   living = live;
@@ -74,7 +74,7 @@ pub detaching_is_seen : DetachingIsSeen
 detaching_is_seen world kept left after before now gone points seen leaves is takes follows =
     let change = left_by gone points in
     let base = with_mounts world (map change world.mounts) in
-    subst (λ w. IsSeen w after now) (sym leaves) (seen_after base left after now (ap (map (typed_by now)) is)
+    subst (λ w. IsSeen w after now) (sym leaves) (seen_after base left (ap (map (typed_by now)) is)
     (subst (λ w. Has w now) leaves (takes world seen.groups seen.living))
     (subst AllGroupsLive leaves (all_live (taken_away nat_eq world gone)
     (taking_away_keeps_groups world gone (tested_live world seen.living))))
@@ -130,7 +130,7 @@ module _ (world : World ℕ) (live : AllGroupsLive world) (group : ℕ → ℕ) 
 -- where they get a type
 pub retyping_is_seen : RetypingIsSeen
 retyping_is_seen world group word named kept left after before now seen there lacks is retypes follows =
-    seen_after (base world seen.living group word named) left after now (ap (map (typed_by now)) is)
+    seen_after (base world seen.living group word named) left (ap (map (typed_by now)) is)
     (retypes world group named seen.groups seen.living refl lacks)
     (retyped_live world seen.living group word named there lacks)
     (follows (are_typed world kept before seen (numbers_of named) left (retyped_mount nat_eq group word named) is
@@ -143,7 +143,7 @@ unchanged (mount ∷ mounts) = ap (λ rest. mount ∷ rest) (unchanged mounts)
 -- where they become slaves
 pub slaves_are_seen : SlavesAreSeen
 slaves_are_seen world group named kept after before now seen there lacks retypes follows =
-    seen_after (base world seen.living group ToSlave named) kept after now (ap (map (typed_by now)) seen.mounts
+    seen_after (base world seen.living group ToSlave named) kept (ap (map (typed_by now)) seen.mounts
     ∙ map_alike (typed_by now) (λ mount. typed_by now (retyped_mount nat_eq group ToSlave named mount)) world.mounts
     (λ mount m. typed mount (chosen world seen.living group ToSlave named mount))
     ∙ sym (map_twice (typed_by now) (retyped_mount nat_eq group ToSlave named) world.mounts))
@@ -175,13 +175,7 @@ shared_mount now numbers mount =
 mounts-shared : (now : Grouping) (numbers : List ℕ) (kept : List MountEntry)
     → mounts_in (map (shared_by now numbers) kept) ≡ map (shared_mount now numbers) (mounts_in kept)
 mounts-shared now numbers [] = refl
-mounts-shared now numbers (entry ∷ kept) = λ i. by (is_among nat_eq entry.mount.number numbers) i
-    ∷ mounts-shared now numbers kept i
-  where
-    by : (b : Bool) → (if b then with_kind (propagation_in now entry.mount.number) entry else entry).mount
-        ≡ (if b then record entry.mount { propagation = propagation_in now entry.mount.number } else entry.mount)
-    by true = refl
-    by false = refl
+mounts-shared now numbers (entry ∷ kept) = grind (arith, common_steps, mounts-shared now numbers kept)
 
 -- and where they become shared
 pub sharing_is_seen : SharingIsSeen

@@ -80,17 +80,18 @@ module _ (world : World ℕ) (first second : List ℕ) where
       rests false o e = refl
 
   -- on a mount that stays at first, and has fallen then
-  fallen_point : (place below : Location ℕ) → is_going nat_eq first place.mount ≡ false → down place ≡ Some below
+  fallen_point : (place : Location ℕ) {below : Location ℕ} → is_going nat_eq first place.mount ≡ false → down place
+      ≡ Some below
       → (mount_at nat_eq left place).mount_point ≡ Some (end_of falls (length world.mounts) below)
-  fallen_point place below stays e = ap (λ (mount : Mount ℕ). mount.mount_point) (taken world first place.mount)
+  fallen_point place stays e = ap (λ (mount : Mount ℕ). mount.mount_point) (taken world first place.mount)
       ∙ ap (λ (mount : Mount ℕ). mount.mount_point) (staying_is_placed world first (mount_at nat_eq world place)
       (ap (is_going nat_eq first) (number-mount_in world.mounts place.mount) ∙ stays))
       ∙ ap (option_map (mount_point_left nat_eq world first)) e
 
-  fall_further : (a b c : ℕ) (place below : Location ℕ) → down place ≡ Some below
+  fall_further : (a b c : ℕ) (place : Location ℕ) {below : Location ℕ} → down place ≡ Some below
       → FallAlike a (suc b) c below → FallAlike (length world.mounts) b c below
       → FallAlike (suc a) (suc b) (suc c) place
-  fall_further a b c place below e goes stays =
+  fall_further a b c place {below} e goes stays =
       by (is_going nat_eq first place.mount) refl (is_going nat_eq second place.mount) refl
     where
       through : (gone : List ℕ) (goes : Bool) → is_going nat_eq gone place.mount ≡ goes
@@ -105,7 +106,7 @@ module _ (world : World ℕ) (first second : List ℕ) where
           (goes_at_once place.mount ∙ ap (λ t. t || is_going nat_eq second place.mount) f)))
       by false f true g = ap (end_of falls_then (suc b)) (end-here falls (suc a) place (through first false f))
           ∙ end-more falls_then b place (end_of falls (length world.mounts) below)
-          (ap (λ t. if t then (mount_at nat_eq left place).mount_point else None) g ∙ fallen_point place below f e)
+          (ap (λ t. if t then (mount_at nat_eq left place).mount_point else None) g ∙ fallen_point place f e)
           ∙ stays ∙ sym (end-more falls_at_once c place below (through (first ++ second) true
           (goes_at_once place.mount ∙ (λ i. f i || g i))))
       by false f false g = ap (end_of falls_then (suc b)) (end-here falls (suc a) place (through first false f))
@@ -145,10 +146,10 @@ module _ (world : World ℕ) (first second : List ℕ) where
             let in_second : rank_at below ≤ y.0 = omega (arith, child, more_then, v) in
             let in_all : rank_at below ≤ z.0 = omega (arith, child, more_at_once, w) in
             subst (λ k. FallAlike k b c place) (sym u) (subst (λ k. FallAlike (suc x.0) k c place) (sym v)
-            (subst (λ k. FallAlike (suc x.0) (suc y.0) k place) (sym w) (fall_further x.0 y.0 z.0 place below e
+            (subst (λ k. FallAlike (suc x.0) (suc y.0) k place) (sym w) (fall_further x.0 y.0 z.0 place e
             (later x.0 (suc y.0) z.0 below few_below in_first (omega (arith, in_second)) in_all)
-            (later (length world.mounts) y.0 z.0 below few_below (rank_bounded world one all below.mount)
-            in_second in_all))))
+            (later (length world.mounts) y.0 z.0 below few_below (rank_bounded world one all below.mount) in_second
+            in_all))))
 
     abbrev points_alike : Option (Location ℕ) → Type 0
     points_alike o =

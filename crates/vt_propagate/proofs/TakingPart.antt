@@ -9,11 +9,11 @@ use Rattle.vt_propagate.proofs.Found.{counts, numbered, numbered_again, passing}
 use Rattle.vt_laws_mounts.specs.Mounts.Attaching.{numbers_of}
 use Rattle.vt_laws_mounts.proofs.mounts.Receivers.{receivers_there}
 
-module _ (world : World ℕ) (kept : List MountEntry) (grouping : Grouping) (seen : IsSeen world kept grouping) where
+module _ {world : World ℕ} {kept : List MountEntry} {grouping : Grouping} (seen : IsSeen world kept grouping) where
   -- the mount at a place
-  pub mount_at-found : (place : Location ℕ) (mount : Mount ℕ) → Some mount ≡ numbered (mounts_in kept) place.mount
+  pub mount_at-found : (place : Location ℕ) {mount : Mount ℕ} → Some mount ≡ numbered (mounts_in kept) place.mount
       → mount_at nat_eq world place ≡ mount
-  mount_at-found place mount found =
+  mount_at-found place found =
       ap (λ mounts. unwrap_or (numbered mounts place.mount) (no_mount place.mount)) (sym seen.mounts)
       ∙ ap (λ o. unwrap_or o (no_mount place.mount)) (sym found)
 
@@ -27,15 +27,15 @@ module _ (world : World ℕ) (kept : List MountEntry) (grouping : Grouping) (see
 
   -- the parts of an event are its mount and the receivers that code finds
   pub parts-found : (under : ℕ → ℕ → ℕ → Bool) → ReachesAs world under → are_ascending (mounts_in kept) ≡ true
-      → (place : Location ℕ) (parent : Mount ℕ) → Some parent ≡ numbered (mounts_in kept) place.mount
+      → (place : Location ℕ) {parent : Mount ℕ} → Some parent ≡ numbered (mounts_in kept) place.mount
       → (ids : List MountId) → counts ids ≡ numbers_of (receivers_of nat_eq world parent)
       → parent ∷ passing (joins under place parent) (mounts_in kept) ids ≡ parts_of nat_eq world place
-  parts-found under reaches up place parent found ids told =
+  parts-found under reaches up place {parent} found ids told =
       ap (λ list. parent ∷ filter (joins under place parent) list) (receivers-numbered up parent ids told)
       ∙ (λ i. at i ∷ filter (λ mount. same mount i) (receivers_of nat_eq world (at i)))
     where
       at : parent ≡ mount_at nat_eq world place
-      at = sym (mount_at-found place parent found)
+      at = sym (mount_at-found place found)
 
       same : (mount : Mount ℕ) → joins under place parent mount ≡ takes_part nat_eq world place mount
       same mount = λ i. not (nat_eq place.mount mount.number) && is_some mount.namespace

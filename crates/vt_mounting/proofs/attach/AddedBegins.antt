@@ -73,14 +73,27 @@ pub record KeepsAdded (value : WorldValue) (added : List (Mount ℕ)) (more less
     mounts = one.mounts + times (λ (mount : Mount ℕ). nat_eq (counted one.count) mount.filesystem) added;
   }) (shown value.filesystems)
 
-module _ (value : WorldValue) (whole : IsHeld value) (added : List (Mount ℕ)) (tasks : Tasks)
-    (more less : List (Location ℕ))
-    (inside : Option ℕ → Bool) (nowhere_stays : inside None ≡ false) (namespaces : List (Namespace ℕ))
-    (is : IsAdded value added tasks more less (λ mount. inside mount.namespace)) (gained : List Inode) (k : Kept)
-    (keeps : KeepsAdded value added more less gained k) (uses_gained : (test : Inode → Bool)
-    → times test (map (inode_at (with_added value added tasks)) (places_of added)) ≡ times test gained)
-    (gained_there : (was : FilesystemEntry) → Among was value.filesystems
-    → AreThere (counted was.count) (inodes_seen was) gained) where
+-- Mounts are added, the inodes that they use are gained, and the mounts of a namespace may go.
+pub record AddedMayGo (value : WorldValue) (added : List (Mount ℕ)) (tasks : Tasks) (more less : List (Location ℕ))
+    (inside : Option ℕ → Bool) (gained : List Inode) (k : Kept) : Type 0 where
+  pub whole : IsHeld value
+  pub nowhere_stays : inside None ≡ false
+  pub is : IsAdded value added tasks more less (λ mount. inside mount.namespace)
+  pub keeps : KeepsAdded value added more less gained k
+  pub uses_gained : (test : Inode → Bool)
+      → times test (map (inode_at (with_added value added tasks)) (places_of added)) ≡ times test gained
+  pub gained_there : (was : FilesystemEntry) → Among was value.filesystems
+      → AreThere (counted was.count) (inodes_seen was) gained
+
+module _ {value : WorldValue} {added : List (Mount ℕ)} {tasks : Tasks} {more less : List (Location ℕ)}
+    {inside : Option ℕ → Bool} {gained : List Inode} {k : Kept}
+    (may_go : AddedMayGo value added tasks more less inside gained k) (namespaces : List (Namespace ℕ)) where
+  open may_go use {whole, nowhere_stays, is, keeps, uses_gained, gained_there}
+
+  -- without what is added
+  abbrev still : Begins.MayGo value value.tasks [] [] inside
+  still = record { whole = whole; moves = nothing_moves value; nowhere_stays = nowhere_stays }
+
   abbrev world : World ℕ
   world = world_of value
 
@@ -91,8 +104,7 @@ module _ (value : WorldValue) (whole : IsHeld value) (added : List (Mount ℕ)) 
   goes mount = inside mount.namespace
 
   goes_attached : (mount : Mount ℕ) → goes mount ≡ true → is_some mount.namespace ≡ true
-  goes_attached = Begins.goes_attached value whole value.tasks [] []
-      (nothing_moves value) inside nowhere_stays namespaces
+  goes_attached = Begins.goes_attached still namespaces
 
   abbrev pub ended : World ℕ
   ended = record base { mounts = map (gone_if goes) base.mounts; namespaces = namespaces }
@@ -109,30 +121,28 @@ module _ (value : WorldValue) (whole : IsHeld value) (added : List (Mount ℕ)) 
   entry_mount entry m = among-append world.mounts added entry.mount
       (subst (Among entry.mount) keeps.mounts (among-map (λ (e : MountEntry). e.mount) k.mounts entry m))
 
-  point_on : (mount : Mount ℕ) → Among mount world.mounts → (place : Location ℕ) → mount.mount_point ≡ Some place
+  point_on : (mount : Mount ℕ) → Among mount world.mounts → {place : Location ℕ} → mount.mount_point ≡ Some place
       → is_among nat_eq place.mount (map (λ x. x.number) world.mounts) ≡ true
-  point_on mount m place e = among_from_list_all (is_on world.mounts) (all_locations world ++ places_of world.mounts)
-      places place
-      (among-append_right (all_locations world) (places_of world.mounts) place
+  point_on mount m {place} e = among_from_list_all (is_on world.mounts) (all_locations world ++ places_of world.mounts)
+      places place (among-append_right (all_locations world) (places_of world.mounts) place
       (among-append_right (map Rattle.vt_spec.specs.Machine.Mounts.root_of world.mounts) _ place
       (Rattle.vt_laws_mounts.proofs.letting_go.Lists.among-filter_map
       (λ (x : Mount ℕ). x.mount_point) world.mounts mount place m e)))
 
-  same_parent : (mount : Mount ℕ) → Among mount world.mounts → (place : Location ℕ) → mount.mount_point ≡ Some place
+  same_parent : (mount : Mount ℕ) → Among mount world.mounts → {place : Location ℕ} → mount.mount_point ≡ Some place
       → mount_at nat_eq base place ≡ mount_at nat_eq world place
-  same_parent mount m place e = found_before world.mounts added place.mount (point_on mount m place e)
+  same_parent mount m {place} e = found_before world.mounts added place.mount (point_on mount m e)
 
   -- what mounts stand on is attached, and stays with them
-  pub parent_is : (mount : Mount ℕ) → Among mount base.mounts → goes mount ≡ false → (place : Location ℕ)
+  pub parent_is : (mount : Mount ℕ) → Among mount base.mounts → goes mount ≡ false → {place : Location ℕ}
       → mount.mount_point ≡ Some place
       → (is_some (mount_at nat_eq base place).namespace ≡ true) × (goes (mount_at nat_eq base place) ≡ false)
-  parent_is mount m stays place e = ⊎_elim (λ old. (
-    ap (λ (x : Mount ℕ). is_some x.namespace) (same_parent mount old place e)
+  parent_is mount m stays {place} e = ⊎_elim (λ old. (
+    ap (λ (x : Mount ℕ). is_some x.namespace) (same_parent mount old e)
         ∙ (and_parts (is_some (mount_at nat_eq world place).namespace) true
         (sym (ap (λ o. list_all (λ at. is_some (mount_at nat_eq world at).namespace) (option_to_list o)) e)
         ∙ among_from_list_all (stands_on_attached world) world.mounts stand.on_attached mount old)).0,
-    ap goes (same_parent mount old place e) ∙ Begins.parent_stays value whole value.tasks [] []
-        (nothing_moves value) inside nowhere_stays namespaces mount old stays place e,
+    ap goes (same_parent mount old e) ∙ Begins.parent_stays still namespaces mount old stays e,
   )) (λ new. is.parent mount new place e) (among-append world.mounts added mount m)
 
   stand_ended : MountsStand ended
@@ -152,7 +162,7 @@ module _ (value : WorldValue) (whole : IsHeld value) (added : List (Mount ℕ)) 
       still : (x : Mount ℕ) → Among x base.mounts → goes x ≡ false → (o : Option (Location ℕ)) → x.mount_point ≡ o
           → list_all (λ place. is_some (mount_at nat_eq ended place).namespace) (option_to_list o) ≡ true
       still x m stays None e = refl
-      still x m stays (Some place) e = let parent = parent_is x m stays place e in
+      still x m stays (Some place) e = let parent = parent_is x m stays e in
           ap (λ (y : Mount ℕ). is_some y.namespace && true)
           (Begins.mount_in_gone goes goes_attached base.mounts place.mount
           ∙ ap (λ b. cond b (detached (mount_at nat_eq base place)) (mount_at nat_eq base place)) parent.1)
@@ -218,8 +228,7 @@ module _ (value : WorldValue) (whole : IsHeld value) (added : List (Mount ℕ)) 
         inodes = refl;
         mounts = omega (arith, counts, all, gone);
         mounted = some (was.mounts) (times (λ (mount : Mount ℕ). nat_eq (counted was.count) mount.filesystem) added)
-            ((Begins.begins value whole value.tasks [] []
-            (nothing_moves value) inside nowhere_stays namespaces).midway.shown (shown_entry was)
+            ((Begins.begins still namespaces).midway.shown (shown_entry was)
             (among-map shown_entry value.filesystems was m)).mounted;
       }
     where
@@ -240,7 +249,7 @@ module _ (value : WorldValue) (whole : IsHeld value) (added : List (Mount ℕ)) 
       same_inode : (x : Mount ℕ) → Among x world.mounts → (o : Option (Location ℕ)) → x.mount_point ≡ o
           → map (inode_at base) (option_to_list o) ≡ map (inode_at world) (option_to_list o)
       same_inode x m None e = refl
-      same_inode x m (Some place) e = λ i. ((same_parent x m place e i).filesystem, place.node) ∷ []
+      same_inode x m (Some place) e = λ i. ((same_parent x m e i).filesystem, place.node) ∷ []
 
       by : (x : Mount ℕ) → Among x base.mounts → (b : Bool) → goes x ≡ b
           → cond b (inodes_of_mount_point base x) [] ≡ cond b (inodes_of_mount_point world x) []
@@ -293,8 +302,8 @@ module _ (value : WorldValue) (whole : IsHeld value) (added : List (Mount ℕ)) 
     uses = uses_are;
     writers = λ entry m. let counts = keeps.writers entry m in let same = is.writes entry.mount.number in omega
         (arith, counts, same);
-    well = λ entry m going. ⊎_elim (λ old. Begins.point_is_located value whole value.tasks [] []
-        (nothing_moves value) inside nowhere_stays namespaces entry.mount old entry.mount.mount_point refl)
+    well = λ entry m going. ⊎_elim (λ old. Begins.point_is_located still namespaces entry.mount old
+        entry.mount.mount_point refl)
         (λ new. absurd (true≢false (sym going ∙ is.stays entry.mount new))) (entry_mount entry m);
     shown = λ one m. let from = shown_was one m in subst (IsShown value ended gained []) (sym from.2)
         (shown_is from.0 from.1);
@@ -307,8 +316,7 @@ module _ (value : WorldValue) (whole : IsHeld value) (added : List (Mount ℕ)) 
     stand = stand_ended;
     located = located_ended;
     leaves = leaves_alike (grown value whole added) ended refl
-        (λ n. Begins.gone_showing goes goes_attached n base.mounts) value
-        (leaves_grown value whole added);
+        (λ n. Begins.gone_showing goes goes_attached n base.mounts) (leaves_grown value whole added);
     same = refl;
   }
 

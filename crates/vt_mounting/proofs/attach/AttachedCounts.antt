@@ -1,5 +1,5 @@
 -- Mounts that come after all others: nothing is on them, and their numbers are greater.
-use Rattle.std.proofs.Common.{◌≡◌, refl, sym, ap, ◌∙◌, inl, inr, ℕ, ◌+◌, ◌<◌, ◌%◌, ◌/◌, ◌==◌, nat_eq, eqb-true, nat_lt, Bool, true, false, true≢false, ◌&&◌, ◌||◌, List, [], ◌∷◌, ◌++◌, map, flat_map, if◌then◌else◌, arith, ltb-true, ne_eqb}
+use Rattle.std.proofs.Common.{◌≡◌, refl, sym, ◌∙◌, ℕ, ◌<◌, ◌%◌, ◌/◌, ◌==◌, nat_eq, eqb-true, nat_lt, Bool, true, false, true≢false, ◌&&◌, ◌||◌, List, [], ◌∷◌, ◌++◌, map, flat_map, arith, ltb-true, ne_eqb}
 use Rattle.vt_spec.proofs.Common.{Task, all_locations, and-false, common_steps, is_among, list_all, locations_of}
 use Rattle.vt_spec.specs.Machine.Mounts as meant
 use Rattle.vt_mounting.proofs.Common.{Among, CountsItsUses, IsHeld, WorldValue, among-append_left, among-append_right, among-from_map, among-map, among_from_list_all, among_numbers, are_ascending, counted, is_among_numbers, is_counted_before, mount_of, mounts_in, times, world_of, writes_of}
@@ -13,10 +13,7 @@ use Rattle.vt_mounting.proofs.detach.FilesSeen.{mount_named}
 pub times_none : {A : Type 0} (test : A → Bool) (xs : List A) → ((x : A) → Among x xs → test x ≡ false)
     → times test xs ≡ 0
 times_none test [] none = refl
-times_none test (x ∷ xs) none =
-    let rest = times_none test xs (λ y m. none y (inr m)) in
-    let first : ◌≡◌ {A = ℕ} (if test x then 1 else 0) 0 = ap (λ b. if b then 1 else 0) (none x (inl refl)) in
-    λ i. first i + rest i
+times_none test (x ∷ xs) none = grind (arith, common_steps, times_none test xs)
 
 writes_none : (number : ℕ) (tasks : List (Task ℕ))
     → ((location : meant.Location ℕ) → Among location (flat_map locations_of tasks)
@@ -35,7 +32,7 @@ writes_none number (task ∷ tasks) none =
     )
 
 -- Mounts that come after all others: nothing is on them
-module _ (value : WorldValue) (whole : IsBeside value) (new : List Mount)
+module _ {value : WorldValue} (whole : IsBeside value) (new : List Mount)
     (ascending : are_ascending (mounts_in value.mounts ++ map mount_of new) ≡ true) where
   -- no location is on one of them
   not_on_new : (mount : Mount) → Among mount new → (location : meant.Location ℕ)

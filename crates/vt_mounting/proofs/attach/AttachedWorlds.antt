@@ -17,9 +17,16 @@ inode_is_there None e = e
 inode_is_there (Some inode) e = refl
 
 -- Mounts that were attached in a world, with these filesystems
-module _ (after : World ℕ) (is_world : IsUnderWay after) (front : List (meant.Mount ℕ)) (new : List Mount)
-    (after_mounts : after.mounts ≡ front ++ map mount_of new) (slots : list_all has_small_nodes new ≡ true)
-    (own : All HasOwnNodes after.filesystems) where
+-- Mounts were attached behind others in a world.
+pub record WereAttached (after : World ℕ) (front : List (meant.Mount ℕ)) (new : List Mount) : Type 0 where
+  pub is_world : IsUnderWay after
+  pub after_mounts : after.mounts ≡ front ++ map mount_of new
+  pub slots : list_all has_small_nodes new ≡ true
+  pub own : All HasOwnNodes after.filesystems
+
+module _ {after : World ℕ} {front : List (meant.Mount ℕ)} {new : List Mount} (attached : WereAttached after front new) where
+  open attached use {is_world, after_mounts, slots, own}
+
   new_there : (mount : Mount) → Among mount new → Among (mount_of mount) after.mounts
   new_there mount m = subst (Among (mount_of mount)) (sym after_mounts)
       (among-append_right front (map mount_of new) (mount_of mount) (among-map mount_of new mount m))
@@ -33,9 +40,9 @@ module _ (after : World ℕ) (is_world : IsUnderWay after) (front : List (meant.
       (new_there mount m))
 
   -- a mount point is in the filesystem that its mount shows
-  point_shown : (mount : Mount) → Among mount new → (point : Location) → mount.mount_point ≡ Some point
+  point_shown : (mount : Mount) → Among mount new → {point : Location} → mount.mount_point ≡ Some point
       → (mount_at nat_eq after (location_of point)).filesystem ≡ counted point.node.filesystem.count
-  point_shown mount m point is =
+  point_shown mount m {point} is =
       let directory : is_directory_at nat_eq after (location_of point) ≡ true =
       (and_parts _ _ (subst (λ o. list_all (is_directory_at nat_eq after) (option_to_list (option_map location_of o))
       ≡ true) is (roots mount m).1)).0 in
@@ -48,7 +55,7 @@ module _ (after : World ℕ) (is_world : IsUnderWay after) (front : List (meant.
   new_found mount m = record {
     root = ap (λ (found : meant.Mount ℕ). (found.filesystem, number_of mount.root))
         (found_itself after.mounts is_world.mounts.one_number (mount_of mount) (new_there mount m));
-    point = λ point is. ap (λ filesystem. (filesystem, number_of point.node)) (point_shown mount m point is);
+    point = λ point is. ap (λ filesystem. (filesystem, number_of point.node)) (point_shown mount m is);
   }
 
   pub there_in : (entry : FilesystemEntry) → Among (filesystem_seen entry) after.filesystems → (node : NodeRef)
@@ -82,7 +89,7 @@ module _ (after : World ℕ) (is_world : IsUnderWay after) (front : List (meant.
           (option_to_list (option_map location_of o)) ≡ true) is (roots mount n).1)).0 in
           λ i. there_in entry m point.node (ap (λ number. is_directory_node
           ((filesystem_numbered nat_eq after number).files.tree.node (number_of point.node)))
-          (sym (point_shown mount n point is)) ∙ directory) i && true
+          (sym (point_shown mount n is)) ∙ directory) i && true
 
       both : (test : Inode → Bool) (xs ys : List Inode) → list_all test xs ≡ true → list_all test ys ≡ true
           → list_all test (xs ++ ys) ≡ true

@@ -2,7 +2,7 @@
 use Rattle.std.proofs.Common.{◌≡◌, ◌<◌, refl, sym, ap, subst, ◌∙◌, ⊎_elim, ℕ, ◌+◌, ◌*◌, ◌%◌, ◌==◌, nat_eq, eq-eqb, Bool, true, false, true≢false, ◌&&◌, List, [], ◌∷◌, ◌++◌, map, find, length, Some, is_some, arith}
 use Rattle.vt_spec.proofs.Common.{Permit, TaskName, ToBind, World, among_from_contains, attach, bind_tree, common_steps, group_of, has_members, holds_of, is_among, is_located_well, is_member_of, length-map, list_all, mount_at, parts_of}
 use Rattle.vt_spec.specs.Machine.Mounts as meant
-use Rattle.vt_mounting.proofs.Common.{Among, CountsItsMounts, Filesystems, Grouping, HasGroup, IsCounted, IsHeld, IsSeen, KeepsTo, MountEntry, OneNumberAMount, WorldValue, all_in_use, among_from_all, any_from_among, are_ascending, counted, counts_from, found_is_there, inodes_seen, is_counted_before, location_of, mount_of, mounts_in, mounts_of_worlds_stand, new_group, parts_apart, planned_copies, world_of, worlds_have_trees}
+use Rattle.vt_mounting.proofs.Common.{Among, CountsItsMounts, Filesystems, Grouping, HasGroup, IsCounted, IsHeld, IsSeen, KeepsTo, MountEntry, OneNumberAMount, WorldValue, all_in_use, among_from_all, any_from_among, are_ascending, counted, counts_from, found_is_there, inodes_seen, is_counted_before, location_of, mount_of, mounts_in, mounts_of_worlds_stand, parts_apart, planned_copies, world_of, worlds_have_trees}
 use Rattle.vt_laws_mounts.proofs.counts.using.MountRoots as Roots
 use Rattle.vt_laws_mounts.proofs.letting_go.mounting.AttachedSwept.{binds_keep_all}
 use Rattle.vt_location.specs.declared.locations.Location.{Location}
@@ -21,7 +21,6 @@ use Rattle.vt_mounting.proofs.detach.Staying.{IsDone}
 use Rattle.vt_mounting.specs.Attach.AttachedGroups.{HasGroupsOf}
 use Rattle.vt_mounting.specs.Attach.AttachedNumbers.{numbers_of_parts}
 use Rattle.vt_mounting.specs.Attach.Grafted.{IsGrafted, MayGraft}
-use Rattle.vt_mounting.specs.Attach.PlannedUses.{point_seen}
 use Rattle.vt_mounting.proofs.attach.AttachedCounts.{lower_numbers}
 use Rattle.vt_mounting.proofs.attach.CopiesAscend.{planned_ascend}
 use Rattle.vt_mounting.proofs.attach.Beside.{is_beside}
@@ -144,8 +143,8 @@ module _ (value : WorldValue) (whole : IsHeld value) (name : TaskName) (source :
       → IsDone value name permit (grafted_value value mounts groups filesystems overlays next)
   bind_is_done mounts groups filesystems overlays next is ascending odd grows =
       let attaches = is.plan world (is_seen value whole) whole.in_world.mounts.one_child parts_are in
-      let attach_is = plan_attaches world graft counts (map mount_of is.copies) (map new_group is.groups)
-      (map point_seen is.points) attaches binds (counts_from value.next) same_counts in
+      let attach_is = plan_attaches
+      attaches binds (counts_from value.next) same_counts in
       let rising = ap (λ list. are_ascending (mounts_in value.mounts ++ list)) attaches.copies_are
       ∙ rising_then ascending odd in
       let left_is = binds_keep_all (counts_from value.next) world permits.task (location_of source)
@@ -158,9 +157,15 @@ module _ (value : WorldValue) (whole : IsHeld value) (name : TaskName) (source :
       (bind_tree nat_eq world (location_of source) recursive) ≡ 2 * (length graft.parts.now * length graft.tree.now) =
       (λ i. 2 * (length (sym parts_are i) * length (sym tree_is i)))
       ∙ (λ i. 2 * (length-map graft.parts.now mount_of i * length-map graft.tree.now mount_of i)) in
-      graft_is_done value (is_beside value whole) value.filesystems
-      (same_base value whole) graft counts mounts groups filesystems overlays next is attaches tree_groups_there rising
-      whole name permit permits takes left_is
+      graft_is_done (record {
+        whole = is_beside value whole;
+        is_base = same_base value whole;
+        is = is;
+        attaches = attaches;
+        there = tree_groups_there;
+        ascending = rising;
+      }) next
+      whole permits takes left_is
       (subst (λ n. KeepsTo (is_counted_before n) (left_by value permits.task permit))
       (ap (λ n. value.next + n) sizes ∙ sym grows) named)
 

@@ -103,10 +103,7 @@ module _ (counts : Counts) (steps : 0 < counts.step) where
   number_at k = counted (counts.first + counts.step * (2 * k))
 
   pub numbers_grow : (a b : ℕ) → a < b → number_at a < number_at b
-  numbers_grow a b less =
-      let apart : 2 * a + 1 ≤ 2 * b = omega (arith, less) in
-      let more : counts.step * (2 * a + 1) ≤ counts.step * (2 * b) = mul-le-mul_left counts.step apart in
-      omega (arith, more, steps)
+  numbers_grow a b less = grind (arith, common_steps)
 
   module _ (world : World ℕ) (graft : Graft) (binds : graft.moves ≡ false) (one : OneNumberAMount world.mounts)
       (tree_once : OneNumberAMount (map mount_of graft.tree.now)) (some : 0 < length graft.tree.now) where

@@ -1,6 +1,6 @@
 -- Mounts that come after all others.
-use Rattle.std.proofs.Common.{◌≡◌, sym, ap, subst, ◌∙◌, ⊎_elim, inl, inr, refl, ℕ, ◌<◌, true, ◌&&◌, List, [], ◌∷◌, ◌++◌, ◌+◌, length, take, drop, get_or, nat_lt, lt-ltb, ltb-true}
-use Rattle.vt_spec.proofs.Common.{and_parts, list_all}
+use Rattle.std.proofs.Common.{◌≡◌, sym, subst, inl, inr, refl, ℕ, ◌<◌, true, ◌&&◌, List, [], ◌∷◌, ◌++◌, ◌+◌, length, take, drop, get_or, nat_lt, lt-ltb, ltb-true, arith}
+use Rattle.vt_spec.proofs.Common.{and_parts, common_steps, list_all}
 use Rattle.vt_mounting.proofs.Common.{Among, among-append_right, among_from_list_all, are_ascending, list_all_from_among}
 use Rattle.vt_location.specs.declared.mounts.Mount.{Mount}
 use Rattle.vt_mount.proofs.EnteringLemmas.{at_index}
@@ -15,12 +15,7 @@ among_at new i d less = subst (Among (get_or new i d)) (sym (at_index new i d le
 pub apart : (front back : List (meant.Mount ℕ)) → are_ascending (front ++ back) ≡ true
     → (a b : meant.Mount ℕ) → Among a front → Among b back → a.number < b.number
 apart [] back is a b m n = absurd m
-apart (first ∷ front) back is a b m n =
-    let parts = and_parts (list_all (λ later. nat_lt first.number later.number) (front ++ back)) _ is in
-    ⊎_elim (λ same. ltb-true a.number b.number (ap (λ (x : meant.Mount ℕ). nat_lt x.number b.number) same
-    ∙ among_from_list_all (λ later. nat_lt first.number later.number) (front ++ back) parts.0 b
-    (among-append_right front back b n)))
-    (λ later. apart front back parts.1 a b later n) m
+apart (first ∷ front) back is a b m n = grind (arith, common_steps, apart front, and_parts, among_from_list_all, ltb-true)
 
 pub ascending_joined : (front back : List (meant.Mount ℕ)) → are_ascending front ≡ true → are_ascending back ≡ true
     → ((a b : meant.Mount ℕ) → Among a front → Among b back → a.number < b.number)

@@ -1,6 +1,6 @@
 -- The groups that an attachment makes, against the types of its copies.
-use Rattle.std.proofs.Common.{◌≡◌, ◌⊎◌, refl, sym, ap, subst, ◌∙◌, true≢false, inl, inr, ℕ, nat_eq, eq-eqb, eqb-true, Bool, true, false, cond, not, List, map, Option, Some, None, is_some, option_map, unwrap_or, filter_map}
-use Rattle.vt_spec.proofs.Common.{Among, Copies, Graft, Location, Mount, Private, Propagation, Shared, Slave, Twig, Unbindable, World, all_from_among, among-filter_map, among-flat_map, among-from_filter_map, among-from_flat_map, among-from_map, among-map, any_among, any_from_among, contains_from_among, copies_at, copy_at, copy_type, graft_of, group_made, group_of, has_members, holds_of, image, is_among, is_among_numbers, is_destination, is_member_of, is_shared, master_after, mount_at, nearest_image, none_is_some, parts_of, then_some, twig_master, twig_of, type_at, type_at_part, when}
+use Rattle.std.proofs.Common.{◌≡◌, ◌⊎◌, refl, sym, ap, subst, ◌∙◌, true≢false, inl, inr, ℕ, nat_eq, eq-eqb, eqb-true, Bool, true, false, cond, not, List, map, Option, Some, None, is_some, option_map, unwrap_or, filter_map, arith}
+use Rattle.vt_spec.proofs.Common.{Among, Copies, Graft, Location, Mount, Private, Propagation, Shared, Slave, Twig, Unbindable, World, all_from_among, among-filter_map, among-flat_map, among-from_filter_map, among-from_flat_map, among-from_map, among-map, any_among, any_from_among, common_steps, contains_from_among, copies_at, copy_at, copy_type, graft_of, group_made, group_of, has_members, holds_of, image, is_among, is_among_numbers, is_destination, is_member_of, is_shared, master_after, mount_at, nearest_image, none_is_some, parts_of, then_some, twig_master, twig_of, type_at, type_at_part, when}
 use Rattle.vt_mounting.proofs.Common.{HasGroup}
 use Rattle.vt_laws_mounts.proofs.mounts.MountsFound.{number-mount_in}
 use Rattle.vt_mounting.specs.Attach.AttachedGroups.{FormedGroupsBegin, GroupsOfCopiesAreNamed, HasGroupsOf, all_copies, groups_formed}
@@ -21,25 +21,11 @@ module _ (new : Copies ℕ) where
   same_group : (o : Option ℕ) (mount : Mount ℕ) → is_shared mount.propagation ≡ true
       → group_of (type_at new o mount) ≡ group_of mount.propagation
   same_group None mount shared = refl
-  same_group (Some group) mount shared = by mount.propagation shared
-    where
-      by : (kind : Propagation ℕ) → is_shared kind ≡ true
-          → group_of (type_at new (Some group) (record mount { propagation = kind })) ≡ group_of kind
-      by (Shared own) e = refl
-      by (Slave master) e = absurd (true≢false (sym e))
-      by Private e = absurd (true≢false (sym e))
-      by Unbindable e = absurd (true≢false (sym e))
+  same_group (Some group) mount shared = grind (arith, common_steps)
 
   has_group : (o : Option ℕ) (mount : Mount ℕ) → is_some o ≡ true → is_some (group_of (type_at new o mount)) ≡ true
   has_group None mount some = absurd (true≢false (sym some))
-  has_group (Some group) mount some = by mount.propagation
-    where
-      by : (kind : Propagation ℕ) → is_some (group_of (type_at new (Some group) (record mount { propagation = kind })))
-          ≡ true
-      by (Shared own) = refl
-      by (Slave master) = refl
-      by Private = refl
-      by Unbindable = refl
+  has_group (Some group) mount some = grind (arith, common_steps)
 
 module _ (world : World ℕ) (new : Copies ℕ) (place : Location ℕ) (moves : Bool) (tree : List (Mount ℕ)) where
   abbrev target : Mount ℕ
@@ -68,38 +54,7 @@ module _ (world : World ℕ) (new : Copies ℕ) (place : Location ℕ) (moves : 
   begun : (part : Mount ℕ) (twig : Twig ℕ) (entry : ℕ × Option ℕ)
       → group_made nat_eq world new graft parts part twig ≡ Some entry
       → group_of (type_at_part nat_eq world new graft parts part twig) ≡ Some entry.0
-  begun part twig entry = by (is_destination nat_eq graft part.number)
-    where
-      at_first : (shared : Bool) → cond shared None
-          (option_map (λ group. (group, master_after twig.origin.propagation)) (group_of twig.propagation)) ≡ Some entry
-          → group_of twig.propagation ≡ Some entry.0
-      at_first true e = none_is_some entry e
-      at_first false e = first_given (λ group. master_after twig.origin.propagation) (group_of twig.propagation) entry e
-
-      image_made : (group : ℕ) (b : Bool) (above : Option ℕ)
-          → when b (image nat_eq new target twig group, above) ≡ Some entry
-          → Some (image nat_eq new target twig group) ≡ Some entry.0
-      image_made group true above e = ap (option_map (λ x. x.0)) e
-      image_made group false above e = none_is_some entry e
-
-      elsewhere : (kind : Propagation ℕ)
-          → then_some (group_of kind) (λ group. when (not (is_member_of nat_eq group target))
-          (image nat_eq new target twig group, nearest_image nat_eq world new parts target twig (world.master group)))
-          ≡ Some entry → group_of (copy_type nat_eq world new parts target twig kind) ≡ Some entry.0
-      elsewhere (Shared group) e = image_made group (not (is_member_of nat_eq group target))
-          (nearest_image nat_eq world new parts target twig (world.master group)) e
-      elsewhere (Slave master) e = none_is_some entry e
-      elsewhere Private e = none_is_some entry e
-      elsewhere Unbindable e = none_is_some entry e
-
-      by : (b : Bool) → cond b (twig_master twig) (then_some (group_of part.propagation)
-          (λ group. when (not (is_member_of nat_eq group target))
-          (image nat_eq new target twig group, nearest_image nat_eq world new parts target twig (world.master group))))
-          ≡ Some entry
-          → group_of (cond b twig.propagation (copy_type nat_eq world new parts target twig part.propagation))
-          ≡ Some entry.0
-      by true e = at_first (is_shared twig.origin.propagation) e
-      by false e = elsewhere part.propagation e
+  begun part twig entry = grind (arith, common_steps)
 
   made_in : (part : Mount ℕ) (twig : Twig ℕ) (entry : ℕ × Option ℕ) → Among part parts → Among twig graft.twigs
       → group_made nat_eq world new graft parts part twig ≡ Some entry

@@ -2,7 +2,7 @@
 -- it.
 use Rattle.std.proofs.Common.{◌≡◌, refl, sym, ap, subst, ◌∙◌, ⊎_elim, inl, inr, ℕ, ◌+◌, nat_eq, Bool, true, false, true≢false, cond, List, [], ◌∷◌, ◌++◌, map, filter, Option, is_some, arith, All}
 use Rattle.vt_spec.proofs.Common.{Copies, Filesystem, Fresh, IsWorld, Permit, Propagation, SameWorlds, TaskName, World, attach, attached_by, copies_from, filesystem_numbered, folded, has_its_root, has_members, is_among, is_overlay, list_all, map_twice, masters_with, parts_of}
-use Rattle.vt_mounting.proofs.Common.{Among, AttachesBy, CountsItsMounts, CountsItsUses, CountsWhatIsInIt, FilesystemEntry, Filesystems, Grouping, Grows, Has, HasOwnInodes, HasOwnNodes, Inode, InodesInUse, IsCounted, IsHeld, IsMountedSoOften, IsUnderWay, KeepsTo, MountEntry, MovesOnce, OverlaysAreNamed, OverlaysHaveNoUpper, Shown, WorldValue, WritersHaveLayers, all_from_among, among-append, among-from_map, among-map, among_from_all, any_same_worlds_are_worlds, any_same_worlds_keep_to_numbers, are_ascending, are_rising, counted, exchanged, filesystem_seen, filesystems_seen, has_only_named, inodes_seen, is_counted_before, layer_count, location_of, master_in, mount_of, mounts_entered, mounts_in, mounts_showing, moved_by, new_group, no_upper_is_in_any, numbers_at, overlays_seen, same_worlds_have_layers_alike, shown, shown_entry, times, times_append, typed, uses_are_exchanged_beside_overlays, with_kind, world_of, woven_lists_are_failing}
+use Rattle.vt_mounting.proofs.Common.{Among, AttachesBy, CountsItsMounts, CountsItsUses, CountsWhatIsInIt, FilesystemEntry, Filesystems, Grouping, Grows, Has, HasOwnInodes, HasOwnNodes, Inode, InodesInUse, IsCounted, IsHeld, IsMountedSoOften, IsUnderWay, KeepsTo, MountEntry, OverlaysAreNamed, OverlaysHaveNoUpper, Shown, WorldValue, WritersHaveLayers, all_from_among, among-append, among-from_map, among-map, among_from_all, any_same_worlds_are_worlds, any_same_worlds_keep_to_numbers, are_ascending, are_rising, counted, exchanged, filesystem_seen, filesystems_seen, has_only_named, inodes_seen, is_counted_before, layer_count, location_of, master_in, mount_of, mounts_entered, mounts_in, mounts_showing, moved_by, new_group, no_upper_is_in_any, numbers_at, overlays_seen, same_worlds_have_layers_alike, shown, shown_entry, times, times_append, typed, uses_are_exchanged_beside_overlays, with_kind, world_of, woven_lists_are_failing}
 use Rattle.vt_laws_mounts.specs.LettingGo.InUse.{HasTrees}
 use Rattle.vt_laws_worlds.specs.OverlaysStay.Woven.{ArePartedBy}
 use Rattle.vt_laws_worlds.proofs.overlays_stay.weaving.WovenLists.{woven_lists_are_passing}
@@ -30,13 +30,12 @@ use Rattle.vt_mounting.proofs.attach.Beside.{IsBeside, IsReadOnly}
 use Rattle.vt_mounting.specs.Attach.AttachedGroups.{HasGroupsOf, all_copies, groups_formed, type_of}
 use Rattle.vt_mounting.specs.Attach.Grafted.{IsGrafted}
 use Rattle.vt_mounting.specs.Attach.Moved.{typed_all, with_types}
-use Rattle.vt_mounting.specs.Attach.Planned.{Point, is_small, points_left, points_taken, with_planned, with_points}
+use Rattle.vt_mounting.specs.Attach.Planned.{Point, points_taken, with_planned, with_points}
 use Rattle.vt_mounting.specs.Attach.PlannedUses.{point_seen}
-use Rattle.vt_mounting.specs.Attach.Room.{has_small_nodes}
 use Rattle.vt_mounting.proofs.attach.AddedUses.{gained_by, showing}
 use Rattle.vt_mounting.proofs.attach.AttachedCounts.{unused_counts}
 use Rattle.vt_mounting.proofs.attach.FormedGroups.{formed_groups_begin, groups_of_copies_are_named}
-use Rattle.vt_mounting.proofs.attach.GraftedUses.{after, beside_overlays, changed_at, exchanged_then, gained_there, nothing_goes}
+use Rattle.vt_mounting.proofs.attach.GraftedUses.{CanEnter, after, beside_overlays, changed_at, exchanged_then, gained_there, nothing_goes}
 use Rattle.vt_mounting.proofs.attach.GrownGroups.{ascending_rises, attached_worlds_grow}
 use Rattle.vt_mounting.proofs.attach.MovedPoints.{points_are_moved}
 use Rattle.vt_mounting.proofs.attach.PlannedCounts.{exchanged_on, inodes_of_points, planned_shown}
@@ -76,7 +75,8 @@ pub overlays_same : (value : WorldValue) → IsBeside value → (copies : List M
     → overlays ≡ folded merged_by (map merged_seen value.overlays) copies
     → overlays_seen (overlays_kept overlays value.overlays) ≡ overlays_seen value.overlays
 overlays_same value whole copies overlays are =
-    seen_more value whole.overlays_rise (map mount_of copies) overlays (are ∙ merged_by_all copies (map merged_seen value.overlays))
+    seen_more value whole.overlays_rise (map mount_of copies)
+    (are ∙ merged_by_all copies (map merged_seen value.overlays))
 
 -- Beside the overlays of the code's world
 
@@ -97,15 +97,15 @@ base_plain_ones value whole base =
     (base_parted value whole base)
 
 -- where a tree is copied, its plan is what the policy attaches
-pub plan_attaches : (world : World ℕ) (graft : Graft) (counts : Counts) (copies : List (meant.Mount ℕ))
-    (new : List (ℕ × Option ℕ))
-    (points : List (ℕ × meant.Location ℕ)) → AttachesBy world graft counts copies new points → graft.moves ≡ false
+pub plan_attaches : {world : World ℕ} {graft : Graft} {counts : Counts} {copies : List (meant.Mount ℕ)}
+    {new : List (ℕ × Option ℕ)}
+    {points : List (ℕ × meant.Location ℕ)} → AttachesBy world graft counts copies new points → graft.moves ≡ false
     → (fresh : Fresh ℕ) → ((k : ℕ) → planned.counts_from counts k ≡ fresh k)
     → attach nat_eq world fresh (location_of graft.place) false (map mount_of graft.tree.now) ≡ record world {
       mounts = map (moved_by points) world.mounts ++ copies;
       master = folded (masters_with nat_eq) world.master new;
     }
-plan_attaches world graft counts copies new points attaches binds fresh same = (λ i. attached_by nat_eq world
+plan_attaches {world} {graft} attaches binds fresh same = (λ i. attached_by nat_eq world
     (copies_from nat_eq (λ k. sym (same k) i) (parts_of nat_eq world (location_of graft.place))
     (map mount_of graft.tree.now)) (location_of graft.place) (sym binds i) (map mount_of graft.tree.now))
     ∙ attaches.bind binds
@@ -125,14 +125,10 @@ pub record IsEntered (value : WorldValue) (base : Filesystems) (copies : List Mo
     (kinds : List (ℕ × Propagation ℕ)) (left : List Location) (mounts : List MountEntry)
     (filesystems : Filesystems) (overlays : List Merged) : Type 0 where
   pub types : List (ℕ × Propagation ℕ)
-  pub once : MovesOnce (mounts_in value.mounts) (map point_seen points)
-  pub left_are : map location_of left ≡ points_left points value.mounts
-  pub left_small : list_all is_small left ≡ true
+  pub can : CanEnter value base copies points left
   pub done : kept_with mounts filesystems overlays
       ≡ with_types types (with_planned copies points left (kept_with value.mounts base (map merged_seen value.overlays)))
   pub seen : mounts_in mounts ≡ map (changed_at points kinds) (mounts_in value.mounts) ++ map mount_of copies
-  pub slots : list_all has_small_nodes copies ≡ true
-  pub taken_small : list_all is_small (points_taken points value.mounts) ≡ true
 
 -- a mount that gets a type counts its uses as before
 typed_counts : (world : World ℕ) (types : List (ℕ × Propagation ℕ)) (entries : List MountEntry)
@@ -150,11 +146,14 @@ typed_counts world (new ∷ types) entries counts entry m = typed_counts world t
     by was true counted_so = record { uses = counted_so.uses; writers = counted_so.writers }
     by was false counted_so = counted_so
 
-module _ (value : WorldValue) (whole : IsBeside value) (base : Filesystems) (is_base : IsBase value base)
-    (copies : List Mount) (points : List Point) (kinds : List (ℕ × Propagation ℕ)) (left : List Location)
-    (formed : List (ℕ × Option ℕ)) (mounts : List MountEntry) (groups : Grouping) (filesystems : Filesystems)
-    (overlays : List Merged) (next : ℕ) (is : IsEntered value base copies points kinds left mounts filesystems overlays)
-    (ascending : are_ascending (mounts_in value.mounts ++ map mount_of copies) ≡ true) where
+module _ {value : WorldValue} {base : Filesystems} (is_base : IsBase value base) {copies : List Mount}
+    {points : List Point} {kinds : List (ℕ × Propagation ℕ)} {left : List Location} {mounts : List MountEntry}
+    {filesystems : Filesystems} {overlays : List Merged}
+    (is : IsEntered value base copies points kinds left mounts filesystems overlays)
+    (formed : List (ℕ × Option ℕ)) (groups : Grouping) (next : ℕ) where
+  open is use {can}
+  open can use {whole, ascending}
+
   abbrev new : WorldValue
   new = grafted_value value mounts groups filesystems overlays next
 
@@ -237,16 +236,12 @@ module _ (value : WorldValue) (whole : IsBeside value) (base : Filesystems) (is_
       (sym (ap (λ (one : Shown). one.inodes) from.2))
       (subst (λ (world : World ℕ). IsCounted world (filesystem_numbered nat_eq world (counted from.0.count))
       (exchanged (counted from.0.count) gains losses (inodes_seen from.0)))
-      (nothing_goes value base master copies points kinds whole is_base.own
-      (under is_world) is_base.roots is.once left is.left_are is.left_small is.taken_small is.slots ascending is_world)
+      (nothing_goes can master kinds (under is_world) is_world)
       (uses_are_exchanged_beside_overlays (with_base value base) entered_world gains losses (counted from.0.count)
       (inodes_seen from.0) is_base.trees is_base.in_use (no_upper_is_in_any entered_world (counted from.0.count)
-      no_upper_then) (exchanged_then value base master copies points kinds whole is_base.own
-      (under is_world) is_base.roots is.once left is.left_are is.left_small is.taken_small is.slots ascending
+      no_upper_then) (exchanged_then can master kinds (under is_world)
       (counted from.0.count)) (is_base.inodes from.0 from.1)
-      (gained_there value base master copies points kinds whole is_base.own
-      (under is_world) is_base.roots is.once left is.left_are is.left_small is.taken_small is.slots ascending
-      from.0 from.1))))
+      (gained_there can master kinds (under is_world) from.0 from.1))))
 
   shows : Has entered_world groups → IsWorld nat_eq entered_world → ShowsAs entered_world new
   shows has is_world = record {
@@ -283,7 +278,7 @@ module _ (value : WorldValue) (whole : IsBeside value) (base : Filesystems) (is_
       (points_count (world_of value) points value.mounts whole.uses) entry old in
       record { uses = was.uses; writers = was.writers })
       (λ added. let from = among-from_map unused_entry copies entry added in
-      let was = unused_counts value whole copies ascending from.0 from.1 in
+      let was = unused_counts whole copies ascending from.0 from.1 in
       subst (CountsItsUses (world_of new)) (sym from.2) (record { uses = was.uses; writers = was.writers }))
       (among-append (with_points points value.mounts) (map unused_entry copies) entry m)
 
@@ -313,7 +308,7 @@ module _ (value : WorldValue) (whole : IsBeside value) (base : Filesystems) (is_
     overlays = all_from_among (IsMountedSoOften (world_of new)) new.overlays (λ entry m.
         among_from_all (IsMountedSoOften (record (world_of value) {
           mounts = mounts_in value.mounts ++ map mount_of copies;
-        })) new.overlays (counted_more value whole.overlays_rise (map mount_of copies) overlays
+        })) new.overlays (counted_more value whole.overlays_rise (map mount_of copies)
         (merged_are ∙ merged_by_all copies (map merged_seen value.overlays)) whole.overlays) entry m
         ∙ times_append (λ (mount : meant.Mount ℕ). nat_eq entry.number mount.filesystem) (mounts_in value.mounts)
         (map mount_of copies) ∙ sym (showing_at entry.number));
@@ -329,12 +324,12 @@ module _ (value : WorldValue) (whole : IsBeside value) (base : Filesystems) (is_
   entered_held has is_world named writers keeps = (
     record {
       in_world = any_same_worlds_are_worlds entered_world (world_of new) same is_world;
-      groups = shown_has entered_world new (shows has is_world) is_world;
+      groups = shown_has (shows has is_world) is_world;
       given = any_same_worlds_keep_to_numbers (is_counted_before next) entered_world (world_of new) same keeps;
       mounts = counts_then.uses;
       filesystems = all_from_among (CountsItsMounts (world_of new)) filesystems (λ entry m. record {
         mounts = counts_then.mounts entry m;
-        inodes = shown_is_counted entered_world new (shows has is_world) is_world entry m
+        inodes = shown_is_counted (shows has is_world) is_world entry m
             (any_same_worlds_are_worlds entered_world (world_of new) same is_world);
       });
       own_inodes = all_from_among HasOwnInodes filesystems own_then;
@@ -356,27 +351,36 @@ module _ (value : WorldValue) (whole : IsBeside value) (base : Filesystems) (is_
   )
     where
       same : SameWorlds entered_world (world_of new)
-      same = shown_is_same entered_world new (shows has is_world) is_world
+      same = shown_is_same (shows has is_world) is_world
 
   -- so the event is done, where nothing goes
-  pub entered_is_done : IsHeld value → Has entered_world groups → (name : TaskName) (permit : Permit ℕ)
+  pub entered_is_done : IsHeld value → Has entered_world groups → {name : TaskName} {permit : Permit ℕ}
       (permits : Permits value name permit) → TakesNumbers value name permit permits.task
       → left_by value permits.task permit ≡ entered_world
       → KeepsTo (is_counted_before next) (left_by value permits.task permit) → IsDone value name permit new
-  entered_is_done held has name permit permits takes left_is keeps =
-      let is_world = subst (IsWorld nat_eq) left_is (left_is_world value held name permit permits.task takes).0 in
-      numbers_are_kept value held name permit permits.task takes new same_overlays
+  entered_is_done held has {name} {permit} permits takes left_is keeps =
+      let is_world = subst (IsWorld nat_eq) left_is (left_is_world held takes).0 in
+      numbers_are_kept held takes same_overlays
       (subst (λ (left : World ℕ). ShowsAs left new) (sym left_is) (shows has is_world)) counts_then own_then keeps
 
 -- Copies that were attached
-module _ (value : WorldValue) (whole : IsBeside value) (base : Filesystems) (is_base : IsBase value base)
-    (graft : Graft) (counts : Counts) (mounts : List MountEntry) (groups : Grouping) (filesystems : Filesystems)
-    (overlays : List Merged) (next : ℕ)
-    (is : IsGrafted graft counts (kept_with value.mounts base (map merged_seen value.overlays)) value.groups
-    (kept_with mounts filesystems overlays) groups)
-    (attaches : AttachesBy (with_base value base) graft counts (map mount_of is.copies) (map new_group is.groups)
-    (map point_seen is.points)) (there : HasGroupsOf (with_base value base) (map mount_of graft.tree.now))
-    (ascending : are_ascending (mounts_in value.mounts ++ map mount_of is.copies) ≡ true) where
+-- A tree is grafted: what is planned is what the policy attaches, and the groups of the tree are there.
+pub record IsGraftedOn (value : WorldValue) (base : Filesystems) (graft : Graft) (counts : Counts)
+    (mounts : List MountEntry) (groups : Grouping) (filesystems : Filesystems) (overlays : List Merged) : Type 0 where
+  pub whole : IsBeside value
+  pub is_base : IsBase value base
+  pub is : IsGrafted graft counts (kept_with value.mounts base (map merged_seen value.overlays)) value.groups
+      (kept_with mounts filesystems overlays) groups
+  pub attaches : AttachesBy (with_base value base) graft counts (map mount_of is.copies) (map new_group is.groups)
+      (map point_seen is.points)
+  pub there : HasGroupsOf (with_base value base) (map mount_of graft.tree.now)
+  pub ascending : are_ascending (mounts_in value.mounts ++ map mount_of is.copies) ≡ true
+
+module _ {value : WorldValue} {base : Filesystems} {graft : Graft} {counts : Counts} {mounts : List MountEntry}
+    {groups : Grouping} {filesystems : Filesystems} {overlays : List Merged}
+    (grafted : IsGraftedOn value base graft counts mounts groups filesystems overlays) (next : ℕ) where
+  open grafted use {whole, is_base, is, attaches, there, ascending}
+
   abbrev pub attached_world : World ℕ
   attached_world = after value base
       (folded (masters_with nat_eq) (master_in value.groups) (map new_group is.groups)) is.copies is.points []
@@ -428,22 +432,27 @@ module _ (value : WorldValue) (whole : IsBeside value) (base : Filesystems) (is_
   entered : IsEntered value base is.copies is.points [] is.left mounts filesystems overlays
   entered = record {
     types = [];
-    once = is.once;
-    left_are = is.left_are;
-    left_small = is.left_small;
+    can = record {
+      whole = whole;
+      own = is_base.own;
+      roots = is_base.roots;
+      once = is.once;
+      left_are = is.left_are;
+      left_small = is.left_small;
+      taken_small = is.taken_small;
+      slots = is.slots;
+      ascending = ascending;
+    };
     done = is.done;
     seen = mounts_seen;
-    slots = is.slots;
-    taken_small = is.taken_small;
   }
 
-  pub graft_is_done : IsHeld value → (name : TaskName) (permit : Permit ℕ) (permits : Permits value name permit)
+  pub graft_is_done : IsHeld value → {name : TaskName} {permit : Permit ℕ} (permits : Permits value name permit)
       → TakesNumbers value name permit permits.task → left_by value permits.task permit ≡ attached_world
       → KeepsTo (is_counted_before next) (left_by value permits.task permit)
       → IsDone value name permit (grafted_value value mounts groups filesystems overlays next)
   graft_is_done held =
-      entered_is_done value whole base is_base is.copies is.points [] is.left (map new_group is.groups) mounts groups
-      filesystems overlays next entered ascending held groups_then
+      entered_is_done is_base entered (map new_group is.groups) groups next held groups_then
 
   -- where what is attached is a world, and the numbers in it were counted, the code's world is that one
   pub graft_is_held : IsWorld nat_eq attached_world → OverlaysAreNamed attached_world → WritersHaveLayers attached_world
@@ -451,5 +460,4 @@ module _ (value : WorldValue) (whole : IsBeside value) (base : Filesystems) (is_
       → IsHeld (grafted_value value mounts groups filesystems overlays next)
       × SameWorlds attached_world (world_of (grafted_value value mounts groups filesystems overlays next))
   graft_is_held =
-      entered_held value whole base is_base is.copies is.points [] is.left (map new_group is.groups) mounts groups
-      filesystems overlays next entered ascending groups_then
+      entered_held is_base entered (map new_group is.groups) groups next groups_then

@@ -15,7 +15,7 @@ use Rattle.vt_mounting.specs.Attach.Planned.{Point, is_small, points_left, point
 use Rattle.vt_mounting.specs.Attach.PlannedUses.{point_seen}
 use Rattle.vt_mounting.specs.Attach.Room.{has_small_nodes}
 use Rattle.vt_mounting.proofs.attach.AddedUses.{IsFoundIn, gained_by, mounts_are_gained}
-use Rattle.vt_mounting.proofs.attach.AttachedWorlds.{new_found, new_uses_there, there_in}
+use Rattle.vt_mounting.proofs.attach.AttachedWorlds.{WereAttached, new_found, new_uses_there, there_in}
 use Rattle.vt_mounting.proofs.attach.EnteringLemmas.{apart}
 use Rattle.vt_mounting.proofs.attach.MovedPoints.{points_are_moved}
 use Rattle.vt_mounting.proofs.attach.PlacedUses.{points_are_uses}
@@ -24,10 +24,10 @@ use Rattle.vt_mounting.proofs.attach.PlannedPoints.{moved_at, number_at, others_
 
 -- What is in use stays
 
-used_stays : (after : World ℕ) → IsWorld nat_eq after → (inode : Inode)
+used_stays : {after : World ℕ} → IsWorld nat_eq after → (inode : Inode)
     → is_some ((filesystem_numbered nat_eq after inode.0).files.tree.node inode.1) ≡ true
     → (f : Filesystem ℕ) → Among f after.filesystems → let_go_inode_of after inode f ≡ f
-used_stays after is inode there f m =
+used_stays {after} is inode there f m =
     ap (λ b. cond b (record f { files = without_inode inode.1 f.files }) f) (by (nat_eq f.number inode.0) refl)
   where
     listed : nat_eq f.number inode.0 ≡ true → is_among nat_eq inode.1 f.files.numbers ≡ true
@@ -54,7 +54,7 @@ pub none_let_go : (after : World ℕ) → IsWorld nat_eq after → (lost : List 
 none_let_go after is [] there = refl
 none_let_go after is (inode ∷ lost) there = ap (λ (world : World ℕ). let_go_inodes world lost)
     (ap (λ filesystems. record after { filesystems = filesystems })
-    (map_same (let_go_inode_of after inode) after.filesystems (used_stays after is inode (there inode (inl refl)))))
+    (map_same (let_go_inode_of after inode) after.filesystems (used_stays is inode (there inode (inl refl)))))
     ∙ none_let_go after is lost (λ other m. there other (inr m))
 
 -- The inode at a mount point of code is the definitions'
@@ -135,227 +135,247 @@ module _ (value : WorldValue) (base : Filesystems) (master : ℕ → Option ℕ)
     master = master;
   }
 
+-- Mounts can move and others come: code holds the inodes at the places that are taken and left.
+pub record CanEnter (value : WorldValue) (base : Filesystems) (copies : List Mount) (points : List Point)
+    (left : List Location) : Type 0 where
+  pub whole : IsBeside value
+  pub own : All HasOwnInodes base
+  pub roots : list_all (has_its_root nat_eq (record (world_of value) { filesystems = beside_overlays value base }))
+      (mounts_in value.mounts) ≡ true
+  pub once : MovesOnce (mounts_in value.mounts) (map point_seen points)
+  pub left_are : map location_of left ≡ points_left points value.mounts
+  pub left_small : list_all is_small left ≡ true
+  pub taken_small : list_all is_small (points_taken points value.mounts) ≡ true
+  pub slots : list_all has_small_nodes copies ≡ true
+  pub ascending : are_ascending (mounts_in value.mounts ++ map mount_of copies) ≡ true
+
+module _ {value : WorldValue} {base : Filesystems} {copies : List Mount} {points : List Point} {left : List Location}
+    (can : CanEnter value base copies points left) (master : ℕ → Option ℕ) (kinds : List (ℕ × Propagation ℕ))
+    (is_world : IsUnderWay (after value base master copies points kinds)) where
+  open can use {whole, own, roots, once, left_are, left_small, taken_small, slots, ascending}
+
+  abbrev first_world : World ℕ
+  first_world = middle value base master copies points kinds
+
+  abbrev last_world : World ℕ
+  last_world = after value base master copies points kinds
+
   -- where types are still as they were
-  abbrev untyped : World ℕ
-  untyped = record (world_of value) {
-    filesystems = beside_overlays value base;
+  abbrev untyped_world : World ℕ
+  untyped_world = record first_world {
     mounts = map (moved_at points) (mounts_in value.mounts) ++ map mount_of copies;
     master = master;
   }
 
   -- where they have come, and none has moved yet
-  abbrev come : World ℕ
-  come = record (world_of value) {
-    filesystems = beside_overlays value base;
+  abbrev come_world : World ℕ
+  come_world = record first_world {
     mounts = mounts_in value.mounts ++ map mount_of copies;
     master = master;
   }
 
-  module _ (whole : IsBeside value) (own : All HasOwnInodes base) (is_world : IsUnderWay after)
-      (roots : list_all (has_its_root nat_eq middle) (mounts_in value.mounts) ≡ true)
-      (once : MovesOnce (mounts_in value.mounts) (map point_seen points)) (left : List Location)
-      (left_are : map location_of left ≡ points_left points value.mounts) (left_small : list_all is_small left ≡ true)
-      (taken_small : list_all is_small (points_taken points value.mounts) ≡ true)
-      (slots : list_all has_small_nodes copies ≡ true)
-      (ascending : are_ascending (mounts_in value.mounts ++ map mount_of copies) ≡ true) where
-    abbrev taken : List Location
-    taken = points_taken points value.mounts
+  abbrev taken : List Location
+  taken = points_taken points value.mounts
 
-    abbrev entries : List MountEntry
-    entries = value.mounts ++ map unused_entry copies
+  abbrev entries : List MountEntry
+  entries = value.mounts ++ map unused_entry copies
 
-    all_stand : list_all (is_on (mounts_in value.mounts))
-        (all_locations (world_of value) ++ places_of (mounts_in value.mounts)) ≡ true
-    all_stand = places_stand (world_of value) whole.mounts_stand whole.locations_stand
+  all_stand : list_all (is_on (mounts_in value.mounts))
+      (all_locations (world_of value) ++ places_of (mounts_in value.mounts)) ≡ true
+  all_stand = places_stand (world_of value) whole.mounts_stand whole.locations_stand
 
-    come_as_after : inode_at come ≡ inode_at after
-    come_as_after = λ i. λ location. (
-      sym (shows_alike points kinds location.mount (mounts_in value.mounts) (map mount_of copies)) i,
-      location.node,
-    )
+  come_as_after : inode_at come_world ≡ inode_at last_world
+  come_as_after = λ i. λ location. (
+    sym (shows_alike points kinds location.mount (mounts_in value.mounts) (map mount_of copies)) i,
+    location.node,
+  )
 
-    one_come : any_pair (λ (a b : meant.Mount ℕ). nat_eq a.number b.number) come.mounts ≡ false
-    one_come = one_number_by_numbers after.mounts come.mounts
-        (sym (numbers_alike points kinds (mounts_in value.mounts) (map mount_of copies))) is_world.mounts.one_number
+  one_come : any_pair (λ (a b : meant.Mount ℕ). nat_eq a.number b.number) come_world.mounts ≡ false
+  one_come = one_number_by_numbers last_world.mounts come_world.mounts
+      (sym (numbers_alike points kinds (mounts_in value.mounts) (map mount_of copies))) is_world.mounts.one_number
 
-    -- the inodes at the mount points that are taken
+  -- the inodes at the mount points that are taken
 
-    taken_directory : (point : Location) → Among point taken → is_directory_at nat_eq after (location_of point) ≡ true
-    taken_directory point m =
-        let stands = stands_then value.mounts points once point m in
-        let was = among-from_map (moved_at points) (mounts_in value.mounts) stands.0 stands.1 in
-        let at : (changed_at points kinds was.0).mount_point ≡ Some (location_of point) =
-        ap (λ (mount : meant.Mount ℕ). mount.mount_point) (sym was.2) ∙ stands.2 in
-        let root = and_parts _ _ (among_from_list_all (has_its_root nat_eq after) after.mounts is_world.roots
-        (changed_at points kinds was.0)
-        (among-append_left (map (changed_at points kinds) (mounts_in value.mounts)) (map mount_of copies)
-        (changed_at points kinds was.0) (among-map (changed_at points kinds) (mounts_in value.mounts) was.0 was.1))) in
-        (and_parts _ _ (subst (λ o. list_all (is_directory_at nat_eq after) (option_to_list o) ≡ true) at root.1)).0
+  taken_directory : (point : Location) → Among point taken → is_directory_at nat_eq last_world (location_of point) ≡ true
+  taken_directory point m =
+      let stands = stands_then value.mounts points once point m in
+      let was = among-from_map (moved_at points) (mounts_in value.mounts) stands.0 stands.1 in
+      let at : (changed_at points kinds was.0).mount_point ≡ Some (location_of point) =
+      ap (λ (mount : meant.Mount ℕ). mount.mount_point) (sym was.2) ∙ stands.2 in
+      let root = and_parts _ _ (among_from_list_all (has_its_root nat_eq last_world) last_world.mounts is_world.roots
+      (changed_at points kinds was.0)
+      (among-append_left (map (changed_at points kinds) (mounts_in value.mounts)) (map mount_of copies)
+      (changed_at points kinds was.0) (among-map (changed_at points kinds) (mounts_in value.mounts) was.0 was.1))) in
+      (and_parts _ _ (subst (λ o. list_all (is_directory_at nat_eq last_world) (option_to_list o) ≡ true) at root.1)).0
 
-    taken_inode : (point : Location) → Among point taken → inode_at come (location_of point) ≡ inode_of point.node
-    taken_inode point m = (λ i. come_as_after i (location_of point)) ∙ (λ i. (
-      point_shown after (own_beside value whole base own) point (among_from_list_all is_small taken taken_small point m)
-          (taken_directory point m) i,
-      number_of point.node,
-    ))
+  taken_inode : (point : Location) → Among point taken → inode_at come_world (location_of point) ≡ inode_of point.node
+  taken_inode point m = (λ i. come_as_after i (location_of point)) ∙ (λ i. (
+    point_shown last_world (own_beside value whole base own) point (among_from_list_all is_small taken taken_small point m)
+        (taken_directory point m) i,
+    number_of point.node,
+  ))
 
-    -- and at those that are left
+  -- and at those that are left
 
-    left_stood : (point : Location) → Among point left → (mount : meant.Mount ℕ) × Among mount (mounts_in value.mounts)
-        × (mount.mount_point ≡ Some (location_of point))
-    left_stood point m = stood value.mounts points once (location_of point)
-        (subst (Among (location_of point)) left_are (among-map location_of left point m))
+  left_stood : (point : Location) → Among point left → (mount : meant.Mount ℕ) × Among mount (mounts_in value.mounts)
+      × (mount.mount_point ≡ Some (location_of point))
+  left_stood point m = stood value.mounts points once (location_of point)
+      (subst (Among (location_of point)) left_are (among-map location_of left point m))
 
-    left_directory : (point : Location) → Among point left → is_directory_at nat_eq middle (location_of point) ≡ true
-    left_directory point m =
-        let stands = left_stood point m in
-        let root = and_parts _ _ (among_from_list_all (has_its_root nat_eq middle)
-        (mounts_in value.mounts) roots stands.0 stands.1) in
-        (and_parts _ _ (subst (λ o. list_all (is_directory_at nat_eq middle) (option_to_list o)
-        ≡ true) stands.2 root.1)).0
+  left_directory : (point : Location) → Among point left → is_directory_at nat_eq first_world (location_of point) ≡ true
+  left_directory point m =
+      let stands = left_stood point m in
+      let root = and_parts _ _ (among_from_list_all (has_its_root nat_eq first_world)
+      (mounts_in value.mounts) roots stands.0 stands.1) in
+      (and_parts _ _ (subst (λ o. list_all (is_directory_at nat_eq first_world) (option_to_list o)
+      ≡ true) stands.2 root.1)).0
 
-    left_on : (point : Location) → Among point left → is_on (mounts_in value.mounts) (location_of point) ≡ true
-    left_on point m =
-        let stands = left_stood point m in
-        among_from_list_all (is_on (mounts_in value.mounts))
-        (all_locations (world_of value) ++ places_of (mounts_in value.mounts)) all_stand (location_of point)
-        (among-append_right (all_locations (world_of value)) (places_of (mounts_in value.mounts)) (location_of point)
-        (among-append_right (map (meant.root_of {N = ℕ}) (mounts_in value.mounts)) _ (location_of point)
-        (among-filter_map (λ (x : meant.Mount ℕ). x.mount_point) (mounts_in value.mounts) stands.0
-        (location_of point) stands.1 stands.2)))
+  left_on : (point : Location) → Among point left → is_on (mounts_in value.mounts) (location_of point) ≡ true
+  left_on point m =
+      let stands = left_stood point m in
+      among_from_list_all (is_on (mounts_in value.mounts))
+      (all_locations (world_of value) ++ places_of (mounts_in value.mounts)) all_stand (location_of point)
+      (among-append_right (all_locations (world_of value)) (places_of (mounts_in value.mounts)) (location_of point)
+      (among-append_right (map (meant.root_of {N = ℕ}) (mounts_in value.mounts)) _ (location_of point)
+      (among-filter_map (λ (x : meant.Mount ℕ). x.mount_point) (mounts_in value.mounts) stands.0
+      (location_of point) stands.1 stands.2)))
 
-    left_shown : (point : Location) → Among point left
-        → (mount_at nat_eq middle (location_of point)).filesystem ≡ counted point.node.filesystem.count
-    left_shown point m =
-        point_shown middle (own_beside value whole base own) point
-        (among_from_list_all is_small left left_small point m)
-        (left_directory point m)
+  left_shown : (point : Location) → Among point left
+      → (mount_at nat_eq first_world (location_of point)).filesystem ≡ counted point.node.filesystem.count
+  left_shown point m =
+      point_shown first_world (own_beside value whole base own) point
+      (among_from_list_all is_small left left_small point m)
+      (left_directory point m)
 
-    left_inode : (point : Location) → Among point left → inode_at come (location_of point) ≡ inode_of point.node
-    left_inode point m = (λ i. (
-      (found_first (counted point.mount.count) (mounts_in value.mounts) (map mount_of copies)
-          (left_on point m) i).filesystem,
-      number_of point.node,
-    )) ∙ (λ i. (left_shown point m i, number_of point.node))
+  left_inode : (point : Location) → Among point left → inode_at come_world (location_of point) ≡ inode_of point.node
+  left_inode point m = (λ i. (
+    (found_first (counted point.mount.count) (mounts_in value.mounts) (map mount_of copies)
+        (left_on point m) i).filesystem,
+    number_of point.node,
+  )) ∙ (λ i. (left_shown point m i, number_of point.node))
 
-    -- what they use more and less
+  -- what they use more and less
 
-    gained_are : map (inode_at come) (map location_of (points_taken points entries)) ≡ inodes_of_points taken
-    gained_are =
-        cc (
-          taken_with_more value.mounts points once (map unused_entry copies),
-          map_twice (inode_at come) location_of
-              taken,
-          map_alike (λ (point : Location). inode_at come (location_of point)) (λ (point : Location). inode_of
-              point.node) taken taken_inode,
-        )
+  gained_are : map (inode_at come_world) (map location_of (points_taken points entries)) ≡ inodes_of_points taken
+  gained_are =
+      cc (
+        taken_with_more value.mounts points once (map unused_entry copies),
+        map_twice (inode_at come_world) location_of
+            taken,
+        map_alike (λ (point : Location). inode_at come_world (location_of point)) (λ (point : Location). inode_of
+            point.node) taken taken_inode,
+      )
 
-    lost_are : map (inode_at come) (points_left points entries) ≡ inodes_of_points left
-    lost_are =
-        ap (map (inode_at come)) (left_with_more value.mounts points once (map unused_entry copies) ∙ sym left_are)
-        ∙ map_twice (inode_at come) location_of left
-        ∙ map_alike (λ (point : Location). inode_at come (location_of point))
-        (λ (point : Location). inode_of point.node) left left_inode
+  lost_are : map (inode_at come_world) (points_left points entries) ≡ inodes_of_points left
+  lost_are =
+      ap (map (inode_at come_world)) (left_with_more value.mounts points once (map unused_entry copies) ∙ sym left_are)
+      ∙ map_twice (inode_at come_world) location_of left
+      ∙ map_alike (λ (point : Location). inode_at come_world (location_of point))
+      (λ (point : Location). inode_of point.node) left left_inode
 
-    copies_stay : map (moved_at points) (map mount_of copies) ≡ map mount_of copies
-    copies_stay = others_stay points (map mount_of copies) (λ mount m.
-        none_from_among (λ (point : Point). nat_eq mount.number (number_at point)) points (λ point n.
-        let there = among_from_list_all (λ (seen : ℕ × meant.Location ℕ). is_among nat_eq seen.0
-        (map number_of_mount (mounts_in value.mounts))) (map point_seen points)
-        once.there (point_seen point) (among-map point_seen points point n) in
-        let from = among-from_map number_of_mount (mounts_in value.mounts) (number_at point)
-        (among_numbers (number_at point) (map number_of_mount (mounts_in value.mounts)) there) in
-        let less = apart (mounts_in value.mounts) (map mount_of copies) ascending from.0 mount from.1 m in
-        let is : number_at point ≡ from.0.number = from.2 in
-        ne_eqb mount.number (number_at point) (λ same. absurd (omega (arith, less, is, same)))))
+  copies_stay : map (moved_at points) (map mount_of copies) ≡ map mount_of copies
+  copies_stay = others_stay points (map mount_of copies) (λ mount m.
+      none_from_among (λ (point : Point). nat_eq mount.number (number_at point)) points (λ point n.
+      let there = among_from_list_all (λ (seen : ℕ × meant.Location ℕ). is_among nat_eq seen.0
+      (map number_of_mount (mounts_in value.mounts))) (map point_seen points)
+      once.there (point_seen point) (among-map point_seen points point n) in
+      let from = among-from_map number_of_mount (mounts_in value.mounts) (number_at point)
+      (among_numbers (number_at point) (map number_of_mount (mounts_in value.mounts)) there) in
+      let less = apart (mounts_in value.mounts) (map mount_of copies) ascending from.0 mount from.1 m in
+      let is : number_at point ≡ from.0.number = from.2 in
+      ne_eqb mount.number (number_at point) (λ same. absurd (omega (arith, less, is, same)))))
 
-    mounts_then : mounts_in (with_points points entries) ≡ untyped.mounts
-    mounts_then = points_are_moved entries points ∙ ap (map (moved_at points)) (mounts_entered value.mounts copies)
-        ∙ map-append (moved_at points) (mounts_in value.mounts) (map mount_of copies)
-        ∙ ap (λ back. map (moved_at points) (mounts_in value.mounts) ++ back) copies_stay
+  mounts_then : mounts_in (with_points points entries) ≡ untyped_world.mounts
+  mounts_then = points_are_moved entries points ∙ ap (map (moved_at points)) (mounts_entered value.mounts copies)
+      ∙ map-append (moved_at points) (mounts_in value.mounts) (map mount_of copies)
+      ∙ ap (λ back. map (moved_at points) (mounts_in value.mounts) ++ back) copies_stay
 
-    -- each copy is found in the world that is left
-    copies_found : (mount : Mount) → Among mount copies → IsFoundIn after mount
-    copies_found = new_found after is_world (map (changed_at points kinds) (mounts_in value.mounts)) copies refl slots
-        (own_beside value whole base own)
+  were_attached : WereAttached last_world (map (changed_at points kinds) (mounts_in value.mounts)) copies
+  were_attached = record {
+    is_world = is_world;
+    after_mounts = refl;
+    slots = slots;
+    own = own_beside value whole base own;
+  }
 
-    found_come : (mount : Mount) → Among mount copies → IsFoundIn come mount
-    found_come mount m = record {
-      root = (λ i. come_as_after i (meant.root_of (mount_of mount))) ∙ (copies_found mount m).root;
-      point = λ point is. (λ i. come_as_after i (location_of point)) ∙ (copies_found mount m).point point is;
-    }
+  -- each copy is found in the world that is left
+  copies_found : (mount : Mount) → Among mount copies → IsFoundIn last_world mount
+  copies_found = new_found were_attached
 
-    abbrev pub gained : List Inode
-    gained = inodes_of_points (points_taken points value.mounts) ++ gained_by copies
+  found_come : (mount : Mount) → Among mount copies → IsFoundIn come_world mount
+  found_come mount m = record {
+    root = (λ i. come_as_after i (meant.root_of (mount_of mount))) ∙ (copies_found mount m).root;
+    point = λ point is. (λ i. come_as_after i (location_of point)) ∙ (copies_found mount m).point point is;
+  }
 
-    abbrev pub lost : List Inode
-    lost = inodes_of_points left
+  abbrev pub gained : List Inode
+  gained = inodes_of_points (points_taken points value.mounts) ++ gained_by copies
 
-    -- types are no uses
-    used_typed : (f : Filesystem ℕ) → used_in nat_eq untyped f ≡ used_in nat_eq after f
-    used_typed f = λ i. f.files.tree.root ∷ (named_in f.files ++ map (λ (location : meant.Location ℕ). location.node)
-        (filter (λ (location : meant.Location ℕ). nat_eq f.number
-        ((shows_alike points [] location.mount (mounts_in value.mounts) (map mount_of copies)
-        ∙ sym (shows_alike points kinds location.mount (mounts_in value.mounts) (map mount_of copies))) i))
-        (all_locations (world_of value) ++ roots_alike points kinds (mounts_in value.mounts) (map mount_of copies) i
-        ++ points_alike points kinds (mounts_in value.mounts) (map mount_of copies) i))
-        ++ layers_in nat_eq after f.number ++ flat_map (objects_of_overlay nat_eq f.number) after.filesystems)
+  abbrev pub lost : List Inode
+  lost = inodes_of_points left
 
-    pub exchanged_then : (filesystem : ℕ) → Exchanges gained lost filesystem middle after
-    exchanged_then filesystem =
-        let coming = mounts_are_gained come middle copies found_come refl refl refl one_come all_stand filesystem in
-        let moving : Exchanges (inodes_of_points taken) lost filesystem come untyped =
-        subst (λ (list : List Inode). Exchanges list lost filesystem come untyped) gained_are
-        (subst (λ (list : List Inode). Exchanges
-        (map (inode_at come) (map location_of (points_taken points entries))) list filesystem come untyped) lost_are
-        (subst (λ (mounts : List (meant.Mount ℕ)). Exchanges
-        (map (inode_at come) (map location_of (points_taken points entries)))
-        (map (inode_at come) (points_left points entries)) filesystem come (with_mounts come mounts)) mounts_then
-        (points_are_uses come entries points (mounts_entered value.mounts copies) one_come filesystem))) in
-        let typing : Exchanges (inodes_of_points taken) lost filesystem come after = record {
-          same = moving.same;
-          uses = λ number. moving.uses number
-              ∙ (λ i. times (nat_eq number) (used_typed (filesystem_numbered nat_eq after filesystem) i)
-              + times (is_inode filesystem number) lost);
-        } in
-        let both = exchanges_follow middle come after (gained_by copies) []
-        (inodes_of_points taken) lost filesystem coming typing in
-        record {
-          same = both.same;
-          uses = λ number.
-              let uses = both.uses number in
-              let one = times_append (is_inode filesystem number) (gained_by copies) (inodes_of_points taken) in
-              let two = times_append (is_inode filesystem number) (inodes_of_points taken) (gained_by copies) in
-              omega (arith, uses, one, two);
-        }
+  -- types are no uses
+  used_typed : (f : Filesystem ℕ) → used_in nat_eq untyped_world f ≡ used_in nat_eq last_world f
+  used_typed f = λ i. f.files.tree.root ∷ (named_in f.files ++ map (λ (location : meant.Location ℕ). location.node)
+      (filter (λ (location : meant.Location ℕ). nat_eq f.number
+      ((shows_alike points [] location.mount (mounts_in value.mounts) (map mount_of copies)
+      ∙ sym (shows_alike points kinds location.mount (mounts_in value.mounts) (map mount_of copies))) i))
+      (all_locations (world_of value) ++ roots_alike points kinds (mounts_in value.mounts) (map mount_of copies) i
+      ++ points_alike points kinds (mounts_in value.mounts) (map mount_of copies) i))
+      ++ layers_in nat_eq last_world f.number ++ flat_map (objects_of_overlay nat_eq f.number) last_world.filesystems)
 
-    pub gained_there : (entry : FilesystemEntry) → Among entry base
-        → AreThere (counted entry.count) (inodes_seen entry) gained
-    gained_there entry m = list_all-append (λ (inode : Inode). not (nat_eq (counted entry.count) inode.0)
-        || is_some ((inodes_seen entry).inode inode.1)) (inodes_of_points taken) (gained_by copies)
-        ∙ (λ i. taken_there i && new_uses_there after is_world
-        (map (changed_at points kinds) (mounts_in value.mounts)) copies refl slots
-        (own_beside value whole base own) entry (base_among value whole base entry m) i)
-      where
-        taken_there : list_all (λ (inode : Inode). not (nat_eq (counted entry.count) inode.0)
-            || is_some ((inodes_seen entry).inode inode.1)) (inodes_of_points taken) ≡ true
-        taken_there = list_all_from_among (λ (inode : Inode). not (nat_eq (counted entry.count) inode.0)
-            || is_some ((inodes_seen entry).inode inode.1)) (inodes_of_points taken) (λ inode n.
-            let from = among-from_map (λ (point : Location). inode_of point.node) taken inode n in
-            let shown = point_shown after (own_beside value whole base own) from.0
-            (among_from_list_all is_small taken taken_small from.0 from.1) (taken_directory from.0 from.1) in
-            ap (λ (one : Inode). not (nat_eq (counted entry.count) one.0)
-            || is_some ((inodes_seen entry).inode one.1)) from.2
-            ∙ there_in after is_world (map (changed_at points kinds)
-            (mounts_in value.mounts)) copies refl slots (own_beside value whole base own) entry
-            (base_among value whole base entry m) from.0.node (ap (λ number. is_directory_node
-            ((filesystem_numbered nat_eq after number).files.tree.node (number_of from.0.node))) (sym shown)
-            ∙ taken_directory from.0 from.1))
+  pub exchanged_then : (filesystem : ℕ) → Exchanges gained lost filesystem first_world last_world
+  exchanged_then filesystem =
+      let coming = mounts_are_gained come_world first_world copies found_come refl refl refl one_come all_stand filesystem in
+      let moving : Exchanges (inodes_of_points taken) lost filesystem come_world untyped_world =
+      subst (λ (list : List Inode). Exchanges list lost filesystem come_world untyped_world) gained_are
+      (subst (λ (list : List Inode). Exchanges
+      (map (inode_at come_world) (map location_of (points_taken points entries))) list filesystem come_world untyped_world) lost_are
+      (subst (λ (mounts : List (meant.Mount ℕ)). Exchanges
+      (map (inode_at come_world) (map location_of (points_taken points entries)))
+      (map (inode_at come_world) (points_left points entries)) filesystem come_world (with_mounts come_world mounts)) mounts_then
+      (points_are_uses come_world entries points (mounts_entered value.mounts copies) one_come filesystem))) in
+      let typing : Exchanges (inodes_of_points taken) lost filesystem come_world last_world = record {
+        same = moving.same;
+        uses = λ number. moving.uses number
+            ∙ (λ i. times (nat_eq number) (used_typed (filesystem_numbered nat_eq last_world filesystem) i)
+            + times (is_inode filesystem number) lost);
+      } in
+      let both = exchanges_follow first_world come_world last_world (gained_by copies) []
+      (inodes_of_points taken) lost filesystem coming typing in
+      record {
+        same = both.same;
+        uses = λ number.
+            let uses = both.uses number in
+            let one = times_append (is_inode filesystem number) (gained_by copies) (inodes_of_points taken) in
+            let two = times_append (is_inode filesystem number) (inodes_of_points taken) (gained_by copies) in
+            omega (arith, uses, one, two);
+      }
 
-    pub nothing_goes : IsWorld nat_eq after → let_go_inodes after lost ≡ after
-    nothing_goes settled = none_let_go after settled lost (λ inode n.
-        let from = among-from_map (λ (point : Location). inode_of point.node) left inode n in
-        ap (λ (one : Inode). is_some ((filesystem_numbered nat_eq after one.0).files.tree.node one.1)) from.2
-        ∙ ap (λ number. is_some ((filesystem_numbered nat_eq after number).files.tree.node (number_of from.0.node)))
-        (sym (left_shown from.0 from.1))
-        ∙ directory_is_there (node_at nat_eq middle (location_of from.0)) (left_directory from.0 from.1))
+  pub gained_there : (entry : FilesystemEntry) → Among entry base
+      → AreThere (counted entry.count) (inodes_seen entry) gained
+  gained_there entry m = list_all-append (λ (inode : Inode). not (nat_eq (counted entry.count) inode.0)
+      || is_some ((inodes_seen entry).inode inode.1)) (inodes_of_points taken) (gained_by copies)
+      ∙ (λ i. taken_there i && new_uses_there were_attached entry (base_among value whole base entry m) i)
+    where
+      taken_there : list_all (λ (inode : Inode). not (nat_eq (counted entry.count) inode.0)
+          || is_some ((inodes_seen entry).inode inode.1)) (inodes_of_points taken) ≡ true
+      taken_there = list_all_from_among (λ (inode : Inode). not (nat_eq (counted entry.count) inode.0)
+          || is_some ((inodes_seen entry).inode inode.1)) (inodes_of_points taken) (λ inode n.
+          let from = among-from_map (λ (point : Location). inode_of point.node) taken inode n in
+          let shown = point_shown last_world (own_beside value whole base own) from.0
+          (among_from_list_all is_small taken taken_small from.0 from.1) (taken_directory from.0 from.1) in
+          ap (λ (one : Inode). not (nat_eq (counted entry.count) one.0)
+          || is_some ((inodes_seen entry).inode one.1)) from.2
+          ∙ there_in were_attached entry (base_among value whole base entry m) from.0.node
+          (ap (λ number. is_directory_node
+          ((filesystem_numbered nat_eq last_world number).files.tree.node (number_of from.0.node))) (sym shown)
+          ∙ taken_directory from.0 from.1))
+
+  pub nothing_goes : IsWorld nat_eq last_world → let_go_inodes last_world lost ≡ last_world
+  nothing_goes settled = none_let_go last_world settled lost (λ inode n.
+      let from = among-from_map (λ (point : Location). inode_of point.node) left inode n in
+      ap (λ (one : Inode). is_some ((filesystem_numbered nat_eq last_world one.0).files.tree.node one.1)) from.2
+      ∙ ap (λ number. is_some ((filesystem_numbered nat_eq last_world number).files.tree.node (number_of from.0.node)))
+      (sym (left_shown from.0 from.1))
+      ∙ directory_is_there (node_at nat_eq first_world (location_of from.0)) (left_directory from.0 from.1))

@@ -1,6 +1,6 @@
 -- The event that moves a tree to a shared mount, with copies at its receivers: mount(2) with MS_MOVE.
 use Rattle.std.proofs.Common.{◌≡◌, ◌<◌, refl, sym, ap, subst, ◌∙◌, ⊎_elim, inl, inr, true≢false, ℕ, zero, suc, ◌+◌, ◌*◌, ◌%◌, ◌==◌, nat_eq, eq-eqb, true, false, ◌&&◌, ◌||◌, List, [], ◌∷◌, ◌++◌, map, filter, length, Option, Some, None, is_some, arith, Contains, drop, if◌then◌else◌, option_map, take, unwrap_or, ne_eqb, length-append}
-use Rattle.vt_spec.proofs.Common.{Filesystem, IsWorld, Permit, Private, Propagation, Shared, Slave, TaskName, ToMove, Unbindable, World, among_from_contains, any_pair, attach, attached_by, common_steps, contains_from_among, copies_from, drop-append_seam, first_of_list, folded, group_of, has_members, holds_of, is_among, is_mounted, is_shared, length-map, list_all, list_all-append, list_any, list_any-append, lookup, map-append, map_twice, masters_with, mount_at, mount_lives, mount_numbered, mount_tree, or_left, or_parts, parts_of, rest_of, settled, some_from_is_some, take-append_seam, tree_from, type_at, type_on_shared, with_mount}
+use Rattle.vt_spec.proofs.Common.{Copies, Filesystem, IsWorld, Permit, Private, Propagation, Shared, Slave, TaskName, ToMove, Unbindable, World, among_from_contains, any_pair, attach, attached_by, common_steps, contains_from_among, copies_from, drop-append_seam, first_of_list, folded, group_of, has_members, holds_of, is_among, is_mounted, is_shared, length-map, list_all, list_all-append, list_any, list_any-append, lookup, map-append, map_twice, masters_with, mount_at, mount_lives, mount_numbered, mount_tree, or_left, or_parts, parts_of, rest_of, settled, some_from_is_some, take-append_seam, tree_from, type_at, type_on_shared, with_mount}
 use Rattle.std.proofs.lemmas.List.{drop-map}
 use Rattle.vt_spec.specs.Machine.Mounts as meant
 use Rattle.vt_mounting.proofs.Common.{Among, AttachesBy, Exchanges, Filesystems, Grouping, Grows, Has, IsHeld, IsUnderWay, KeepsTo, MountEntry, MovesOnce, OneNumberAMount, Shown, WorldValue, all_from_among, all_in_use, among-from_map, among-map, among_from_all, among_from_list_all, any-map, are_ascending, counted, counts_from, in_use_of, is_among_numbers, is_counted_before, location_of, master_in, mount_of, mounts_entered, mounts_in, mounts_of_worlds_stand, moved_by, new_group, none_from_among, numbers_at, numbers_of, one_number_by_numbers, overlays_seen, parts_apart, planned_copies, typed, world_of}
@@ -40,7 +40,7 @@ use Rattle.vt_mounting.proofs.attach.Beside.{is_beside}
 use Rattle.vt_mounting.proofs.attach.GraftedDone.{IsEntered, counts_then, from_base, grafted_value, overlays_same, own_then, same_numbers}
 use Rattle.vt_mounting.proofs.attach.GraftedUses.{after, changed_at, exchanged_then, gained_there}
 use Rattle.vt_mounting.proofs.attach.GrownGroups.{ascending_rises}
-use Rattle.vt_mounting.proofs.attach.MovedLives.{living_moved, mounts_live}
+use Rattle.vt_mounting.proofs.attach.MovedLives.{CanMove, living_moved, mounts_live}
 use Rattle.vt_mounting.proofs.attach.MovedPoints.{points_are_moved}
 use Rattle.vt_mounting.proofs.attach.MovedTrees as Trees
 use Rattle.vt_mounting.proofs.attach.MovesAscend.{ascending_once, beside_ascend, copies_beside}
@@ -154,10 +154,7 @@ module _ (value : WorldValue) (whole : IsHeld value) (name : TaskName) (number :
       (trees_have_each_once world number whole.in_world.mounts.one_number whole.in_world.mounts.standing)
 
   tree_some : 0 < length graft.tree.now
-  tree_some = subst (λ n. 0 < n) (length-map graft.tree.now mount_of)
-      (subst (λ (list : List (meant.Mount ℕ)). 0 < length list) (sym tree_is)
-      (tree_is_some (length (mounts_in value.mounts)) (mounts_in value.mounts)
-      (mount_numbered nat_eq (world_of value) number)))
+  tree_some = grind (arith, common_steps)
 
   abbrev first : Mount
   first = (begins graft.tree.now tree_some).0
@@ -167,6 +164,9 @@ module _ (value : WorldValue) (whole : IsHeld value) (name : TaskName) (number :
 
   tree_now : graft.tree.now ≡ first ∷ others
   tree_now = (begins graft.tree.now tree_some).2
+
+  abbrev moving : Trees.IsMoving graft first others
+  moving = record { tree_now = tree_now; moves = moves }
 
   of_tree : (mount : meant.Mount ℕ) → Among mount tree
       → Among mount (mount_tree nat_eq (mounts_in value.mounts) (mount_numbered nat_eq (world_of value) number))
@@ -186,7 +186,7 @@ module _ (value : WorldValue) (whole : IsHeld value) (name : TaskName) (number :
   -- the copies
 
   abbrev own : List (meant.Mount ℕ)
-  own = Trees.own (world_of value) graft counts first others tree_now moves
+  own = Trees.own (world_of value) counts moving
 
   own_size : length graft.tree.now ≡ length own
   own_size = sym (length-map _ _ ∙ length-map _ _ ∙ length-map graft.tree.now mount_of)
@@ -273,15 +273,25 @@ module _ (value : WorldValue) (whole : IsHeld value) (name : TaskName) (number :
 
     own_once : OneNumberAMount own
     own_once = one_number_by_numbers tree own
-        (Trees.own_numbers world graft counts first others tree_now moves) tree_once
+        (Trees.own_numbers world counts moving) tree_once
 
     kinds_once : KindsOnce kinds
     kinds_once = kinds_are_once own own_once
 
+    in_world : Trees.IsOfWorld (world_of value) counts moving
+    in_world = record {
+      one = one_number;
+      own_once = own_once;
+      kinds_once = kinds_once;
+      there = tree_among;
+      beside = beside;
+      placed = placed;
+    }
+
     own_from : (mount : meant.Mount ℕ) → Among mount own → (origin : meant.Mount ℕ) × Among origin tree
-        × (mount ≡ Trees.copy world graft counts first others tree_now moves origin)
-    own_from mount m = among-from_map (Trees.copy world graft counts first others tree_now moves) tree mount
-        (subst (Among mount) (Trees.own_copies world graft counts first others tree_now moves) m)
+        × (mount ≡ Trees.copy world counts moving origin)
+    own_from mount m = among-from_map (Trees.copy world counts moving) tree mount
+        (subst (Among mount) (Trees.own_copies world counts moving) m)
 
     own_number : (mount : meant.Mount ℕ) → Among mount own
         → (origin : meant.Mount ℕ) × Among origin tree × (mount.number ≡ origin.number)
@@ -290,7 +300,7 @@ module _ (value : WorldValue) (whole : IsHeld value) (name : TaskName) (number :
           from.0,
           from.1,
           ap (λ (x : meant.Mount ℕ). x.number) from.2
-              ∙ Trees.copy_number_is world graft counts first others tree_now moves from.0,
+              ∙ Trees.copy_number_is world counts moving from.0,
         )
 
     -- new mount points
@@ -360,36 +370,40 @@ module _ (value : WorldValue) (whole : IsHeld value) (name : TaskName) (number :
     entered : IsEntered value value.filesystems come points kinds is.left mounts filesystems overlays
     entered = record {
       types = map typed is.copies;
-      once = once;
-      left_are = is.left_are;
-      left_small = is.left_small;
+      can = record {
+        whole = is_beside value whole;
+        own = whole.own_inodes;
+        roots = whole.in_world.roots;
+        once = once;
+        left_are = is.left_are;
+        left_small = is.left_small;
+        taken_small = is.taken_small;
+        slots = is.slots;
+        ascending = rising;
+      };
       done = is.done;
       seen = mounts_seen;
-      slots = is.slots;
-      taken_small = is.taken_small;
     }
 
     -- groups
 
     kind_of_copy : (origin : meant.Mount ℕ)
-        → (Trees.copy world graft counts first others tree_now moves origin).propagation
-        ≡ type_on_shared ((numbers_at world graft counts).image
+        → (Trees.copy world counts moving origin).propagation ≡ type_on_shared ((numbers_at world graft counts).image
         (some_from_is_some (group_of dest.propagation) shared).0 origin.number) origin.propagation
-    kind_of_copy origin = Trees.copy_kind_is world graft counts first others tree_now moves origin
+    kind_of_copy origin = Trees.copy_kind_is world counts moving origin
         ∙ ap (λ o. type_at (numbers_at world graft counts) o origin)
         (some_from_is_some (group_of dest.propagation) shared).1
 
-    stays : (mount : meant.Mount ℕ) → Among mount (mounts_in value.mounts) → (group : ℕ)
+    stays : (mount : meant.Mount ℕ) → Among mount (mounts_in value.mounts) → {group : ℕ}
         → group_of mount.propagation ≡ Some group → group_of (typed_at kinds mount).propagation ≡ Some group
-    stays mount m group has = by (lookup (nat_eq mount.number) kinds) refl
+    stays mount m {group} has = by (lookup (nat_eq mount.number) kinds) refl
       where
         by : (o : Option (Propagation ℕ)) → lookup (nat_eq mount.number) kinds ≡ o
             → group_of (unwrap_or (lookup (nat_eq mount.number) kinds) mount.propagation) ≡ Some group
         by None e = ap (λ o. group_of (unwrap_or o mount.propagation)) e ∙ has
         by (Some kind) e =
             let mine = looked_up_kind mount.number own kind e in
-            let becomes = Trees.becomes world graft counts first others tree_now moves one_number own_once kinds_once
-            tree_among beside placed mount m mine.0 mine.1 mine.3 in
+            let becomes = Trees.becomes world counts moving in_world mount m mine.0 mine.1 mine.3 in
             cc (
               mine.2,
               becomes.1,
@@ -438,8 +452,7 @@ module _ (value : WorldValue) (whole : IsHeld value) (name : TaskName) (number :
     has_then : Has then_world groups
     has_then = is.grows world then_world whole.groups
         (subst (λ types. Grows world then_world types formed) (sym all_kinds)
-        (grows_beside world then_world (changed_at points kinds) own (map mount_of come) formed grown
-        whole.groups.order))
+        (grows_beside grown whole.groups.order))
 
     -- the policy's world
 
@@ -462,8 +475,7 @@ module _ (value : WorldValue) (whole : IsHeld value) (name : TaskName) (number :
               ++ drop-map mount_of (length graft.tree.now) is.copies i;
           master = master;
         }) ∙ ap (λ front. record world { mounts = front ++ map mount_of come; master = master })
-        (Trees.all_moved world graft counts first others tree_now moves one_number own_once kinds_once tree_among
-        beside placed is.pushed)
+        (Trees.all_moved world counts moving in_world is.pushed)
 
     under : IsUnderWay then_world
     under = subst IsUnderWay moved_is
@@ -476,28 +488,30 @@ module _ (value : WorldValue) (whole : IsHeld value) (name : TaskName) (number :
         ≡ mount_tree nat_eq (mounts_in value.mounts) (mount_numbered nat_eq (world_of value) number)
     tree_list = sym (ap (map mount_of) tree_now) ∙ tree_is
 
-    its : (mount : meant.Mount ℕ) → Among mount (mount_of first ∷ map mount_of others) → Among mount world.mounts
-    its mount m = tree_among mount (subst (Among mount) (sym (ap (map mount_of) tree_now)) m)
+    can_move : CanMove world place (mount_of first) (map mount_of others)
+    can_move = record {
+      in_use = all_in_use world whole.in_world;
+      stand = mounts_of_worlds_stand world whole.in_world;
+      located = Roots.locations_of_worlds_stand world whole.in_world;
+      at_attached = ap is_some may.destination.own;
+      its = λ mount m. tree_among mount (subst (Among mount) (sym (ap (map mount_of) tree_now)) m);
+    }
+
+    abbrev moved_copies : Copies ℕ
+    moved_copies = copies_from nat_eq (counts_from value.next) (parts_of nat_eq world place)
+        (mount_of first ∷ map mount_of others)
 
     living_is : in_use_of then_world ≡ then_world
     living_is = subst (λ (w : World ℕ). in_use_of w ≡ w) moved_is
         (subst (λ list. in_use_of (attach nat_eq world (counts_from value.next) place true list)
         ≡ attach nat_eq world (counts_from value.next) place true list) tree_list
-        (living_moved world (all_in_use world whole.in_world) (mounts_of_worlds_stand world whole.in_world)
-        (Roots.locations_of_worlds_stand world whole.in_world)
-        (copies_from nat_eq (counts_from value.next) (parts_of nat_eq world place)
-        (mount_of first ∷ map mount_of others)) place (ap is_some may.destination.own) (mount_of first)
-        (map mount_of others) its))
+        (living_moved can_move moved_copies))
 
     lives : list_all (mount_lives nat_eq then_world) then_world.mounts ≡ true
     lives = subst (λ (w : World ℕ). list_all (mount_lives nat_eq w) w.mounts ≡ true) moved_is
         (subst (λ list. list_all (mount_lives nat_eq (attach nat_eq world (counts_from value.next) place true list))
         (attach nat_eq world (counts_from value.next) place true list).mounts ≡ true) tree_list
-        (mounts_live world (all_in_use world whole.in_world) (mounts_of_worlds_stand world whole.in_world)
-        (Roots.locations_of_worlds_stand world whole.in_world)
-        (copies_from nat_eq (counts_from value.next) (parts_of nat_eq world place)
-        (mount_of first ∷ map mount_of others)) place (ap is_some may.destination.own) (mount_of first)
-        (map mount_of others) its))
+        (mounts_live can_move moved_copies))
 
     -- what was mounted is mounted still
     overlays_mounted : AreStillMounted value then_world
@@ -528,24 +542,19 @@ module _ (value : WorldValue) (whole : IsHeld value) (name : TaskName) (number :
       mounts = ap (λ (w : World ℕ). w.mounts) living_is ∙ sym mounts_seen;
       numbers = ap (λ (w : World ℕ). map (λ (f : Filesystem ℕ). f.number) (filter is_plain_one w.filesystems)) living_is
           ∙ ap (map (λ (f : Filesystem ℕ). f.number)) (plain_ones_are value whole.overlays)
-          ∙ same_numbers value (is_beside value whole) value.filesystems (same_base value whole) come points kinds is.left formed mounts
-          groups filesystems overlays next entered rising;
+          ∙ same_numbers (same_base value whole) entered formed groups next;
       entries = λ entry m.
-          let from = from_base value (is_beside value whole) value.filesystems (same_base value whole) come points kinds is.left formed
-          mounts groups filesystems overlays next entered rising entry m in
+          let from = from_base (same_base value whole) entered formed groups next entry m in
           record {
             was = from.0;
             among = from.1;
             count = ap (λ (one : Shown). one.count) from.2;
-            there = gained_there value value.filesystems master come points kinds (is_beside value whole) whole.own_inodes under
-                whole.in_world.roots once is.left is.left_are is.left_small is.taken_small is.slots rising from.0 from.1;
+            there = gained_there entered.can master kinds under from.0 from.1;
             inodes = ap (λ (one : Shown). one.inodes) from.2;
             exchanges = subst (λ (w : World ℕ). Exchanges
                 (inodes_of_points (points_taken points value.mounts) ++ gained_by come) (inodes_of_points is.left)
                 (counted from.0.count) world w) (sym living_is)
-                (exchanged_then value value.filesystems master come points kinds (is_beside value whole) whole.own_inodes under
-                whole.in_world.roots once is.left is.left_are is.left_small is.taken_small is.slots rising
-                (counted from.0.count));
+                (exchanged_then entered.can master kinds under (counted from.0.count));
           };
       namespaces = refl;
       tasks = refl;
@@ -553,7 +562,7 @@ module _ (value : WorldValue) (whole : IsHeld value) (name : TaskName) (number :
 
     left_then : IsWorld nat_eq (settled nat_eq then_world)
     left_then = subst (λ (w : World ℕ). IsWorld nat_eq (settled nat_eq w)) moved_is
-        (left_is_world value whole name permit permits.task takes).0
+        (left_is_world whole takes).0
 
     shows_then : ShowsAs (settled nat_eq then_world) new
     shows_then = shows_left value whole then_world
@@ -575,11 +584,10 @@ module _ (value : WorldValue) (whole : IsHeld value) (name : TaskName) (number :
         ≡ 2 * (length graft.parts.now * length graft.tree.now) =
         (λ i. 2 * (length (sym parts_are i) * length (sym tree_is i)))
         ∙ (λ i. 2 * (length-map graft.parts.now mount_of i * length-map graft.tree.now mount_of i)) in
-        numbers_are_kept value whole name permit permits.task takes new (overlays_same value (is_beside value whole) come overlays (ap (λ k. k.overlays) entered.done))
+        numbers_are_kept whole takes
+        (overlays_same value (is_beside value whole) come overlays (ap (λ k. k.overlays) entered.done))
         (subst (λ (w : World ℕ). ShowsAs (settled nat_eq w) new) (sym moved_is) shows_then)
-        (counts_then value (is_beside value whole) value.filesystems (same_base value whole) come points kinds is.left formed mounts
-        groups filesystems overlays next entered rising)
-        (own_then value (is_beside value whole) value.filesystems (same_base value whole) come points kinds is.left formed mounts
-        groups filesystems overlays next entered rising)
+        (counts_then (same_base value whole) entered formed groups next)
+        (own_then (same_base value whole) entered formed groups next)
         (subst (λ n. KeepsTo (is_counted_before n) (left_by value permits.task permit))
         (ap (λ n. value.next + n) sizes ∙ sym grows) named)

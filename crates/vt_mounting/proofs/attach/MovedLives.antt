@@ -8,10 +8,18 @@ use Rattle.vt_laws_mounts.proofs.letting_go.mounting.Attached.{attached_groups, 
 use Rattle.vt_laws_mounts.proofs.letting_go.mounting.MountingOverlays.{all_but_those}
 use Rattle.vt_laws_mounts.proofs.letting_go.sweeps.OneByOne.{filesystems_go_one_by_one}
 
-module _ (world : World ℕ) (in_use : AllInUse world) (stand : MountsStand world) (located : LocationsStand world)
-    (new : Copies ℕ) (place : Location ℕ)
-    (at_attached : is_some (mount_at nat_eq world place).namespace ≡ true) (first : Mount ℕ) (rest : List (Mount ℕ))
-    (its : (mount : Mount ℕ) → Among mount (first ∷ rest) → Among mount world.mounts) where
+-- A tree of a world in use can move to a mount in a namespace.
+pub record CanMove (world : World ℕ) (place : Location ℕ) (first : Mount ℕ) (rest : List (Mount ℕ)) : Type 0 where
+  pub in_use : AllInUse world
+  pub stand : MountsStand world
+  pub located : LocationsStand world
+  pub at_attached : is_some (mount_at nat_eq world place).namespace ≡ true
+  pub its : (mount : Mount ℕ) → Among mount (first ∷ rest) → Among mount world.mounts
+
+module _ {world : World ℕ} {place : Location ℕ} {first : Mount ℕ} {rest : List (Mount ℕ)}
+    (can_move : CanMove world place first rest) (new : Copies ℕ) where
+  open can_move use {in_use, stand, located, at_attached, its}
+
   abbrev after : World ℕ
   after = attached_by nat_eq world new place true (first ∷ rest)
 

@@ -1,6 +1,6 @@
 -- Mounts that get other mount points one after the other, and all at once.
-use Rattle.std.proofs.Common.{◌≡◌, refl, ap, ◌∙◌, ℕ, nat_eq, Bool, true, false, cond, List, [], ◌∷◌, map, Some}
-use Rattle.vt_spec.proofs.Common.{Mount, lookup, map_alike, map_twice, or_else}
+use Rattle.std.proofs.Common.{◌≡◌, refl, ap, ◌∙◌, ℕ, nat_eq, Bool, true, false, cond, List, [], ◌∷◌, map, Some, arith}
+use Rattle.vt_spec.proofs.Common.{Mount, common_steps, lookup, map_alike, map_twice, or_else}
 use Rattle.vt_location.specs.declared.locations.Location.{Location}
 use Rattle.vt_mounting.proofs.Common.{MountEntry, changed, counted, location_of, mounts_in}
 use Rattle.vt_spec.specs.Machine.Mounts as meant
@@ -18,12 +18,7 @@ placed_if number place mount = cond (nat_eq number mount.number)
 one_placed : (number : ℕ) (place : Location) (entries : List MountEntry)
     → mounts_in (changed number (placed_entry place) entries) ≡ map (placed_if number place) (mounts_in entries)
 one_placed number place [] = refl
-one_placed number place (entry ∷ rest) = λ i. by (nat_eq number entry.mount.number) i ∷ one_placed number place rest i
-  where
-    by : (b : Bool) → (cond b (placed_entry place entry) entry).mount
-        ≡ cond b (record entry.mount { mount_point = Some (location_of place) }) entry.mount
-    by true = refl
-    by false = refl
+one_placed number place (entry ∷ rest) = grind (arith, common_steps, one_placed number place rest)
 
 none_moved : (mounts : List (Mount ℕ)) → mounts ≡ map (at_point []) mounts
 none_moved [] = refl

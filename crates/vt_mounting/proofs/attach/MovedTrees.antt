@@ -42,8 +42,15 @@ not_found : {A : Type 0} (b : Bool) (a : A) (o : Option A) → cond b (Some a) o
 not_found true a o e = absurd (true≢false (ap is_some e))
 not_found false a o e = refl
 
-module _ (world : World ℕ) (graft : Graft) (counts : Counts) (first : Code) (others : List Code)
-    (tree_now : graft.tree.now ≡ first ∷ others) (moves : graft.moves ≡ true) where
+-- A tree moves, and this is its top and what is below it.
+pub record IsMoving (graft : Graft) (first : Code) (others : List Code) : Type 0 where
+  pub tree_now : graft.tree.now ≡ first ∷ others
+  pub moves : graft.moves ≡ true
+
+module _ (world : World ℕ) (counts : Counts) {graft : Graft} {first : Code} {others : List Code}
+    (moving : IsMoving graft first others) where
+  open moving use {tree_now, moves}
+
   abbrev place : Location ℕ
   place = location_of graft.place
 
@@ -127,13 +134,19 @@ module _ (world : World ℕ) (graft : Graft) (counts : Counts) (first : Code) (o
       ∙ map_alike (λ mount. (copy mount).number) (λ (mount : Mount ℕ). mount.number) (map mount_of graft.tree.now)
       (λ mount m. copy_number_is mount)
 
-  module _ (one : any_pair (λ (a b : Mount ℕ). nat_eq a.number b.number) world.mounts ≡ false)
-      (own_once : any_pair (λ (a b : Mount ℕ). nat_eq a.number b.number) own ≡ false)
-      (kinds_once : KindsOnce (map type_of own))
-      (there : (mount : Mount ℕ) → Among mount (map mount_of graft.tree.now) → Among mount world.mounts)
-      (beside : (mount : Mount ℕ) → Among mount (map mount_of graft.tree.now)
-      → mount.namespace ≡ (mount_at nat_eq world (location_of graft.place)).namespace)
-      (placed : (mount : Mount ℕ) → Among mount (map mount_of graft.tree.now) → is_some mount.mount_point ≡ true) where
+  -- The mounts of the tree are of the world, each once, and all but its top stand on one of them.
+  pub record IsOfWorld : Type 0 where
+    pub one : any_pair (λ (a b : Mount ℕ). nat_eq a.number b.number) world.mounts ≡ false
+    pub own_once : any_pair (λ (a b : Mount ℕ). nat_eq a.number b.number) own ≡ false
+    pub kinds_once : KindsOnce (map type_of own)
+    pub there : (mount : Mount ℕ) → Among mount (map mount_of graft.tree.now) → Among mount world.mounts
+    pub beside : (mount : Mount ℕ) → Among mount (map mount_of graft.tree.now)
+        → mount.namespace ≡ (mount_at nat_eq world (location_of graft.place)).namespace
+    pub placed : (mount : Mount ℕ) → Among mount (map mount_of graft.tree.now) → is_some mount.mount_point ≡ true
+
+  module _ (of_world : IsOfWorld) where
+    open of_world use {one, own_once, kinds_once, there, beside, placed}
+
     -- one of the own mounts is what the mount with its number becomes
     pub becomes : (mount : Mount ℕ) → Among mount world.mounts → (one : Mount ℕ) → Among one own
         → mount.number ≡ one.number → Among mount (map mount_of graft.tree.now) × (one ≡ copy mount)
@@ -147,12 +160,7 @@ module _ (world : World ℕ) (graft : Graft) (counts : Counts) (first : Code) (o
         → Some (place_then b mount) ≡ or_else (cond b (Some (location_of graft.place)) None) mount.mount_point
     point_then mount some true = λ i. Some
         (record { mount = number-mount_in world.mounts place.mount i; node = place.node })
-    point_then mount some false = by mount.mount_point some
-      where
-        by : (o : Option (Location ℕ)) → is_some o ≡ true → Some (unwrap_or (option_map
-            (λ (at : Location ℕ). record { mount = at.mount; node = at.node }) o) place) ≡ o
-        by None e = absurd (true≢false (sym e))
-        by (Some at) e = refl
+    point_then mount some false = grind (arith, common_steps)
 
     module _ (pushed : List Point) where
       abbrev points : List Point

@@ -1,6 +1,6 @@
 -- What code counts once mounts are attached and a task's root and working directory have gone to them.
-use Rattle.std.proofs.Common.{◌≡◌, ◌≤◌, refl, sym, ap, subst, ◌∙◌, ⊎_elim, inl, inr, ℕ, ◌+◌, nat_eq, eqb-true, Bool, true, false, cond, ◌&&◌, List, [], ◌∷◌, ◌++◌, map, arith}
-use Rattle.vt_spec.proofs.Common.{Descriptor, Location, Mount, World, all_locations, any_pair, is_among, list_any, locations_of, map-append, map_alike, map_twice, or_parts}
+use Rattle.std.proofs.Common.{◌≡◌, ◌≤◌, refl, sym, ap, subst, ◌∙◌, ⊎_elim, ℕ, ◌+◌, nat_eq, eqb-true, Bool, true, false, cond, ◌&&◌, List, [], ◌∷◌, ◌++◌, map, arith}
+use Rattle.vt_spec.proofs.Common.{Descriptor, Location, Mount, World, all_locations, any_pair, common_steps, is_among, list_any, locations_of, map-append, map_alike, map_twice, or_parts}
 use Rattle.vt_laws_mounts.proofs.counts.using.MountRoots as Roots
 use Rattle.vt_mounting.proofs.Common.{Among, CountsItsUses, IsHeld, MountEntry, OneNumberAMount, Tasks, WorldValue, among-append, among-append_right, among-from_map, among-map, among_from_all, among_from_list_all, among_numbers, changed, held, locations_in, mount_of, mount_uses, mounts_in, none_among, one_if, released, times, times_append, world_of, writes_of, writes_on}
 use Rattle.vt_location.specs.declared.mounts.Mount.{Mount as Attached}
@@ -95,10 +95,7 @@ none_on : (n : ℕ) (locations : List (Location ℕ))
     → ((location : Location ℕ) → Among location locations → nat_eq n location.mount ≡ false)
     → times (λ location. nat_eq n location.mount) locations ≡ 0
 none_on n [] none = refl
-none_on n (first ∷ rest) none =
-    let later = none_on n rest (λ location m. none location (inr m)) in
-    let here : one_if (nat_eq n first.mount) ≡ 0 = ap one_if (none first (inl refl)) in
-    omega (arith, later, here)
+none_on n (first ∷ rest) none = grind (arith, common_steps, none_on n rest)
 
 writes_below : (n : ℕ) (tasks : Tasks)
     → writes_of n tasks ≤ times (λ location. nat_eq n location.mount) (locations_in tasks)
@@ -124,8 +121,8 @@ writes_below n (task ∷ tasks) =
         (arith, later, here)
 
 -- The mounts with those that were attached, and two uses that went to them
-module _ (value : WorldValue) (whole : IsHeld value) (copies : List Attached) (tasks : Tasks) (goes : Mount ℕ → Bool)
-    (root directory new_root new_directory : Location ℕ)
+module _ {value : WorldValue} (whole : IsHeld value) (copies : List Attached) {tasks : Tasks} {goes : Mount ℕ → Bool}
+    {root directory new_root new_directory : Location ℕ}
     (is : IsAdded value (map mount_of copies) tasks (new_root ∷ new_directory ∷ []) (root ∷ directory ∷ []) goes) where
   abbrev world : World ℕ
   world = world_of value
@@ -164,10 +161,7 @@ module _ (value : WorldValue) (whole : IsHeld value) (copies : List Attached) (t
       (among-append value.mounts (map unused_entry copies) entry m)
 
   enough : (n : ℕ) → one_if (nat_eq n root.mount) + one_if (nat_eq n directory.mount) ≤ mount_uses world n
-  enough n =
-      let all = ap (times (λ (l : Location ℕ). nat_eq n l.mount)) is.was in
-      let a = times_append (λ (l : Location ℕ). nat_eq n l.mount) is.front ((root ∷ directory ∷ []) ++ is.back) in
-      omega (arith, all, a)
+  enough n = grind (arith, common_steps, times_append)
 
   pub record EndsAs (was entry : MountEntry) : Type 0 where
     pub mount : entry.mount ≡ was.mount

@@ -1,7 +1,7 @@
 -- Where a tree moves, its own mounts stand first among the copies, and the copies at receivers stand in the order of
 -- their numbers behind all mounts.
-use Rattle.std.proofs.Common.{◌≡◌, ◌<◌, refl, sym, ap, subst, ◌∙◌, ℕ, ◌+◌, ◌*◌, nat_eq, Bool, true, false, ◌&&◌, ◌||◌, List, [], ◌∷◌, ◌++◌, map, filter, length, arith, flat_map, if◌then◌else◌, nat_lt, ltb-true, ne_eqb}
-use Rattle.vt_spec.proofs.Common.{Mount, World, and_parts, copies_at, copy_at, group_of, index_of, length-map, list_all, list_any, map_twice, mount_at, or_parts, parts_of, receivers_of, rest_of, takes_part, twig_of}
+use Rattle.std.proofs.Common.{◌≡◌, ◌<◌, refl, sym, ap, subst, ◌∙◌, ℕ, ◌+◌, ◌*◌, nat_eq, Bool, true, false, ◌&&◌, List, [], ◌∷◌, ◌++◌, map, filter, length, arith, flat_map, if◌then◌else◌, ltb-true, ne_eqb}
+use Rattle.vt_spec.proofs.Common.{Mount, World, and_parts, common_steps, copies_at, copy_at, group_of, index_of, length-map, list_any, map_twice, mount_at, or_parts, parts_of, receivers_of, rest_of, takes_part, twig_of}
 use Rattle.vt_mounting.proofs.Common.{Among, OneNumberAMount, among-from_flat_map, among-from_map, among_from_list_all, are_ascending, counted, flat_map_alike, graft_in, location_of, mount_of, none_from_among, numbers_at, parts_apart}
 use Rattle.vt_propagate.specs.declared.copying.Counts.{Counts}
 use Rattle.vt_propagate.specs.declared.copying.Graft.{Graft}
@@ -12,13 +12,7 @@ use Rattle.vt_mounting.proofs.attach.EnteringLemmas.{ascending_joined}
 -- mounts in the order of their numbers have one number each
 pub ascending_once : (mounts : List (Mount ℕ)) → are_ascending mounts ≡ true → OneNumberAMount mounts
 ascending_once [] rising = refl
-ascending_once (first ∷ rest) rising =
-    let parts = and_parts (list_all (λ (later : Mount ℕ). nat_lt first.number later.number) rest) _ rising in
-    λ i. none_from_among (λ (later : Mount ℕ). nat_eq first.number later.number) rest (λ later m.
-    ne_eqb first.number later.number (λ same.
-    let less = ltb-true first.number later.number
-    (among_from_list_all (λ (x : Mount ℕ). nat_lt first.number x.number) rest parts.0 later m) in
-    absurd (omega (arith, less, same)))) i || ascending_once rest parts.1 i
+ascending_once (first ∷ rest) rising = grind (arith, common_steps, ascending_once rest, and_parts, among_from_list_all, none_from_among, ne_eqb, ltb-true)
 
 -- the copies at all parts but the first
 abbrev pub copies_beside : World ℕ → Graft → Counts → List (Mount ℕ)

@@ -55,11 +55,7 @@ pub rising_last : (filesystems : List (Filesystem ℕ)) (added : Filesystem ℕ)
     → list_all (λ (f : Filesystem ℕ). nat_lt f.number added.number) filesystems ≡ true
     → are_rising (filesystems ++ added ∷ []) ≡ true
 rising_last [] added rising lower = refl
-rising_last (first ∷ rest) added rising lower =
-    let parts = and_parts (list_all (λ (f : Filesystem ℕ). nat_lt first.number f.number) rest) _ rising in
-    let low = and_parts (nat_lt first.number added.number) _ lower in
-    λ i. (list_all-append (λ (f : Filesystem ℕ). nat_lt first.number f.number) rest (added ∷ [])
-    ∙ (λ j. parts.0 j && (low.0 j && true))) i && rising_last rest added parts.1 low.1 i
+rising_last (first ∷ rest) added rising lower = grind (arith, common_steps, rising_last rest, and_parts, list_all-append)
 
 -- and behind those that are woven it is woven
 pub put_before : (overlay added : Filesystem ℕ) → nat_lt added.number overlay.number ≡ false
@@ -76,7 +72,7 @@ woven_last plain (overlay ∷ rest) added above =
     ap (put_in overlay) (woven_last plain rest added (λ other m. above other (inr m)))
     ∙ put_before overlay added (above overlay (inl refl)) (woven plain rest)
 
-module _ (value : WorldValue) (whole : IsHeld value) (name : TaskName) (place : Location ℕ) (flags : MountFlags)
+module _ {value : WorldValue} (whole : IsHeld value) {name : TaskName} {place : Location ℕ} {flags : MountFlags}
     (permits : Permits value name (ToMountPlain place flags)) where
   abbrev world : World ℕ
   world = world_of value
@@ -118,7 +114,7 @@ module _ (value : WorldValue) (whole : IsHeld value) (name : TaskName) (place : 
   left_world : IsWorld nat_eq (attach nat_eq middle (odds fresh) place false tree)
       × OverlaysHaveNoUpper (attach nat_eq middle (odds fresh) place false tree)
   left_world = subst (λ (w : World ℕ). IsWorld nat_eq w × OverlaysHaveNoUpper w) left_attached
-      (left_is_world value whole name (ToMountPlain place flags) permits.task takes)
+      (left_is_world whole takes)
 
   -- No mount and no location is in the new filesystem
 
@@ -147,9 +143,9 @@ module _ (value : WorldValue) (whole : IsHeld value) (name : TaskName) (place : 
         others_elsewhere from.0 from.1,
       )
 
-  point_on : (mount : meant.Mount ℕ) → Among mount (mounts_in value.mounts) → (location : Location ℕ)
+  point_on : (mount : meant.Mount ℕ) → Among mount (mounts_in value.mounts) → {location : Location ℕ}
       → mount.mount_point ≡ Some location → is_on (mounts_in value.mounts) location ≡ true
-  point_on mount m location is = among_from_list_all (is_on (mounts_in value.mounts))
+  point_on mount m {location} is = among_from_list_all (is_on (mounts_in value.mounts))
       (all_locations world ++ places_of (mounts_in value.mounts)) all_stand location
       (among-append_right (all_locations world) (places_of (mounts_in value.mounts)) location
       (among-append_right (map (meant.root_of {N = ℕ}) (mounts_in value.mounts))
@@ -165,7 +161,7 @@ module _ (value : WorldValue) (whole : IsHeld value) (name : TaskName) (place : 
       (among-append_left (all_locations world) (places_of (mounts_in value.mounts)) location own))))
       (λ point. let from = among-from_filter_map (λ (x : meant.Mount ℕ). x.mount_point)
       (mounts_in value.mounts) location point in
-      ap not (on_elsewhere location (point_on from.0 from.1 location from.2))) (among-append (all_locations world)
+      ap not (on_elsewhere location (point_on from.0 from.1 from.2))) (among-append (all_locations world)
       (filter_map (λ (x : meant.Mount ℕ). x.mount_point) (mounts_in value.mounts)) location m))
 
   roots_elsewhere : list_all (λ (x : meant.Mount ℕ). not (nat_eq (counted value.next) x.filesystem)
@@ -197,13 +193,10 @@ module _ (value : WorldValue) (whole : IsHeld value) (name : TaskName) (place : 
       points mount m None is = refl
       points mount m (Some location) is = λ i.
           is_directory_node ((files_kept (mount_at nat_eq world location).filesystem
-          (on_elsewhere location (point_on mount m location is)) i).files.tree.node location.node) && true
+          (on_elsewhere location (point_on mount m is)) i).files.tree.node location.node) && true
 
   used_same : (f : Filesystem ℕ) → used_in nat_eq middle f ≡ used_in nat_eq world f
-  used_same f = λ i. f.files.tree.root ∷ (named_in f.files ++ located_in nat_eq world f.number
-      ++ map (λ layer. layer.directory) (filter (λ layer. nat_eq f.number layer.filesystem)
-      (flat_before (of_overlay [] layers_of) world.filesystems added refl i))
-      ++ flat_before (objects_of_overlay nat_eq f.number) world.filesystems added refl i)
+  used_same f = grind (arith, common_steps)
 
   in_use_then : InodesInUse middle
   in_use_then = all_from_among (λ (f : Filesystem ℕ). list_all (is_inode_used middle f) f.files.numbers ≡ true)
@@ -220,7 +213,7 @@ module _ (value : WorldValue) (whole : IsHeld value) (name : TaskName) (place : 
       rest_used = named_in added.files ++ located_in nat_eq middle added.number ++ layers_in nat_eq middle added.number
           ++ flat_map (objects_of_overlay nat_eq added.number) middle.filesystems
 
-  module _ (entry : FilesystemEntry) (is_new : IsNew value.next root_attr entry) where
+  module _ {entry : FilesystemEntry} (is_new : IsNew value.next root_attr entry) where
     abbrev base : Filesystems
     base = value.filesystems ++ entry ∷ []
 

@@ -1,10 +1,10 @@
 -- A filesystem that is new: one empty directory, with a number that no other has.
 use Rattle.std.proofs.Common.{◌≡◌, refl, sym, ap, subst, ◌∙◌, inl, ⊎_elim, ℕ, ◌<◌, nat_eq, eq-eqb, eqb-true, lt-ltb, nat_lt, Bool, true, false, true≢false, cond, not, List, [], ◌∷◌, ◌++◌, map, flat_map, Some, None, is_some, arith, All, ltb-true, ne_eqb}
-use Rattle.vt_spec.proofs.Common.{Filesystem, Inodes, IsTree, Namespace, and_true_left, and_true_right, common_steps, filesystem_numbered, list_all, list_all_from_among, root_attr, used_by_filesystem, used_by_mount}
+use Rattle.vt_spec.proofs.Common.{Filesystem, Inodes, IsTree, Namespace, common_steps, filesystem_numbered, list_all, list_all_from_among, root_attr, used_by_filesystem, used_by_mount}
 use Rattle.vt_laws_mounts.specs.Counts.Using.{root_counted}
 use Rattle.vt_mounting.proofs.Common.{Among, FilesystemEntry, Filesystems, HasOwnInodes, HasOwnNodes, IsHeld, IsNew, WorldValue, all_from_among, among-append, among-append_left, among-append_right, among-flat_map, among_from_all, counted, directory_is_there, filesystem_seen, inode_number, inodes_seen, is_among_numbers, is_counted_before, is_own_number, leaves_two, number_numbered, numbered_all, used_numbers_are_named, world_of}
 use Rattle.vt_fs.specs.FilesystemsValue.{without}
-use Rattle.vt_laws_mounts.proofs.letting_go.Lists.{filter_here, filter_skip}
+use Rattle.vt_laws_mounts.proofs.letting_go.Lists.{filter_skip}
 use Rattle.vt_location.proofs.NumberLemmas.{is_own}
 use Rattle.vt_mounting.proofs.detach.NodesFound.{own_nodes}
 use Rattle.vt_mounting.proofs.detach.Overlaid.{plain_one_among}
@@ -77,13 +77,7 @@ pub removed_again : (filesystems : Filesystems) (entry : FilesystemEntry) (count
     → without count (filesystems ++ entry ∷ []) ≡ filesystems
 removed_again [] entry count is above = filter_skip
     (λ (other : FilesystemEntry). not (nat_eq count other.count)) entry [] (ap not (eq-eqb count entry.count (sym is)))
-removed_again (first ∷ rest) entry count is above =
-    filter_here (λ (other : FilesystemEntry). not (nat_eq count other.count)) first (rest ++ entry ∷ [])
-    (ap not (ne_eqb count first.count (λ same. absurd (omega (arith, low, same)))))
-    ∙ ap (λ others. first ∷ others) (removed_again rest entry count is (and_true_right _ _ above))
-  where
-    low : first.count < count
-    low = ltb-true first.count count (and_true_left _ _ above)
+removed_again (first ∷ rest) entry count is above = grind (arith, common_steps, removed_again rest, ne_eqb, ltb-true)
 
 -- its inodes have numbers of its own
 pub new_is_own : (count : ℕ) (entry : FilesystemEntry) → count < 18446744073709551616 → IsNew count root_attr entry

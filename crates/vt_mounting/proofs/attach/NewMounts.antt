@@ -1,8 +1,8 @@
 -- The event that mounts a new filesystem: mount(2) of a tmpfs.
-use Rattle.std.proofs.Common.{◌≡◌, ◌<◌, refl, sym, ap, subst, ◌∙◌, ⊎_elim, ℕ, ◌+◌, ◌*◌, ◌%◌, ◌==◌, nat_eq, true, true≢false, false, cond, List, [], ◌∷◌, ◌++◌, map, length, is_some, arith, ne_eqb}
-use Rattle.vt_spec.proofs.Common.{Fresh, Location, MountFlags, Permit, TaskName, ToMountPlain, World, among_from_contains, attach, group_of, length-map, list_all, new_mount, odds, parts_of, plain_filesystem, root_attr, with_new_filesystem}
+use Rattle.std.proofs.Common.{◌≡◌, ◌<◌, refl, sym, ap, subst, ◌∙◌, ⊎_elim, ℕ, ◌+◌, ◌*◌, ◌%◌, ◌==◌, nat_eq, true, true≢false, false, List, [], ◌∷◌, ◌++◌, map, length, is_some, arith, ne_eqb}
+use Rattle.vt_spec.proofs.Common.{Fresh, Location, MountFlags, Permit, TaskName, ToMountPlain, World, among_from_contains, attach, common_steps, group_of, length-map, list_all, new_mount, odds, parts_of, plain_filesystem, root_attr, with_new_filesystem}
 use Rattle.vt_spec.specs.Machine.Mounts as meant
-use Rattle.vt_mounting.proofs.Common.{Among, FilesystemEntry, Filesystems, Grouping, IsHeld, IsNew, IsSeen, KeepsTo, MountEntry, OneNumberAMount, WorldValue, are_ascending, counted, counts_from, handed_from, inode_number, is_counted_before, location_of, mount_of, mounts_in, new_group, parts_apart, planned_copies, world_of}
+use Rattle.vt_mounting.proofs.Common.{Among, FilesystemEntry, Filesystems, Grouping, IsHeld, IsNew, IsSeen, KeepsTo, MountEntry, OneNumberAMount, WorldValue, are_ascending, counted, handed_from, inode_number, is_counted_before, location_of, mount_of, mounts_in, parts_apart, planned_copies, world_of}
 use Rattle.vt_propagate.specs.declared.copying.Counts.{Counts}
 use Rattle.vt_propagate.specs.declared.copying.Graft.{Graft}
 use Rattle.vt_propagate.specs.Copying as planned
@@ -14,7 +14,6 @@ use Rattle.vt_mounting.proofs.detach.Staying.{IsDone}
 use Rattle.vt_mounting.specs.Attach.AttachedGroups.{HasGroupsOf}
 use Rattle.vt_mounting.specs.Attach.AttachedNumbers.{numbers_of_new_mount}
 use Rattle.vt_mounting.specs.Attach.Grafted.{IsGrafted, MayGraft}
-use Rattle.vt_mounting.specs.Attach.PlannedUses.{point_seen}
 use Rattle.vt_mounting.proofs.attach.AttachedCounts.{lower_numbers}
 use Rattle.vt_mounting.proofs.attach.Binding.{is_seen}
 use Rattle.vt_mounting.proofs.attach.CopiesAscend.{planned_ascend}
@@ -45,11 +44,7 @@ module _ (value : WorldValue) (whole : IsHeld value) (name : TaskName) (graft : 
   fresh = handed_from value.next 2 (inode_number value.next 0)
 
   same_counts : (k : ℕ) → planned.counts_from counts k ≡ odds fresh k
-  same_counts k =
-      let other : (2 * k + 1 == 2) ≡ false = ne_eqb (2 * k + 1) 2 (λ e. omega (arith, e)) in
-      let same : counted (value.next + 1 + 2 * k) ≡ counts_from value.next (2 * k + 1) = omega arith in
-      (λ i. counted (first i + step i * k)) ∙ same
-      ∙ sym (ap (λ b. cond b (inode_number value.next 0) (counts_from value.next (2 * k + 1))) other)
+  same_counts k = grind (arith, common_steps, ne_eqb)
 
   tree_once : OneNumberAMount tree
   tree_once = subst OneNumberAMount (sym tree_is) refl
@@ -85,16 +80,14 @@ module _ (value : WorldValue) (whole : IsHeld value) (name : TaskName) (graft : 
       seen_then : IsSeen (with_base value (value.filesystems ++ entry ∷ [])) value.mounts value.groups
       seen_then = record {
         mounts = refl;
-        groups = same_has (world_of value)
-            (with_base value (value.filesystems ++ entry ∷ [])) value.groups whole.groups refl (λ group. refl);
+        groups = same_has (with_base value (value.filesystems ++ entry ∷ [])) whole.groups refl (λ group. refl);
         living = whole.in_world.mounts.groups;
       }
 
       parts_then : map mount_of graft.parts.now
           ≡ parts_of nat_eq (with_base value (value.filesystems ++ entry ∷ [])) (location_of graft.place)
-      parts_then = parts_are ∙ sym (same_parts value whole name place flags permits)
-          ∙ ap (λ (w : World ℕ). parts_of nat_eq w (location_of graft.place))
-          (base_is value whole name place flags permits entry is_new)
+      parts_then = parts_are ∙ sym (same_parts whole permits)
+          ∙ ap (λ (w : World ℕ). parts_of nat_eq w (location_of graft.place)) (base_is whole permits is_new)
 
       -- the groups of the new mounts are there
       groups_there : HasGroupsOf (with_base value (value.filesystems ++ entry ∷ [])) (map mount_of graft.tree.now)
@@ -109,7 +102,7 @@ module _ (value : WorldValue) (whole : IsHeld value) (name : TaskName) (graft : 
           ≡ length graft.parts.now = length-map graft.parts.now mount_of in
           let all : 2 * (2 * length (map mount_of graft.parts.now))
           ≡ 2 * (length graft.parts.now * 2) = omega (arith, many) in
-          cc (plain_is value whole name place flags permits, same_parts value whole name place flags permits)
+          cc (plain_is whole permits, same_parts whole permits)
 
       pub new_mount_is_done : (mounts : List MountEntry) (groups : Grouping) (filesystems : Filesystems)
           (overlays : List Merged) (next : ℕ) → IsGrafted graft counts
@@ -118,21 +111,24 @@ module _ (value : WorldValue) (whole : IsHeld value) (name : TaskName) (graft : 
           → IsDone value name permit (grafted_value value mounts groups filesystems overlays next)
       new_mount_is_done mounts groups filesystems overlays next is grows =
           let attaches = is.plan (with_base value base) seen_then whole.in_world.mounts.one_child parts_then in
-          let attach_is = plan_attaches (with_base value base) graft counts (map mount_of is.copies)
-          (map new_group is.groups) (map point_seen is.points) attaches binds (odds fresh) same_counts in
+          let attach_is = plan_attaches
+          attaches binds (odds fresh) same_counts in
           let rising = ap (λ list. are_ascending (mounts_in value.mounts ++ list)) attaches.copies_are
           ∙ rising_in (with_base value base) whole.in_world.mounts.one_number in
-          let left_is = left_attached value whole name place flags permits
+          let left_is = left_attached whole permits
           ∙ ap (λ (w : World ℕ). attach nat_eq w (odds fresh) place false
-          (new_mount (counted value.next) (inode_number value.next 0) flags ∷ []))
-          (base_is value whole name place flags permits entry is_new)
+          (new_mount (counted value.next) (inode_number value.next 0) flags ∷ [])) (base_is whole permits is_new)
           ∙ ap (λ list. attach nat_eq (with_base value base) (odds fresh) place false list) (sym tree_is) ∙ attach_is in
-          graft_is_done value (is_beside value whole) base
-          (new_base value whole name place flags permits entry is_new small) graft counts
-          mounts groups filesystems overlays next is attaches groups_there
-          rising whole name permit permits (takes value whole name place flags permits) left_is
+          graft_is_done (record {
+            whole = is_beside value whole;
+            is_base = new_base whole permits is_new small;
+            is = is;
+            attaches = attaches;
+            there = groups_there;
+            ascending = rising;
+          }) next whole permits (takes whole permits) left_is
           (subst (λ n. KeepsTo (is_counted_before n) (left_by value permits.task permit))
           (ap (λ n. value.next + n) sizes ∙ sym grows)
-          (new_mounts_keep_to_numbers value.next (inode_number value.next 0)
-          (omega arith) world permits.task place flags permits.given.called whole.given
+          (new_mounts_keep_to_numbers value.next (inode_number value.next 0) (omega arith) world permits.task place
+          flags permits.given.called whole.given
           (located_is_named value whole place (destination_there value whole name place flags permits))))

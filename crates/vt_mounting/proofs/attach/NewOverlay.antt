@@ -1,8 +1,8 @@
 -- The code's world with an overlay more, which no mount shows yet: what an attachment asks of it.
-use Rattle.std.proofs.Common.{◌≡◌, ◌≤◌, ◌<◌, refl, sym, ap, subst, ◌∙◌, ⊎_elim, ℕ, nat_eq, nat_lt, lt-ltb, true, List, [], ◌∷◌, ◌++◌, length, arith, All, ne_eqb}
+use Rattle.std.proofs.Common.{◌≡◌, refl, sym, ap, subst, ◌∙◌, ⊎_elim, ℕ, nat_eq, nat_lt, lt-ltb, true, List, [], ◌∷◌, ◌++◌, arith, All, ne_eqb}
 use Rattle.vt_spec.proofs.Common.{Filesystem, and_parts, filesystem_numbered, has_its_root, is_overlay, map-append}
 use Rattle.vt_spec.specs.Machine.Mounts as meant
-use Rattle.vt_mounting.proofs.Common.{AreLayers, CountsItsUses, CountsWhatIsInIt, Filesystems, HasOwnNodes, IsHeld, IsMountedSoOften, OverlayEntry, WorldValue, all_from_among, among-append, among_from_all, among_from_list_all, are_rising, counted, directory_is_there, list_all_from_among, mounts_in, mounts_showing, overlay_of_store, overlay_seen, overlays_seen, world_of}
+use Rattle.vt_mounting.proofs.Common.{CountsItsUses, CountsWhatIsInIt, Filesystems, HasOwnNodes, IsHeld, IsMountedSoOften, OverlayEntry, WorldValue, all_from_among, among-append, among_from_all, among_from_list_all, are_rising, counted, directory_is_there, list_all_from_among, mounts_in, mounts_showing, overlay_of_store, overlay_seen, overlays_seen, world_of}
 use Rattle.vt_store.specs.OverlaysValue as stored
 use Rattle.vt_mounting.proofs.detach.Grouped.{same_has}
 use Rattle.vt_mounting.proofs.detach.PlainFound.{overlay_among}
@@ -10,7 +10,7 @@ use Rattle.vt_mounting.proofs.attach.AttachedCounts.{times_none}
 use Rattle.vt_mounting.proofs.attach.Beside.{IsBeside, IsReadOnly, is_beside}
 use Rattle.vt_mounting.proofs.attach.NewBase.{rising_last}
 use Rattle.vt_mounting.proofs.attach.NewFilesystems.{found_below, number_below}
-use Rattle.vt_mounting.proofs.attach.OverlayNodes.{new_overlay_has_own}
+use Rattle.vt_mounting.proofs.attach.OverlayNodes.{CanBeKept, new_overlay_has_own}
 
 -- no mount shows the next number
 pub next_is_shown_by_none : (value : WorldValue) → IsHeld value → mounts_showing (world_of value) (counted value.next) ≡ 0
@@ -30,10 +30,8 @@ all_last {A = A} P list last all is = all_from_among P (list ++ last ∷ []) (λ
     ⊎_elim (among_from_all P list all one) (λ n. ⊎_elim (λ same. subst P (sym same) is) (λ none. absurd none) n)
     (among-append list (last ∷ []) one m))
 
-module _ (value : WorldValue) (whole : IsHeld value) (trees : Filesystems) (entry : stored.OverlayEntry)
-    (are : AreLayers trees entry.overlay.lowers) (few : length entry.overlay.lowers ≤ 128)
-    (own : entry.overlay.number.count ≡ entry.count) (count_is : entry.count ≡ value.next)
-    (small : value.next < 18446744073709551616) (none : entry.mounts ≡ 0) where
+module _ {value : WorldValue} (whole : IsHeld value) {trees : Filesystems} {entry : stored.OverlayEntry}
+    (new_entry : CanBeKept trees entry) (count_is : entry.count ≡ value.next) (none : entry.mounts ≡ 0) where
   abbrev over : OverlayEntry
   over = overlay_of_store trees entry
 
@@ -69,13 +67,13 @@ module _ (value : WorldValue) (whole : IsHeld value) (trees : Filesystems) (entr
         read_only = all_seen IsReadOnly was.read_only refl;
         overlays_rise = rises;
         own_nodes = all_seen HasOwnNodes was.own_nodes
-            (new_overlay_has_own trees entry are few own (subst (λ n. n < 18446744073709551616) (sym count_is) small));
+            (new_overlay_has_own new_entry);
         overlays = all_last (IsMountedSoOften (world_of with_new_overlay)) value.overlays over
             (all_from_among (IsMountedSoOften (world_of with_new_overlay)) value.overlays
             (among_from_all (IsMountedSoOften (world_of value)) value.overlays was.overlays))
             (none ∙ sym (ap (λ n. mounts_showing (world_of value) (counted n)) count_is
             ∙ next_is_shown_by_none value whole));
-        groups = same_has (world_of value) (world_of with_new_overlay) value.groups was.groups refl (λ group. refl);
+        groups = same_has (world_of with_new_overlay) was.groups refl (λ group. refl);
         uses = all_from_among (CountsItsUses (world_of with_new_overlay)) value.mounts (λ mount m.
             let counts = among_from_all (CountsItsUses (world_of value)) value.mounts was.uses mount m in
             record { uses = counts.uses; writers = counts.writers });

@@ -2,7 +2,7 @@
 -- counted, and all filesystems stand in the order of their numbers.
 use Rattle.std.proofs.Common.{◌≡◌, sym, ap, subst, ◌∙◌, ℕ, nat_eq, nat_lt, lt-ltb, true, List, [], ◌∷◌, ◌++◌, map, arith, All}
 use Rattle.vt_spec.proofs.Common.{Filesystem, World, filesystem_numbered}
-use Rattle.vt_mounting.proofs.Common.{Among, AreLayers, FilesystemEntry, Filesystems, HasOwnInodes, Inode, IsCounted, IsHeld, Shown, WorldValue, all_from_among, among-from_map, among-map, among_from_all, any_same_worlds_count_alike, are_rising, counted, exchanged, filesystems_seen, inodes_seen, list_all_from_among, overlay_of_store, overlay_seen, overlays_seen, shown, shown_entry, world_of, woven}
+use Rattle.vt_mounting.proofs.Common.{Among, FilesystemEntry, Filesystems, HasOwnInodes, Inode, IsCounted, Shown, WorldValue, all_from_among, among-from_map, among-map, among_from_all, any_same_worlds_count_alike, are_rising, counted, exchanged, filesystems_seen, inodes_seen, list_all_from_among, overlay_of_store, overlay_seen, overlays_seen, shown, shown_entry, world_of, woven}
 use Rattle.vt_store.specs.OverlaysValue as stored
 use Rattle.vt_mounting.specs.Detach.Stored.{layer_of}
 use Rattle.vt_mounting.proofs.detach.Finishing.{own_exchanged}
@@ -11,11 +11,11 @@ use Rattle.vt_mounting.proofs.detach.OwnInodesKept.{IsOwn}
 use Rattle.vt_mounting.proofs.attach.NewBase.{rising_last}
 use Rattle.vt_mounting.proofs.attach.NewFilesystems.{number_below}
 use Rattle.vt_mounting.proofs.attach.NewOverlaySame.{same_with_layers_held}
-use Rattle.vt_mounting.proofs.attach.NewOverlayUses.{counted_with_layers, held_by, overlay_last}
+use Rattle.vt_mounting.proofs.attach.NewOverlayUses.{LayersHeld, counted_with_layers, held_by, overlay_last}
 
-module _ (value : WorldValue) (whole : IsHeld value) (base : Filesystems) (entry : stored.OverlayEntry)
-    (are : AreLayers value.filesystems entry.overlay.lowers) (count_is : entry.count ≡ value.next)
-    (held : shown base ≡ map (held_by (map layer_of entry.overlay.lowers)) (shown value.filesystems)) where
+module _ {value : WorldValue} {base : Filesystems} {entry : stored.OverlayEntry} (it : LayersHeld value base entry) where
+  open it use {whole, are, count_is, held}
+
   abbrev layers : List Inode
   layers = map layer_of entry.overlay.lowers
 
@@ -55,14 +55,13 @@ module _ (value : WorldValue) (whole : IsHeld value) (base : Filesystems) (entry
       (sym (ap (λ (s : Shown). s.inodes) from.2))
       (any_same_worlds_count_alike (overlay_last value base entry) over_base (counted from.0.count)
       (exchanged (counted from.0.count) layers [] (inodes_seen from.0))
-      (same_with_layers_held value whole base entry layers count_is held)
-      (counted_with_layers value whole base entry are count_is from.0 from.1)))
+      (same_with_layers_held whole base entry layers count_is held) (counted_with_layers it from.0 from.1)))
 
   -- all stand in order
   pub rising_when_held : are_rising (woven (filesystems_seen base)
       (overlays_seen (value.overlays ++ overlay_of_store base entry ∷ []))) ≡ true
   rising_when_held = same_files_rise (overlay_last value base entry).filesystems over_base.filesystems
-      (same_with_layers_held value whole base entry layers count_is held).filesystems
+      (same_with_layers_held whole base entry layers count_is held).filesystems
       (rising_last (world_of value).filesystems (overlay_seen (overlay_of_store base entry)) whole.overlays.all_rise
       (list_all_from_among (λ (f : Filesystem ℕ). nat_lt f.number (counted entry.count)) (world_of value).filesystems
       (λ f m.

@@ -1,8 +1,8 @@
 -- The event that mounts an overlay: mount(2), and the kernel's overlayfs document, "upper and lower".
 use Rattle.std.proofs.Common.{◌≡◌, ◌≤◌, ◌<◌, refl, sym, ap, subst, ◌∙◌, inl, ⊎_elim, ℕ, ◌+◌, ◌*◌, ◌%◌, ◌==◌, nat_eq, true, false, true≢false, not, ◌&&◌, List, [], ◌∷◌, ◌++◌, map, filter, length, is_some, None, arith, All}
-use Rattle.vt_spec.proofs.Common.{Filesystem, Fresh, IsTree, IsWorld, Location, MountFlags, Overlay, Permit, SameFilesystem, SameFilesystems, SameWorlds, Task, ToMountOverlay, World, among_from_contains, and_parts, attach, attached_at, copies_from, folded, graft_of, group_of, inode_count, is_overlay, length-map, list_all, map-append, masters_with, mount_at, new_mount, odds, parts_of, receivers_of, takes_part}
+use Rattle.vt_spec.proofs.Common.{Filesystem, Fresh, IsWorld, Location, MountFlags, Overlay, Permit, SameFilesystem, SameFilesystems, SameWorlds, Task, ToMountOverlay, World, among_from_contains, and_parts, attach, attached_at, common_steps, copies_from, folded, graft_of, group_of, inode_count, is_overlay, length-map, list_all, map-append, masters_with, mount_at, new_mount, odds, parts_of, receivers_of, takes_part}
 use Rattle.vt_spec.specs.Machine.Mounts as meant
-use Rattle.vt_mounting.proofs.Common.{Among, AttachesBy, Filesystems, Grouping, HasOwnNodes, IsGivenToTask, IsHeld, IsSeen, KeepsTo, MountEntry, OneNumberAMount, OverlayValue, OverlaysAreNamed, ShowsLayers, WorldValue, WritersHaveLayers, alike_from_same, among-append, among-append_right, among-from_filter, among_from_all, any_same_worlds_are_worlds, are_ascending, counted, counted_later, counts_from, directory_is_there, filesystems_seen, found_same, has_only_named, is_counted_before, location_named, location_of, master_in, mount_of, mounts_in, new_group, overlay_of_store, overlay_seen, overlays_seen, parts_apart, planned_copies, same_worlds_have_layers_alike, sameness_is_an_equivalence, shown, with_layers, world_of, worlds_have_trees, woven}
+use Rattle.vt_mounting.proofs.Common.{Among, AttachesBy, Filesystems, Grouping, HasOwnNodes, IsGivenToTask, IsHeld, IsSeen, KeepsTo, MountEntry, OneNumberAMount, OverlayValue, OverlaysAreNamed, ShowsLayers, WorldValue, WritersHaveLayers, alike_from_same, among-append, among-append_right, among-from_filter, among_from_all, any_same_worlds_are_worlds, are_ascending, counted, counted_later, counts_from, filesystems_seen, found_same, has_only_named, is_counted_before, location_named, location_of, master_in, mount_of, mounts_in, new_group, overlay_of_store, overlay_seen, overlays_seen, parts_apart, planned_copies, same_worlds_have_layers_alike, sameness_is_an_equivalence, shown, with_layers, world_of, worlds_have_trees, woven}
 use Rattle.vt_laws_worlds.proofs.given.left.Permits.{given_permits_leave_every_world}
 use Rattle.vt_world.proofs.overlays_made.Supplied.{mounts_get_counts}
 use Rattle.vt_laws_worlds.proofs.overlays_read.Kept.{permits_keep_writers}
@@ -17,7 +17,6 @@ use Rattle.vt_store.specs.OverlaysValue as stored
 use Rattle.vt_mounting.specs.Detach.Events.{left_by, overlay_kept, supply_of}
 use Rattle.vt_mounting.specs.Detach.Stored.{layer_of}
 use Rattle.vt_mounting.specs.Detach.Uses.{Merged, kept_with, merged_seen}
-use Rattle.vt_mounting.proofs.detach.FilesSeen.{nodes_named}
 use Rattle.vt_mounting.proofs.detach.Grouped.{same_has}
 use Rattle.vt_mounting.proofs.detach.NodesFound.{own_together}
 use Rattle.vt_mounting.proofs.detach.OverlayGranted.{NamesLayers, kept_few}
@@ -35,10 +34,10 @@ use Rattle.vt_mounting.proofs.attach.NewFilesystems.{number_named}
 use Rattle.vt_mounting.proofs.attach.NewOverlay.{all_last, new_is_beside}
 use Rattle.vt_mounting.proofs.attach.NewOverlayBase.{counted_when_held, own_when_held, rising_when_held}
 use Rattle.vt_mounting.proofs.attach.NewOverlayInUse.{in_use_when_held, mounts_when_held, roots_when_held}
-use Rattle.vt_mounting.proofs.attach.NewOverlayNumbers.{entered_keeps, own_number_named}
+use Rattle.vt_mounting.proofs.attach.NewOverlayNumbers.{IsNumbered, entered_keeps, own_number_named}
 use Rattle.vt_mounting.proofs.attach.NewOverlaySame.{same_with_layers_held}
-use Rattle.vt_mounting.proofs.attach.NewOverlayUses.{held_by, held_each, overlay_last}
-use Rattle.vt_mounting.proofs.attach.OverlayLeft.{named_same, names_layers, new_overlay_is_named, overlay_left, overlay_stays_when_held, seen_again, shows_layers}
+use Rattle.vt_mounting.proofs.attach.NewOverlayUses.{LayersHeld, held_by, held_each, overlay_last}
+use Rattle.vt_mounting.proofs.attach.OverlayLeft.{IsEntryOf, IsOverlayGiven, named_same, names_layers, new_overlay_is_named, overlay_left, overlay_stays_when_held, seen_again, shows_layers}
 use Rattle.vt_mounting.proofs.attach.OverlaysNew.{layers_more}
 
 -- where trees have their numbers in another order, a place has the same parts
@@ -126,14 +125,20 @@ module _ (value : WorldValue) (whole : IsHeld value) (task : Task ℕ) (graft : 
     ascending = rising_in world whole.in_world.mounts.one_number;
   }
 
+  granted : IsOverlayGiven value task (location_of graft.place) overlay flags
+  granted = record { whole = whole; given = given; lower = lower }
+
+  new_entry : IsEntryOf value overlay entry
+  new_entry = record { kept = overlay_is; count_is = count_is }
+
   names : NamesLayers (world_of value) task (location_of graft.place) overlay
-  names = names_layers value whole task place overlay flags given lower
+  names = names_layers granted
 
   shows : ShowsLayers (world_of value) value.filesystems entry.overlay
-  shows = shows_layers value whole task place overlay flags given lower entry overlay_is count_is
+  shows = shows_layers granted new_entry
 
   again : overlay ≡ merged.overlay_seen entry.overlay
-  again = seen_again value whole task place overlay flags given lower entry overlay_is count_is workless unmade
+  again = seen_again granted new_entry workless unmade
 
   few : length entry.overlay.lowers ≤ 128
   few = subst (λ (o : OverlayValue). length o.lowers ≤ 128) (sym overlay_is)
@@ -160,23 +165,29 @@ module _ (value : WorldValue) (whole : IsHeld value) (task : Task ℕ) (graft : 
     held_so = held ∙ layers_more entry.overlay.lowers (shown value.filesystems)
         ∙ held_each (map layer_of entry.overlay.lowers) (shown value.filesystems)
 
+    layers_held : LayersHeld value base entry
+    layers_held = record { whole = whole; are = shows.are; count_is = count_is; held = held_so }
+
     stays : overlay_of_store base entry ≡ overlay_of_store value.filesystems entry
     stays = overlay_stays_when_held value.filesystems base entry shows.are (map layer_of entry.overlay.lowers) held_so
 
     beside_it : IsBeside (record value { overlays = value.overlays ++ overlay_of_store base entry ∷ [] })
     beside_it = subst (λ one. IsBeside (record value { overlays = value.overlays ++ one ∷ [] })) (sym stays)
-        (new_is_beside value whole value.filesystems entry shows.are few
-        (ap (λ (o : OverlayValue). o.number.count) overlay_is ∙ sym count_is) count_is small none)
+        (new_is_beside whole (record {
+          are = shows.are;
+          few = few;
+          own = ap (λ (o : OverlayValue). o.number.count) overlay_is ∙ sym count_is;
+          small = subst (λ n. n < 18446744073709551616) (sym count_is) small;
+        }) count_is none)
 
     same_last : SameWorlds (overlay_last value base entry) (record (world_of value) {
       filesystems = woven (filesystems_seen base) (overlays_seen (value.overlays ++ overlay_of_store base entry ∷ []));
     })
-    same_last = same_with_layers_held value whole base entry (map layer_of entry.overlay.lowers) count_is held_so
+    same_last = same_with_layers_held whole base entry (map layer_of entry.overlay.lowers) count_is held_so
 
     named_over : has_only_named (overlay_seen (overlay_of_store base entry)) ≡ true
     named_over =
-        new_overlay_is_named value whole task place overlay flags given lower entry overlay_is count_is again base
-        held_so
+        new_overlay_is_named granted new_entry again base held_so
 
     -- its overlays have names alone
     abbrev IsNamed : Filesystem ℕ → Type 0
@@ -207,7 +218,7 @@ module _ (value : WorldValue) (whole : IsHeld value) (task : Task ℕ) (graft : 
     }) value.mounts value.groups
     seen_then = record {
       mounts = refl;
-      groups = same_has (world_of value) over_base value.groups whole.groups refl (λ group. refl);
+      groups = same_has over_base whole.groups refl (λ group. refl);
       living = whole.in_world.mounts.groups;
     }
 
@@ -219,8 +230,8 @@ module _ (value : WorldValue) (whole : IsHeld value) (task : Task ℕ) (graft : 
         (ap is_some (sym (ap (λ (x : meant.Mount ℕ). group_of x.propagation) same) ∙ e))))) (λ none. absurd none)
         (subst (Among mount) tree_then (among_from_contains tree mount contained))
 
-    module _ (mounts : List MountEntry) (groups : Grouping) (filesystems : Filesystems) (overlays : List Merged)
-        (next : ℕ) (is : IsGrafted graft counts
+    module _ (mounts : List MountEntry) {groups : Grouping} (filesystems : Filesystems) (overlays : List Merged)
+        {next : ℕ} (is : IsGrafted graft counts
         (kept_with value.mounts base (map merged_seen (value.overlays ++ overlay_of_store base entry ∷ []))) value.groups
         (kept_with mounts filesystems overlays) groups)
         (grows : next ≡ value.next + 2 * (length graft.parts.now * 2)) where
@@ -238,12 +249,11 @@ module _ (value : WorldValue) (whole : IsHeld value) (task : Task ℕ) (graft : 
       attached_is : attach nat_eq over_base (odds fresh) place false
           (new_mount (counted value.next) (overlay_of_store base entry).root flags ∷ []) ≡ entered
       attached_is = ap (λ list. attach nat_eq over_base (odds fresh) place false list) (sym tree_then)
-          ∙ plan_attaches over_base graft counts (map mount_of is.copies) (map new_group is.groups)
-          (map point_seen is.points) attaches binds (odds fresh) same_counts
+          ∙ plan_attaches attaches binds (odds fresh) same_counts
 
       left_same : SameWorlds (left_by value task permit) entered
       left_same = subst (SameWorlds (left_by value task permit)) attached_is
-          (overlay_left value whole task place overlay flags given lower entry overlay_is count_is again base held_so)
+          (overlay_left granted new_entry again base held_so)
 
       entered_is_world : IsWorld nat_eq entered
       entered_is_world = any_same_worlds_are_worlds (left_by value task permit) entered left_same
@@ -255,13 +265,13 @@ module _ (value : WorldValue) (whole : IsHeld value) (task : Task ℕ) (graft : 
 
       is_base : IsBase with_it base
       is_base = record {
-        own = own_when_held value whole base entry shows.are count_is held_so;
+        own = own_when_held layers_held;
         trees = worlds_have_trees entered entered_is_world;
-        in_use = in_use_when_held value whole base entry shows.are count_is held_so named_over;
-        roots = roots_when_held value whole base entry shows.are count_is held_so;
-        rise = rising_when_held value whole base entry shows.are count_is held_so;
-        inodes = counted_when_held value whole base entry shows.are count_is held_so;
-        mounts = mounts_when_held value whole base entry shows.are count_is held_so;
+        in_use = in_use_when_held layers_held named_over;
+        roots = roots_when_held layers_held;
+        rise = rising_when_held layers_held;
+        inodes = counted_when_held layers_held;
+        mounts = mounts_when_held layers_held;
       }
 
       -- Numbers
@@ -281,12 +291,16 @@ module _ (value : WorldValue) (whole : IsHeld value) (task : Task ℕ) (graft : 
           (among-append_right (overlays_seen value.overlays) (over ∷ []) over (inl refl)))).0
 
       root_named : is_counted_before value.next (overlay_of_store base entry).root ≡ true
-      root_named =
-          let own = among_from_all HasOwnNodes entered.filesystems own_nodes_then over over_among over.files.tree.root
-          (directory_is_there (over.files.tree.node over.files.tree.root)
-          (among_from_all (λ (f : Filesystem ℕ). IsTree f.files.tree) entered.filesystems entered_is_world.files.trees
-          over over_among).root_directory) in
-          ap (is_counted_before value.next) own.3 ∙ nodes_named value.next own.0
+      root_named = grind (arith, common_steps, among_from_all)
+
+      place_numbered : IsNumbered value place (overlay_of_store base entry).root (odds fresh)
+      place_numbered = record {
+        whole = whole;
+        counts = odd_counts;
+        mount_is_named = (and_parts _ _ place_named).0;
+        node_is_named = (and_parts _ _ place_named).1;
+        root_is_named = root_named;
+      }
 
       files_named : (f : Filesystem ℕ) → Among f entered.filesystems
           → is_counted_before (value.next + many) f.number ≡ true
@@ -298,8 +312,7 @@ module _ (value : WorldValue) (whole : IsHeld value) (task : Task ℕ) (graft : 
           (number_named value whole from.0 old)) (λ last. ⊎_elim
           (λ same. ap (λ (g : Filesystem ℕ). is_counted_before (value.next + many) g.number) same
           ∙ ap (λ n. is_counted_before (value.next + many) (counted n)) count_is
-          ∙ own_number_named value whole place flags (overlay_of_store base entry).root (odds fresh) odd_counts
-          (and_parts _ _ place_named).0 (and_parts _ _ place_named).1 root_named) (λ none. absurd none) last)
+          ∙ own_number_named place_numbered flags) (λ none. absurd none) last)
           (among-append world.filesystems (over ∷ []) from.0 from.1)
 
       keeps : KeepsTo (is_counted_before next) entered
@@ -307,12 +320,11 @@ module _ (value : WorldValue) (whole : IsHeld value) (task : Task ℕ) (graft : 
           let as_many = ap length (sym parts_are) ∙ length-map graft.parts.now mount_of in
           let sum : value.next + many ≡ next = omega (arith, as_many, grows) in
           subst (λ n. KeepsTo (is_counted_before n) entered) sum
-          (entered_keeps value whole place flags (overlay_of_store base entry).root (odds fresh) odd_counts
-          (and_parts _ _ place_named).0 (and_parts _ _ place_named).1 root_named entered entered_is_world
+          (entered_keeps place_numbered flags entered_is_world
           (ap (λ (w : World ℕ). w.mounts) (sym attached_is)
           ∙ mounts_alike world over_base.filesystems (odds fresh) place
-          (new_mount (counted value.next) (overlay_of_store base entry).root flags ∷ []) parts_same)
-          refl own_nodes_then files_named)
+          (new_mount (counted value.next) (overlay_of_store base entry).root flags ∷ []) parts_same) refl
+          own_nodes_then files_named)
 
       -- the code's world is what the permit leaves
       pub new_overlay_is_done : IsHeld (grafted_value (record value {
@@ -327,8 +339,14 @@ module _ (value : WorldValue) (whole : IsHeld value) (task : Task ℕ) (graft : 
       new_overlay_is_done =
           let rising = ap (λ list. are_ascending (mounts_in value.mounts ++ list)) attaches.copies_are
           ∙ rising_in over_base whole.in_world.mounts.one_number in
-          let done = graft_is_held with_it beside_it base is_base graft counts mounts groups filesystems overlays next is
-          attaches groups_there rising entered_is_world all_named writers keeps in (
+          let done = graft_is_held (record {
+            whole = beside_it;
+            is_base = is_base;
+            is = is;
+            attaches = attaches;
+            there = groups_there;
+            ascending = rising;
+          }) next entered_is_world all_named writers keeps in (
             done.0,
             sameness_is_an_equivalence.onward (left_by value task permit) entered (world_of new) left_same done.1,
             done.1.filesystems,

@@ -2,7 +2,7 @@
 -- that are there, and all inodes are in use.
 use Rattle.std.proofs.Common.{◌≡◌, refl, sym, ap, ◌∙◌, ⊎_elim, ℕ, ◌+◌, nat_eq, lt-ltb, true, cond, ◌||◌, List, [], ◌∷◌, ◌++◌, map, flat_map, Option, Some, None, unwrap_or, arith, option_to_list, ltb-true, ne_eqb}
 use Rattle.vt_spec.proofs.Common.{All-weaker, Filesystem, Layer, Location, SameFilesystem, SameWorlds, World, and_from, and_parts, filesystem_numbered, has_its_root, is_among, is_directory_at, is_directory_node, layers_in, layers_of, list_all, list_any-IsPermutation, located_in, mount_at, named_in, nat_eq_turned, no_filesystem, objects_of_overlay, of_overlay, or_cases, overlay_or, used_in}
-use Rattle.vt_mounting.proofs.Common.{Among, AreLayers, CountsItsMounts, FilesystemEntry, Filesystems, Inode, InodesInUse, IsHeld, Shown, WorldValue, alike_from_same, all_in_use, among_from_all, among_from_list_all, counted, directory_is_there, filesystems_seen, has_only_named, inode_uses, is_among_left, is_inode_used, layer_count, layer_seen, list_all_from_among, mounts_in, mounts_showing, or_left, or_right, overlay_of_store, overlay_seen, overlays_seen, shown, times, world_of, woven}
+use Rattle.vt_mounting.proofs.Common.{Among, CountsItsMounts, FilesystemEntry, Filesystems, Inode, InodesInUse, Shown, WorldValue, alike_from_same, all_in_use, among_from_all, among_from_list_all, counted, directory_is_there, filesystems_seen, has_only_named, inode_uses, is_among_left, is_inode_used, layer_count, layer_seen, list_all_from_among, mounts_in, mounts_showing, or_left, or_right, overlay_of_store, overlay_seen, overlays_seen, times, world_of, woven}
 use Rattle.vt_laws_mounts.proofs.letting_go.sweeps.UsesCounted.{used_while_counted}
 use Rattle.vt_laws_trees.proofs.runs.answered.AlikeSettled.{used_permuted}
 use Rattle.vt_laws_worlds.proofs.one_text.same.SameInvariants.{roots_keep}
@@ -17,7 +17,7 @@ use Rattle.vt_mounting.proofs.attach.NewFilesystems.{found_below}
 use Rattle.vt_mounting.proofs.attach.NewOverlay.{all_last}
 use Rattle.vt_mounting.proofs.attach.NewOverlayBase.{was_before}
 use Rattle.vt_mounting.proofs.attach.NewOverlaySame.{same_with_layers_held}
-use Rattle.vt_mounting.proofs.attach.NewOverlayUses.{held_by, layers_more_there, overlay_last, uses_then}
+use Rattle.vt_mounting.proofs.attach.NewOverlayUses.{LayersHeld, layers_more_there, overlay_last, uses_then}
 
 -- Worlds that are the same but for change numbers and the order of the numbers beside trees
 
@@ -52,9 +52,9 @@ held_there number [] = refl
 held_there number (first ∷ rest) = λ i.
     cond (nat_eq_turned number (counted first.directory.filesystem.count) i) 1 0 + held_there number rest i
 
-module _ (value : WorldValue) (whole : IsHeld value) (base : Filesystems) (entry : stored.OverlayEntry)
-    (are : AreLayers value.filesystems entry.overlay.lowers) (count_is : entry.count ≡ value.next)
-    (held : shown base ≡ map (held_by (map layer_of entry.overlay.lowers)) (shown value.filesystems)) where
+module _ {value : WorldValue} {base : Filesystems} {entry : stored.OverlayEntry} (it : LayersHeld value base entry) where
+  open it use {whole, are, count_is, held}
+
   abbrev world : World ℕ
   world = world_of value
 
@@ -73,14 +73,14 @@ module _ (value : WorldValue) (whole : IsHeld value) (base : Filesystems) (entry
   }
 
   same_when_held : SameWorlds last over_base
-  same_when_held = same_with_layers_held value whole base entry layers count_is held
+  same_when_held = same_with_layers_held whole base entry layers count_is held
 
   -- Mounts and layers are counted
 
   layers_when_held : (number : ℕ) → layer_count over_base number
       ≡ layer_count world number + times (λ (inode : Inode). nat_eq inode.0 number) layers
   layers_when_held number = sym (same_worlds_count_layers_alike last over_base same_when_held number)
-      ∙ layers_more_there world over (map layer_seen entry.overlay.lowers) refl (λ n. refl) number
+      ∙ layers_more_there world over {layers = map layer_seen entry.overlay.lowers} refl (λ n. refl) number
       ∙ ap (λ n. layer_count world number + n) (held_there number entry.overlay.lowers)
 
   pub mounts_when_held : (one : FilesystemEntry) → Among one base → one.mounts
@@ -88,7 +88,7 @@ module _ (value : WorldValue) (whole : IsHeld value) (base : Filesystems) (entry
         filesystems = woven (filesystems_seen base) (overlays_seen (value.overlays ++ overlay_of_store base entry ∷ []));
       }) (counted one.count)
   mounts_when_held one m =
-      let from = was_before value whole base entry are count_is held one m in
+      let from = was_before it one m in
       let kept : one.mounts ≡ from.0.mounts + times (λ (inode : Inode). nat_eq inode.0 (counted from.0.count)) layers =
       ap (λ (s : Shown). s.mounts) from.2 in
       let counts = (among_from_all (CountsItsMounts world) value.filesystems whole.filesystems from.0 from.1).mounts in
@@ -138,7 +138,7 @@ module _ (value : WorldValue) (whole : IsHeld value) (base : Filesystems) (entry
       → is_inode_used last f number ≡ true
   used_still f number is =
       let some = ltb-true 0 (inode_uses world f number) (sym (used_while_counted world f number) ∙ is) in
-      let more = uses_then world over (map layer_seen entry.overlay.lowers) refl (λ n. refl) f number in
+      let more = uses_then world over {layers = map layer_seen entry.overlay.lowers} refl (λ n. refl) f number in
       used_while_counted last f number ∙ lt-ltb 0 (inode_uses last f number) (omega (arith, some, more))
 
   -- what has a name is used

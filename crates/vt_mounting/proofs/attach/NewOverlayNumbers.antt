@@ -1,7 +1,7 @@
 -- The numbers of the world in which an overlay and its mounts have come: those of before, even ones, and the counts that
 -- were taken.
 use Rattle.std.proofs.Common.{◌≡◌, sym, subst, ◌∙◌, ⊎_elim, ℕ, ◌+◌, ◌*◌, ◌<◌, nat_eq, true, false, List, [], ◌∷◌, ◌++◌, length, map, flat_map, arith, All}
-use Rattle.vt_spec.proofs.Common.{Filesystem, Fresh, IsWorld, ListsNumbers, Location, Mount, MountFlags, Namespace, World, attach, new_mount, parts_of, renamed, renamed_location, used_by_filesystem, used_by_mount}
+use Rattle.vt_spec.proofs.Common.{Filesystem, Fresh, IsWorld, ListsNumbers, Location, Mount, MountFlags, Namespace, World, attach, common_steps, new_mount, parts_of, renamed, renamed_location, used_by_filesystem, used_by_mount}
 use Rattle.vt_mounting.proofs.Common.{Among, HasOwnNodes, IsHeld, KeepsTo, WorldValue, among-append, among-append_left, among-append_right, among-from_flat_map, among_from_all, among_numbers, counted, counted_later, counts_from, is_among_numbers, is_counted_before, leaves_two, used_numbers_are_named, world_of}
 use Rattle.vt_laws_worlds.proofs.one_text.in_use.InUseServes.{any_worlds_keep_to_numbers_in_use}
 use Rattle.vt_laws_worlds.proofs.permits.taken.TakenHanded.{counted_here}
@@ -27,11 +27,17 @@ named_handed = record {
 }
 
 -- A new mount that is attached at a place of the code's world, with counts from the next one on
-module _ (value : WorldValue) (whole : IsHeld value) (place : Location ℕ) (flags : MountFlags) (root : ℕ)
-    (fresh : Fresh ℕ) (counts : (k : ℕ) → fresh k ≡ counts_from value.next (2 * k + 1))
-    (mount_is_named : is_counted_before value.next place.mount ≡ true)
-    (node_is_named : is_counted_before value.next place.node ≡ true)
-    (root_is_named : is_counted_before value.next root ≡ true) where
+pub record IsNumbered (value : WorldValue) (place : Location ℕ) (root : ℕ) (fresh : Fresh ℕ) : Type 0 where
+  pub whole : IsHeld value
+  pub counts : (k : ℕ) → fresh k ≡ counts_from value.next (2 * k + 1)
+  pub mount_is_named : is_counted_before value.next place.mount ≡ true
+  pub node_is_named : is_counted_before value.next place.node ≡ true
+  pub root_is_named : is_counted_before value.next root ≡ true
+
+module _ {value : WorldValue} {place : Location ℕ} {root : ℕ} {fresh : Fresh ℕ} (it : IsNumbered value place root fresh)
+    (flags : MountFlags) where
+  open it use {whole, counts, mount_is_named, node_is_named, root_is_named}
+
   abbrev taken : ℕ
   taken = 4 * length (parts_of nat_eq (world_of value) place)
 
@@ -46,10 +52,7 @@ module _ (value : WorldValue) (whole : IsHeld value) (place : Location ℕ) (fla
 
   pub own_number_named : is_counted_before (value.next + 4 * length (parts_of nat_eq (world_of value) place))
       (counted value.next) ≡ true
-  own_number_named =
-      let first : counts_from value.next 0 ≡ counted value.next = omega arith in
-      subst (λ n. is_counted_before (value.next + taken) n ≡ true) first
-      (counted_here value.next taken 0 (omega (arith, some)))
+  own_number_named = grind (arith, common_steps)
 
   later : (number : ℕ) → is_counted_before value.next number ≡ true
       → is_counted_before (value.next + taken) number ≡ true
@@ -73,7 +76,7 @@ module _ (value : WorldValue) (whole : IsHeld value) (place : Location ℕ) (fla
       (counted_here value.next taken (2 * k + 1) (omega (arith, low)))))
 
   -- A world with its mounts, whose filesystems have such numbers
-  module _ (entered : World ℕ) (is_world : IsWorld nat_eq entered)
+  module _ {entered : World ℕ} (is_world : IsWorld nat_eq entered)
       (mounts_are : entered.mounts ≡ (attach nat_eq (world_of value) fresh place false
       (new_mount (counted value.next) root flags ∷ [])).mounts)
       (namespaces_are : entered.namespaces ≡ (world_of value).namespaces) (own : All HasOwnNodes entered.filesystems)

@@ -1,7 +1,7 @@
 -- The code's world with a new overlay, and the one with the plain filesystems that are kept once its layers are held:
 -- the same but for the order of the numbers beside trees.
 use Rattle.std.proofs.Common.{◌≡◌, refl, sym, ap, subst, ◌∙◌, inl, inr, ℕ, nat_eq, nat_lt, eqb-true, lt-ltb, Bool, true, false, cond, List, [], ◌∷◌, ◌++◌, map, Option, Some, None, is_some, arith, le-ltb}
-use Rattle.vt_spec.proofs.Common.{Filesystem, Inode as Counted, Inodes, SameFiles, SameFilesystem, SameFilesystems, SameWorlds, Tree, folded, map-append, node_in, pinned, tree_of, used_once_more}
+use Rattle.vt_spec.proofs.Common.{Filesystem, Inode as Counted, Inodes, SameFiles, SameFilesystem, SameFilesystems, SameWorlds, Tree, common_steps, folded, map-append, node_in, pinned, tree_of, used_once_more}
 use Rattle.vt_mounting.proofs.Common.{Among, FilesystemEntry, Filesystems, Inode, IsHeld, Shown, WorldValue, among-from_map, counted, filesystem_seen, filesystems_seen, inodes_seen, numbers_apart_each, numbers_listed, numbers_seen, overlay_of_store, overlay_seen, overlays_seen, pinned_if, put_in, same_numbers_are_permuted, sameness_is_an_equivalence, shown, shown_entry, world_of, woven, woven_lists_are_alike}
 use Rattle.vt_fs.specs.FilesystemsValue.{files_seen}
 use Rattle.vt_store.specs.OverlaysValue as stored
@@ -48,12 +48,7 @@ pinned_tree inodes number = λ i. record {
 all_pinned_tree : (filesystem : ℕ) (layers : List Inode) (inodes : Inodes ℕ)
     → tree_of (folded (pinned_if filesystem) inodes layers) ≡ tree_of inodes
 all_pinned_tree filesystem [] inodes = refl
-all_pinned_tree filesystem (inode ∷ rest) inodes =
-    all_pinned_tree filesystem rest (pinned_if filesystem inodes inode) ∙ by (nat_eq filesystem inode.0)
-  where
-    by : (b : Bool) → tree_of (cond b (pinned nat_eq inodes inode.1) inodes) ≡ tree_of inodes
-    by true = pinned_tree inodes inode.1
-    by false = refl
+all_pinned_tree filesystem (inode ∷ rest) inodes = grind (arith, common_steps, all_pinned_tree filesystem rest)
 
 -- the same tree, the same files
 same_tree_same_files : (a b : FilesystemEntry) → tree_of (inodes_seen a) ≡ tree_of (inodes_seen b)
@@ -86,12 +81,12 @@ all_same_when_held layers (was ∷ old) (entry ∷ new) is =
     (same_when_held layers was entry heads, all_same_when_held layers old new tails)
 
 -- so the worlds are
-pub same_with_layers_held : (value : WorldValue) → IsHeld value → (base : Filesystems) (entry : stored.OverlayEntry)
+pub same_with_layers_held : {value : WorldValue} → IsHeld value → (base : Filesystems) (entry : stored.OverlayEntry)
     (layers : List Inode) → entry.count ≡ value.next → shown base ≡ map (held_by layers) (shown value.filesystems)
     → SameWorlds (overlay_last value base entry) (record (world_of value) {
       filesystems = woven (filesystems_seen base) (overlays_seen (value.overlays ++ overlay_of_store base entry ∷ []));
     })
-same_with_layers_held value whole base entry layers count_is is = record {
+same_with_layers_held {value} whole base entry layers count_is is = record {
   mounts = refl;
   master = refl;
   filesystems = subst (λ list. SameFilesystems list (woven (filesystems_seen base)

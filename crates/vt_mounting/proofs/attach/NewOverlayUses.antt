@@ -1,7 +1,7 @@
 -- The uses that the layers of a new overlay are, in the code's world with that overlay, whatever mounts show.
 use Rattle.std.proofs.Common.{◌≡◌, refl, sym, ap, subst, ◌∙◌, ⊎_elim, ℕ, suc, ◌+◌, nat_eq, eqb-true, Bool, true, false, cond, not, ◌||◌, List, [], ◌∷◌, ◌++◌, map, filter, flat_map, Option, Some, is_some, unwrap_or, arith, slice_get, ne_eqb, append-nil, append_assoc, map-id}
 use Rattle.vt_spec.proofs.Common.{Filesystem, Layer, World, common_steps, filesystem_numbered, folded, is_directory_node, layers_in, layers_of, located_in, map-append, map_alike, map_twice, named_in, no_filesystem, node_in, objects_of_overlay, of_overlay}
-use Rattle.vt_mounting.proofs.Common.{Among, AreLayers, AreThere, CountsItsMounts, Exchanges, FilesystemEntry, Filesystems, Inode, IsCounted, IsHeld, OverlaysHaveNoUpper, Shown, WorldValue, all_in_use, among-from_map, among_from_all, counted, counted_same, directory_is_there, entry_of, exchanged, inode_of, inode_uses, inodes_seen, is_inode, layer_count, layer_seen, list_all_from_among, no_entry, no_upper_is_in_any, number_numbered, overlay_of_store, overlay_seen, pinned_if, times, times_append, uses_are_exchanged_beside_overlays, world_of, worlds_have_trees}
+use Rattle.vt_mounting.proofs.Common.{Among, AreLayers, AreThere, CountsItsMounts, Exchanges, FilesystemEntry, Filesystems, Inode, IsCounted, IsHeld, OverlaysHaveNoUpper, Shown, WorldValue, all_in_use, among-from_map, among_from_all, counted, counted_same, directory_is_there, entry_of, exchanged, inode_of, inode_uses, inodes_seen, is_inode, layer_count, layer_seen, list_all_from_among, no_entry, no_upper_is_in_any, number_numbered, overlay_of_store, overlay_seen, pinned_if, shown, times, times_append, uses_are_exchanged_beside_overlays, world_of, worlds_have_trees}
 use Rattle.vt_overlay.specs.declared.merge.layers.LayerRef.{LayerRef}
 use Rattle.vt_store.specs.OverlaysValue as stored
 use Rattle.vt_mounting.specs.Detach.Stored.{layer_of}
@@ -38,7 +38,7 @@ filter_both {A = A} test [] ys = refl
 filter_both {A = A} test (x ∷ xs) ys = grind (arith, common_steps, filter_both test xs ys)
 
 -- A world with a filesystem more, which has these layers, and no upper one
-module _ (world : World ℕ) (added : Filesystem ℕ) (layers : List (Layer ℕ))
+module _ (world : World ℕ) (added : Filesystem ℕ) {layers : List (Layer ℕ)}
     (layers_are : of_overlay [] layers_of added ≡ layers)
     (no_objects : (number : ℕ) → objects_of_overlay nat_eq number added ≡ []) where
   abbrev pub with_added_last : World ℕ
@@ -46,16 +46,7 @@ module _ (world : World ℕ) (added : Filesystem ℕ) (layers : List (Layer ℕ)
 
   layers_then : (number : ℕ) → layers_in nat_eq with_added_last number ≡ layers_in nat_eq world number
       ++ map (λ (layer : Layer ℕ). layer.directory) (filter (λ (layer : Layer ℕ). nat_eq number layer.filesystem) layers)
-  layers_then number = ap (λ list. map (λ (layer : Layer ℕ). layer.directory)
-      (filter (λ (layer : Layer ℕ). nat_eq number layer.filesystem) list))
-      (flat_last (of_overlay [] layers_of) world.filesystems added
-      ∙ ap (λ list. flat_map (of_overlay [] layers_of) world.filesystems ++ list) layers_are)
-      ∙ ap (map (λ (layer : Layer ℕ). layer.directory))
-      (filter_both (λ (layer : Layer ℕ). nat_eq number layer.filesystem)
-      (flat_map (of_overlay [] layers_of) world.filesystems) layers) ∙ map-append (λ (layer : Layer ℕ). layer.directory)
-      (filter (λ (layer : Layer ℕ). nat_eq number layer.filesystem)
-      (flat_map (of_overlay [] layers_of) world.filesystems))
-      (filter (λ (layer : Layer ℕ). nat_eq number layer.filesystem) layers)
+  layers_then number = grind (arith, common_steps, map-append)
 
   -- an inode has a use more for each of these layers that is there
   pub uses_then : (f : Filesystem ℕ) (number : ℕ)
@@ -105,12 +96,7 @@ module _ (world : World ℕ) (added : Filesystem ℕ) (layers : List (Layer ℕ)
   -- and a filesystem as many layers more
   pub layers_more_there : (number : ℕ) → layer_count with_added_last number
       ≡ layer_count world number + times (λ (layer : Layer ℕ). nat_eq number layer.filesystem) layers
-  layers_more_there number =
-      cc (
-        flat_last (of_overlay [] layers_of) world.filesystems added,
-        times_append (λ (layer : Layer ℕ). nat_eq number
-            layer.filesystem) (flat_map (of_overlay [] layers_of) world.filesystems) layers,
-      )
+  layers_more_there number = grind (arith, common_steps, times_append)
 
 among_place : (list : List LayerRef) (layer : LayerRef) → Among layer list
     → (place : ℕ) × (slice_get list place ≡ Some layer)
@@ -124,9 +110,24 @@ overlay_last value base entry = record (world_of value) {
   filesystems = (world_of value).filesystems ++ overlay_seen (overlay_of_store base entry) ∷ [];
 }
 
+-- What a store keeps of plain filesystems once the layers are held
+abbrev pub held_by : List Inode → Shown → Shown
+held_by layers one = record one {
+  inodes = folded (pinned_if (counted one.count)) one.inodes layers;
+  mounts = one.mounts + times (λ (inode : Inode). nat_eq inode.0 (counted one.count)) layers;
+}
+
+-- An overlay is new, and code holds its layers.
+pub record LayersHeld (value : WorldValue) (base : Filesystems) (entry : stored.OverlayEntry) : Type 0 where
+  pub whole : IsHeld value
+  pub are : AreLayers value.filesystems entry.overlay.lowers
+  pub count_is : entry.count ≡ value.next
+  pub held : shown base ≡ map (held_by (map layer_of entry.overlay.lowers)) (shown value.filesystems)
+
 -- whose layers are kept there
-module _ (value : WorldValue) (whole : IsHeld value) (base : Filesystems) (entry : stored.OverlayEntry)
-    (are : AreLayers value.filesystems entry.overlay.lowers) (count_is : entry.count ≡ value.next) where
+module _ {value : WorldValue} {base : Filesystems} {entry : stored.OverlayEntry} (it : LayersHeld value base entry) where
+  open it use {whole, are, count_is}
+
   abbrev world : World ℕ
   world = world_of value
 
@@ -182,17 +183,11 @@ module _ (value : WorldValue) (whole : IsHeld value) (base : Filesystems) (entry
       (worlds_have_trees world whole.in_world) (all_in_use world whole.in_world).inodes
       (no_upper_is_in_any (overlay_last value base entry) (counted was.count) no_upper_with_it)
       (subst (λ (list : List Inode). Exchanges list [] (counted was.count) world (overlay_last value base entry)) gained_are
-      (layers_are_gained world over (map layer_seen entry.overlay.lowers) refl (λ number. refl) (counted was.count)
+      (layers_are_gained world over {layers = map layer_seen entry.overlay.lowers} refl (λ number. refl)
+      (counted was.count)
       (apart_from_it was m)))
       (subst (λ f. IsCounted world f (inodes_seen was)) (sym (found_plain_one value whole was m))
       (among_from_all (CountsItsMounts world) value.filesystems whole.filesystems was m).inodes) (layers_there was m)
-
--- What a store keeps of plain filesystems once the layers are held
-abbrev pub held_by : List Inode → Shown → Shown
-held_by layers one = record one {
-  inodes = folded (pinned_if (counted one.count)) one.inodes layers;
-  mounts = one.mounts + times (λ (inode : Inode). nat_eq inode.0 (counted one.count)) layers;
-}
 
 pub held_each : (layers : List Inode) (all : List Shown) → folded with_layer all layers ≡ map (held_by layers) all
 held_each [] all = sym (map-id all)

@@ -23,8 +23,8 @@ place_bound test k (a ∷ list) some = by (test a) (place_bound test (k + 1) lis
     by true later = omega arith
     by false later = omega (arith, later)
 
-in_table : (size k i rows : ℕ) → k < rows → i < size → index_in_rows size k i < rows * size
-in_table size k i rows low less =
+in_table : (size k i : ℕ) {rows : ℕ} → k < rows → i < size → index_in_rows size k i < rows * size
+in_table size k i {rows} low less =
     let all : rows ≡ k + 1 + (rows - (k + 1)) = omega (arith, low) in
     subst (λ n. index_in_rows size k i < n * size) (sym all) (omega (arith, less))
 
@@ -35,7 +35,7 @@ module _ (parts tree : List (Mount ℕ)) (some_parts : 0 < length parts) (some :
   copy_same : (part origin : ℕ) → (copies_from nat_eq fresh parts tree).copy part origin
       ≡ (copies_from nat_eq again parts tree).copy part origin
   copy_same part origin =
-      let less = in_table (length tree) (index_of nat_eq parts part) (index_of nat_eq tree origin) (length parts)
+      let less = in_table (length tree) (index_of nat_eq parts part) (index_of nat_eq tree origin)
       (index_bound parts part some_parts) (index_bound tree origin some) in
       same (2 * index_in_rows (length tree) (index_of nat_eq parts part) (index_of nat_eq tree origin)) (omega
       (arith, less))
@@ -44,7 +44,8 @@ module _ (parts tree : List (Mount ℕ)) (some_parts : 0 < length parts) (some :
       ≡ (copies_from nat_eq again parts tree).image group origin
   image_same group origin =
       let low = place_bound (is_member_of nat_eq group) 0 parts (omega (arith, some_parts)) in
-      let less = in_table (length tree) (index_of_group nat_eq parts group) (index_of nat_eq tree origin) (length parts)
+      let less = in_table (length tree) (index_of_group nat_eq parts group) (index_of nat_eq tree origin)
+      {rows = length parts}
       (omega (arith, low)) (index_bound tree origin some) in
       same (2 * index_in_rows (length tree) (index_of_group nat_eq parts group) (index_of nat_eq tree origin) + 1)
       (omega (arith, less))
@@ -61,7 +62,7 @@ attach_same world place moves tree some fresh again same =
 
 -- Where a permit takes the first numbers of a supply alone, the world that it leaves keeps to those, and to the numbers
 -- that it had.
-module _ (next taken : ℕ) (world : World ℕ) (task : Task ℕ) (permit : Permit ℕ) (supply : Fresh ℕ)
+module _ (next taken : ℕ) (world : World ℕ) {task : Task ℕ} (permit : Permit ℕ) (supply : Fresh ℕ)
     (called : task_called world task.name ≡ Some task) (keeps : KeepsTo (is_counted_before next) world)
     (named : permit_named (is_counted_before next) permit ≡ true)
     (counts : (k : ℕ) → k < taken → is_counted_before (next + taken) (supply k) ≡ true)
@@ -77,7 +78,7 @@ module _ (next taken : ℕ) (world : World ℕ) (task : Task ℕ) (permit : Perm
 
 pub binds_keep_to_numbers : BindsKeepToNumbers
 binds_keep_to_numbers next world task source place recursive called keeps named =
-    keeps_to_first next (numbers_of_parts world place (bind_tree nat_eq world source recursive)) world task
+    keeps_to_first next (numbers_of_parts world place (bind_tree nat_eq world source recursive)) world
     (ToBind source place recursive) (counts_from next) called keeps named
     (counted_here next (numbers_of_parts world place (bind_tree nat_eq world source recursive)))
     (λ again same. ap (settled nat_eq)
@@ -87,14 +88,14 @@ binds_keep_to_numbers next world task source place recursive called keeps named 
 pub moves_keep_to_numbers : MovesKeepToNumbers
 moves_keep_to_numbers next world task mount place called keeps named =
     let tree = mount_tree nat_eq world.mounts (mount_numbered nat_eq world mount) in
-    keeps_to_first next (numbers_of_parts world place tree) world task (ToMove mount place)
-    (counts_from next) called keeps named (counted_here next (numbers_of_parts world place tree))
+    keeps_to_first next (numbers_of_parts world place tree) world (ToMove mount place) (counts_from next) called keeps
+    named (counted_here next (numbers_of_parts world place tree))
     (λ again same. ap (settled nat_eq) (attach_same world place true tree
     (tree_some (length world.mounts) world.mounts (mount_numbered nat_eq world mount)) again (counts_from next) same))
 
 pub new_mounts_keep_to_numbers : NewMountsKeepToNumbers
 new_mounts_keep_to_numbers next inode even world task place flags called keeps named =
-    keeps_to_first next taken world task (ToMountPlain place flags) supply called keeps named counts
+    keeps_to_first next taken world (ToMountPlain place flags) supply called keeps named counts
     (λ again same. ap (settled nat_eq) ((λ i. mounted nat_eq (odds again) world place
     (new_plain nat_eq (same 0 (omega arith) i) (same 2 (omega arith) i)) flags)
     ∙ attach_same middle place false tree (omega arith) (odds again) (odds supply)
@@ -138,7 +139,7 @@ pub unshares_keep_to_numbers : UnsharesKeepToNumbers
 unshares_keep_to_numbers next world task whole called keeps =
     let own = mounts_of nat_eq world task.namespace in
     let some = own_some world task whole called in
-    keeps_to_first next (2 * length own) world task ToUnshare (counts_from next) called keeps refl
+    keeps_to_first next (2 * length own) world ToUnshare (counts_from next) called keeps refl
     (counted_here next (2 * length own)) (λ again same. ap (settled nat_eq) (λ i. namespaces_ended nat_eq
     (unshared_by nat_eq world
     (numbers_same own some (odds again) (odds (counts_from next)) (λ k low. same (2 * k + 1) (omega (arith, low))) i)

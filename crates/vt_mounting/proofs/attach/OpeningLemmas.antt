@@ -4,7 +4,7 @@ use Rattle.vt_spec.proofs.Common.{All-cons, All-nil, Filesystem, Inodes, IsWorld
 use Rattle.vt_spec.specs.declared.attributes.Attr.{Attr}
 use Rattle.vt_spec.specs.Machine.World as meant
 use Rattle.vt_spec.specs.Tree.{tree_of_root}
-use Rattle.vt_mounting.proofs.Common.{ChangesInodes, CountsItsMounts, CountsItsUses, CountsWhatIsInIt, FilesystemEntry, Filesystems, Grouping, Has, HasOwnInodes, IsCounted, IsHeld, IsNew, KeepsTo, MountEntry, NamespaceEntry, Shown, WorldValue, counted, filesystem_seen, has_only_named, inode_number, inodes_seen, is_counted_before, is_own_number, layer_count, location_of, mount_of, mounts_in, mounts_showing, namespace_of, no_groups, numbers_listed, numbers_seen, shown, shown_entry, shown_with, with_changed, world_of}
+use Rattle.vt_mounting.proofs.Common.{ChangesInodes, CountsItsMounts, CountsItsUses, CountsWhatIsInIt, FilesystemEntry, Filesystems, Grouping, Has, HasOwnInodes, IsCounted, IsHeld, IsNew, KeepsTo, MountEntry, NamespaceEntry, Shown, WorldValue, counted, filesystem_seen, has_only_named, inode_number, inodes_seen, is_counted_before, is_own_number, layer_count, location_of, mount_of, mounts_in, mounts_showing, namespace_of, no_groups, numbers_listed, numbers_seen, shown, shown_entry, with_changed, world_of}
 use Rattle.vt_laws_mounts.specs.Counts.Using.{one_counted, root_counted}
 use Rattle.vt_laws_mounts.proofs.counts.using.Places.{opening_is_counted}
 use Rattle.vt_laws_rules.proofs.numbers.Supports.{opening_keeps_to_four}
@@ -35,23 +35,16 @@ module _ (count : ℕ) where
   abbrev so_used : ℕ → ℕ → List Shown
   so_used uses mounts = record { count = count; inodes = one_counted root_number uses; mounts = mounts } ∷ []
 
-  once_more : (old new : Filesystems) (uses : ℕ)
+  once_more : {old new : Filesystems} (uses : ℕ)
       → ChangesInodes count (λ inodes. pinned nat_eq inodes root_number) old new
       → shown old ≡ so_used uses 1 → shown new ≡ so_used (uses + 1) 1
-  once_more old new uses changes is =
-      changes.changed ∙ ap (shown_with count (λ inodes. pinned nat_eq inodes root_number)) is
-      ∙ ap (λ b. cond b (record {
-        count = count;
-        inodes = pinned nat_eq (one_counted root_number uses) root_number;
-        mounts = 1;
-      }) (record { count = count; inodes = one_counted root_number uses; mounts = 1 }) ∷ []) (eq-eqb count count refl)
-      ∙ (λ i. record { count = count; inodes = pinned_once root_number uses i; mounts = 1 } ∷ [])
+  once_more uses changes is = grind (arith, common_steps, eq-eqb)
 
-  mounted : (entry : FilesystemEntry) (old new : Filesystems) (attr : Attr) → attr ≡ root_attr → old ≡ entry ∷ []
+  mounted : {entry : FilesystemEntry} {old new : Filesystems} {attr : Attr} → attr ≡ root_attr → old ≡ entry ∷ []
       → IsNew count attr entry
       → new ≡ with_changed count (λ (entry : FilesystemEntry). record entry { mounts = entry.mounts + 1 }) old
       → shown new ≡ so_used 1 1
-  mounted entry old new attr is_attr is made changed = ap shown (changed ∙ ap (with_changed count
+  mounted {entry} is_attr is made changed = ap shown (changed ∙ ap (with_changed count
       (λ (entry : FilesystemEntry). record entry { mounts = entry.mounts + 1 })) is)
       ∙ ap (λ b. shown_entry (cond b (record entry { mounts = entry.mounts + 1 }) entry) ∷ [])
       (eq-eqb count entry.count (sym made.counts)) ∙ (λ i. record {
@@ -67,8 +60,8 @@ module _ (count : ℕ) where
       → ChangesInodes count (λ inodes. pinned nat_eq inodes root_number) one two
       → ChangesInodes count (λ inodes. pinned nat_eq inodes root_number) two three → shown three ≡ first_shown count
   first_made entry attr none added held one two three is_attr empty is made changed first second third =
-      once_more two three 3 third (once_more one two 2 second (once_more held one 1 first
-      (mounted entry added held attr is_attr (is ∙ ap (λ l. l ++ entry ∷ []) empty) made changed)))
+      once_more 3 third (once_more 2 second (once_more 1 first
+      (mounted is_attr (is ∙ ap (λ l. l ++ entry ∷ []) empty) made changed)))
 
 -- what is shown of one filesystem is that of its entry
 record IsFirst (filesystems : Filesystems) : Type 0 where

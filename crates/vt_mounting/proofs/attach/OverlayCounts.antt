@@ -83,11 +83,11 @@ merged_by_all (mount ∷ new) other all =
     omega (arith, rest, first)
 
 -- where there is room for all before the first, there is room for each when its turn comes
-pub merged_room_at : (new : List Mount) (all now : List Merged) (i : ℕ) (d : Mount) → i < length new
+pub merged_room_at : (new : List Mount) (all : List Merged) {now : List Merged} (i : ℕ) (d : Mount) → i < length new
     → length new ≤ most_counted
     → list_all (merged_has_room (most_counted - length new) all) new ≡ true → now ≡ folded merged_by all (take i new)
     → merged_has_room (most_counted - 1) now (get_or new i d) ≡ true
-merged_room_at new all now i d less fits room so_far =
+merged_room_at new all i d less fits room so_far =
     let mount = get_or new i d in
     let number = counted mount.root.filesystem.count in
     let was = leb-true (mounts_merged number all) (most_counted - length new)

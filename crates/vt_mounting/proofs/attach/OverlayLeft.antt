@@ -1,7 +1,7 @@
 -- What the permit that mounts an overlay leaves: the plain filesystems that are kept once the layers are held, the
 -- overlay that these show, and a mount of it, but for the order of the numbers beside trees.
-use Rattle.std.proofs.Common.{◌≡◌, refl, sym, ap, subst, ◌∙◌, ℕ, nat_eq, true, false, not, ◌||◌, List, [], ◌∷◌, ◌++◌, map, filter, flat_map, length, Some, None, is_some, All, arith}
-use Rattle.vt_spec.proofs.Common.{Filesystem, Fresh, Location, MergedInode, MountFlags, Overlay, SameFiles, SameFilesystem, SameWorlds, Task, ToMountOverlay, Tree, World, any_pair, attach, common_steps, each_once, evens, evens-distinct, inode_count, is_among, length_permutation, list_all, list_any, list_any-IsPermutation, merged_inodes, merged_objects, named_in, new_mount, odds, open_layer, overlay_filesystem, pair-filter, same_Some, served-distinct, shown_layers, targets_in, with_new_filesystem}
+use Rattle.std.proofs.Common.{◌≡◌, refl, sym, ap, subst, ◌∙◌, ℕ, nat_eq, true, false, ◌||◌, List, [], ◌∷◌, ◌++◌, map, flat_map, length, Some, None, is_some, All}
+use Rattle.vt_spec.proofs.Common.{Filesystem, Fresh, Location, MergedInode, MountFlags, Overlay, SameFiles, SameFilesystem, SameWorlds, Task, ToMountOverlay, Tree, World, attach, evens, evens-distinct, inode_count, is_among, length_permutation, list_all, list_any, list_any-IsPermutation, merged_inodes, merged_objects, named_in, new_mount, odds, open_layer, overlay_filesystem, same_Some, served-distinct, shown_layers, targets_in, with_new_filesystem}
 use Rattle.vt_spec.specs.Machine.Merging.{tree_of}
 use Rattle.vt_spec.specs.Machine.Mounts as meant
 use Rattle.vt_mounting.proofs.Common.{AreLayers, Filesystems, Inode, IsGivenToTask, IsHeld, IsShownAlike, OverlayValue, ShowsLayer, ShowsLayers, WorldValue, alike_from_same, all_from_among, counted, filesystems_seen, found_by_number, found_same, has_only_named, inodes_are_the_tree, inodes_have_their_objects, inodes_stay, layer_seen, overlay_of_store, overlay_seen, overlays_seen, same_numbers_are_permuted, sameness_is_an_equivalence, shown, with_objects, world_of, woven}
@@ -26,18 +26,9 @@ use Rattle.vt_mounting.specs.Detach.Stored.{layer_of}
 use Rattle.vt_mounting.proofs.detach.OverlayGranted.{NamesLayers, kept_layers, lowers_seen, overlay_names}
 use Rattle.vt_mounting.proofs.attach.NewOverlaySame.{all_same_when_held, same_with_layers_held}
 use Rattle.vt_mounting.proofs.attach.NewOverlayUses.{held_by, overlay_last}
+use Rattle.vt_world.proofs.overlays_made.Numbers.{once_apart}
 
 -- Trees of inodes
-
-none_left : (a : ℕ) (list : List ℕ) → list_any (nat_eq a) (filter (λ b. not (nat_eq a b)) list) ≡ false
-none_left a [] = refl
-none_left a (first ∷ list) = grind (arith, common_steps, none_left a list)
-
-once_apart : (list : List ℕ) → any_pair nat_eq (each_once nat_eq list) ≡ false
-once_apart [] = refl
-once_apart (a ∷ rest) = ap (λ b. b || any_pair nat_eq (filter (λ b. not (nat_eq a b)) (each_once nat_eq rest)))
-    (none_left a (each_once nat_eq rest))
-    ∙ pair-filter nat_eq (λ b. not (nat_eq a b)) (each_once nat_eq rest) (once_apart rest)
 
 -- where two of them are one tree, they have the same numbers beside it
 same_inodes : (root again : ℕ) (one other : List (MergedInode ℕ))
@@ -99,10 +90,23 @@ module _ (old base : Filesystems) (entry : stored.OverlayEntry) (are : AreLayers
     inodes = inodes_stay old base entry.overlay shown_when_held i;
   }
 
-module _ (value : WorldValue) (whole : IsHeld value) (task : Task ℕ) (place : Location ℕ) (overlay : Overlay ℕ)
-    (flags : MountFlags)
-    (given : IsGivenToTask (supply_of value (ToMountOverlay place overlay flags)) (world_of value) task
-    (ToMountOverlay place overlay flags)) (lower : overlay.upper ≡ None) where
+-- The policy grants a task an overlay without an upper layer.
+pub record IsOverlayGiven (value : WorldValue) (task : Task ℕ) (place : Location ℕ) (overlay : Overlay ℕ)
+    (flags : MountFlags) : Type 0 where
+  pub whole : IsHeld value
+  pub given : IsGivenToTask (supply_of value (ToMountOverlay place overlay flags)) (world_of value) task
+      (ToMountOverlay place overlay flags)
+  pub lower : overlay.upper ≡ None
+
+-- and this is its entry
+pub record IsEntryOf (value : WorldValue) (overlay : Overlay ℕ) (entry : stored.OverlayEntry) : Type 0 where
+  pub kept : entry.overlay ≡ overlay_kept value.next overlay
+  pub count_is : entry.count ≡ value.next
+
+module _ {value : WorldValue} {task : Task ℕ} {place : Location ℕ} {overlay : Overlay ℕ} {flags : MountFlags}
+    (granted : IsOverlayGiven value task place overlay flags) where
+  open granted use {whole, given, lower}
+
   abbrev world : World ℕ
   world = world_of value
 
@@ -133,8 +137,9 @@ module _ (value : WorldValue) (whole : IsHeld value) (task : Task ℕ) (place : 
       new_mounts_of_overlays_keep_all fresh world task place overlay flags whole.in_world names_layers.layers distinct
       (ap is_some names_layers.to.own)
 
-  module _ (entry : stored.OverlayEntry) (kept : entry.overlay ≡ overlay_kept value.next overlay)
-      (count_is : entry.count ≡ value.next) where
+  module _ {entry : stored.OverlayEntry} (is_entry : IsEntryOf value overlay entry) where
+    open is_entry use {kept, count_is}
+
     lowers_are : map layer_kept overlay.lowers ≡ entry.overlay.lowers
     lowers_are = sym (ap (λ (o : OverlayValue). o.lowers) kept)
 
@@ -215,7 +220,7 @@ module _ (value : WorldValue) (whole : IsHeld value) (task : Task ℕ) (place : 
               namespaces = itself.namespaces;
               tasks = itself.tasks;
             }) (alike_from_same (overlay_last value base entry) over_base
-            (same_with_layers_held value whole base entry (map layer_of entry.overlay.lowers) count_is held))
+            (same_with_layers_held whole base entry (map layer_of entry.overlay.lowers) count_is held))
 
         -- so with its mount the world is what the permit leaves
         pub overlay_left : SameWorlds (left_by value task (ToMountOverlay place overlay flags))

@@ -62,8 +62,8 @@ module _ (base : WorldValue) (old held new : StoreValue) (whole : IsHeld (with_s
       let grafted = subst (λ overlays. IsGrafted graft counts (kept_with base.mounts held.plain overlays) base.groups
       (kept mounts new) groups) merged_held is in
       let done = new_overlay_is_done value whole task graft counts overlay flags given lower workless unmade entry overlay_is
-      count_is none binds tree_is parts_are first step ascending odd held.plain with_overlay.layers small mounts groups
-      new.plain (map merged_of new.overlays) next grafted grows in
+      count_is none binds tree_is parts_are first step ascending odd held.plain with_overlay.layers small mounts
+      new.plain (map merged_of new.overlays) grafted grows in
       let then = record base { mounts = mounts; groups = groups; next = next } in
       let stored_so = overlay_stored base then old new entry held.plain whole are count_is layers_held stay done.0 done.2 in (
         subst IsHeld stored_so done.0,

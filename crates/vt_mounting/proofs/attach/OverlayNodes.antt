@@ -24,16 +24,23 @@ pub small_node : (node : NodeRef) → IsSmall node → is_small_node node ≡ tr
 small_node node small = λ i. lt-ltb node.filesystem.count 18446744073709551616 small.filesystem i
     && (lt-ltb node.slot 18446744073709551616 small.slot i && small_births node.birth small.birth i)
 
-module _ (trees : Filesystems) (entry : stored.OverlayEntry) (are : AreLayers trees entry.overlay.lowers)
-    (few : length entry.overlay.lowers ≤ 128) (own : entry.overlay.number.count ≡ entry.count)
-    (small : entry.count < 18446744073709551616) where
+-- An overlay can be kept: its layers are plain, they are few, and its number is that of its entry.
+pub record CanBeKept (trees : Filesystems) (entry : stored.OverlayEntry) : Type 0 where
+  pub are : AreLayers trees entry.overlay.lowers
+  pub few : length entry.overlay.lowers ≤ 128
+  pub own : entry.overlay.number.count ≡ entry.count
+  pub small : entry.count < 18446744073709551616
+
+module _ {trees : Filesystems} {entry : stored.OverlayEntry} (new_entry : CanBeKept trees entry) where
+  open new_entry use {are, few, own, small}
+
   abbrev overlay : OverlayValue
   overlay = entry.overlay
 
   -- what is shown at a path is a node of the overlay
-  born_small : (path : List (List ℕ)) (number : ℕ) (at : IsAt trees overlay are path number)
+  born_small : {path : List (List ℕ)} {number : ℕ} (at : IsAt trees overlay are path number)
       → is_small_node (node_born trees overlay.number at.place at.lower path) ≡ true
-  born_small path number at =
+  born_small {path} at =
       let layer = are at.place at.lower at.layer in
       let within = slice_get_within overlay.lowers at.place at.lower at.layer in
       small_node (node_born trees overlay.number at.place at.lower path) (record {
@@ -56,7 +63,7 @@ module _ (trees : Filesystems) (entry : stored.OverlayEntry) (are : AreLayers tr
       by (Some path) e some =
           let at = found_is_at trees overlay are number path e in (
             node_born trees overlay.number at.place at.lower path,
-            born_small path number at,
+            born_small at,
             ap counted (sym own),
             sym at.numbered,
           )

@@ -35,9 +35,9 @@ same_layer old new same layer =
     }
 
 -- one after the other
-same_layer_twice : (old middle new : Filesystems) (layer : LayerRef) → IsSameLayer old middle layer
+same_layer_twice : {old middle new : Filesystems} {layer : LayerRef} → IsSameLayer old middle layer
     → IsSameLayer middle new layer → IsSameLayer old new layer
-same_layer_twice old middle new layer first second =
+same_layer_twice first second =
     record { tree = second.tree ∙ first.tree; numbers = second.numbers ∙ first.numbers }
 
 shown_still : (old new : Filesystems) (entry : stored.OverlayEntry) → AreLayers old entry.overlay.lowers
@@ -73,10 +73,7 @@ plain_same (one ∷ ones) (other ∷ others) same = grind (arith, common_steps, 
 none_equal : (number : ℕ) (list : List (Filesystem ℕ)) → list_all (λ f. nat_lt number f.number) list ≡ true
     → list_any (λ f. nat_eq number f.number) list ≡ false
 none_equal number [] e = refl
-none_equal number (f ∷ rest) e =
-    let parts = and_parts (nat_lt number f.number) _ e in
-    let less = ltb-true number f.number parts.0 in
-    (λ i. ne_eqb number f.number (λ same. absurd (omega (arith, less, same))) i || none_equal number rest parts.1 i)
+none_equal number (f ∷ rest) e = grind (arith, common_steps, none_equal number rest, and_parts, ne_eqb, ltb-true)
 
 rising_apart : (list : List (Filesystem ℕ)) → are_rising list ≡ true
     → any_pair (λ (a b : Filesystem ℕ). nat_eq a.number b.number) list ≡ false
@@ -140,7 +137,7 @@ module _ (base new_base : WorldValue) (old new : StoreValue) (entry : stored.Ove
       let was = were_there (old.overlays ++ entry ∷ []) new.overlays
       (left_still (old.overlays ++ entry ∷ []) new.overlays stay) one m in
       subst (λ (overlay : OverlayValue). AreLayers old.plain overlay.lowers) was.3 (⊎_elim
-      (λ among. (layers_shown_well (with_store old base) held (overlay_of_store old.plain was.0)
+      (λ among. (layers_shown_well held (overlay_of_store old.plain was.0)
       (among-map (overlay_of_store old.plain) old.overlays was.0 among) was.0.overlay.lowers refl).0)
       (λ last. ⊎_elim (λ same. subst (λ (e : stored.OverlayEntry). AreLayers old.plain e.overlay.lowers) (sym same) are)
       (λ none. absurd none) last) (among-append old.overlays (entry ∷ []) was.0 was.1))
@@ -152,8 +149,7 @@ module _ (base new_base : WorldValue) (old new : StoreValue) (entry : stored.Ove
   overlay_stored there same = ap (λ overlays. record new_base { filesystems = new.plain; overlays = overlays })
       (listed ∙ map_alike (overlay_of_store old.plain) (overlay_of_store new.plain) new.overlays (λ one m.
       shown_still old.plain new.plain one (stood one m) (λ layer.
-      same_layer_twice old.plain plain new.plain layer (same_layer old.plain plain held_same layer)
-      (same_layer plain new.plain plain_then layer))))
+      same_layer_twice (same_layer old.plain plain held_same layer) (same_layer plain new.plain plain_then layer))))
     where
       merged_before : All (λ filesystem. is_overlay filesystem ≡ true)
           (overlays_seen (overlays_of_store old ++ overlay_of_store plain entry ∷ []))

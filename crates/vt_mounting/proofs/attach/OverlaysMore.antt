@@ -151,7 +151,7 @@ more_seen added [] = refl
 more_seen added (entry ∷ rest) = ap (λ all. overlay_seen entry ∷ all) (more_seen added rest)
 
 module _ (value : WorldValue) (rise : are_rising (overlays_seen value.overlays) ≡ true) (added : List (Mount ℕ))
-    (overlays : List Merged) (are : overlays ≡ map (mounted_more added) (map merged_seen value.overlays)) where
+    {overlays : List Merged} (are : overlays ≡ map (mounted_more added) (map merged_seen value.overlays)) where
   all_more : overlays_kept overlays value.overlays ≡ map (more added) value.overlays
   all_more = ap (λ list. overlays_kept list value.overlays) are
       ∙ kept_more added [] value.overlays (λ entry m other none. absurd none) rise

@@ -1,6 +1,6 @@
 -- Mounts that get other mount points: what they use before and after.
-use Rattle.std.proofs.Common.{◌≡◌, ◌⊎◌, refl, sym, ap, subst, ◌∙◌, inl, inr, ℕ, nat_eq, eqb-true, Bool, true, false, cond, List, [], ◌∷◌, ◌++◌, map, find, Option, Some, None, is_some, unwrap_or, option_and_then, option_to_list}
-use Rattle.vt_spec.proofs.Common.{Mount, World, any_pair, list_any, map-append, mount_in, no_mount, or_parts, with_mounts}
+use Rattle.std.proofs.Common.{◌≡◌, ◌⊎◌, refl, sym, ap, subst, ◌∙◌, inl, inr, ℕ, nat_eq, eqb-true, Bool, true, false, cond, List, [], ◌∷◌, ◌++◌, map, Option, Some, None, is_some, option_and_then, option_to_list, arith}
+use Rattle.vt_spec.proofs.Common.{Mount, World, any_pair, common_steps, list_any, map-append, mount_in, or_parts, with_mounts}
 use Rattle.vt_mounting.proofs.Common.{Exchanges, Inode, MountEntry, changed, counted, entry_numbered, exchanges_follow, inode_at, location_of, mount_is_placed, mounts_in, one_number_by_numbers}
 use Rattle.vt_location.specs.declared.locations.Location.{Location}
 use Rattle.vt_laws_mounts.proofs.mounts.MountsNumbered.{same_number}
@@ -28,10 +28,7 @@ module _ (number : ℕ) (place : Location) where
       → list_any (λ (mount : Mount ℕ). nat_eq number mount.number) (mounts_in entries) ≡ false
       → changed number (placed_entry place) entries ≡ entries
   none_changed [] none = refl
-  none_changed (entry ∷ rest) none =
-      let parts = or_parts (nat_eq number entry.mount.number)
-      (list_any (λ (mount : Mount ℕ). nat_eq number mount.number) (mounts_in rest)) none in
-      λ i. cond (parts.0 i) (placed_entry place entry) entry ∷ none_changed rest parts.1 i
+  none_changed (entry ∷ rest) none = grind (arith, common_steps, none_changed rest, or_parts)
 
   split_or_absent : (entries : List MountEntry) → any_pair same_number (mounts_in entries) ≡ false
       → IsSplit number place entries ⊎ IsAbsent number place entries
@@ -79,25 +76,7 @@ module _ (number : ℕ) (place : Location) where
       → (mount_in nat_eq (mounts_in (changed number (placed_entry place) entries)) other).filesystem
       ≡ (mount_in nat_eq (mounts_in entries) other).filesystem
   shows_one other [] = refl
-  shows_one other (entry ∷ rest) = by (shows_one other rest) (nat_eq number entry.mount.number)
-    where
-      either : (mount_in nat_eq (mounts_in (changed number (placed_entry place) rest)) other).filesystem
-          ≡ (mount_in nat_eq (mounts_in rest) other).filesystem
-          → (c : Bool) (mount : Mount ℕ) → mount.filesystem ≡ entry.mount.filesystem → (unwrap_or (cond c (Some mount)
-          (find (λ (x : Mount ℕ). nat_eq other x.number) (mounts_in (changed number (placed_entry place) rest))))
-          (no_mount other)).filesystem
-          ≡ (unwrap_or (cond c (Some entry.mount) (find (λ (x : Mount ℕ). nat_eq other x.number) (mounts_in rest)))
-          (no_mount other)).filesystem
-      either later true mount same = same
-      either later false mount same = later
-
-      by : (mount_in nat_eq (mounts_in (changed number (placed_entry place) rest)) other).filesystem
-          ≡ (mount_in nat_eq (mounts_in rest) other).filesystem → (b : Bool) → (mount_in nat_eq
-          ((cond b (placed_entry place entry) entry).mount
-          ∷ mounts_in (changed number (placed_entry place) rest)) other).filesystem
-          ≡ (mount_in nat_eq (entry.mount ∷ mounts_in rest) other).filesystem
-      by later true = either later (nat_eq other entry.mount.number) (placed_entry place entry).mount refl
-      by later false = either later (nat_eq other entry.mount.number) entry.mount refl
+  shows_one other (entry ∷ rest) = grind (arith, common_steps, shows_one other rest)
 
 numbers_stay : (points : List Point) (entries : List MountEntry)
     → map (λ (mount : Mount ℕ). mount.number) (mounts_in (with_points points entries))

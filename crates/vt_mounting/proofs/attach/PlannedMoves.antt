@@ -54,10 +54,10 @@ pins_mounts (point ∷ rest) other all = pins_mounts rest other (pinned_by all p
     ∙ pinned_mounts (inode_of point.node) other all
 
 -- one has room when those before it are in use
-pin_room : (front : List Location) (point : Location) (all now : List Shown) (n : ℕ) → length front < n
+pin_room : (front : List Location) (point : Location) (all : List Shown) {now : List Shown} (n : ℕ) → length front < n
     → n ≤ most_counted → point_has_room (most_counted - n) all (Some point) ≡ true → now ≡ folded pinned_by all front
     → uses_shown (inode_of point.node) now < most_counted
-pin_room front point all now n less fits room so_far =
+pin_room front point all n less fits room so_far =
     let was = leb-true (uses_shown (inode_of point.node) all) (most_counted - n) room in
     let more = pins_more front (inode_of point.node) all in
     subst (λ later. uses_shown (inode_of point.node) later < most_counted) (sym so_far)
@@ -122,9 +122,8 @@ pinned_next moved old before after i d less fits room so_far result limit ok =
     let node = point.node in
     let size : length (taken_of (take i moved)) ≡ i =
     length-map (take i moved) place ∙ length-take-le i moved (omega (arith, less)) in
-    let few = pin_room (taken_of (take i moved)) point old (shown before) (length moved) (omega (arith, size, less))
-    fits
-    (among_from_list_all (λ (other : Location). point_has_room (most_counted - length moved) old (Some other))
+    let few = pin_room (taken_of (take i moved)) point old (length moved) (omega (arith, size, less))
+    fits (among_from_list_all (λ (other : Location). point_has_room (most_counted - length moved) old (Some other))
     (taken_of moved) room
     point (among-map place moved (get_or moved i d) (at moved i less))) so_far in
     let same = uses_are_shown node.filesystem.count (number_of node) before in
@@ -144,11 +143,12 @@ pinned_next moved old before after i d less fits room so_far result limit ok =
         (subst (Among (get_or list k d)) (sym (take_more list k d low))
         (among-append_right (take k list) (get_or list k d ∷ []) (get_or list k d) (inl refl))))
 
-pub unpinned_next : (moved : List Moved) (old before after : List Shown) (i : ℕ) (d : Moved) → i < length moved
+pub unpinned_next : (moved : List Moved) (old : List Shown) {before after : List Shown} (i : ℕ) (d : Moved)
+    → i < length moved
     → before ≡ folded unpinned_by old (left_of (take i moved))
     → after ≡ folded unpinned_by before (option_to_list (get_or moved i d).from)
     → after ≡ folded unpinned_by old (left_of (take (i + 1) moved))
-unpinned_next moved old before after i d less so_far step =
+unpinned_next moved old i d less so_far step =
     cc (
       folded_append unpinned_by old (left_of (take i moved)) (option_to_list (get_or moved i d).from),
       flat_map_more
@@ -158,11 +158,11 @@ unpinned_next moved old before after i d less so_far step =
 
 pub place_next : (most : ℕ) (filesystems : Filesystems) (points : List Point) (i : ℕ) (d : Point) → i < length points
     → list_all (λ (point : Point). point_has_room most (shown filesystems) (Some point.place)) (take i points) ≡ true
-    → (n : ℕ) → n ≡ uses_in ((inodes_at filesystems (get_or points i d).place.node.filesystem.count).inode
+    → {n : ℕ} → n ≡ uses_in ((inodes_at filesystems (get_or points i d).place.node.filesystem.count).inode
     (number_of (get_or points i d).place.node)) → n ≤ most
     → list_all (λ (point : Point). point_has_room most (shown filesystems) (Some point.place)) (take (i + 1) points)
     ≡ true
-place_next most filesystems points i d less so_far n is few =
+place_next most filesystems points i d less so_far is few =
     let node = (get_or points i d).place.node in
     let same = uses_are_shown node.filesystem.count (number_of node) filesystems in
     list_all_more (λ (point : Point). point_has_room most (shown filesystems) (Some point.place)) points i d less

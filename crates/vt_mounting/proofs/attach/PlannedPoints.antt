@@ -167,10 +167,7 @@ lookup_none : (number : ℕ) (points : List Point)
     → list_any (λ (point : Point). nat_eq number (number_at point)) points ≡ false
     → lookup (nat_eq number) (map point_seen points) ≡ None
 lookup_none number [] apart = refl
-lookup_none number (point ∷ rest) apart =
-    let parts = or_parts (nat_eq number (number_at point))
-    (list_any (λ (other : Point). nat_eq number (number_at other)) rest) apart in
-    cc (parts.0, lookup_none number rest parts.1)
+lookup_none number (point ∷ rest) apart = grind (arith, common_steps, lookup_none number rest, or_parts)
 
 -- mounts with other numbers stay where they are
 pub others_stay : (points : List Point) (mounts : List (Mount ℕ)) → ((mount : Mount ℕ) → Among mount mounts

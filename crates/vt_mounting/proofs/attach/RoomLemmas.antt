@@ -162,11 +162,11 @@ module _ (before : List Mount) (size : ℕ) (all : List Shown) (few : length bef
       && le-leb (mounts_shown (counted mount.root.filesystem.count) (folded shown_by all before)) (most_counted - 2)
       (omega (arith, mounts, mounts_more, few, fits)) i
 
-pub room_at : (new : List Mount) (all now : List Shown) (i : ℕ) (d : Mount) → i < length new
+pub room_at : (new : List Mount) (all : List Shown) {now : List Shown} (i : ℕ) (d : Mount) → i < length new
     → 2 * length new ≤ most_counted
     → list_all (has_room (most_counted - 2 * length new) all) new ≡ true → now ≡ folded shown_by all (take i new)
     → has_room (most_counted - 2) now (get_or new i d) ≡ true
-room_at new all now i d less fits room so_far =
+room_at new all i d less fits room so_far =
     subst (λ later. has_room (most_counted - 2) later (get_or new i d) ≡ true) (sym so_far)
     (room_later (take i new) (length new) all
     (let size = length-take-le i new (omega (arith, less)) in omega (arith, size, less)) fits (get_or new i d)

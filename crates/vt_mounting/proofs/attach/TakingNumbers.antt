@@ -21,7 +21,7 @@ pub record TakesNumbers (value : WorldValue) (name : TaskName) (permit : Permit 
   pub even : inode % 2 ≡ 0
   pub supply : supply_of value permit ≡ handed_to value.next inode permit
 
-module _ (value : WorldValue) (whole : IsHeld value) (name : TaskName) (permit : Permit ℕ) (task : Task ℕ)
+module _ {value : WorldValue} (whole : IsHeld value) {name : TaskName} {permit : Permit ℕ} {task : Task ℕ}
     (takes : TakesNumbers value name permit task) where
   -- what is left is a world
   pub left_is_world : IsWorld nat_eq (left_by value task permit) × OverlaysHaveNoUpper (left_by value task permit)
@@ -29,26 +29,26 @@ module _ (value : WorldValue) (whole : IsHeld value) (name : TaskName) (permit :
       whole.overlays.read_only takes.given
 
   -- what is left keeps to the counts before the next one, whatever numbers were taken
-  pub numbers_are_kept : (new : WorldValue) → overlays_seen new.overlays ≡ overlays_seen value.overlays
+  pub numbers_are_kept : {new : WorldValue} → overlays_seen new.overlays ≡ overlays_seen value.overlays
       → ShowsAs (left_by value task permit) new → CountsBeside new
       → ((entry : FilesystemEntry) → Among entry new.filesystems → IsOwn entry.count (inodes_seen entry))
       → KeepsTo (is_counted_before new.next) (left_by value task permit) → IsDone value name permit new
-  numbers_are_kept new same_overlays shows counts own keeps =
-      let same = shown_is_same (left_by value task permit) new shows left_is_world.0 in
+  numbers_are_kept {new} same_overlays shows counts own keeps =
+      let same = shown_is_same shows left_is_world.0 in
       let world = any_same_worlds_are_worlds (left_by value task permit) (world_of new) same left_is_world.0 in
       record {
         held = record {
           in_world = world;
-          groups = shown_has (left_by value task permit) new shows left_is_world.0;
+          groups = shown_has shows left_is_world.0;
           given = any_same_worlds_keep_to_numbers (is_counted_before new.next) (left_by value task permit)
               (world_of new) same keeps;
           mounts = counts.uses;
           filesystems = all_from_among (CountsItsMounts (world_of new)) new.filesystems (λ entry m. record {
             mounts = counts.mounts entry m;
-            inodes = shown_is_counted (left_by value task permit) new shows left_is_world.0 entry m world;
+            inodes = shown_is_counted shows left_is_world.0 entry m world;
           });
           own_inodes = all_from_among HasOwnInodes new.filesystems own;
-          overlays = overlays_hold_still value new whole.overlays same_overlays
+          overlays = overlays_hold_still new whole.overlays same_overlays
               (same_files_rise (left_by value task permit).filesystems (world_of new).filesystems same.filesystems
               shows.rise) counts.overlays (same_worlds_have_layers_alike (left_by value task permit) (world_of new) same
               (left_writers value whole task permit takes.given));

@@ -1,7 +1,7 @@
 -- A task gets a namespace of its own, as code does it: unshare(2) with CLONE_NEWNS.
 use Rattle.std.proofs.Common.{◌≡◌, ap, subst, ◌∙◌, ℕ, ◌+◌, ◌*◌, nat_lt, true, List, [], ◌∷◌, ◌++◌, length, map, Some}
 use Rattle.vt_spec.proofs.Common.{Task, TaskName, ToUnshare, list_all, same_Some}
-use Rattle.vt_mounting.proofs.Common.{Filesystems, Grouping, IsHeld, MountEntry, NamespaceEntry, WorldValue, attached_in, called, changed_by, changed_called, counted, counts_from, location_of, mount_of, mounts_in, replaced}
+use Rattle.vt_mounting.proofs.Common.{Filesystems, Grouping, IsHeld, MountEntry, NamespaceEntry, WorldValue, attached_in, called, changed_by, changed_called, counted, location_of, mount_of, mounts_in, replaced}
 use Rattle.vt_location.specs.declared.locations.Location.{Location}
 use Rattle.vt_tasks.specs.declared.task.Task.{Task as Own}
 use Rattle.vt_tasks.specs.TaskValue.{task_of}
@@ -12,7 +12,7 @@ use Rattle.vt_mounting.specs.Detach.Uses.{Merged, kept_of, kept_with, overlays_k
 use Rattle.vt_mounting.proofs.detach.Staying.{IsDone}
 use Rattle.vt_mounting.proofs.attach.UnsharedDone as Done
 use Rattle.vt_mounting.proofs.attach.UnsharedInodes.{copies_gain, copies_there}
-use Rattle.vt_mounting.proofs.attach.UnsharedWorlds.{new_is}
+use Rattle.vt_mounting.proofs.attach.UnsharedWorlds.{copies, new_is}
 
 -- the mounts and filesystems with the copies, with the root and the working directory on them, and without the old
 -- namespace
@@ -44,19 +44,21 @@ pub task_is_unshared : (value : WorldValue) → IsHeld value → (name : TaskNam
     → IsUnshared value name own root directory mounts grown filesystems overlays moved left_overlays namespaces new
     → IsDone value name ToUnshare new
 task_is_unshared value whole name permits own is root directory mounts grown filesystems overlays moved left_overlays namespaces new facts =
-    Done.unshared_done value whole name permits own.namespace.count in_namespace facts.made.added copied_so mounts
-    filesystems overlays facts.made.attached (copies_gain value whole name permits.task permits.called
-    (counts_from value.next) permits.given.serves facts.made.added same_copies facts.made.slots)
-    (copies_there value whole name permits.task permits.called
-    (counts_from value.next) permits.given.serves facts.made.added same_copies facts.made.slots)
-    grown facts.made.grows new left_overlays
-    (subst (λ all. MountsAreLeft (counted own.namespace.count) (namespace_entry own.namespace.count all)
-    (kept_with moved_entries filesystems overlays) grown (kept_with new.mounts new.filesystems left_overlays) new.groups) facts.entered
-    (subst (λ all. MountsAreLeft (counted own.namespace.count) (namespace_entry own.namespace.count namespaces)
-    (kept_with all filesystems overlays) grown (kept_with new.mounts new.filesystems left_overlays) new.groups) uses_are facts.left))
-    (facts.namespaces_left ∙ ap (with_one_task_less own.namespace.count) facts.entered) tasks_are
-    (facts.next ∙ ap (λ n. value.next + 2 * length (attached_in n value.mounts)) in_namespace)
-    facts.before facts.same_overlays
+    Done.unshared_done copied (record {
+      uses_gained = copies_gain (Done.from copied).unsharing facts.made.added same_copies facts.made.slots;
+      gained_there = copies_there (Done.from copied).unsharing facts.made.added same_copies facts.made.slots;
+      grows = facts.made.grows;
+      is_left = subst (λ all. MountsAreLeft (counted own.namespace.count) (namespace_entry own.namespace.count all)
+          (kept_with moved_entries filesystems overlays) grown (kept_with new.mounts new.filesystems left_overlays)
+          new.groups) facts.entered (subst (λ all. MountsAreLeft (counted own.namespace.count) (namespace_entry
+          own.namespace.count namespaces) (kept_with all filesystems overlays) grown
+          (kept_with new.mounts new.filesystems left_overlays) new.groups) uses_are facts.left);
+      namespaces_are = facts.namespaces_left ∙ ap (with_one_task_less own.namespace.count) facts.entered;
+      tasks_are = tasks_are;
+      next_is = facts.next ∙ ap (λ n. value.next + 2 * length (attached_in n value.mounts)) in_namespace;
+      before = facts.before;
+      overlays_are = facts.same_overlays;
+    })
   where
     own_is : task_of own ≡ permits.task
     own_is = same_Some (task_of own) permits.task (is ∙ permits.called)
@@ -67,19 +69,22 @@ task_is_unshared value whole name permits own is root directory mounts grown fil
     copied_so : map mount_of facts.made.added ≡ copies_of value.next (attached_in permits.task.namespace value.mounts)
     copied_so = facts.made.copied ∙ ap (λ n. copies_of value.next (attached_in n value.mounts)) in_namespace
 
-    same_copies : map mount_of facts.made.added
-        ≡ Rattle.vt_mounting.proofs.attach.UnsharedWorlds.copies value whole name permits.task permits.called
-        permits.given.serves own.namespace.count in_namespace
-    same_copies = Done.same_copies value whole name permits own.namespace.count in_namespace facts.made.added copied_so
-        mounts filesystems overlays facts.made.attached
+    copied : Done.AreCopied value name permits own.namespace.count facts.made.added mounts filesystems overlays
+    copied = record {
+      whole = whole;
+      in_namespace = in_namespace;
+      copied_so = copied_so;
+      is_kept = facts.made.attached;
+    }
+
+    same_copies : map mount_of facts.made.added ≡ copies (Done.from copied)
+    same_copies = Done.same_copies copied
 
     moved_task : Task ℕ
-    moved_task = Done.moved_task value whole name permits own.namespace.count in_namespace facts.made.added copied_so
-        mounts filesystems overlays facts.made.attached
+    moved_task = Done.moved_task copied
 
     moved_entries : List MountEntry
-    moved_entries = Done.moved_entries value whole name permits own.namespace.count in_namespace facts.made.added
-        copied_so mounts filesystems overlays facts.made.attached
+    moved_entries = Done.moved_entries copied
 
     root_goes : location_of root ≡ moved_task.root
     root_goes = facts.root_is ∙ (λ i. moved_in value.next (attached_in (in_namespace i) value.mounts) (own_is i).root)
@@ -92,12 +97,11 @@ task_is_unshared value whole name permits own is root directory mounts grown fil
     uses_are = facts.uses ∙ (λ i. with_use_moved (own_is i).directory.mount (directory_goes i).mount
         (with_use_moved (own_is i).root.mount (root_goes i).mount (ap (λ k. k.mounts) facts.made.attached i)))
 
-    tasks_are : new.tasks ≡ Done.tasks value whole name permits own.namespace.count in_namespace facts.made.added
-        copied_so mounts filesystems overlays facts.made.attached
+    tasks_are : new.tasks ≡ Done.tasks copied
     tasks_are = facts.tasks
         ∙ ap (changed_by (λ task. record task { namespace = counted value.next; root = location_of root; directory = location_of directory }) value.tasks) permits.called
         ∙ ap (λ (task : Task ℕ). replaced task value.tasks) (λ i. record permits.task {
-          namespace = new_is value whole name permits.task permits.called permits.given.serves own.namespace.count in_namespace i;
+          namespace = new_is (Done.from copied) i;
           root = root_goes i;
           directory = directory_goes i;
         })

@@ -27,12 +27,7 @@ typed_at kinds mount = record mount { propagation = unwrap_or (lookup (nat_eq mo
 one_typed : (number : ℕ) (kind : Propagation ℕ) (entries : List MountEntry)
     → mounts_in (changed number (with_kind kind) entries) ≡ map (retyped_if number kind) (mounts_in entries)
 one_typed number kind [] = refl
-one_typed number kind (entry ∷ rest) = λ i. by (nat_eq number entry.mount.number) i ∷ one_typed number kind rest i
-  where
-    by : (b : Bool) → (cond b (with_kind kind entry) entry).mount
-        ≡ cond b (record entry.mount { propagation = kind }) entry.mount
-    by true = refl
-    by false = refl
+one_typed number kind (entry ∷ rest) = grind (arith, common_steps, one_typed number kind rest)
 
 pub typed_seen : (types : List Kind) (entries : List MountEntry)
     → mounts_in (typed_all types entries) ≡ folded retyped_one (mounts_in entries) types
@@ -148,10 +143,7 @@ none_replaced (mount ∷ rest) = ap (λ list. mount ∷ list) (none_replaced res
 found_none : (number : ℕ) (own : List (Mount ℕ)) → list_any (λ (one : Mount ℕ). nat_eq number one.number) own ≡ false
     → find (λ (one : Mount ℕ). nat_eq number one.number) own ≡ None
 found_none number [] none = refl
-found_none number (first ∷ rest) none =
-    let parts = or_parts (nat_eq number first.number)
-    (list_any (λ (one : Mount ℕ). nat_eq number one.number) rest) none in
-    cc (parts.0, found_none number rest parts.1)
+found_none number (first ∷ rest) none = grind (arith, common_steps, found_none number rest, or_parts)
 
 pub all_replaced : (own : List (Mount ℕ)) → any_pair (λ (a b : Mount ℕ). nat_eq a.number b.number) own ≡ false
     → (mounts : List (Mount ℕ)) → folded (with_mount nat_eq) mounts own ≡ map (replaced_by own) mounts

@@ -69,7 +69,7 @@ the_member : (group : ℕ) (mounts : List (Mount ℕ)) → has_members nat_eq mo
 the_member group [] e = absurd (true≢false (sym e))
 the_member group (mount ∷ rest) e = grind (arith, common_steps, the_member group rest, is_member)
 
-module _ (world after : World ℕ) (change : Mount ℕ → Mount ℕ) (own come : List (Mount ℕ)) (new : List (ℕ × Option ℕ))
+module _ {world after : World ℕ} {change : Mount ℕ → Mount ℕ} {own come : List (Mount ℕ)} {new : List (ℕ × Option ℕ)}
     (is : GrowBeside world after change own come new) (rising : are_rising (numbers_of world.mounts) ≡ true) where
   abbrev typed : Mount ℕ → Mount ℕ
   typed = typed_at (map type_of own)
@@ -107,23 +107,24 @@ module _ (world after : World ℕ) (change : Mount ℕ → Mount ℕ) (own come 
       )
 
   -- a mount that was there, and one that came
-  old_member : (mount : Mount ℕ) → Among mount world.mounts → (group : ℕ)
+  old_member : (mount : Mount ℕ) → Among mount world.mounts → {group : ℕ}
       → group_of (typed_at (map type_of own) mount).propagation ≡ Some group → HasGroup after group
-  old_member mount m group e = member_is group after.mounts (change mount) (subst (Among (change mount)) (sym is.mounts)
+  old_member mount m {group} e = member_is group after.mounts (change mount)
+      (subst (Among (change mount)) (sym is.mounts)
       (among-append_left (map change world.mounts) come (change mount) (among-map change world.mounts mount m)))
       (ap group_of (is.kind mount) ∙ e)
 
   stays_there : (group : ℕ) → HasGroup world group → HasGroup after group
   stays_there group has =
       let member = the_member group world.mounts has in
-      old_member member.0 member.1 group (is.stays member.0 member.1 group member.2)
+      old_member member.0 member.1 (is.stays member.0 member.1 group member.2)
 
   all_members : (group : ℕ) → has_members nat_eq (own ++ come) group ≡ true → HasGroup after group
   all_members group has =
       let member = the_member group (own ++ come) has in
       ⊎_elim (λ mine. let old = spec.among-from_map (λ (mount : Mount ℕ). mount.number) world.mounts member.0.number
       (spec.among_numbers (numbers_of world.mounts) member.0.number (is.there member.0 mine)) in
-      old_member old.0 old.1 group
+      old_member old.0 old.1
       (ap (λ n. group_of (unwrap_or (lookup (nat_eq n) (map type_of own)) old.0.propagation)) (sym old.2)
       ∙ ap (λ o. group_of (unwrap_or o old.0.propagation)) (lookup_kind own is.once member.0 mine) ∙ member.2))
       (λ other. member_is group after.mounts member.0 (subst (Among member.0) (sym is.mounts)

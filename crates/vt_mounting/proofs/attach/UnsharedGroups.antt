@@ -1,32 +1,38 @@
 -- The groups of an unshare before the old namespace is left: each copy is in those of the mount that it copies.
-use Rattle.std.proofs.Common.{◌≡◌, refl, sym, ap, subst, ◌∙◌, inl, ℕ, nat_eq, true, List, [], ◌++◌, map, Option, Some, is_some}
-use Rattle.vt_spec.proofs.Common.{Mount, Serves, Task, TaskName, World, group_of, has_members, holds_of, is_member_of, map_twice, task_called}
-use Rattle.vt_mounting.proofs.Common.{Among, AreTyped, Grouping, Grows, GrowsTo, Has, HasGroup, IsHeld, MountEntry, WorldValue, all_from_among, among-map, any_among, any_from_among, counted, counts_from, map_same, mount_of, mounts_in, numbers_of, typed, typed_by, world_of}
+use Rattle.std.proofs.Common.{◌≡◌, refl, sym, ap, subst, ◌∙◌, inl, ℕ, nat_eq, true, List, [], ◌++◌, map, Option, is_some}
+use Rattle.vt_spec.proofs.Common.{Mount, Task, TaskName, World, group_of, has_members, holds_of, is_member_of, map_twice}
+use Rattle.vt_mounting.proofs.Common.{Among, AreTyped, Grouping, Grows, GrowsTo, Has, HasGroup, MountEntry, WorldValue, all_from_among, among-map, any_among, any_from_among, map_same, mount_of, mounts_in, numbers_of, typed, typed_by, world_of}
 use Rattle.vt_group.specs.Grouping.{are_rising}
 use Rattle.vt_location.specs.declared.mounts.Mount.{Mount as Attached}
 use Rattle.vt_mounting.specs.Attach.AttachedGroups.{type_of}
 use Rattle.vt_mounting.proofs.detach.FollowedTypes.{world_typed}
 use Rattle.vt_mounting.proofs.attach.GrownGroups.{attached_worlds_grow}
 use Rattle.vt_mounting.proofs.attach.UnsharedWorlds as Worlds
+use Rattle.vt_mounting.proofs.attach.UnsharedWorlds.{UnsharingFrom}
 
-module _ (value : WorldValue) (whole : IsHeld value) (name : TaskName) (task : Task ℕ)
-    (found : task_called (world_of value) name ≡ Some task)
-    (serves : Serves nat_eq (world_of value) (counts_from value.next)) (count : ℕ)
-    (in_namespace : counted count ≡ task.namespace) (copies : List Attached)
-    (same : map mount_of copies ≡ Worlds.copies value whole name task found serves count in_namespace)
-    (rising : are_rising (numbers_of ((world_of value).mounts ++ map mount_of copies)) ≡ true)
-    (grown : Grouping) (grows : GrowsTo value.groups grown (map typed copies) []) where
+-- The copies come after all mounts, in groups that have grown by them.
+pub record HasGrown {value : WorldValue} {name : TaskName} {task : Task ℕ} {count : ℕ}
+    (it : UnsharingFrom value name task count) (copies : List Attached) (grown : Grouping) : Type 0 where
+  pub same : map mount_of copies ≡ Worlds.copies it
+  pub rising : are_rising (numbers_of ((world_of value).mounts ++ map mount_of copies)) ≡ true
+  pub grows : GrowsTo value.groups grown (map typed copies) []
+
+module _ {value : WorldValue} {name : TaskName} {task : Task ℕ} {count : ℕ} {it : UnsharingFrom value name task count}
+    {copies : List Attached} {grown : Grouping} (has_grown : HasGrown it copies grown) where
+  open has_grown use {same, rising, grows}
+  open it use {whole}
+
   abbrev world : World ℕ
   world = world_of value
 
   abbrev base : World ℕ
-  base = Worlds.base value whole name task found serves count in_namespace (map mount_of copies) same
+  base = Worlds.base it (map mount_of copies) same
 
   -- a group of a copy was there
   was_there : (group : ℕ) → has_members nat_eq (map mount_of copies) group ≡ true → HasGroup world group
   was_there group has =
       let member = any_among (is_member_of nat_eq group) (map mount_of copies) has in
-      let from = Worlds.copy_of value whole name task found serves count in_namespace (map mount_of copies) same
+      let from = Worlds.copy_of it (map mount_of copies) same
       member.0 member.1 in
       any_from_among (is_member_of nat_eq group) world.mounts from.0 from.1
       (ap (λ kind. holds_of (nat_eq group) (group_of kind)) (sym from.3) ∙ member.2)

@@ -1,8 +1,8 @@
 -- The inodes that the copies of an unshare use are there, and are found through the copies as through the originals.
 use Rattle.std.proofs.Common.{◌≡◌, refl, sym, ap, subst, ◌∙◌, inl, inr, ℕ, nat_eq, eqb-true, Bool, true, false, not, ◌&&◌, ◌||◌, List, [], ◌∷◌, ◌++◌, map, Option, Some, None, option_map, is_some, arith}
-use Rattle.vt_spec.proofs.Common.{Fresh, Serves, Task, TaskName, World, and_parts, common_steps, copied_mount, filesystem_numbered, has_its_root, holds_of, is_located_well, is_there, list_all, location_on_copy, mount_at, mount_numbered, same_Some, task_called}
+use Rattle.vt_spec.proofs.Common.{Fresh, Task, TaskName, World, and_parts, common_steps, copied_mount, filesystem_numbered, has_its_root, holds_of, is_located_well, is_there, list_all, location_on_copy, mount_at, mount_numbered, same_Some}
 use Rattle.vt_spec.specs.Machine.Mounts as meant
-use Rattle.vt_mounting.proofs.Common.{Among, AreThere, FilesystemEntry, Inode, IsHeld, WorldValue, among-append_right, among-filter, among-from_filter, among-from_map, among-map, among_from_list_all, counted, directory_is_there, found_itself, inode_at, inodes_seen, is_small_node, location_of, mount_of, number_of, places_of, times, world_of}
+use Rattle.vt_mounting.proofs.Common.{Among, AreThere, FilesystemEntry, Inode, WorldValue, among-append_right, among-filter, among-from_filter, among-from_map, among-map, among_from_list_all, counted, directory_is_there, found_itself, inode_at, inodes_seen, is_small_node, location_of, mount_of, number_of, places_of, times, world_of}
 use Rattle.vt_location.specs.declared.locations.Location.{Location}
 use Rattle.vt_location.specs.declared.locations.NodeRef.{NodeRef}
 use Rattle.vt_location.specs.declared.mounts.Mount.{Mount}
@@ -14,31 +14,28 @@ use Rattle.vt_mounting.proofs.attach.AddedUses.{IsFoundIn, gained_by, gained_use
 use Rattle.vt_mounting.proofs.detach.MidwayBegins.{point_is_located}
 use Rattle.vt_mounting.proofs.detach.NodesFound.{at_home}
 use Rattle.vt_mounting.proofs.detach.Overlaid.{found_plain_one}
-use Rattle.vt_mounting.proofs.attach.UnsharedTasks.{added, copied, copy, copy_is, from_spec, new_namespace, one_number, tasks_moved, to_spec}
+use Rattle.vt_mounting.proofs.attach.UnsharedTasks.{Unsharing, added, copied, copy, copy_is, from_spec, new_namespace, one_number, tasks_moved, to_spec}
 
-module _ (value : WorldValue) (whole : IsHeld value) (name : TaskName) (task : Task ℕ)
-    (found : task_called (world_of value) name ≡ Some task)
-    (fresh : Fresh ℕ) (serves : Serves nat_eq (world_of value) fresh)
-    (copies : List Mount) (same : map mount_of copies ≡ added value whole name task found fresh serves)
-    (slots : list_all has_small_nodes copies ≡ true) where
+module _ {value : WorldValue} {name : TaskName} {task : Task ℕ} {fresh : Fresh ℕ} (it : Unsharing value name task fresh)
+    (copies : List Mount) (same : map mount_of copies ≡ added it) (slots : list_all has_small_nodes copies ≡ true) where
+  open it use {whole}
+
   abbrev world : World ℕ
   world = world_of value
 
   abbrev base : World ℕ
-  base = with_added value (added value whole name task found fresh serves)
-      (tasks_moved value whole name task found fresh serves)
+  base = with_added value (added it) (tasks_moved it)
 
   abbrev originals : List (meant.Mount ℕ)
-  originals = copied value whole name task found fresh serves
+  originals = copied it
 
   abbrev number_of_copy : ℕ → ℕ
-  number_of_copy = copy value whole name task found fresh serves
+  number_of_copy = copy it
 
   abbrev copy_of : meant.Mount ℕ → meant.Mount ℕ
-  copy_of = copied_mount number_of_copy (new_namespace value whole name task found fresh serves)
+  copy_of = copied_mount number_of_copy (new_namespace it)
 
-  in_added : (mount : Mount) → Among mount copies
-      → Among (mount_of mount) (added value whole name task found fresh serves)
+  in_added : (mount : Mount) → Among mount copies → Among (mount_of mount) (added it)
   in_added mount m = subst (Among (mount_of mount)) same (among-map mount_of copies mount m)
 
   original : (mount : Mount) → Among mount copies
@@ -88,24 +85,28 @@ module _ (value : WorldValue) (whole : IsHeld value) (name : TaskName) (task : T
       let through : (mount_at nat_eq base (location_of point)).filesystem ≡ (mount_at nat_eq world place).filesystem =
       ap (λ (l : meant.Location ℕ). (mount_at nat_eq base l).filesystem) is
       ∙ ap (λ n. (mount_numbered nat_eq base (number_of_copy n)).filesystem) (sym parent.number)
-      ∙ ap (λ (y : meant.Mount ℕ). y.filesystem) (copy_is value whole name task found fresh serves parent.parent inside)
+      ∙ ap (λ (y : meant.Mount ℕ). y.filesystem) (copy_is it parent.parent inside)
       ∙ ap (λ (y : meant.Mount ℕ). y.filesystem) (sym found_parent) in
       let well : is_located_well nat_eq world place ≡ true = (and_parts (is_located_well nat_eq world place) true
-      (point_is_located value whole value.tasks [] [] (nothing_moves value) (λ o. false) refl [] x was.0
-      (Some place) e)).0 in
+      (point_is_located {inside = λ o. false} (record {
+        whole = whole;
+        moves = nothing_moves value;
+        nowhere_stays = refl;
+      }) [] x was.0 (Some place)
+      e)).0 in
       let there : is_there nat_eq world (mount_at nat_eq world place).filesystem (number_of point.node) ≡ true =
       ap (λ (l : meant.Location ℕ). is_there nat_eq world (mount_at nat_eq world place).filesystem l.node) is
       ∙ (and_parts _ _ well).1 in
       let shown_in : (mount_at nat_eq world place).filesystem ≡ counted point.node.filesystem.count =
-      at_home value whole (mount_at nat_eq world place).filesystem point.node small there in
+      at_home whole (mount_at nat_eq world place).filesystem point.node small there in
       record {
         shown = through ∙ shown_in;
         there = ap (λ f. is_there nat_eq world f (number_of point.node)) (sym shown_in) ∙ there;
       }
 
-  point_of_copy : (mount : Mount) → Among mount copies → (point : Location) → mount.mount_point ≡ Some point
+  point_of_copy : (mount : Mount) → Among mount copies → {point : Location} → mount.mount_point ≡ Some point
       → IsPointOf point
-  point_of_copy mount m point e =
+  point_of_copy mount m {point} e =
       let from = original mount m in
       point_is from.0 from.1 from.0.mount_point refl point
       (sym (ap (option_map location_of) e) ∙ ap (λ (x : meant.Mount ℕ). x.mount_point) from.2)
@@ -115,17 +116,14 @@ module _ (value : WorldValue) (whole : IsHeld value) (name : TaskName) (task : T
   copy_found : (mount : Mount) → Among mount copies → IsFoundIn base mount
   copy_found mount m = record {
     root = ap (λ (x : meant.Mount ℕ). (x.filesystem, number_of mount.root))
-        (found_itself base.mounts (one_number value whole name task found fresh serves) (mount_of mount)
-        (among-append_right world.mounts (added value whole name task found fresh serves) (mount_of mount)
-        (in_added mount m)));
-    point = λ point e. ap (λ f. (f, number_of point.node)) (point_of_copy mount m point e).shown;
+        (found_itself base.mounts (one_number it) (mount_of mount)
+        (among-append_right world.mounts (added it) (mount_of mount) (in_added mount m)));
+    point = λ point e. ap (λ f. (f, number_of point.node)) (point_of_copy mount m e).shown;
   }
 
   pub copies_gain : (test : Inode → Bool) → times test (map (inode_at (with_added value (map mount_of copies)
-      (tasks_moved value whole name task found fresh serves))) (places_of (map mount_of copies)))
-      ≡ times test (gained_by copies)
-  copies_gain test = ap (λ all. times test (map (inode_at
-      (with_added value all (tasks_moved value whole name task found fresh serves)))
+      (tasks_moved it))) (places_of (map mount_of copies))) ≡ times test (gained_by copies)
+  copies_gain test = ap (λ all. times test (map (inode_at (with_added value all (tasks_moved it)))
       (places_of (map mount_of copies)))) same ∙ gained_uses base test copies copy_found
 
   -- each is there
@@ -151,7 +149,7 @@ module _ (value : WorldValue) (whole : IsHeld value) (name : TaskName) (task : T
       points : (mount : Mount) → Among mount copies → (o : Option Location) → mount.mount_point ≡ o
           → list_all test (inodes_of_point o) ≡ true
       points mount n None e = refl
-      points mount n (Some point) e = λ i. there_in was m point.node (point_of_copy mount n point e).there i && true
+      points mount n (Some point) e = λ i. there_in was m point.node (point_of_copy mount n e).there i && true
 
       each : (some : List Mount) → ((mount : Mount) → Among mount some → Among mount copies)
           → AreThere (counted was.count) (inodes_seen was) (gained_by some)

@@ -20,9 +20,16 @@ pub from_spec : {A : Type 0} (xs : List A) (x : A) → spec.Among x xs → Among
 from_spec [] x m = m
 from_spec (y ∷ ys) x m = ⊎_elim (λ same. inl same) (λ later. inr (from_spec ys x later)) m
 
-module _ (value : WorldValue) (whole : IsHeld value) (name : TaskName) (task : Task ℕ)
-    (found : task_called (world_of value) name ≡ Some task)
-    (fresh : Fresh ℕ) (serves : Serves nat_eq (world_of value) fresh) where
+-- A task of the world is to get a namespace of its own, with numbers that serve.
+pub record Unsharing (value : WorldValue) (name : TaskName) (task : Task ℕ) (fresh : Fresh ℕ) : Type 0 where
+  pub whole : IsHeld value
+  pub found : task_called (world_of value) name ≡ Some task
+  pub serves : Serves nat_eq (world_of value) fresh
+
+module _ {value : WorldValue} {name : TaskName} {task : Task ℕ} {fresh : Fresh ℕ}
+    (it : Unsharing value name task fresh) where
+  open it use {whole, found, serves}
+
   abbrev world : World ℕ
   world = world_of value
 

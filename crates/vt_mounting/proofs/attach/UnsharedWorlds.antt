@@ -1,33 +1,39 @@
 -- The world of an unshare: the namespaces count their tasks, and the old one ends with its last.
-use Rattle.std.proofs.Common.{◌≡◌, refl, sym, ap, subst, ◌∙◌, ⊎_elim, inl, inr, ℕ, nat_eq, eqb-true, eq-eqb, Bool, true, false, true≢false, ◌&&◌, ◌||◌, List, [], ◌∷◌, ◌++◌, map, flat_map, Option, Some, None, arith, option_to_list}
-use Rattle.vt_spec.proofs.Common.{Location, Mount, MountInvariants, Namespace, Serves, Task, TaskName, World, and_parts, has_tasks, holds_of, is_among, is_in_ended, is_listed, list_all, map-append, mount_at, namespaces_ended, numbers_in_use, regrouped, task_called, unshared, used_by_filesystem, used_by_mount}
-use Rattle.vt_mounting.proofs.Common.{Among, CountsWhatIsInIt, IsHeld, NamespaceEntry, Tasks, WorldValue, among-append, among-append_right, among-from_filter, among-from_map, among-map, among_from_all, among_from_list_all, among_numbers, counted, counted_test, counts_from, filter_alike, is_among_left, is_among_numbers, namespace_of, one_if, times, world_of}
+use Rattle.std.proofs.Common.{◌≡◌, refl, sym, ap, subst, ◌∙◌, ⊎_elim, ℕ, nat_eq, eqb-true, eq-eqb, Bool, true, false, true≢false, ◌&&◌, ◌||◌, List, [], ◌∷◌, ◌++◌, map, flat_map, Option, Some, None, arith, option_to_list}
+use Rattle.vt_spec.proofs.Common.{Mount, MountInvariants, Namespace, Task, TaskName, World, and_parts, common_steps, has_tasks, holds_of, is_among, is_in_ended, is_listed, list_all, map-append, namespaces_ended, numbers_in_use, regrouped, unshared, used_by_filesystem, used_by_mount}
+use Rattle.vt_mounting.proofs.Common.{Among, CountsWhatIsInIt, NamespaceEntry, Tasks, WorldValue, among-append, among-append_right, among-from_filter, among-from_map, among-map, among_from_all, among_from_list_all, among_numbers, counted, counted_test, counts_from, filter_alike, is_among_left, is_among_numbers, namespace_of, one_if, times, world_of}
 use Rattle.vt_laws_mounts.proofs.namespaces.Unsharing.{unshare_keeps_mounts}
 use Rattle.vt_laws_mounts.proofs.letting_go.Lists.{is_among_right}
 use Rattle.vt_mounting.specs.Detach.NamespacesLeft.{with_one_task_less}
 use Rattle.vt_mounting.proofs.attach.AddedBegins.{IsAdded, with_added}
 use Rattle.vt_mounting.proofs.detach.LeavingNamespaces.{and-false}
 use Rattle.vt_mounting.proofs.detach.Moving.{nat_eq_turned}
-use Rattle.vt_mounting.proofs.detach.NamespacesEnded.{CountsOneMore, ends, in_ended_is, namespaces_are, tasks_counted}
-use Rattle.vt_mounting.proofs.detach.NamespacesTyped.{left_world, taken_is_left}
+use Rattle.vt_mounting.proofs.detach.NamespacesEnded.{AllCountOneMore, CountsOneMore, ends, in_ended_is, namespaces_are, tasks_counted}
+use Rattle.vt_mounting.proofs.detach.NamespacesTyped.{CanGo, left_world, taken_is_left}
 use Rattle.vt_mounting.proofs.detach.Splits.{times_replaced}
-use Rattle.vt_mounting.proofs.attach.UnsharedTasks.{added, another, come_to, copied, gone_from, moved_task, new_namespace, task_is_moved, tasks_moved}
+use Rattle.vt_mounting.proofs.attach.UnsharedTasks.{Unsharing, added, another, come_to, copied, gone_from, moved_task, new_namespace, task_is_moved, tasks_moved}
 
-module _ (value : WorldValue) (whole : IsHeld value) (name : TaskName) (task : Task ℕ)
-    (found : task_called (world_of value) name ≡ Some task)
-    (serves : Serves nat_eq (world_of value) (counts_from value.next)) (count : ℕ)
-    (in_namespace : counted count ≡ task.namespace) where
+-- and its namespace has the number `count`
+pub record UnsharingFrom (value : WorldValue) (name : TaskName) (task : Task ℕ) (count : ℕ) : Type 0 where
+  pub unsharing : Unsharing value name task (counts_from value.next)
+  pub open unsharing use *
+  pub in_namespace : counted count ≡ task.namespace
+
+module _ {value : WorldValue} {name : TaskName} {task : Task ℕ} {count : ℕ}
+    (it : UnsharingFrom value name task count) where
+  open it use {unsharing, in_namespace, whole, found, serves}
+
   abbrev world : World ℕ
   world = world_of value
 
   abbrev pub new : ℕ
-  new = new_namespace value whole name task found (counts_from value.next) serves
+  new = new_namespace unsharing
 
   abbrev pub moved : Tasks
-  moved = tasks_moved value whole name task found (counts_from value.next) serves
+  moved = tasks_moved unsharing
 
   abbrev pub copies : List (Mount ℕ)
-  copies = added value whole name task found (counts_from value.next) serves
+  copies = added unsharing
 
   -- the namespaces with the new one, which has one task
   abbrev pub entries : List NamespaceEntry
@@ -51,10 +57,7 @@ module _ (value : WorldValue) (whole : IsHeld value) (name : TaskName) (task : T
   none_in_new : (tasks : Tasks) → ((one : Task ℕ) → Among one tasks → nat_eq new one.namespace ≡ false)
       → times (λ (one : Task ℕ). nat_eq new one.namespace) tasks ≡ 0
   none_in_new [] none = refl
-  none_in_new (one ∷ tasks) none =
-      let rest = none_in_new tasks (λ other m. none other (inr m)) in
-      let here : one_if (nat_eq new one.namespace) ≡ 0 = ap one_if (none one (inl refl)) in
-      omega (arith, rest, here)
+  none_in_new (one ∷ tasks) none = grind (arith, common_steps, none_in_new tasks)
 
   listed_task : (one : Task ℕ) → Among one value.tasks → nat_eq new one.namespace ≡ false
   listed_task one m = nat_eq_turned new one.namespace
@@ -65,15 +68,14 @@ module _ (value : WorldValue) (whole : IsHeld value) (name : TaskName) (task : T
   abbrev inside_of : ℕ → Task ℕ → Bool
   inside_of number one = nat_eq number one.namespace
 
-  pub entries_count : (entry : NamespaceEntry) → Among entry entries → CountsOneMore count moved entry
-  entries_count entry m = ⊎_elim (λ old.
+  entry_counts : (entry : NamespaceEntry) → Among entry entries → CountsOneMore count moved entry
+  entry_counts entry m = ⊎_elim (λ old.
       let was = (among_from_all (CountsWhatIsInIt world) value.namespaces whole.namespaces entry old).tasks in
       let number = among-map namespace_of value.namespaces entry old in
       let other = not_new (counted entry.count)
       (among-map (λ (n : Namespace ℕ). n.number) world.namespaces (namespace_of entry) number) in
       let all = times_replaced name value.tasks task
-      (moved_task value whole name task found (counts_from value.next) serves)
-      whole.in_world.tasks.one_task found refl (inside_of (counted entry.count)) in
+      (moved_task unsharing) whole.in_world.tasks.one_task found refl (inside_of (counted entry.count)) in
       let mine : one_if (nat_eq (counted entry.count) task.namespace) ≡ one_if (nat_eq count entry.count) =
       ap one_if (ap (nat_eq (counted entry.count)) (sym in_namespace) ∙ counted_test entry.count count
       ∙ nat_eq_turned entry.count count) in
@@ -89,11 +91,10 @@ module _ (value : WorldValue) (whole : IsHeld value) (name : TaskName) (task : T
       new_counts : CountsOneMore count moved (record { count = value.next; tasks = 1 })
       new_counts =
           let all = times_replaced name value.tasks task
-          (moved_task value whole name task found (counts_from value.next) serves)
-          whole.in_world.tasks.one_task found refl (inside_of new) in
+          (moved_task unsharing) whole.in_world.tasks.one_task found refl (inside_of new) in
           let none = none_in_new value.tasks listed_task in
           let own : one_if (nat_eq new new) ≡ 1 = ap one_if (eq-eqb new new refl) in
-          let apart = another value whole name task found (counts_from value.next) serves in
+          let apart = another unsharing in
           let mine : one_if (nat_eq new task.namespace) ≡ 0 = ap one_if (nat_eq_turned new task.namespace ∙ apart) in
           let last : one_if (nat_eq count value.next) ≡ 0 =
           ap one_if (sym (counted_test count value.next) ∙ ap (λ n. nat_eq n (counted value.next)) in_namespace
@@ -103,19 +104,21 @@ module _ (value : WorldValue) (whole : IsHeld value) (name : TaskName) (task : T
           ∙ here in
           record { inside = omega (arith, there, last); some = refl }
 
+  pub entries_count : AllCountOneMore count moved entries
+  entries_count = record { each = entry_counts }
+
   -- The world after it
 
   -- the old namespace's mounts go, if it ends
   abbrev pub inside : Option ℕ → Bool
-  inside o = ends count moved entries entries_count && holds_of (nat_eq (counted count)) o
+  inside o = ends entries_count && holds_of (nat_eq (counted count)) o
 
   pub nowhere_stays : inside None ≡ false
-  nowhere_stays = and-false (ends count moved entries entries_count)
+  nowhere_stays = and-false (ends entries_count)
 
   pub new_stays : inside (Some new) ≡ false
-  new_stays = ap (λ b. ends count moved entries entries_count && b)
-      (ap (λ n. nat_eq n new) in_namespace ∙ another value whole name task found (counts_from value.next) serves)
-      ∙ nowhere_stays
+  new_stays = ap (λ b. ends entries_count && b)
+      (ap (λ n. nat_eq n new) in_namespace ∙ another unsharing) ∙ nowhere_stays
 
   module _ (more : List (Mount ℕ)) (same : more ≡ copies) where
     -- with the copies and the new namespace
@@ -133,19 +136,16 @@ module _ (value : WorldValue) (whole : IsHeld value) (name : TaskName) (task : T
     base_holds = subst (MountInvariants nat_eq) is_unshared
         (unshare_keeps_mounts world (counts_from value.next) task serves whole.in_world.mounts)
 
-    pub is_added : IsAdded value more moved (come_to value whole name task found (counts_from value.next) serves)
-        (gone_from value whole name task found (counts_from value.next) serves) (λ mount. inside mount.namespace)
-    is_added = subst (λ all. IsAdded value all moved
-        (come_to value whole name task found (counts_from value.next) serves)
-        (gone_from value whole name task found (counts_from value.next) serves) (λ mount. inside mount.namespace))
-        (sym same) (task_is_moved value whole name task found (counts_from value.next) serves inside new_stays)
+    pub is_added : IsAdded value more moved (come_to unsharing) (gone_from unsharing) (λ mount. inside mount.namespace)
+    is_added = subst (λ all. IsAdded value all moved (come_to unsharing) (gone_from unsharing)
+        (λ mount. inside mount.namespace)) (sym same) (task_is_moved unsharing inside new_stays)
 
     -- a copy is of a mount that was there
     pub copy_of : (mount : Mount ℕ) → Among mount more
         → (was : Mount ℕ) × Among was world.mounts × (mount.namespace ≡ Some new)
         × (mount.propagation ≡ was.propagation)
     copy_of mount m =
-        let from = among-from_map _ (copied value whole name task found (counts_from value.next) serves) mount
+        let from = among-from_map _ (copied unsharing) mount
         (subst (Among mount) same m) in
         let was = among-from_filter (λ (x : Mount ℕ). holds_of (nat_eq task.namespace) x.namespace) world.mounts
         from.0 from.1 in
@@ -183,16 +183,13 @@ module _ (value : WorldValue) (whole : IsHeld value) (name : TaskName) (task : T
     remaining = map namespace_of (with_one_task_less count entries)
 
     -- the policy's world before the sweep: these mounts are detached, and then the groups without members end
-    pub ended_is : (stays : (mount : Mount ℕ) → Among mount base.mounts → goes mount ≡ false → (place : Location ℕ)
-        → mount.mount_point ≡ Some place → goes (mount_at nat_eq base place) ≡ false)
-        → namespaces_ended nat_eq (unshared nat_eq world (counts_from value.next) task)
-        ≡ regrouped nat_eq (left_world base base_holds moved goes remaining stays)
-    ended_is stays =
+    pub ended_is : (can_go : CanGo base goes) → namespaces_ended nat_eq (unshared nat_eq world (counts_from value.next) task)
+        ≡ regrouped nat_eq (left_world can_go moved remaining)
+    ended_is can_go =
         cc (
           is_unshared,
-          filter_alike (is_in_ended nat_eq base) goes base.mounts (λ mount m. in_ended_is count moved
-              entries entries_count base refl same_namespaces mount (listed mount m)),
-          namespaces_are count moved entries
-              entries_count base refl same_namespaces,
-          taken_is_left base base_holds moved goes remaining stays,
+          filter_alike (is_in_ended nat_eq base) goes base.mounts (λ mount m.
+              in_ended_is entries_count base refl same_namespaces mount (listed mount m)),
+          namespaces_are entries_count base refl same_namespaces,
+          taken_is_left can_go moved remaining,
         )

@@ -110,13 +110,7 @@ none_on : (count : MountEntry → ℕ) → ((mount : Attached) → count (unused
     → list_all (λ mount. nat_lt mount.number next) (mounts_in old) ≡ true
     → counted_on count (old ++ map unused_entry new) number ≡ 0
 none_on count none next number more [] new before = none_on_new count none number new
-none_on count none next number more (entry ∷ old) new before =
-    let parts = and_parts (nat_lt entry.mount.number next)
-    (list_all (λ (mount : Mount ℕ). nat_lt mount.number next) (mounts_in old)) before in
-    let low = ltb-true entry.mount.number next parts.0 in
-    ap (λ b. unwrap_or (option_map count (cond b (Some entry) (entry_numbered (old ++ map unused_entry new) number))) 0)
-    (ne_eqb number entry.mount.number (λ same. absurd (omega (arith, low, more, same))))
-    ∙ none_on count none next number more old new parts.1
+none_on count none next number more (entry ∷ old) new before = grind (arith, common_steps, none_on count none next number more old, and_parts, ne_eqb, ltb-true)
 
 -- a root or working directory that moves goes to a copy
 later_copy : (next : ℕ) (originals : List (Mount ℕ)) (from to : Location)

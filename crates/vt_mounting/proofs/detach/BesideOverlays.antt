@@ -1,7 +1,7 @@
 -- Which filesystems live in a world with overlays, by the mounts that show them and the layers that overlays have in
 -- them.
-use Rattle.std.proofs.Common.{◌≡◌, refl, sym, ap, subst, ◌∙◌, ⊎_elim, ℕ, zero, suc, ◌+◌, nat_eq, nat_lt, Bool, true, false, true≢false, cond, ◌&&◌, ◌||◌, [], filter, Option, Some, None, is_some, arith, append-nil}
-use Rattle.vt_spec.proofs.Common.{Filesystem, Overlay, World, and_parts, filesystem_lives, has_layer_on, is_mounted, is_overlay, layers_of, list_any, one_more_is_some, or_cases, overlay_or, settled, without_dead_mounts}
+use Rattle.std.proofs.Common.{◌≡◌, refl, sym, ap, subst, ◌∙◌, ⊎_elim, ℕ, zero, suc, ◌+◌, nat_eq, nat_lt, Bool, true, false, cond, ◌&&◌, ◌||◌, [], filter, arith, append-nil}
+use Rattle.vt_spec.proofs.Common.{Filesystem, World, and_parts, common_steps, filesystem_lives, has_layer_on, is_mounted, is_overlay, list_any, or_cases, settled, without_dead_mounts}
 use Rattle.vt_mounting.proofs.Common.{Among, IsHeld, WorldValue, all_from_among, among-filter, among-from_filter, among_from_all, any-filter, any_among, any_from_among, filter_alike, filter_twice, in_use_of, layer_count, mounted_while_counted, or_left, or_right, overlays_seen, overlays_use_filesystems, world_of}
 use Rattle.vt_laws_mounts.specs.Counts.OverlaysStay.{HasNoLayerIn}
 use Rattle.vt_laws_mounts.proofs.counts.overlays.Living.{lives_while_mounted, overlays_are_mounted, overlays_are_no_layers}
@@ -13,19 +13,11 @@ use Rattle.vt_mounting.proofs.detach.Overlaid.{AreStillMounted, KeepsOverlays, n
 -- one of two counts is some just if both together are
 pub some_of_both : (a b : ℕ) → (nat_lt 0 a || nat_lt 0 b) ≡ nat_lt 0 (a + b)
 some_of_both zero b = ap (nat_lt 0) (omega arith)
-some_of_both (suc a) b =
-    let one : suc a ≡ 1 + a = omega arith in
-    let more : 1 + (a + b) ≡ suc a + b = omega arith in
-    cc (one_more_is_some a, one_more_is_some (a + b))
+some_of_both (suc a) b = grind (arith, common_steps)
 
 -- a plain filesystem has no layers
 pub no_layer_of_plain : (number : ℕ) (f : Filesystem ℕ) → is_overlay f ≡ false → has_layer_on nat_eq number f ≡ false
-no_layer_of_plain number f plain = by f.overlay plain
-  where
-    by : (o : Option (Overlay ℕ)) → is_some o ≡ false
-        → overlay_or false (λ overlay. list_any (λ layer. nat_eq number layer.filesystem) (layers_of overlay)) o ≡ false
-    by None e = refl
-    by (Some overlay) e = absurd (true≢false e)
+no_layer_of_plain number f plain = grind (arith, common_steps)
 
 -- Two worlds with the same overlays
 
@@ -81,10 +73,10 @@ mounted_at_first value whole =
     (overlays_are_mounted (world_of value) whole.in_world) f from.0 from.1)
 
 -- No overlay of before has a layer in one of them,
-pub no_layer_midway : (old : WorldValue) → IsHeld old → (world : World ℕ)
+pub no_layer_midway : {old : WorldValue} → IsHeld old → (world : World ℕ)
     → ((f : Filesystem ℕ) → Among f world.filesystems → is_overlay f ≡ true → Among f (overlays_seen old.overlays))
     → (overlay : Filesystem ℕ) → Among overlay (overlays_seen old.overlays) → HasNoLayerIn overlay.number world
-no_layer_midway old held world were overlay n =
+no_layer_midway {old} held world were overlay n =
     all_from_among (λ merged. has_layer_on nat_eq overlay.number merged ≡ false) world.filesystems (λ merged m.
     by merged m (is_overlay merged) refl)
   where
@@ -130,7 +122,7 @@ swept_overlays old held world keeps = named_overlays_stay world (named_midway ol
 
     lives_is : (f : Filesystem ℕ) → Among f world.filesystems → (b : Bool) → is_overlay f ≡ b
         → lives f ≡ cond b (shown f) (lives f)
-    lives_is f m true e = lives_while_mounted living f (no_layer_midway old held living were f (were f m e))
+    lives_is f m true e = lives_while_mounted living f (no_layer_midway held living were f (were f m e))
         ∙ sym (mounted_while_counted living f.number)
     lives_is f m false e = refl
 

@@ -72,13 +72,13 @@ module _ (old : WorldValue) (held : IsHeld old) (after : World ℕ) (gained lost
 
   -- the code's world is the one that the sweep leaves
   pub swept_is_same : SameWorlds left (world_of new)
-  swept_is_same = shown_is_same left new shows_left is
+  swept_is_same = shown_is_same shows_left is
 
   -- and has the groups that are kept
   pub swept_has : Has (world_of new) new.groups
-  swept_has = shown_has left new shows_left is
+  swept_has = shown_has shows_left is
 
   -- and its inodes count what is in it
   pub swept_is_counted : (entry : FilesystemEntry) → Among entry new.filesystems → IsWorld nat_eq (world_of new)
       → IsCounted (world_of new) (filesystem_seen entry) (inodes_seen entry)
-  swept_is_counted = shown_is_counted left new shows_left is
+  swept_is_counted = shown_is_counted shows_left is

@@ -1,8 +1,8 @@
 -- Where the counted inodes of one filesystem have changed, the code's world is the one that the sweep after the change
 -- leaves,
 -- and counts what is in it.
-use Rattle.std.proofs.Common.{◌≡◌, refl, sym, ap, subst, ◌∙◌, ◌+◌, ⊎_elim, inl, inr, true≢false, ℕ, nat_eq, eq-eqb, eqb-true, Bool, true, false, cond, [], ◌∷◌, map, Some, None, is_some}
-use Rattle.vt_spec.proofs.Common.{Change, Filesystem, Fits, Fresh, Inodes, IsWorld, Location, Permit, SameFiles, SameFilesystem, SameFilesystems, SameWorlds, Task, TaskName, World, apply, filesystem_at, filesystem_numbered, is_overlay, node_in, replaced_if_numbered, same_Some, settled, tree_of, with_change, with_files, with_filesystem, ⊤}
+use Rattle.std.proofs.Common.{◌≡◌, refl, sym, ap, subst, ◌∙◌, ◌+◌, ⊎_elim, inl, inr, true≢false, ℕ, nat_eq, eq-eqb, eqb-true, Bool, true, false, cond, [], ◌∷◌, map, Some, None, is_some, arith}
+use Rattle.vt_spec.proofs.Common.{Change, Filesystem, Fits, Fresh, Inodes, IsWorld, Location, Permit, SameFiles, SameFilesystem, SameFilesystems, SameWorlds, Task, TaskName, World, apply, common_steps, filesystem_at, filesystem_numbered, is_overlay, node_in, replaced_if_numbered, same_Some, settled, tree_of, with_change, with_files, with_filesystem, ⊤}
 use Rattle.vt_spec.specs.Inodes.{changed}
 use Rattle.vt_laws_mounts.specs.Counts.BesideOverlays.{IsChangeOfPlain}
 use Rattle.vt_laws_mounts.specs.Counts.Changing.{LinksWhatIsThere, after_change, filesystem_of}
@@ -199,11 +199,7 @@ module _ (value : WorldValue) (held : IsHeld value) (location : Location ℕ) (c
       }
 
   numbers_kept : (f : Filesystem ℕ) → (replaced_if_numbered nat_eq put f).number ≡ f.number
-  numbers_kept f = by (nat_eq put.number f.number) refl
-    where
-      by : (b : Bool) → nat_eq put.number f.number ≡ b → (cond b put f).number ≡ f.number
-      by true e = eqb-true put.number f.number e
-      by false e = refl
+  numbers_kept f = grind (arith, common_steps, eqb-true)
 
   same_with_tree : SameWorlds (with_tree (world_of value) (filesystem_of (world_of value) location)
       (files_seen partner.entry)) (world_of new)
@@ -215,7 +211,7 @@ module _ (value : WorldValue) (held : IsHeld value) (location : Location ℕ) (c
         filesystems = subst (λ list. SameFilesystems list (world_of new).filesystems)
             (sym (woven_mapped (replaced_if_numbered nat_eq put) numbers_kept (filesystems_seen value.filesystems)
             (overlays_seen value.overlays) (λ f m.
-            ap (λ b. cond b put f) (overlay_apart value held made.entry made.among f m))))
+            ap (λ b. cond b put f) (overlay_apart held made.entry made.among f m))))
             (woven_lists_are_alike (map (replaced_if_numbered nat_eq put) (filesystems_seen value.filesystems))
             (overlays_seen value.overlays) (filesystems_seen filesystems) (overlays_seen value.overlays)
             (same_put value.filesystems filesystems (λ entry m. m) pairs) (sameness_is_an_equivalence.itself
@@ -248,10 +244,10 @@ module _ (value : WorldValue) (held : IsHeld value) (location : Location ℕ) (c
       (sym (only_files_change_beside_overlays fresh (world_of value) location (inodes_seen made.entry) change
       is_change)) refl ∙ ap (filesystem_numbered nat_eq (after fresh)) made.shows
 
-  counted_then : (was entry : FilesystemEntry) → Among was value.filesystems
+  counted_then : {was entry : FilesystemEntry} → Among was value.filesystems
       → IsChangedEntry count (changed_by change) was entry
       → IsCounted (after fresh) (filesystem_numbered nat_eq (after fresh) (counted was.count)) (inodes_seen entry)
-  counted_then was entry m is = by (nat_eq count was.count) refl is.inodes_are
+  counted_then {was} {entry} m is = by (nat_eq count was.count) refl is.inodes_are
     where
       by : (b : Bool) → nat_eq count was.count ≡ b
           → inodes_seen entry ≡ cond b (changed nat_eq (inodes_seen was) change) (inodes_seen was)
@@ -297,7 +293,7 @@ module _ (value : WorldValue) (held : IsHeld value) (location : Location ℕ) (c
       → WritersHaveLayers (world_of new) → IsHeld new
   change_is_held is keeps writers = record {
     in_world = is;
-    groups = same_has (world_of value) (world_of new) value.groups held.groups refl (λ group. refl);
+    groups = same_has (world_of new) held.groups refl (λ group. refl);
     given = keeps;
     mounts = all_from_among (CountsItsUses (world_of new)) value.mounts (λ entry m.
         let was = among_from_all (CountsItsUses (world_of value)) value.mounts held.mounts entry m in
@@ -316,10 +312,10 @@ module _ (value : WorldValue) (held : IsHeld value) (location : Location ℕ) (c
               (subst (λ n. IsCounted (world_of new) (filesystem_numbered nat_eq (world_of new) (counted n))
               (inodes_seen entry)) (sym source.is.count_is)
               (any_same_worlds_count_alike (after fresh) (world_of new) (counted source.was.count) (inodes_seen entry)
-              (change_is_swept fresh) (counted_then source.was entry source.among source.is)));
+              (change_is_swept fresh) (counted_then source.among source.is)));
         });
     own_inodes = all_from_among HasOwnInodes filesystems own_after;
-    overlays = overlays_hold_still value new held.overlays refl (same_files_rise
+    overlays = overlays_hold_still new held.overlays refl (same_files_rise
         (with_tree (world_of value) (filesystem_of (world_of value) location) (files_seen partner.entry)).filesystems
         (world_of new).filesystems same_with_tree.filesystems rising_with_tree)
         (overlays_counted value new held.overlays refl (λ number. refl)) writers;

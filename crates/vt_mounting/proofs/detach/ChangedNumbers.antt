@@ -1,6 +1,6 @@
 -- A change of counted inodes gives no number an inode, but the one that it makes.
-use Rattle.std.proofs.Common.{◌≡◌, refl, sym, ap, ◌∙◌, ℕ, nat_eq, eqb-true, Bool, true, false, cond, Option, Some, None}
-use Rattle.vt_spec.proofs.Common.{AddName, Change, CopyUp, Inode, Inodes, Make, Move, Node, Remove, SetAttr, SetBytes, SetMark, entries_in, entry_named, inode_with_node, node_in, node_with_attr, node_with_bytes, node_with_entry, node_with_mark, node_with_parent, node_without_entry, pinned, unpinned, used_once_less, used_once_more, with_changed, ⊤}
+use Rattle.std.proofs.Common.{◌≡◌, sym, ap, ◌∙◌, ℕ, nat_eq, eqb-true, Option, Some, None, arith}
+use Rattle.vt_spec.proofs.Common.{AddName, Change, CopyUp, Inode, Inodes, Make, Move, Node, Remove, SetAttr, SetBytes, SetMark, common_steps, entries_in, entry_named, inode_with_node, node_in, node_with_attr, node_with_bytes, node_with_entry, node_with_mark, node_with_parent, node_without_entry, pinned, unpinned, used_once_less, used_once_more, with_changed, ⊤}
 use Rattle.vt_spec.specs.Inodes.{changed, with_inode, without_replaced}
 
 module _ (number : ℕ) where
@@ -9,11 +9,7 @@ module _ (number : ℕ) where
 
   none_with : (inodes : Inodes ℕ) (other : ℕ) (inode : Option (Inode ℕ)) → IsNone inodes
       → (number ≡ other → inode ≡ None) → IsNone (with_inode nat_eq inodes other inode)
-  none_with inodes other inode none same = by (nat_eq number other) refl
-    where
-      by : (b : Bool) → nat_eq number other ≡ b → cond b inode (inodes.inode number) ≡ None
-      by true e = same (eqb-true number other e)
-      by false e = none
+  none_with inodes other inode none same = grind (arith, common_steps, eqb-true)
 
   none_with_node : (o : Option (Node ℕ)) (inode : Option (Inode ℕ)) → inode ≡ None → inode_with_node o inode ≡ None
   none_with_node None inode none = none
@@ -21,10 +17,7 @@ module _ (number : ℕ) where
 
   none_changed : (inodes : Inodes ℕ) (other : ℕ) (change : Option (Node ℕ) → Option (Node ℕ)) → IsNone inodes
       → IsNone (with_changed nat_eq inodes other change)
-  none_changed inodes other change none =
-      none_with inodes other (inode_with_node (change (node_in (inodes.inode other))) (inodes.inode other)) none
-      (λ same. none_with_node (change (node_in (inodes.inode other))) (inodes.inode other)
-      (ap inodes.inode (sym same) ∙ none))
+  none_changed inodes other change none = grind (arith, common_steps)
 
   none_pinned : (inodes : Inodes ℕ) (other : ℕ) → IsNone inodes → IsNone (pinned nat_eq inodes other)
   none_pinned inodes other none = none_with inodes other (used_once_more (inodes.inode other)) none

@@ -43,12 +43,13 @@ none_goes number least (first ∷ rest) rising below =
     (first ∷ others number rest) (others number rest))
     ∙ ap (λ later. first ∷ later) (none_goes number (first.number + 1) rest parts.1 (omega (arith, above, below)))
 
-one_goes : (number least : ℕ) (all : Descriptors) (descriptor : Descriptor ℕ) → are_ascending_from least all ≡ true
+one_goes : (number least : ℕ) (all : Descriptors) {descriptor : Descriptor ℕ} → are_ascending_from least all ≡ true
     → find (λ one. number == one.number) all ≡ Some descriptor → Goes descriptor all (others number all)
-one_goes number least [] descriptor rising found = absurd cc
-one_goes number least (first ∷ rest) descriptor rising found =
+one_goes number least [] rising found = absurd cc
+one_goes number least (first ∷ rest) {descriptor} rising found =
     let parts = and_parts _ _ rising in
-    by (number == first.number) refl found parts.1 (one_goes number (first.number + 1) rest descriptor parts.1)
+    by (number == first.number) refl found parts.1 (one_goes number (first.number + 1) rest {descriptor = descriptor}
+    parts.1)
   where
     by : (b : Bool) → (number == first.number) ≡ b
         → cond b (Some first) (find (λ one. number == one.number) rest) ≡ Some descriptor
@@ -77,8 +78,8 @@ around front p q back = ap (λ list. front ++ list) (append_assoc p q back) ∙ 
 abbrev pub used_by : Descriptor ℕ → Use
 used_by descriptor = record { location = descriptor.location; writes = descriptor.writes }
 
-module _ (value : WorldValue) (whole : IsHeld value) (name : TaskName) (task : Task ℕ)
-    (found : task_called (world_of value) name ≡ Some task) (number : ℕ) (descriptor : Descriptor ℕ)
+module _ {value : WorldValue} (whole : IsHeld value) (name : TaskName) {task : Task ℕ}
+    (found : task_called (world_of value) name ≡ Some task) (number : ℕ) {descriptor : Descriptor ℕ}
     (goes : Goes descriptor task.descriptors (others number task.descriptors)) where
   abbrev new : Task ℕ
   new = without_descriptor task number
@@ -136,8 +137,8 @@ file_is_closed value name number closed mounts filesystems overlays tasks whole 
     (among-append_right one.front (task ∷ one.back) task (inl refl)) in
     let numbered_so : descriptor_numbered task number ≡ Some (numbered number closed) =
     sym (was ∙ ap (option_and_then (λ (other : Task ℕ). descriptor_numbered other number)) permits.called) in
-    let goes = one_goes number 0 task.descriptors (numbered number closed) (rising task among) numbered_so in
-    let moves = closed_moves value whole name task permits.called number (numbered number closed) goes in
+    let goes = one_goes number 0 task.descriptors (rising task among) numbered_so in
+    let moves = closed_moves whole name permits.called number goes in
     let well = among_from_list_all (is_located_well nat_eq (world_of value))
     (all_locations (world_of value)) whole.in_world.tasks.locations_live (location_of closed.location)
     (subst (λ all. Among (location_of closed.location) all) (sym moves.was)
@@ -145,14 +146,16 @@ file_is_closed value name number closed mounts filesystems overlays tasks whole 
     (inl refl))) in
     subst (λ all. IsDone value name (ToClose number) (remade_with value mounts filesystems overlays all))
     (sym (is ∙ ap (changed_by (λ other. without_descriptor other number) value.tasks) permits.called))
-    (left_done value whole (replaced (without_descriptor task number) value.tasks) []
-    (used_by (numbered number closed)) moves mounts filesystems overlays
-    (is_kept ∙ (λ i. let_go_mount (counted closed.location.mount.count)
-    (released_use (counted closed.location.mount.count)
-    (sym (seen_where_located value whole closed.location few well) i, number_of closed.location.node)
-    (opens_for_writing (access_of closed.access)) (kept_of value))))
-    name (ToClose number) task (record { called = permits.called; given = permits.given; named = refl; applied = λ fresh. refl })
-    (same_tasks value whole name task permits.called number (numbered number closed) goes))
+    (left_done {task = task} (record {
+      whole = whole;
+      moves = moves;
+      is_kept = (is_kept ∙ (λ i. let_go_mount (counted closed.location.mount.count)
+          (released_use (counted closed.location.mount.count)
+          (sym (seen_where_located value whole closed.location few well) i, number_of closed.location.node)
+          (opens_for_writing (access_of closed.access)) (kept_of value))));
+      is = record { called = permits.called; given = permits.given; named = refl; applied = λ fresh. refl };
+      inside = same_tasks whole name permits.called number goes;
+    }))
 
 -- no file has that number
 pub nothing_is_closed : (value : WorldValue) (name : TaskName) (number : ℕ) (tasks : Tasks)
@@ -165,7 +168,8 @@ nothing_is_closed value name number tasks whole permits was is =
     let none : descriptor_numbered task number ≡ None = sym (was ∙ ap (option_and_then
     (λ (other : Task ℕ). descriptor_numbered other number)) permits.called) in
     let same = all_stay task.descriptors none in
-    staying_is_done value name (ToClose number) task (without_descriptor task number) tasks whole (record {
+    staying_is_done {name = name} {permit = ToClose number} {task = task} {new = without_descriptor task number} whole
+    (record {
       called = permits.called;
       given = permits.given;
       named = refl;

@@ -17,12 +17,7 @@ detached_entry_if number entry = cond (nat_eq number entry.mount.number) (detach
 
 same_detached : (number : ℕ) (entry : MountEntry)
     → (detached_entry_if number entry).mount ≡ detached_if number entry.mount
-same_detached number entry = by (nat_eq number entry.mount.number)
-    ∙ ap (λ b. cond b (detached entry.mount) entry.mount) (nat_eq_turned number entry.mount.number)
-  where
-    by : (b : Bool) → (cond b (detached_entry entry) entry).mount ≡ cond b (detached entry.mount) entry.mount
-    by true = refl
-    by false = refl
+same_detached number entry = grind (arith, common_steps, nat_eq_turned)
 
 pub mounts_detached : (number : ℕ) (entries : List MountEntry)
     → mounts_in (changed number detached_entry entries) ≡ map (detached_if number) (mounts_in entries)
@@ -50,7 +45,7 @@ unpinned_is : (point : Option Location) (all : List Shown)
 unpinned_is None all = sym (map-id all)
 unpinned_is (Some point) all = refl
 
-module _ (old : WorldValue) (number : ℕ) (pending : List ℕ) (gained lost : List Inode) (world : World ℕ) (k : Kept)
+module _ {old : WorldValue} {number : ℕ} {pending : List ℕ} {gained lost : List Inode} {world : World ℕ} {k : Kept}
     (is : IsKeptBut old (number ∷ pending) (number ∷ pending) gained lost world k) (point : Option Location)
     (point_is : option_map location_of point ≡ point_of number k.mounts)
     (few : IfSome point (λ point. is_small_node point.node ≡ true)) where
@@ -177,7 +172,7 @@ module _ (old : WorldValue) (number : ℕ) (pending : List ℕ) (gained lost : L
   -- One mount of those that are pending is detached, and goes if nothing is on it.
   pub one_detached : (now : List Inode)
       × IsKeptBut old pending pending gained now (looked_at world number) (without_attachment number point k)
-  one_detached = mount_looked_at old number pending gained (lost ++ more) world kept_now detached_kept apart
+  one_detached = mount_looked_at detached_kept apart
 
 -- Mounts are being detached: these are pending, and this world is left at the end.
 pub record IsDetaching (old : WorldValue) (gained : List Inode) (last : World ℕ) (pending : List ℕ)
@@ -187,11 +182,11 @@ pub record IsDetaching (old : WorldValue) (gained : List Inode) (last : World �
   pub is : IsKeptBut old pending pending gained lost world k
   pub ends : folded looked_at world pending ≡ last
 
-pub detaching_on : (old : WorldValue) (gained : List Inode) (last : World ℕ) (number : ℕ) (pending : List ℕ) (k : Kept)
+pub detaching_on : {old : WorldValue} {gained : List Inode} {last : World ℕ} {number : ℕ} {pending : List ℕ} {k : Kept}
     (point : Option Location)
     → IsDetaching old gained last (number ∷ pending) k → option_map location_of point ≡ point_of number k.mounts
     → IfSome point (λ point. is_small_node point.node ≡ true)
     → IsDetaching old gained last pending (without_attachment number point k)
-detaching_on old gained last number pending k point detaching point_is few =
-    let one = one_detached old number pending gained detaching.lost detaching.world k detaching.is point point_is few in
+detaching_on {old} {gained} {number} {pending} {k} point detaching point_is few =
+    let one = one_detached detaching.is point point_is few in
     record { lost = one.0; world = looked_at detaching.world number; is = one.1; ends = detaching.ends }

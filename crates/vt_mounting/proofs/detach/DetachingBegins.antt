@@ -60,11 +60,11 @@ record IsDetachedAt (mounts : List (Mount ℕ)) (number : ℕ) (mount : Mount �
   was : mounts ≡ front ++ (mount ∷ back)
   is : map (detached_if number) mounts ≡ front ++ (detached mount ∷ back)
 
-detached_at : (mounts : List (Mount ℕ)) (number : ℕ) (mount : Mount ℕ)
+detached_at : (mounts : List (Mount ℕ)) {number : ℕ} (mount : Mount ℕ)
     → any_pair (λ (a b : Mount ℕ). nat_eq a.number b.number) mounts ≡ false
     → Among mount mounts → mount.number ≡ number → IsDetachedAt mounts number mount
-detached_at [] number mount one m same = absurd m
-detached_at (first ∷ rest) number mount one m same = ⊎_elim (λ here. record {
+detached_at [] mount one m same = absurd m
+detached_at (first ∷ rest) {number} mount one m same = ⊎_elim (λ here. record {
   front = [];
   back = rest;
   was = ap (λ x. x ∷ rest) (sym here);
@@ -72,7 +72,7 @@ detached_at (first ∷ rest) number mount one m same = ⊎_elim (λ here. record
       (eq-eqb first.number number (ap (λ (x : Mount ℕ). x.number) (sym here) ∙ same)) ∙ ap detached (sym here)) i
       ∷ map_same (detached_if number) rest (λ x n. ap (λ b. cond b (detached x) x)
       (other x (none_among (λ (b : Mount ℕ). nat_eq first.number b.number) rest parts.0 x n) here)) i;
-}) (λ later. let inner = detached_at rest number mount parts.1 later same in record {
+}) (λ later. let inner = detached_at rest mount parts.1 later same in record {
   front = first ∷ inner.front;
   back = inner.back;
   was = ap (λ all. first ∷ all) inner.was;
@@ -119,7 +119,7 @@ module _ (before : World ℕ) where
       by (Some mount) e =
           let found = found_in (λ (x : Mount ℕ). nat_eq number x.number) world.mounts mount e in
           let numbered : number ≡ mount.number = eqb-true number mount.number found.1 in
-          let split = detached_at world.mounts number mount one found.0 (sym numbered) in
+          let split = detached_at world.mounts mount one found.0 (sym numbered) in
           subst (λ all. Exchanges [] all filesystem world (without_place world number))
           (alike mount found.0 mount.mount_point refl)
           (mount_is_placed world (without_place world number) split.front split.back mount
@@ -270,9 +270,9 @@ module _ (old : WorldValue) (gained lost : List Inode) (world : World ℕ) (k : 
   stays_placed mount place true e h = absurd cc
   stays_placed mount place false e h = (e, h)
 
-  still_attached : (mount : Mount ℕ) → Among mount world.mounts → (place : Location ℕ) → mount.mount_point ≡ Some place
+  still_attached : (mount : Mount ℕ) → Among mount world.mounts → {place : Location ℕ} → mount.mount_point ≡ Some place
       → is_among nat_eq mount.number gone ≡ false → is_some (mount_at nat_eq after place).namespace ≡ true
-  still_attached mount m place p stays = grind (arith, common_steps, not_gone_stays, among_from_list_all)
+  still_attached mount m p stays = grind (arith, common_steps, not_gone_stays, among_from_list_all)
 
   begun_stands : MountsStand after
   begun_stands = record {
@@ -294,7 +294,7 @@ module _ (old : WorldValue) (gained lost : List Inode) (world : World ℕ) (k : 
           at : (o : Option (Location ℕ)) → mount.mount_point ≡ o
               → list_all (λ place. is_some (mount_at nat_eq after place).namespace) (option_to_list o) ≡ true
           at None p = refl
-          at (Some place) p = ap (λ b. b && true) (still_attached mount m place p e)
+          at (Some place) p = ap (λ b. b && true) (still_attached mount m p e)
 
   begun_located : LocationsStand after
   begun_located =
@@ -340,7 +340,7 @@ module _ (old : WorldValue) (gained lost : List Inode) (world : World ℕ) (k : 
     located = begun_located;
     in_use = begun_in_use;
     mounted = begun_mounted;
-    leaves = leaves_alike world after refl showing old is.leaves;
+    leaves = leaves_alike world after refl showing is.leaves;
     points = is.points;
     places = λ mount m place p.
         let from = among-from_map (detached_in gone) world.mounts mount m in

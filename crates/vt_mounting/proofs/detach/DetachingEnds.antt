@@ -1,7 +1,7 @@
 -- The begin in a world with its invariants, and the end: where all mounts of a list are detached, the sweep's world is
 -- left.
-use Rattle.std.proofs.Common.{◌≡◌, refl, sym, ap, subst, ◌∙◌, inl, ℕ, ◌+◌, nat_eq, Bool, true, false, true≢false, cond, ◌&&◌, List, [], map, filter, Option, Some, None, option_map, is_some, All, option_to_list, map-id}
-use Rattle.vt_spec.proofs.Common.{Filesystem, Location, Mount, Permit, Private, Task, TaskName, World, after_going, and_parts, detached, filesystem_numbered, has_its_root, is_among, is_directory_at, is_directory_node, is_located, is_located_well, is_mounted, is_nowhere_or_attached, is_there, list_all, map_alike, map_twice, mount_at, mount_in, mount_point_left, node_at, or_false_left, regrouped, taken_away, with_mounts, without_changes}
+use Rattle.std.proofs.Common.{◌≡◌, refl, sym, ap, subst, ◌∙◌, inl, ℕ, ◌+◌, nat_eq, Bool, true, false, true≢false, cond, ◌&&◌, List, [], map, filter, Option, Some, None, option_map, is_some, All, option_to_list, map-id, arith}
+use Rattle.vt_spec.proofs.Common.{Filesystem, Location, Mount, Permit, Private, Task, TaskName, World, after_going, and_parts, common_steps, detached, filesystem_numbered, has_its_root, is_among, is_directory_at, is_directory_node, is_located, is_located_well, is_mounted, is_nowhere_or_attached, is_there, list_all, map_alike, map_twice, mount_at, mount_in, mount_point_left, node_at, or_false_left, regrouped, taken_away, with_mounts, without_changes}
 use Rattle.vt_mounting.proofs.Common.{Among, CountsItsMounts, CountsItsUses, CountsWhatIsInIt, Exchanges, Filesystems, Inode, IsHeld, IsMountedSoOften, MountEntry, Shown, WorldValue, all_from_among, all_in_use, among-from_map, among-map, among_from_all, among_from_list_all, counted, directory_is_there, filesystem_seen, found_is_there, in_use_of, is_among_numbers, is_ungrouped, layer_count, location_of, mount_uses, mounts_in, mounts_of_worlds_stand, mounts_showing, number-mount_in, overlays_seen, shown_entry, stands_on_attached, times, world_of, writes_of}
 use Rattle.vt_laws_mounts.proofs.counts.using.MountRoots as Roots
 use Rattle.vt_laws_mounts.proofs.letting_go.mounting.MountingTaken as Taken
@@ -11,7 +11,7 @@ use Rattle.vt_mounting.proofs.detach.Detached.{IsDetaching}
 use Rattle.vt_mounting.proofs.detach.DetachingBegins.{HasChildrenOf, detached_world}
 use Rattle.vt_mounting.proofs.detach.Finishing.{CountsBeside, IsApplied, finished}
 use Rattle.vt_mounting.proofs.detach.GoneAlone.{alone_has, alone_regroups}
-use Rattle.vt_mounting.proofs.detach.Grouped.{settled_has, stays_private}
+use Rattle.vt_mounting.proofs.detach.Grouped.{settled_has}
 use Rattle.vt_mounting.proofs.detach.Keeping.{IsKeptBut, detached_in, no_more}
 use Rattle.vt_mounting.proofs.detach.LocationsSeen.{seen_where_located}
 use Rattle.vt_mounting.proofs.detach.MountsLeave.{leaves_at_first, merged_at_first}
@@ -98,7 +98,7 @@ module _ (old : WorldValue) (after : World ℕ) (gained lost : List Inode) (new 
   -- the overlays are those of before that mounts show still
   overlays_left : overlays_seen new.overlays
       ≡ filter (λ overlay. is_mounted nat_eq (in_use_of after) overlay.number) (overlays_seen old.overlays)
-  overlays_left = ap overlays_seen same_overlays ∙ seen_kept old is.held (in_use_of after) is.leaves overlays is.merged
+  overlays_left = ap overlays_seen same_overlays ∙ seen_kept is.held is.leaves is.merged
 
   pub detached_swept : KeepsOverlays old after
       → (without_changes after).namespaces ≡ (without_changes (world_of new)).namespaces
@@ -132,13 +132,11 @@ module _ (old : WorldValue) (after : World ℕ) (gained lost : List Inode) (new 
         });
     mounts = λ entry m. (is.filesystems (shown_entry entry) (among-map shown_entry new.filesystems entry m)).mounts
         ∙ (λ i. times (λ (mount : Mount ℕ). nat_eq (counted entry.count) mount.filesystem) (mounts_are i)
-        + sym (layers_of_fewer old new is.held.overlays
-        (λ overlay. is_mounted nat_eq (in_use_of after) overlay.number) overlays_left (in_use_of after)
-        is.leaves.overlays (counted entry.count)) i);
+        + sym (layers_of_fewer new is.held.overlays (λ overlay. is_mounted nat_eq (in_use_of after) overlay.number)
+        overlays_left (in_use_of after) is.leaves.overlays (counted entry.count)) i);
     overlays = all_from_among (IsMountedSoOften (world_of new)) new.overlays (λ entry m.
         among_from_all (IsMountedSoOften (in_use_of after)) (overlays_kept overlays old.overlays)
-        (counted_kept old is.held (in_use_of after) is.leaves overlays is.merged) entry
-        (subst (λ all. Among entry all) same_overlays m)
+        (counted_kept is.held is.leaves is.merged) entry (subst (λ all. Among entry all) same_overlays m)
         ∙ (λ i. times (λ (mount : Mount ℕ). nat_eq entry.number mount.filesystem) (mounts_are i)));
     namespaces = inside;
   }
@@ -175,18 +173,12 @@ taken_regroups world gone closed = ap (λ mounts. regrouped nat_eq (with_mounts 
 pub detached_is_private : (world : World ℕ) (gone : List ℕ) → list_all is_nowhere_or_attached world.mounts ≡ true
     → (mount : Mount ℕ) → Among mount (detached_world gone world).mounts → is_some mount.namespace ≡ false
     → mount.propagation ≡ Private
-detached_is_private world gone nowhere mount m none =
-    let from = among-from_map (detached_in gone) world.mounts mount m in
-    cc (
-      from.2,
-      stays_private from.0 (among_from_list_all is_nowhere_or_attached world.mounts nowhere from.0 from.1)
-          (is_among nat_eq from.0.number gone) (ap (λ (x : Mount ℕ). is_some x.namespace) (sym from.2) ∙ none),
-    )
+detached_is_private world gone nowhere mount m none = grind (arith, common_steps, among_from_list_all, among-from_map)
 
 -- An event in which mounts of a list are detached, and nothing else happens
 
 -- where these mounts are in no group
-pub detached_done : (value : WorldValue) (name : TaskName) (permit : Permit ℕ) (task : Task ℕ) (gone : List ℕ)
+pub detached_done : {value : WorldValue} {name : TaskName} {permit : Permit ℕ} {task : Task ℕ} (gone : List ℕ)
     (mounts : List MountEntry) (filesystems : Filesystems) (overlays : List Merged)
     → IsHeld value → HasChildrenOf gone (mounts_in value.mounts)
     → ((mount : Mount ℕ) → Among mount (mounts_in value.mounts) → is_among nat_eq mount.number gone ≡ true
@@ -194,7 +186,7 @@ pub detached_done : (value : WorldValue) (name : TaskName) (permit : Permit ℕ)
     → IsApplied value name permit task (taken_away nat_eq (world_of value) gone)
     → IsDetaching value [] (in_use_of (detached_world gone (world_of value))) [] (kept_with mounts filesystems overlays)
     → IsDone value name permit (remade_with value mounts filesystems overlays value.tasks)
-detached_done value name permit task gone mounts filesystems overlays whole closed free is detaching =
+detached_done {value} {name} {permit} {task} gone mounts filesystems overlays whole closed free is detaching =
     let world = world_of value in
     let after = detached_world gone world in
     let new = remade_with value mounts filesystems overlays value.tasks in
@@ -206,11 +198,11 @@ detached_done value name permit task gone mounts filesystems overlays whole clos
       given = is.given;
       named = is.named;
       applied = λ fresh. is.applied fresh ∙ taken_regroups world gone closed
-          ∙ alone_regroups world value.groups whole.groups live gone free;
+          ∙ alone_regroups whole.groups live gone free;
     }) [] detaching.lost new (detached_swept value after [] detaching.lost new overlays kept_last refl refl
     (same_files_keep value (world_of value) after refl (keeps_itself value whole.overlays)) refl refl)
-    (settled_has after value.groups (alone_has world value.groups whole.groups live gone free) (λ mount m dead.
-    ap is_ungrouped (detached_is_private world gone whole.in_world.mounts.nowhere mount m
+    (settled_has after value.groups (alone_has whole.groups live gone free) (λ mount m dead. ap is_ungrouped
+    (detached_is_private world gone whole.in_world.mounts.nowhere mount m
     (or_false_left (is_some mount.namespace) (is_located nat_eq after mount.number) dead))))
     (detached_counted value after [] detaching.lost new overlays kept_last refl refl
     (all_from_among (CountsWhatIsInIt (world_of new)) value.namespaces (λ entry m.

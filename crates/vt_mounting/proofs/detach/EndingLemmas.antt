@@ -11,13 +11,13 @@ use Rattle.vt_mounting.specs.Detach.NamespacesLeft.{AreDetached, Detached, EndsI
 use Rattle.vt_mounting.specs.Detach.Uses.{Kept, Merged, detached_entry, is_unused, kept_with, let_go_entry, let_go_mount, point_of, without_attachment}
 use Rattle.vt_mounting.proofs.detach.NamespaceEntries.{Entries, entries_removed, entries_written, entry_found, is_id, same_namespace}
 
-pub one_more_detached : (namespace : ℕ) (gone : List Detached) (one : Detached) (old now : Kept)
+pub one_more_detached : {namespace : ℕ} (gone : List Detached) {one : Detached} (old : Kept) {now : Kept}
     → AreDetached namespace gone old now → IsAttached namespace now one
     → AreDetached namespace (gone ++ (one ∷ [])) old (without_attachment one.number one.point now)
-one_more_detached namespace [] one old now are is =
+one_more_detached {namespace} [] {one} old are is =
     (subst (λ k. IsAttached namespace k one) are is, ap (without_attachment one.number one.point) are)
-one_more_detached namespace (first ∷ rest) one old now are is =
-    (are.0, one_more_detached namespace rest one (without_attachment first.number first.point old) now are.1 is)
+one_more_detached {namespace} (first ∷ rest) {one} old {now} are is =
+    (are.0, one_more_detached rest (without_attachment first.number first.point old) are.1 is)
 
 nothing_last : {A : Type 0} (xs : List A) → slice_get xs (length xs - 1) ≡ None → xs ≡ []
 nothing_last [] e = refl
@@ -40,13 +40,13 @@ entry_ascending (x ∷ xs) rising entry m =
     grind (arith, common_steps, entry_ascending xs, among_from_list_all, among-map, eqb-true, eq-eqb)
 
 -- the mount that is listed last for a namespace is attached in it
-pub listed_entry : (entries : List MountEntry) (namespace : ℕ) (ids : List MountId) (last : MountId)
+pub listed_entry : (entries : List MountEntry) (namespace : ℕ) (ids : List MountId) {last : MountId}
     → are_ascending (mounts_in entries) ≡ true → map (λ (id : MountId). counted id.count) ids
     ≡ map (λ mount. mount.number) (filter (λ mount. holds_of (nat_eq namespace) mount.namespace) (mounts_in entries))
     → slice_get ids (length ids - 1) ≡ Some last
     → (entry : MountEntry) × (entry_numbered entries (counted last.count) ≡ Some entry)
     × (entry.mount.namespace ≡ Some namespace)
-listed_entry entries namespace ids last rising listed found =
+listed_entry entries namespace ids {last} rising listed found =
     let m = subst (λ all. Among (counted last.count) all) listed
     (among-map (λ (id : MountId). counted id.count) ids last (nth_among ids (length ids - 1) last found)) in
     let mount = among-from_map (λ (x : Mount ℕ). x.number)
@@ -92,45 +92,19 @@ module _ (namespace : ℕ) where
 
   fewer_without : (number : ℕ) (entries : List MountEntry) → still (without number entries) ≤ still entries
   fewer_without number [] = omega arith
-  fewer_without number (x ∷ xs) = by (nat_eq number x.mount.number) (is_attached_in namespace x) refl
-      (fewer_without number xs)
-    where
-      by : (b c : Bool) → is_attached_in namespace x ≡ c → still (without number xs) ≤ still xs
-          → still (cond (not b) (x ∷ without number xs) (without number xs)) ≤ length
-          (cond c (x ∷ filter (is_attached_in namespace) xs) (filter (is_attached_in namespace) xs))
-      by true true e later = omega (arith, later)
-      by true false e later = later
-      by false true e later = let same = ap
-          (λ d. length (cond d (x ∷ filter (is_attached_in namespace) (without number xs))
-          (filter (is_attached_in namespace) (without number xs)))) e in omega (arith, same, later)
-      by false false e later = let same = ap
-          (λ d. length (cond d (x ∷ filter (is_attached_in namespace) (without number xs))
-          (filter (is_attached_in namespace) (without number xs)))) e in omega (arith, same, later)
+  fewer_without number (x ∷ xs) = grind (arith, common_steps, fewer_without number xs)
 
   fewer_changed : (number : ℕ) (entries : List MountEntry)
       → still (changed number detached_entry entries) ≤ still entries
   fewer_changed number [] = omega arith
-  fewer_changed number (x ∷ xs) = by (nat_eq number x.mount.number) (is_attached_in namespace x) refl
-      (fewer_changed number xs)
-    where
-      by : (b c : Bool) → is_attached_in namespace x ≡ c → still (changed number detached_entry xs) ≤ still xs
-          → still (cond b (detached_entry x) x ∷ changed number detached_entry xs) ≤ length
-          (cond c (x ∷ filter (is_attached_in namespace) xs) (filter (is_attached_in namespace) xs))
-      by true true e later = omega (arith, later)
-      by true false e later = later
-      by false true e later = let same = ap
-          (λ d. length (cond d (x ∷ filter (is_attached_in namespace) (changed number detached_entry xs))
-          (filter (is_attached_in namespace) (changed number detached_entry xs)))) e in omega (arith, same, later)
-      by false false e later = let same = ap
-          (λ d. length (cond d (x ∷ filter (is_attached_in namespace) (changed number detached_entry xs))
-          (filter (is_attached_in namespace) (changed number detached_entry xs)))) e in omega (arith, same, later)
+  fewer_changed number (x ∷ xs) = grind (arith, common_steps, fewer_changed number xs)
 
-  one_fewer : (number : ℕ) (entries : List MountEntry) (entry : MountEntry) → entry_numbered entries number ≡ Some entry
+  one_fewer : (number : ℕ) (entries : List MountEntry) {entry : MountEntry} → entry_numbered entries number ≡ Some entry
       → is_attached_in namespace entry ≡ true → still (changed number detached_entry entries) < still entries
-  one_fewer number [] entry found inside = absurd cc
-  one_fewer number (x ∷ xs) entry found inside =
+  one_fewer number [] found inside = absurd cc
+  one_fewer number (x ∷ xs) {entry} found inside =
       by (nat_eq number x.mount.number) found (is_attached_in namespace x) refl (fewer_changed number xs)
-      (λ e. one_fewer number xs entry e inside)
+      (λ e. one_fewer number xs e inside)
     where
       by : (b : Bool) → cond b (Some x) (entry_numbered xs number) ≡ Some entry → (c : Bool)
           → is_attached_in namespace x ≡ c → still (changed number detached_entry xs) ≤ still xs
@@ -159,21 +133,21 @@ module _ (namespace : ℕ) where
       (filter (is_attached_in namespace) k.mounts)
   one_detached_less k one is =
       let few = fewer_let_go one.number (Rattle.vt_mounting.specs.Detach.Uses.detached_use one.number one.point k) in
-      let less = one_fewer one.number k.mounts is.entry is.found
+      let less = one_fewer one.number k.mounts is.found
       (ap (holds_of (nat_eq namespace)) is.inside ∙ eq-eqb namespace namespace refl) in
       omega (arith, few, less)
 
 -- A step of the loop
 
 pub attached_so : (namespace : ℕ) (mounts : List MountEntry) (filesystems : Filesystems) (overlays : List Merged)
-    (ids : List MountId) (last : MountId) (point : Option Location) → are_ascending (mounts_in mounts) ≡ true
+    (ids : List MountId) {last : MountId} (point : Option Location) → are_ascending (mounts_in mounts) ≡ true
     → map (λ (id : MountId). counted id.count) ids
     ≡ map (λ mount. mount.number) (filter (λ mount. holds_of (nat_eq namespace) mount.namespace) (mounts_in mounts))
     → slice_get ids (length ids - 1) ≡ Some last → option_map location_of point ≡ point_of (counted last.count) mounts
     → IfSome point (λ place. is_small_node place.node ≡ true)
     → IsAttached namespace (kept_with mounts filesystems overlays) (record { number = counted last.count; point = point })
-attached_so namespace mounts filesystems overlays ids last point rising listed found is slot =
-    let entry = listed_entry mounts namespace ids last rising listed found in record {
+attached_so namespace mounts filesystems overlays ids {last} point rising listed found is slot =
+    let entry = listed_entry mounts namespace ids rising listed found in record {
       entry = entry.0;
       found = entry.1;
       inside = entry.2;
@@ -194,18 +168,18 @@ module _ (count : ℕ) (es : Entries) where
   absent_mounts namespace k groups none =
       subst (λ o. MountsAreLeft namespace o k groups k groups) (sym (entry_found count es None none)) (refl, refl)
 
-  last_or_not : (namespace : Namespace) (b : Bool) → lookup (is_id count) es ≡ Some namespace
+  last_or_not : {namespace : Namespace} {b : Bool} → lookup (is_id count) es ≡ Some namespace
       → nat_le namespace.tasks 1 ≡ b
       → (entry : NamespaceEntry) × (namespace_entry count (entries_of es) ≡ Some entry) × (has_one_task entry ≡ b)
-  last_or_not namespace b found is =
+  last_or_not {namespace} found is =
       (record { count = count; tasks = namespace.tasks }, entry_found count es (Some namespace) found, is)
 
-  pub fewer_left : (old new : Namespace) (entries : Entries) → IsDistinct same_namespace (keys_of es)
+  pub fewer_left : {old : Namespace} (new : Namespace) {entries : Entries} → IsDistinct same_namespace (keys_of es)
       → lookup (is_id count) es ≡ Some old
       → nat_le old.tasks 1 ≡ false → new.tasks ≡ old.tasks - 1 → entries ≡ set_value (is_id count) es new
       → entries_of entries ≡ with_one_task_less count (entries_of es)
-  fewer_left old new entries distinct found many less is =
-      let entry = last_or_not old false found many in
+  fewer_left {old} new distinct found many less is =
+      let entry = last_or_not found many in
       cc (
         entries_written count one_task_less es old new distinct found (λ id i. record {
           count = id.count;
@@ -216,25 +190,25 @@ module _ (count : ℕ) (es : Entries) where
         entry.2,
       )
 
-  pub fewer_mounts : (namespace : ℕ) (k : Kept) (groups : Grouping) (old : Namespace)
+  pub fewer_mounts : (namespace : ℕ) (k : Kept) (groups : Grouping) {old : Namespace}
       → lookup (is_id count) es ≡ Some old
       → nat_le old.tasks 1 ≡ false → MountsAreLeft namespace (namespace_entry count (entries_of es)) k groups k groups
-  fewer_mounts namespace k groups old found many =
-      let entry = last_or_not old false found many in
+  fewer_mounts namespace k groups {old} found many =
+      let entry = last_or_not found many in
       subst (λ o. MountsAreLeft namespace o k groups k groups) (sym entry.1)
       (subst (λ b. EndsIf b namespace k groups k groups) (sym entry.2) (refl, refl))
 
-  pub last_left : (old : Namespace) (entries : Entries) → lookup (is_id count) es ≡ Some old → nat_le old.tasks 1 ≡ true
+  pub last_left : {old : Namespace} {entries : Entries} → lookup (is_id count) es ≡ Some old → nat_le old.tasks 1 ≡ true
       → entries ≡ remove_entry (is_id count) es → lookup (is_id count) entries ≡ None
       → entries_of entries ≡ with_one_task_less count (entries_of es)
-  last_left old entries found last is absent =
-      let entry = last_or_not old true found last in
+  last_left {old} found last is absent =
+      let entry = last_or_not found last in
       cc (entries_removed count es (ap (lookup (is_id count)) (sym is) ∙ absent), entry.1, entry.2)
 
-  pub last_mounts : (namespace : ℕ) (k : Kept) (before : Grouping) (new : Kept) (now : Grouping) (old : Namespace)
+  pub last_mounts : {namespace : ℕ} {k : Kept} {before : Grouping} {new : Kept} {now : Grouping} {old : Namespace}
       → lookup (is_id count) es ≡ Some old → nat_le old.tasks 1 ≡ true → NamespaceIsLeft namespace k before new now
       → MountsAreLeft namespace (namespace_entry count (entries_of es)) k before new now
-  last_mounts namespace k before new now old found last ends =
-      let entry = last_or_not old true found last in
+  last_mounts {namespace} {k} {before} {new} {now} {old} found last ends =
+      let entry = last_or_not found last in
       subst (λ o. MountsAreLeft namespace o k before new now) (sym entry.1)
       (subst (λ b. EndsIf b namespace k before new now) (sym entry.2) ends)

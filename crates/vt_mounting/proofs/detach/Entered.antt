@@ -1,6 +1,6 @@
 -- A task enters a namespace: setns(2).
 use Rattle.std.proofs.Common.{◌≡◌, ◌<◌, refl, sym, ap, subst, ◌∙◌, inl, inr, ℕ, ◌+◌, nat_eq, Bool, true, false, true≢false, cond, not, ◌&&◌, ◌==◌, List, [], ◌∷◌, ◌++◌, length, map, filter, find, Option, Some, None, option_map, is_some, unwrap_or, arith, IsSome, option_to_list}
-use Rattle.vt_spec.proofs.Common.{Mount, Namespace, Task, TaskName, ToEnterNamespace, World, and_parts, entered_at, folded, has_its_root, has_one_root, has_tasks, holds_of, is_located_well, is_root_mount, list_all, mounts_of, namespace_root, namespaces_ended, numbers_in_use, root_mount, root_of, same_Some, task_called, topmost, used_by_filesystem, used_by_mount, with_task}
+use Rattle.vt_spec.proofs.Common.{Mount, Namespace, Task, TaskName, ToEnterNamespace, World, and_parts, common_steps, entered_at, folded, has_its_root, has_one_root, has_tasks, holds_of, is_located_well, is_root_mount, list_all, mounts_of, namespace_root, namespaces_ended, numbers_in_use, root_mount, root_of, same_Some, task_called, topmost, used_by_filesystem, used_by_mount, with_task}
 use Rattle.vt_spec.specs.Machine.Mounts as meant
 use Rattle.vt_mounting.proofs.Common.{Among, CountsWhatIsInIt, Filesystems, Grouping, IsHeld, MountEntry, NamespaceEntry, Tasks, WorldValue, among-append_right, among-from_filter, among-from_map, among-map, among_from_all, among_from_list_all, among_numbers, called, changed_by, changed_called, counted, directory_is_there, found_itself, is_among_numbers, is_counted_before, is_small_node, location_of, locations_in, namespace_of, number_of, one_if, replaced, times, used_numbers_are_named, world_of}
 use Rattle.vt_location.specs.declared.locations.Location.{Location}
@@ -25,9 +25,9 @@ use Rattle.vt_mounting.proofs.detach.Staying.{IsDone}
 
 -- The root of a namespace is there
 
-pub root_is_located : (value : WorldValue) → IsHeld value → (task : Task ℕ) (namespace : ℕ) (root : meant.Location ℕ)
+pub root_is_located : {value : WorldValue} → IsHeld value → (task : Task ℕ) (namespace : ℕ) {root : meant.Location ℕ}
     → namespace_root nat_eq (world_of value) namespace ≡ Some root → is_located_well nat_eq (world_of value) root ≡ true
-root_is_located value whole task namespace root is = by (root_mount nat_eq (world_of value) namespace) refl is
+root_is_located {value} whole task namespace {root} is = by (root_mount nat_eq (world_of value) namespace) refl is
   where
     world : World ℕ
     world = world_of value
@@ -76,12 +76,7 @@ root_is_located value whole task namespace root is = by (root_mount nat_eq (worl
 
 nothing_found : (p : Mount ℕ → Bool) (mounts : List (Mount ℕ)) → find p mounts ≡ None → filter p mounts ≡ []
 nothing_found p [] e = refl
-nothing_found p (x ∷ xs) e = by (p x) e (nothing_found p xs)
-  where
-    by : (b : Bool) → cond b (Some x) (find p xs) ≡ None → (find p xs ≡ None → filter p xs ≡ [])
-        → cond b (x ∷ filter p xs) (filter p xs) ≡ []
-    by true f later = absurd cc
-    by false f later = later f
+nothing_found p (x ∷ xs) e = grind (arith, common_steps, nothing_found p xs)
 
 pub namespace_has_a_root : (value : WorldValue) → IsHeld value → (name : TaskName) (count : ℕ) (root : Option Location)
     → Permits value name (ToEnterNamespace (counted count))
@@ -112,7 +107,7 @@ namespace_has_a_root value whole name count (Some root) permits is = refl
 
 -- The task
 
-module _ (value : WorldValue) (whole : IsHeld value) (name : TaskName) (task : Task ℕ)
+module _ {value : WorldValue} (whole : IsHeld value) (name : TaskName) {task : Task ℕ}
     (found : task_called (world_of value) name ≡ Some task)
     (count : ℕ) (root : meant.Location ℕ) (well : is_located_well nat_eq (world_of value) root ≡ true) where
   abbrev world : World ℕ
@@ -185,11 +180,7 @@ module _ (value : WorldValue) (whole : IsHeld value) (name : TaskName) (task : T
 pub same_namespaces_more : (count : ℕ) (all : List NamespaceEntry)
     → map namespace_of all ≡ map namespace_of (with_task_more count all)
 same_namespaces_more count [] = refl
-same_namespaces_more count (e ∷ es) = λ i. one (nat_eq count e.count) i ∷ same_namespaces_more count es i
-  where
-    one : (b : Bool) → namespace_of e ≡ namespace_of (cond b (more_tasks e) e)
-    one true = refl
-    one false = refl
+same_namespaces_more count (e ∷ es) = grind (arith, common_steps, same_namespaces_more count es)
 
 -- a namespace that is listed has a number that was given out
 listed_is_named : (value : WorldValue) → IsHeld value → (namespace : ℕ)
@@ -205,10 +196,10 @@ listed_is_named value whole namespace listed =
     (among_numbers namespace (map (λ (n : Namespace ℕ). n.number) (world_of value).namespaces) listed)))
 
 -- what code holds is what the definitions name
-held_so : (value : WorldValue) → IsHeld value → (at : Location) (k : Kept) → is_small_node at.node ≡ true
+held_so : {value : WorldValue} → IsHeld value → (at : Location) (k : Kept) → is_small_node at.node ≡ true
     → is_located_well nat_eq (world_of value) (location_of at) ≡ true
     → with_location at false k ≡ gain (world_of value) k (standing (location_of at))
-held_so value whole at k few well = λ i. with_use (counted at.mount.count)
+held_so {value} whole at k few well = λ i. with_use (counted at.mount.count)
     (sym (seen_where_located value whole at few well) i, number_of at.node) false k
 
 pub task_enters : (value : WorldValue) (name : TaskName) (count : ℕ) (root : Location) (left : Left)
@@ -237,22 +228,22 @@ task_enters value name count root left mounts groups filesystems overlays namesp
     let task = permits.task in
     let world = world_of value in
     let place = location_of root in
-    let well = root_is_located value whole task (counted count) place (sym root_is) in
+    let well = root_is_located whole task (counted count) (sym root_is) in
     let same : left_of left ≡ left_by task = same_Some _ _ (left_is ∙ ap (option_map left_by) permits.called) in
     let namespace_is : task.namespace ≡ counted left.namespace.count = ap (λ one. one.0) (sym same) in
     let at_root : location_of left.root ≡ task.root = ap (λ one. one.1) same in
     let at_directory : location_of left.directory ≡ task.directory = ap (λ one. one.2) same in
-    let located_so = located value whole name task permits.called in
+    let located_so = located whole name permits.called in
     let old = kept_of value in
     let held = gain world (gain world old (standing place)) (standing place) in
     let k_so : k ≡ folded (leave_use world) held (standing task.root ∷ standing task.directory ∷ []) = k_is
     ∙ ap (λ one. without_location left.directory false (without_location left.root false one))
-    (ap (with_location root false) (held_so value whole root old few well)
-    ∙ held_so value whole root (gain world old (standing place)) few well) ∙ ap (without_location left.directory false)
-    (left_so value whole left.root false held few_root
+    (ap (with_location root false) (held_so whole root old few well)
+    ∙ held_so whole root (gain world old (standing place)) few well) ∙ ap (without_location left.directory false)
+    (left_so whole left.root false held few_root
     (ap (is_located_well nat_eq world) at_root ∙ located_so task.root (inl refl))
     ∙ ap (λ l. leave_use world held (standing l)) at_root)
-    ∙ left_so value whole left.directory false (leave_use world held (standing task.root)) few_directory
+    ∙ left_so whole left.directory false (leave_use world held (standing task.root)) few_directory
     (ap (is_located_well nat_eq world) at_directory ∙ located_so task.directory (inr (inl refl)))
     ∙ ap (λ l. leave_use world (leave_use world held (standing task.root)) (standing l)) at_directory in
     subst (λ all. IsDone value name (ToEnterNamespace (counted count)) (record value {
@@ -263,19 +254,20 @@ task_enters value name count root left mounts groups filesystems overlays namesp
       namespaces = namespaces;
       tasks = all;
     })) (sym (are ∙ ap (changed_by (λ one. entered_at one (counted count) place) value.tasks) permits.called))
-    (departs value whole (replaced (entered_at task (counted count) place) value.tasks)
-    (standing place ∷ standing place ∷ []) (standing task.root ∷ standing task.directory ∷ [])
-    (enter_moves value whole name task permits.called count place well)
-    left.namespace.count (with_task_more count value.namespaces)
-    (enter_counts value whole name task permits.called count place well left.namespace.count namespace_is)
-    (same_namespaces_more count value.namespaces) filesystems overlays namespaces namespaces_are
-    name (ToEnterNamespace (counted count)) task (record {
+    (departs (record {
+      whole = whole;
+      moves = enter_moves whole name permits.called count place well;
+      counts = record {
+        each = enter_counts whole name permits.called count place well left.namespace.count namespace_is;
+      };
+      same_namespaces = same_namespaces_more count value.namespaces;
+    }) filesystems overlays namespaces_are (record {
       called = permits.called;
       given = permits.given;
       named = listed_is_named value whole (counted count)
           (permit_fits value whole name (ToEnterNamespace (counted count)) permits).names;
-      applied = λ fresh. ap (λ o. namespaces_ended nat_eq
-          (with_task world (entered_at task (counted count) (unwrap_or o task.root)))) (sym root_is);
+      applied = λ fresh. ap (λ o. namespaces_ended nat_eq (with_task world (entered_at task (counted count) (unwrap_or
+          o task.root)))) (sym root_is);
     }) mounts groups (subst (λ one. MountsAreLeft (counted left.namespace.count)
-    (namespace_entry left.namespace.count (with_task_more count value.namespaces)) one
-    value.groups (kept_with mounts filesystems overlays) groups) k_so mounts_are))
+    (namespace_entry left.namespace.count (with_task_more count value.namespaces)) one value.groups
+    (kept_with mounts filesystems overlays) groups) k_so mounts_are))

@@ -73,7 +73,7 @@ files_write : (mount : ℕ) (descriptors : List (Descriptor ℕ))
 files_write mount [] = refl
 files_write mount (d ∷ ds) = ap (λ rest. cond (writes_on mount d) 1 0 + rest) (files_write mount ds)
 
-module _ (value : WorldValue) (whole : IsHeld value) (name : TaskName) (task : Task ℕ)
+module _ {value : WorldValue} (whole : IsHeld value) (name : TaskName) {task : Task ℕ}
     (found : task_called (world_of value) name ≡ Some task) where
   abbrev world : World ℕ
   world = world_of value
@@ -130,15 +130,15 @@ module _ (value : WorldValue) (whole : IsHeld value) (name : TaskName) (task : T
       (among-append_left (locations_of task) (locations_in goes.back) location m)))
 
 -- code leaves what the definitions name
-pub left_so : (value : WorldValue) → IsHeld value → (at : Location) (writes : Bool) (k : Kept)
+pub left_so : {value : WorldValue} → IsHeld value → (at : Location) (writes : Bool) (k : Kept)
     → is_small_node at.node ≡ true → is_located_well nat_eq (world_of value) (location_of at) ≡ true
     → without_location at writes k
     ≡ leave_use (world_of value) k (record { location = location_of at; writes = writes })
-left_so value whole at writes k few well = λ i. without_use (counted at.mount.count)
+left_so {value} whole at writes k few well = λ i. without_use (counted at.mount.count)
     (sym (seen_where_located value whole at few well) i, number_of at.node) writes k
 
 -- closing its files takes away the uses of its descriptors
-pub files_left_so : (value : WorldValue) → IsHeld value
+pub files_left_so : {value : WorldValue} → IsHeld value
     → (files : List OpenFile) (descriptors : List (Descriptor ℕ)) (k : Kept)
     → map (λ (file : OpenFile). location_of file.location) files ≡ map (λ (d : Descriptor ℕ). d.location) descriptors
     → map (λ (file : OpenFile). opens_for_writing (access_of file.access)) files
@@ -146,10 +146,10 @@ pub files_left_so : (value : WorldValue) → IsHeld value
     → ((location : meant.Location ℕ) → Among location (map place_of descriptors)
     → is_located_well nat_eq (world_of value) location ≡ true)
     → fold without_file k files ≡ folded (leave_use (world_of value)) k (map used_by descriptors)
-files_left_so value whole [] [] k places writes slots well = refl
-files_left_so value whole [] (d ∷ ds) k places writes slots well = absurd cc
-files_left_so value whole (file ∷ files) [] k places writes slots well = absurd cc
-files_left_so value whole (file ∷ files) (d ∷ ds) k places writes slots well =
+files_left_so whole [] [] k places writes slots well = refl
+files_left_so whole [] (d ∷ ds) k places writes slots well = absurd cc
+files_left_so whole (file ∷ files) [] k places writes slots well = absurd cc
+files_left_so {value} whole (file ∷ files) (d ∷ ds) k places writes slots well =
     let at : location_of file.location ≡ d.location = cc in
     let rest : map (λ (file : OpenFile). location_of file.location) files
     ≡ map (λ (d : Descriptor ℕ). d.location) ds = cc in
@@ -158,11 +158,11 @@ files_left_so value whole (file ∷ files) (d ∷ ds) k places writes slots well
     ≡ map (λ (d : Descriptor ℕ). d.writes) ds = cc in
     let few = and_parts (is_small_file file) (list_all is_small_file files) slots in
     let here : without_file k file ≡ leave_use (world_of value) k (used_by d) =
-    left_so value whole file.location (opens_for_writing (access_of file.access)) k few.0
+    left_so whole file.location (opens_for_writing (access_of file.access)) k few.0
     (ap (is_located_well nat_eq (world_of value)) at ∙ well d.location (inl refl))
     ∙ (λ i. leave_use (world_of value) k (record { location = at i; writes = write i })) in
-    cc (files_left_so value whole files ds (leave_use (world_of value) k (used_by d)) rest later few.1 (λ location m.
-    well location (inr m)))
+    cc (files_left_so whole files ds (leave_use (world_of value) k (used_by d)) rest later few.1 (λ location m. well
+    location (inr m)))
 
 -- what code leaves of a task
 pub record LeavesAll (old : Kept) (task : Held) (files : List OpenFile) (left : Kept) : Type 0 where
@@ -196,17 +196,17 @@ task_exits value name task files left mounts groups filesystems overlays namespa
     let meant_task = task_of task in
     let called_so : task_called (world_of value) name ≡ Some meant_task = sym found in
     let count = task.namespace.count in
-    let well = located value whole name meant_task called_so in
+    let well = located whole name called_so in
     let k = kept_of value in
     let left_is : left ≡ folded (leave_use (world_of value)) k (uses_of_task meant_task) = leaves.is
-    ∙ files_left_so value whole files meant_task.descriptors (without_location task.directory false
+    ∙ files_left_so whole files meant_task.descriptors (without_location task.directory false
     (without_location task.root false k)) leaves.places leaves.writes leaves.slots
     (λ location m. well location (inr (inr m)))
     ∙ ap (λ one. folded (leave_use (world_of value)) one (map used_by meant_task.descriptors))
-    (left_so value whole task.directory false (without_location task.root false k) leaves.directory
+    (left_so whole task.directory false (without_location task.root false k) leaves.directory
     (well (location_of task.directory) (inr (inl refl)))
     ∙ ap (λ one. leave_use (world_of value) one (standing meant_task.directory))
-    (left_so value whole task.root false k leaves.root (well (location_of task.root) (inl refl)))) in
+    (left_so whole task.root false k leaves.root (well (location_of task.root) (inl refl)))) in
     subst (λ all. IsDone value name ToExit (record value {
       mounts = mounts;
       groups = groups;
@@ -214,18 +214,19 @@ task_exits value name task files left mounts groups filesystems overlays namespa
       overlays = overlays_kept overlays value.overlays;
       namespaces = namespaces;
       tasks = all;
-    })) (sym are) (departs value whole (without_called name value.tasks) [] (uses_of_task meant_task)
-    (exit_moves value whole name meant_task called_so)
-    count value.namespaces (exit_counts value whole name meant_task called_so count refl) refl filesystems overlays namespaces namespaces_are
-    name ToExit meant_task (record {
+    })) (sym are) (departs (record {
+      whole = whole;
+      moves = exit_moves whole name called_so;
+      counts = record { each = (exit_counts whole name called_so count refl) };
+      same_namespaces = refl;
+    }) filesystems overlays namespaces_are (record {
       called = called_so;
       given = subst (λ one. Rattle.vt_laws_worlds.specs.Permits.Left.IsGiven
           (Rattle.vt_mounting.specs.Detach.Events.supply_of value ToExit) (world_of value) one ToExit)
           (same_Some permits.task meant_task (sym permits.called ∙ called_so)) permits.given;
       named = refl;
-      applied = λ fresh. ap (λ own. namespaces_ended nat_eq
-          (Rattle.vt_spec.specs.Machine.World.without_task (world_of value) own))
-          (name-of-called name value.tasks meant_task called_so);
+      applied = λ fresh. ap (λ own. namespaces_ended nat_eq (Rattle.vt_spec.specs.Machine.World.without_task
+          (world_of value) own)) (name-of-called name value.tasks meant_task called_so);
     }) mounts groups
     (subst (λ one. MountsAreLeft (counted count) (namespace_entry count value.namespaces) one value.groups
     (kept_with mounts filesystems overlays) groups) left_is mounts_are))

@@ -1,5 +1,5 @@
 -- The filesystem that a location of the code's world is in, by what is kept of it.
-use Rattle.std.proofs.Common.{◌≡◌, refl, sym, ap, ◌∙◌, inl, inr, true≢false, ℕ, ◌<◌, ◌%◌, nat_eq, eq-eqb, eqb-true, Bool, true, false, cond, ◌||◌, ◌&&◌, List, [], ◌∷◌, ◌++◌, map, flat_map, Some, is_some, unwrap_or, arith, All, nat_lt, ◌/◌}
+use Rattle.std.proofs.Common.{◌≡◌, refl, sym, ap, ◌∙◌, inl, inr, true≢false, ℕ, ◌<◌, nat_eq, eq-eqb, eqb-true, Bool, true, false, cond, ◌&&◌, List, [], ◌∷◌, ◌++◌, map, flat_map, Some, is_some, unwrap_or, arith, All}
 use Rattle.vt_spec.proofs.Common.{All-head, All-tail, Filesystem, Inodes, IsTree, Mount, Namespace, and_parts, any_pair, common_steps, filesystem_at, filesystem_numbered, is_among, is_among_left, is_located_well, is_overlay, mount_at, node_in, or_right, used_by_filesystem, used_by_mount}
 use Rattle.vt_mounting.proofs.Common.{Among, FilesystemEntry, Filesystems, HasOwnInodes, IsHeld, WorldValue, among-map, among_from_all, born_in, counted, counted_same, counted_test, entry_of, filesystem_seen, filesystems_seen, inode_number, inodes_at, inodes_seen, is_counted_before, is_own_number, leaves_two, location_named, location_of, no_entry, none_among, number_of, used_numbers_are_named, world_of}
 use Rattle.vt_fs.specs.FilesystemsValue.{files_at}
@@ -67,10 +67,7 @@ seen_in (x ∷ fs) own number inode there =
 
 -- the number of a node was counted
 inodes_named : (next f slot : ℕ) → is_counted_before next (inode_number f slot) ≡ true
-inodes_named next f slot = ap (λ b. b || is_counted_before_odd) (eq-eqb (inode_number f slot % 2) 0 (omega arith))
-  where
-    is_counted_before_odd : Bool
-    is_counted_before_odd = nat_eq (inode_number f slot % 4) 1 && nat_lt (inode_number f slot / 4) next
+inodes_named next f slot = grind (arith, common_steps, eq-eqb)
 
 pub nodes_named : (next : ℕ) (node : NodeRef) → is_counted_before next (number_of node) ≡ true
 nodes_named next node = inodes_named next (born_in node.filesystem.count node.birth) node.slot
@@ -108,11 +105,11 @@ pub record IsLocated (value : WorldValue) (at : Location) : Type 0 where
   pub named : location_named (is_counted_before value.next) (location_of at) ≡ true
 
 -- an inode that is there, where that is no overlay, is one of those that are kept
-pub there_where_plain : (value : WorldValue) → IsHeld value → (number inode : ℕ)
+pub there_where_plain : {value : WorldValue} → IsHeld value → (number inode : ℕ)
     → is_overlay (filesystem_numbered nat_eq (world_of value) number) ≡ false
     → is_some ((filesystem_numbered nat_eq (world_of value) number).files.tree.node inode) ≡ true
     → is_some ((filesystem_found value.filesystems number).files.tree.node inode) ≡ true
-there_where_plain value held number inode plain there =
+there_where_plain {value} held number inode plain there =
     ap (λ (filesystem : Filesystem ℕ). is_some (filesystem.files.tree.node inode))
     (sym (found_where_plain value held number plain)) ∙ there
 
@@ -127,7 +124,7 @@ located value held at small plain there =
     let parts = and_parts (is_among nat_eq (counted at.mount.count)
     (map (λ (mount : Mount ℕ). mount.number) (world_of value).mounts)) _ there in
     let seen = seen_in value.filesystems held.own_inodes (mount_at nat_eq (world_of value) (location_of at)).filesystem
-    (number_of at.node) (there_where_plain value held (mount_at nat_eq (world_of value) (location_of at)).filesystem
+    (number_of at.node) (there_where_plain held (mount_at nat_eq (world_of value) (location_of at)).filesystem
     (number_of at.node) plain parts.1) in
     record {
       entry = seen.entry;
@@ -173,7 +170,7 @@ pub also_there : (value : WorldValue) → IsHeld value → (at : Location) (seen
 also_there value held at seen object small there =
     let own = seen_in value.filesystems held.own_inodes (mount_at nat_eq (world_of value) (location_of at)).filesystem
     (number_of object)
-    (there_where_plain value held (mount_at nat_eq (world_of value) (location_of at)).filesystem (number_of object)
+    (there_where_plain held (mount_at nat_eq (world_of value) (location_of at)).filesystem (number_of object)
     (located_plain value held at seen) there) in
     let same : object.filesystem.count ≡ at.node.filesystem.count = sym (own_count own.entry.count object small own.own)
     ∙ counted_same own.entry.count seen.entry.count (sym own.number_is ∙ seen.shows) ∙ seen.count_is in

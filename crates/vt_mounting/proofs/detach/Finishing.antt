@@ -78,7 +78,7 @@ module _ (value : WorldValue) (whole : IsHeld value) (next : World ℕ)
             (subst (IsOwn from.was.count) (sym from.inodes)
             (own_exchanged from.was.count gained lost (inodes_seen from.was)
             (among_from_all HasOwnInodes value.filesystems whole.own_inodes from.was from.among))));
-        overlays = fewer_overlays_hold value new whole.overlays
+        overlays = fewer_overlays_hold new whole.overlays
             (λ overlay. is_mounted nat_eq (in_use_of next) overlay.number) swept.overlays
             (same_files_rise (settled nat_eq next).filesystems (world_of new).filesystems same.filesystems
             (rise_left value whole next gained lost new swept has left)) counts.overlays

@@ -13,8 +13,8 @@ use Rattle.vt_mounting.proofs.detach.Remaining.{remade_with}
 use Rattle.vt_mounting.proofs.detach.Staying.{IsDone, after}
 use Rattle.vt_mounting.proofs.detach.LayersLeft.{later_shown}
 use Rattle.vt_mounting.proofs.detach.LostUses.{positive}
-use Rattle.vt_mounting.proofs.detach.MountsLeave.{LeavesOverlays, layers_exchanged, layers_stay, leaves_alike, leaves_at_first, leaves_then, left_counted, left_shown, merged_at_first, numbers_are, overlay_was, overlays_apart, overlays_stay, shown_are, some_at_first}
-use Rattle.vt_mounting.proofs.detach.OverlaysGone.{layers_gone, merged_in}
+use Rattle.vt_mounting.proofs.detach.MountsLeave.{IsKeptOf, LeavesOverlays, layers_exchanged, layers_stay, leaves_alike, leaves_at_first, leaves_then, left_counted, left_shown, merged_at_first, numbers_are, overlay_was, overlays_apart, overlays_stay, shown_are, some_at_first}
+use Rattle.vt_mounting.proofs.detach.OverlaysGone.{Takes, layers_gone, merged_in}
 use Rattle.vt_mounting.proofs.detach.OverlaysKept.{merged_then}
 use Rattle.vt_mounting.proofs.detach.OverlaysRemade.{counted_kept, seen_kept}
 use Rattle.vt_mounting.proofs.detach.Overlaid.{KeepsOverlays, is_plain_one, keeps_itself, layers_of_fewer, overlay_apart, plain_ones_are, same_files_keep}
@@ -26,17 +26,25 @@ pub map_filtered : {A B : Type 0} (f : A → B) (p : A → Bool) (q : B → Bool
 map_filtered f p q same [] = refl
 map_filtered f p q same (x ∷ xs) = grind (arith, common_steps, map_filtered f p q same xs)
 
-module _ (value : WorldValue) (whole : IsHeld value) (tasks : Tasks) (more : List Use) (left_use : Use)
-    (moves : Moves value tasks more (left_use ∷ []))
-    (mounts : List MountEntry) (filesystems : Filesystems) (overlays : List Merged) (mount : Mount ℕ)
-    (found_so : mount_numbered nat_eq (world_of value) left_use.location.mount ≡ mount)
-    (there : is_among nat_eq left_use.location.mount (map (λ x. x.number) (world_of value).mounts) ≡ true)
-    (nowhere : is_some mount.namespace ≡ false)
-    (unused : mount_uses (world_of (after value tasks)) left_use.location.mount ≡ 0)
-    (dead : without_dead_mounts nat_eq (world_of (after value tasks))
-    ≡ without_mount (world_of (after value tasks)) left_use.location.mount)
-    (is_kept : kept_with mounts filesystems overlays ≡ meant.without_mount left_use.location.mount mount
-    (moved_kept (world_of value) more (left_use ∷ []) (kept_of value))) where
+-- A use is left, and its mount goes with it: nothing is on it, and no namespace has it.
+pub record GoesWithUse (value : WorldValue) (tasks : Tasks) (more : List Use) (left_use : Use)
+    (mounts : List MountEntry) (filesystems : Filesystems) (overlays : List Merged) (mount : Mount ℕ) : Type 0 where
+  pub whole : IsHeld value
+  pub moves : Moves value tasks more (left_use ∷ [])
+  pub found_so : mount_numbered nat_eq (world_of value) left_use.location.mount ≡ mount
+  pub there : is_among nat_eq left_use.location.mount (map (λ x. x.number) (world_of value).mounts) ≡ true
+  pub nowhere : is_some mount.namespace ≡ false
+  pub unused : mount_uses (world_of (after value tasks)) left_use.location.mount ≡ 0
+  pub dead : without_dead_mounts nat_eq (world_of (after value tasks))
+      ≡ without_mount (world_of (after value tasks)) left_use.location.mount
+  pub is_kept : kept_with mounts filesystems overlays ≡ meant.without_mount left_use.location.mount mount
+      (moved_kept (world_of value) more (left_use ∷ []) (kept_of value))
+
+module _ {value : WorldValue} {tasks : Tasks} {more : List Use} {left_use : Use} {mounts : List MountEntry}
+    {filesystems : Filesystems} {overlays : List Merged} {mount : Mount ℕ}
+    (goes : GoesWithUse value tasks more left_use mounts filesystems overlays mount) where
+  open goes use {whole, moves, found_so, there, nowhere, unused, dead, is_kept}
+
   abbrev world : World ℕ
   world = world_of value
 
@@ -100,13 +108,8 @@ module _ (value : WorldValue) (whole : IsHeld value) (tasks : Tasks) (more : Lis
 
   -- Filesystems
 
-  takes : (n : ℕ) → mounts_showing world n ≡ mounts_showing mounted n + cond (nat_eq mount.filesystem n) 1 0
-  takes n = mount_takes_its_count world number n whole.in_world.mounts.one_number there
-      ∙ ap (λ (x : Mount ℕ). mounts_showing mounted n + cond (nat_eq n x.filesystem) 1 0) found_so
-      ∙ ap (λ b. mounts_showing mounted n + cond b 1 0) (nat_eq_turned n mount.filesystem)
-
   leaves_next : LeavesOverlays value next
-  leaves_next = leaves_alike world next refl (λ n. refl) value (leaves_at_first value whole)
+  leaves_next = leaves_alike world next refl (λ n. refl) (leaves_at_first value whole)
 
   merged_next : moved_all.overlays ≡ map (merged_in next) (filter is_overlay next.filesystems)
   merged_next = moved_overlays world more less (kept_of value) ∙ merged_at_first value whole
@@ -119,24 +122,12 @@ module _ (value : WorldValue) (whole : IsHeld value) (tasks : Tasks) (more : Lis
       let first = among-from_map shown_entry value.filesystems from.0 from.1 in
       (first.0, first.1, from.2 ∙ ap (exchanged_shown gained lost_first) first.2)
 
-  each : (one : Shown) → Among one moved_all.filesystems
-      → one.mounts ≡ mounts_showing next (counted one.count) + layer_count next (counted one.count)
-  each one m =
-      let from = moved_was one m in
-      ap (λ (x : Shown). x.mounts) from.2
-      ∙ (among_from_all (CountsItsMounts world) value.filesystems whole.filesystems from.0 from.1).mounts
-      ∙ ap (λ (x : Shown). mounts_showing next (counted x.count) + layer_count next (counted x.count)) (sym from.2)
-
-  some : (one : Shown) → Among one moved_all.filesystems → nat_eq one.mounts 0 ≡ false
-  some one m =
-      let from = moved_was one m in
-      ap (λ (x : Shown). nat_eq x.mounts 0) from.2 ∙ some_at_first value whole from.0 from.1
-
-  apart : (one : Shown) → Among one moved_all.filesystems → (overlay : Filesystem ℕ)
-      → Among overlay (overlays_seen value.overlays) → nat_eq (counted one.count) overlay.number ≡ false
-  apart one m overlay n =
-      let from = moved_was one m in
-      cc (from.2, overlay_apart value whole from.0 from.1 overlay n)
+  taking : Takes next number mount.filesystem
+  taking = record {
+    showing = λ n. mount_takes_its_count world number n whole.in_world.mounts.one_number there
+        ∙ ap (λ (x : Mount ℕ). mounts_showing mounted n + cond (nat_eq n x.filesystem) 1 0) found_so
+        ∙ ap (λ b. mounts_showing mounted n + cond b 1 0) (nat_eq_turned n mount.filesystem);
+  }
 
   numbers_next : map (λ (f : Filesystem ℕ). f.number) (filter is_plain_one next.filesystems)
       ≡ map (λ (one : Shown). counted one.count) moved_all.filesystems
@@ -151,29 +142,37 @@ module _ (value : WorldValue) (whole : IsHeld value) (tasks : Tasks) (more : Lis
         filesystems_moved world more less (kept_of value),
       )
 
+  keeping : IsKeptOf value next moved_all.overlays moved_all.filesystems
+  keeping = record {
+    merged = merged_next;
+    each = λ one m. let from = moved_was one m in ap (λ (x : Shown). x.mounts) from.2
+        ∙ (among_from_all (CountsItsMounts world) value.filesystems whole.filesystems from.0 from.1).mounts
+        ∙ ap (λ (x : Shown). mounts_showing next (counted x.count) + layer_count next (counted x.count)) (sym from.2);
+    some = λ one m. let from = moved_was one m in
+        ap (λ (x : Shown). nat_eq x.mounts 0) from.2 ∙ some_at_first value whole from.0 from.1;
+    apart = λ one m overlay n. let from = moved_was one m in
+        cc (from.2, overlay_apart whole from.0 from.1 overlay n);
+    numbers = numbers_next;
+  }
+
   abbrev remaining : World ℕ
   remaining = without_dead_filesystems nat_eq mounted
 
   living_now : in_use_of next ≡ remaining
   living_now = ap (without_dead_filesystems nat_eq) dead
 
-  shown_left : shown filesystems
-      ≡ left_shown value whole next leaves_next number mount.filesystem takes mount.root moved_all.overlays merged_next
-      moved_all.filesystems each some apart numbers_next
-  shown_left = ap (λ (k : Kept). k.filesystems) is_kept
-      ∙ shown_are value whole next leaves_next number mount.filesystem takes mount.root moved_all.overlays merged_next
-      moved_all.filesystems each some apart numbers_next
+  shown_left : shown filesystems ≡ left_shown whole leaves_next taking mount.root keeping
+  shown_left = ap (λ (k : Kept). k.filesystems) is_kept ∙ shown_are whole leaves_next taking mount.root keeping
 
   overlays_left : overlays ≡ map (merged_in remaining) (filter is_overlay remaining.filesystems)
   overlays_left = ap (λ (k : Kept). k.overlays) is_kept
       ∙ (λ i. meant.merged_left_by mount.filesystem (meant.merged_at mount.filesystem (merged_next i)) (merged_next i))
-      ∙ merged_then next number mount.filesystem takes (filter is_overlay next.filesystems)
-      (overlays_apart value whole next leaves_next)
-      (λ overlay m. (overlay_was value whole next leaves_next overlay m).1)
-      ∙ ap (map (merged_in mounted)) (sym (overlays_stay value whole next leaves_next number mount.filesystem takes))
+      ∙ merged_then taking (filter is_overlay next.filesystems) (overlays_apart whole leaves_next)
+      (λ overlay m. (overlay_was whole leaves_next overlay m).1)
+      ∙ ap (map (merged_in mounted)) (sym (overlays_stay whole leaves_next taking))
 
   leaves_left : LeavesOverlays value remaining
-  leaves_left = leaves_then value whole next leaves_next number mount.filesystem takes
+  leaves_left = leaves_then whole leaves_next taking
 
   -- an entry comes from one that was moved
   record Comes (entry : FilesystemEntry) : Type 0 where
@@ -187,8 +186,7 @@ module _ (value : WorldValue) (whole : IsHeld value) (tasks : Tasks) (more : Lis
 
   comes : (entry : FilesystemEntry) → Among entry filesystems → Comes entry
   comes entry m =
-      let from = left_counted value whole next leaves_next number mount.filesystem takes mount.root moved_all.overlays
-      merged_next moved_all.filesystems each some apart numbers_next (shown_entry entry)
+      let from = left_counted whole leaves_next taking mount.root keeping (shown_entry entry)
       (subst (λ all. Among (shown_entry entry) all) shown_left (among-map shown_entry filesystems entry m)) in
       let first = moved_was from.0 from.1 in
       let is : shown_entry entry ≡ later_shown lost_here (exchanged_shown gained lost_first (shown_entry first.0)) =
@@ -203,7 +201,7 @@ module _ (value : WorldValue) (whole : IsHeld value) (tasks : Tasks) (more : Lis
         some_there = positive (mounts_showing mounted (counted first.0.count)
             + mounted_layer_count mounted (counted first.0.count)) ∙ ap (λ n. not (nat_eq n 0))
             (ap (λ n. mounts_showing mounted (counted first.0.count) + n)
-            (sym (layers_stay value whole next leaves_next number mount.filesystem takes (counted first.0.count)))
+            (sym (layers_stay whole leaves_next taking (counted first.0.count)))
             ∙ ap (λ n. mounts_showing remaining (counted n) + layer_count remaining (counted n)) (sym count)
             ∙ sym from.3) ∙ ap not from.4;
       }
@@ -248,9 +246,8 @@ module _ (value : WorldValue) (whole : IsHeld value) (tasks : Tasks) (more : Lis
       let first = uses_moved value whole tasks more less moves k in
       let second = subst (λ (x : Mount ℕ). Exchanges [] ((x.filesystem, x.root) ∷ []) k next mounted) found_so
       (Roots.mounts_leave_their_roots next number stand located there unused_so k) in
-      let third = layers_exchanged value whole next leaves_next number mount.filesystem takes mount.root
-      moved_all.overlays merged_next moved_all.filesystems each some apart numbers_next k some_there
-      (λ overlay m. no_overlay overlay (overlay_was value whole next leaves_next overlay m).0) in
+      let third = layers_exchanged whole leaves_next taking mount.root keeping k some_there
+      (λ overlay m. no_overlay overlay (overlay_was whole leaves_next overlay m).0) in
       let later = exchanges_follow next mounted remaining [] ((mount.filesystem, mount.root) ∷ []) []
       (layers_gone mount.filesystem moved_all.overlays) k second third in
       let all = exchanges_follow world next remaining gained lost_first [] lost_here k first later in
@@ -260,8 +257,7 @@ module _ (value : WorldValue) (whole : IsHeld value) (tasks : Tasks) (more : Lis
   numbers_left : map (λ (f : Filesystem ℕ). f.number) (filter is_plain_one remaining.filesystems)
       ≡ map (λ (entry : FilesystemEntry). counted entry.count) filesystems
   numbers_left =
-      numbers_are value whole next leaves_next number mount.filesystem takes mount.root moved_all.overlays merged_next
-      moved_all.filesystems each some apart numbers_next
+      numbers_are whole leaves_next taking mount.root keeping
       ∙ sym (ap (map (λ (one : Shown). counted one.count)) shown_left)
       ∙ map_twice (λ (one : Shown). counted one.count) shown_entry filesystems
 
@@ -271,7 +267,7 @@ module _ (value : WorldValue) (whole : IsHeld value) (tasks : Tasks) (more : Lis
   -- the overlays are those of before that mounts show still
   seen_left : overlays_seen new.overlays
       ≡ filter (λ overlay. is_mounted nat_eq remaining overlay.number) (overlays_seen value.overlays)
-  seen_left = seen_kept value whole remaining leaves_left overlays overlays_left
+  seen_left = seen_kept whole leaves_left overlays_left
 
   gone_swept : IsSwept value next gained lost new
   gone_swept = record {
@@ -288,7 +284,7 @@ module _ (value : WorldValue) (whole : IsHeld value) (tasks : Tasks) (more : Lis
       count = from.count;
       there = gained_there value whole tasks more less moves from.was from.among;
       inodes = from.inodes;
-      exchanges = exchanges_are (counted from.was.count) from.some_there (overlay_apart value whole from.was from.among);
+      exchanges = exchanges_are (counted from.was.count) from.some_there (overlay_apart whole from.was from.among);
     };
     namespaces = refl;
     tasks = refl;
@@ -306,19 +302,19 @@ module _ (value : WorldValue) (whole : IsHeld value) (tasks : Tasks) (more : Lis
         record { uses = counts.uses; writers = counts.writers });
     mounts = λ entry m. (comes entry m).often
         ∙ (λ i. times (λ (x : Mount ℕ). nat_eq (counted entry.count) x.filesystem) (sym mounts_are i)
-        + sym (layers_of_fewer value new whole.overlays (λ overlay. is_mounted nat_eq remaining overlay.number)
-        seen_left remaining leaves_left.overlays (counted entry.count)) i);
-    overlays = all_from_among (IsMountedSoOften (world_of new)) new.overlays (λ entry m.
-        among_from_all (IsMountedSoOften remaining) new.overlays
-        (counted_kept value whole remaining leaves_left overlays overlays_left) entry m
+        + sym (layers_of_fewer new whole.overlays (λ overlay. is_mounted nat_eq remaining overlay.number) seen_left
+        remaining leaves_left.overlays (counted entry.count)) i);
+    overlays = all_from_among (IsMountedSoOften (world_of new)) new.overlays (λ entry m. among_from_all
+        (IsMountedSoOften remaining) new.overlays
+        (counted_kept whole leaves_left overlays_left) entry m
         ∙ (λ i. times (λ (x : Mount ℕ). nat_eq entry.number x.filesystem) (sym mounts_are i)));
     namespaces = all_from_among (CountsWhatIsInIt (world_of new)) value.namespaces (λ entry m.
         let was = among_from_all (CountsWhatIsInIt world) value.namespaces whole.namespaces entry m in
         record { tasks = was.tasks ∙ sym (inside (counted entry.count)) });
   }
 
-  pub gone_done : (name : TaskName) (permit : Permit ℕ) (task : Task ℕ) → IsApplied value name permit task next
+  pub gone_done : {name : TaskName} {permit : Permit ℕ} {task : Task ℕ} → IsApplied value name permit task next
       → ((namespace : ℕ) → times (λ task. nat_eq namespace task.namespace) tasks
       ≡ times (λ task. nat_eq namespace task.namespace) value.tasks) → IsDone value name permit new
-  gone_done name permit task is inside =
+  gone_done {name} {permit} {task} is inside =
       finished value whole name permit task next is gained lost new gone_swept (left_has value whole next refl (λ group. refl)) (gone_counted inside) refl

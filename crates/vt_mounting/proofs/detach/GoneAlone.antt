@@ -7,7 +7,7 @@ use Rattle.vt_mounting.proofs.detach.Grouped.{alike_has, members_alike, no_peer,
 use Rattle.vt_mounting.proofs.detach.Keeping.{detached_in}
 use Rattle.vt_mounting.proofs.detach.MountsGone.{pending_number}
 
-module _ (world : World ℕ) (groups : Grouping) (has : Has world groups) (live : AllGroupsLive world) (gone : List ℕ)
+module _ {world : World ℕ} {groups : Grouping} (has : Has world groups) (live : AllGroupsLive world) (gone : List ℕ)
     (free : (mount : Mount ℕ) → Among mount world.mounts → is_among nat_eq mount.number gone ≡ true
     → is_ungrouped mount.propagation ≡ true) where
   abbrev start : World ℕ
@@ -29,8 +29,8 @@ module _ (world : World ℕ) (groups : Grouping) (has : Has world groups) (live 
   same_peers = peers_stay world.mounts (λ mount m. m)
 
   pub alone_has : Has start groups
-  alone_has = alike_has world start groups has
-      (rising_mapped (detached_in gone) (pending_number gone) world.mounts has.order) same_peers (λ group. refl)
+  alone_has = alike_has start has (rising_mapped (detached_in gone) (pending_number gone) world.mounts has.order)
+      same_peers (λ group. refl)
 
   still_live : AllGroupsLive start
   still_live = all_from_among (HasLivingGroups nat_eq start) start.mounts (λ mount m.

@@ -1,7 +1,7 @@
 -- The peer groups of worlds: what leaves them as they are, and that there are none where no mount is in one.
 use Rattle.std.proofs.Common.{◌≡◌, refl, sym, ap, subst, ◌∙◌, ℕ, nat_eq, nat_lt, Bool, true, false, true≢false, cond, not, ◌&&◌, ◌||◌, List, [], ◌∷◌, map, filter, Option, None, option_map, is_some, arith}
 use Rattle.vt_spec.proofs.Common.{IsWorld, Mount, Private, Propagation, Shared, Slave, Unbindable, World, and_parts, common_steps, cons_option, detached, has_members, is_located, is_nowhere_or_attached, is_private, list_all, list_any, mount_lives, or_false_left, settled, source_of}
-use Rattle.vt_mounting.proofs.Common.{Among, Grouping, Has, IsHeld, WorldValue, among-from_map, among_from_list_all, is_ungrouped, master_in, mounts_in, numbers_of, peers_of, world_of}
+use Rattle.vt_mounting.proofs.Common.{Among, Grouping, Has, IsHeld, WorldValue, among-from_map, among_from_list_all, is_ungrouped, master_in, mounts_in, numbers_of, peers_of}
 use Rattle.vt_group.specs.Grouping.{are_rising}
 use Rattle.vt_group.specs.Steps.{is_member}
 use Rattle.vt_group.proofs.Peers.{members-peers}
@@ -15,11 +15,11 @@ members_alike one other same group =
     sym (members-peers group one) ∙ ap (list_any (is_member group)) same ∙ members-peers group other
 
 -- a world with the same shared mounts and slaves has the same groups
-pub alike_has : (world after : World ℕ) (groups : Grouping) → Has world groups
+pub alike_has : {world : World ℕ} (after : World ℕ) {groups : Grouping} → Has world groups
     → are_rising (numbers_of after.mounts) ≡ true
     → peers_of after.mounts ≡ peers_of world.mounts → ((group : ℕ) → after.master group ≡ world.master group)
     → Has after groups
-alike_has world after groups has rising peers master = record {
+alike_has {world} after has rising peers master = record {
   order = rising;
   peers = has.peers ∙ sym peers;
   masters_order = has.masters_order;
@@ -28,11 +28,10 @@ alike_has world after groups has rising peers master = record {
 }
 
 -- the same mounts, and the same masters
-pub same_has : (world after : World ℕ) (groups : Grouping) → Has world groups → after.mounts ≡ world.mounts
+pub same_has : {world : World ℕ} (after : World ℕ) {groups : Grouping} → Has world groups → after.mounts ≡ world.mounts
     → ((group : ℕ) → after.master group ≡ world.master group) → Has after groups
-same_has world after groups has mounts master =
-    alike_has world after groups has (ap (λ all. are_rising (numbers_of all)) mounts ∙ has.order)
-    (ap peers_of mounts) master
+same_has {world} after {groups} has mounts master =
+    alike_has after has (ap (λ all. are_rising (numbers_of all)) mounts ∙ has.order) (ap peers_of mounts) master
 
 -- Mounts that keep their numbers
 
@@ -127,9 +126,7 @@ stays_private mount outside false none = nowhere_is_private mount outside none
 pub left_has : (value : WorldValue) → IsHeld value → (next : World ℕ) → next.mounts ≡ mounts_in value.mounts
     → ((group : ℕ) → next.master group ≡ master_in value.groups group) → Has (settled nat_eq next) value.groups
 left_has value held next mounts master =
-    settled_has next value.groups (same_has (world_of value) next value.groups held.groups mounts master)
-    (λ mount m dead.
-    nowhere_is_free mount
+    settled_has next value.groups (same_has next held.groups mounts master) (λ mount m dead. nowhere_is_free mount
     (among_from_list_all is_nowhere_or_attached (mounts_in value.mounts) held.in_world.mounts.nowhere mount
     (subst (Among mount) mounts m))
     (or_false_left (is_some mount.namespace) (is_located nat_eq next mount.number) dead))
@@ -151,7 +148,7 @@ pub changed_has : (value : WorldValue) → IsHeld value → (next : World ℕ) (
     → ((mount : Mount ℕ) → (change mount).namespace ≡ mount.namespace)
     → ((mount : Mount ℕ) → (change mount).propagation ≡ mount.propagation) → Has (settled nat_eq next) value.groups
 changed_has value held next change mounts master number namespace kind = settled_has next value.groups
-    (alike_has (world_of value) next value.groups held.groups (ap (λ all. are_rising (numbers_of all)) mounts
+    (alike_has next held.groups (ap (λ all. are_rising (numbers_of all)) mounts
     ∙ rising_mapped change number (mounts_in value.mounts) held.groups.order)
     (ap peers_of mounts ∙ peers_mapped change number kind (mounts_in value.mounts)) master) (λ mount m dead.
     let from = among-from_map change (mounts_in value.mounts) mount (subst (Among mount) mounts m) in

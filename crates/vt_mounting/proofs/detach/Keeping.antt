@@ -93,11 +93,7 @@ found_none (first ∷ rest) number = grind (arith, common_steps, found_none rest
 
 -- a mount that is detached keeps its number
 pub same_number : (number : ℕ) (mount : Mount ℕ) → (detached_if number mount).number ≡ mount.number
-same_number number mount = by (nat_eq mount.number number)
-  where
-    by : (b : Bool) → (cond b (detached mount) mount).number ≡ mount.number
-    by true = refl
-    by false = refl
+same_number number mount = grind (arith, common_steps)
 
 no_point_still : (mounts : List (Mount ℕ)) (other number : ℕ) → (mount_in nat_eq mounts number).mount_point ≡ None
     → (mount_in nat_eq (map (detached_if other) mounts) number).mount_point ≡ None

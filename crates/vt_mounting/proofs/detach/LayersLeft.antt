@@ -25,9 +25,14 @@ nothing_less all =
     none : (n : ℕ) → n - 0 ≡ n
     none n = omega arith
 
-module _ (inode : Inode) (all : List Shown) (counts : ℕ → ℕ)
-    (each : (one : Shown) → Among one all → one.mounts ≡ counts (counted one.count))
-    (some : (one : Shown) → Among one all → nat_eq one.mounts 0 ≡ false) where
+-- Filesystems are shown with their counts, and none counts nothing.
+pub record AllCount (all : List Shown) (counts : ℕ → ℕ) : Type 0 where
+  pub each : (one : Shown) → Among one all → one.mounts ≡ counts (counted one.count)
+  pub some : (one : Shown) → Among one all → nat_eq one.mounts 0 ≡ false
+
+module _ (inode : Inode) {all : List Shown} {counts : ℕ → ℕ} (all_count : AllCount all counts) where
+  open all_count use {each, some}
+
   abbrev step : Shown → Shown
   step one = released_if inode.0 (record one { inodes = unpinned_if (counted one.count) one.inodes inode })
 
@@ -42,10 +47,7 @@ module _ (inode : Inode) (all : List Shown) (counts : ℕ → ℕ)
   step_is one m = grind (arith, common_steps)
 
   each_then : (one : Shown) → Among one stepped → one.mounts ≡ counts_then (counted one.count)
-  each_then one m =
-      let from = among-from_map step all one m in
-      let is = step_is from.0 from.1 in
-      cc (from.2, is.1, each from.0 from.1, is.0)
+  each_then one m = grind (arith, common_steps, among-from_map)
 
   -- what stays has something left
   stays_is : (one : Shown) → Among one stepped → stays_at inode.0 stepped (counted one.count) ≡ is_some_left one
@@ -55,7 +57,7 @@ module _ (inode : Inode) (all : List Shown) (counts : ℕ → ℕ)
           → stays_at inode.0 stepped (counted one.count) ≡ is_some_left one
       by true e = ap (λ b. not (nat_eq (mounts_shown inode.0 stepped) 0) || not b) e
           ∙ or-false (not (nat_eq (mounts_shown inode.0 stepped) 0)) ∙ ap (λ n. not (nat_eq n 0))
-          (shown_by_rule inode.0 counts_then stepped each_then one m (eqb-true inode.0 (counted one.count) e)
+          (shown_by_rule counts_then stepped each_then one m (eqb-true inode.0 (counted one.count) e)
           ∙ ap counts_then (eqb-true inode.0 (counted one.count) e) ∙ sym (each_then one m))
       by false e =
           let from = among-from_map step all one m in
@@ -107,23 +109,22 @@ module _ (inode : Inode) (all : List Shown) (counts : ℕ → ℕ)
           together n a k = omega arith
 
 -- They are all that are left with something.
-pub go_one_by_one : (lost : List Inode) (all : List Shown) (counts : ℕ → ℕ)
-    → ((one : Shown) → Among one all → one.mounts ≡ counts (counted one.count))
-    → ((one : Shown) → Among one all → nat_eq one.mounts 0 ≡ false)
+pub go_one_by_one : (lost : List Inode) {all : List Shown} {counts : ℕ → ℕ} → AllCount all counts
     → folded without_layer all lost ≡ filter is_some_left (map (later_shown lost) all)
-go_one_by_one [] all counts each some = sym (filter_all is_some_left all (λ one m. ap not (some one m)))
+go_one_by_one [] {all} all_count = sym (filter_all is_some_left all (λ one m. ap not (all_count.some one m)))
     ∙ ap (filter is_some_left) (sym (nothing_less all))
-go_one_by_one (inode ∷ rest) all counts each some =
-    let then = stepped inode all counts each some in
-    ap (λ left. folded without_layer left rest) (one_goes inode all counts each some)
-    ∙ go_one_by_one rest (filter is_some_left then) (counts_then inode all counts each some)
-    (λ one m. each_then inode all counts each some one (among-from_filter is_some_left then one m).0)
-    (λ one m. not-true (nat_eq one.mounts 0) (among-from_filter is_some_left then one m).1)
+go_one_by_one (inode ∷ rest) all_count =
+    let then = stepped inode all_count in
+    ap (λ left. folded without_layer left rest) (one_goes inode all_count)
+    ∙ go_one_by_one rest {counts = counts_then inode all_count} (record {
+      each = λ one m. each_then inode all_count one (among-from_filter is_some_left then one m).0;
+      some = λ one m. not-true (nat_eq one.mounts 0) (among-from_filter is_some_left then one m).1;
+    })
     ∙ filter-map is_some_left (later_shown rest) (filter is_some_left then) (λ one. refl)
     ∙ ap (map (later_shown rest)) (filter_less (λ one. is_some_left (later_shown rest one)) is_some_left then
     (λ one m none. gone one.mounts (times (λ (other : Inode). nat_eq (counted one.count) other.0) rest)
     (not-false (nat_eq one.mounts 0) none))) ∙ sym (filter-map is_some_left (later_shown rest) then (λ one. refl))
-    ∙ ap (filter is_some_left) (less_again inode all counts each some rest)
+    ∙ ap (filter is_some_left) (less_again inode all_count rest)
   where
     gone : (n k : ℕ) → nat_eq n 0 ≡ true → not (nat_eq (n - k) 0) ≡ false
     gone n k zero =

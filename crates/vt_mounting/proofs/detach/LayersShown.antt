@@ -1,6 +1,6 @@
 -- The layers of an overlay of the code's world are directories of the plain trees that are kept, which the world shows.
 use Rattle.std.proofs.Common.{◌≡◌, ◌≤◌, ◌<◌, refl, sym, ap, subst, ◌∙◌, ⊎_elim, ℕ, nat_eq, eqb-true, true, false, true≢false, not, ◌&&◌, List, [], ◌∷◌, length, map, Option, Some, None, unwrap_or, arith, All, nat_le, nat_lt, leb-true}
-use Rattle.vt_spec.proofs.Common.{Filesystem, IsTree, World, and-false, and_parts, filesystem_numbered, found_among, found_passes, has_fit_layers, is_directory_node, is_empty_list, is_overlay, is_plain_layer, layers_of, length-map, list_all, most_lowers, not-true, of_overlay}
+use Rattle.vt_spec.proofs.Common.{Filesystem, IsTree, World, and-false, and_parts, common_steps, filesystem_numbered, found_among, found_passes, has_fit_layers, is_directory_node, is_empty_list, is_overlay, is_plain_layer, layers_of, length-map, list_all, most_lowers, not-true, of_overlay}
 use Rattle.vt_mounting.proofs.Common.{Among, AreLayers, FilesystemEntry, HasOwnInodes, IsHeld, OverlayEntry, ShowsLayer, WorldValue, all_from_among, among-map, among_from_all, among_from_list_all, counted, entry_at, entry_of, filesystem_seen, inode_of, inodes_at, inodes_seen, layer_seen, no_entry, numbered_all, overlay_seen, world_of}
 use Rattle.vt_laws_trees.proofs.trees.Lists.{nth_among}
 use Rattle.vt_location.specs.Numbers.{is_inode_of}
@@ -29,7 +29,7 @@ some_there [] e = absurd (true≢false (sym e))
 some_there (layer ∷ list) e = omega arith
 
 -- layers that are directories of plain trees of the world
-module _ (value : WorldValue) (held : IsHeld value) (lowers : List LayerRef)
+module _ {value : WorldValue} (held : IsHeld value) (lowers : List LayerRef)
     (all_plain : list_all (is_plain_layer nat_eq (world_of value)) (map layer_seen lowers) ≡ true) where
   module _ (layer : LayerRef) (n : Among layer lowers) where
     abbrev count : ℕ
@@ -38,10 +38,7 @@ module _ (value : WorldValue) (held : IsHeld value) (lowers : List LayerRef)
     parts : (not (is_overlay (filesystem_numbered nat_eq (world_of value) (counted count))) ≡ true)
         × (is_directory_node ((filesystem_numbered nat_eq (world_of value) (counted count)).files.tree.node
         (inode_of layer.directory)) ≡ true)
-    parts = and_parts (not (is_overlay (filesystem_numbered nat_eq (world_of value) (counted count)))) _
-        (among_from_list_all (is_plain_layer nat_eq (world_of value)) (map layer_seen lowers) all_plain
-        (layer_seen layer)
-        (among-map layer_seen lowers layer n))
+    parts = grind (arith, common_steps, and_parts, among_from_list_all, among-map)
 
     is_kept : filesystem_numbered nat_eq (world_of value) (counted count)
         ≡ filesystem_seen (entry_at value.filesystems count)
@@ -76,7 +73,7 @@ module _ (value : WorldValue) (held : IsHeld value) (lowers : List LayerRef)
   )
 
 -- an overlay of the value, whose layers are these
-module _ (value : WorldValue) (held : IsHeld value) (entry : OverlayEntry) (m : Among entry value.overlays)
+module _ {value : WorldValue} (held : IsHeld value) (entry : OverlayEntry) (m : Among entry value.overlays)
     (lowers : List LayerRef) (same : entry.lowers ≡ map layer_seen lowers) where
   abbrev world : World ℕ
   world = world_of value
@@ -92,7 +89,7 @@ module _ (value : WorldValue) (held : IsHeld value) (entry : OverlayEntry) (m : 
 
   -- they are layers, which the world shows
   pub layers_shown_well : AreLayers value.filesystems lowers × All (ShowsLayer (world_of value) value.filesystems) lowers
-  layers_shown_well = plain_layers_shown value held lowers all_plain
+  layers_shown_well = plain_layers_shown held lowers all_plain
 
   fits : (not (is_empty_list entry.lowers) ≡ true) × (nat_le (length entry.lowers) most_lowers ≡ true)
   fits = and_parts (not (is_empty_list entry.lowers)) (nat_le (length entry.lowers) most_lowers)

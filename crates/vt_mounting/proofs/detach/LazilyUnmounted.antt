@@ -58,15 +58,21 @@ abbrev pub IsApart : World ℕ → Mount ℕ → Type 0
 IsApart world mount =
     (place : Location ℕ) → mount.mount_point ≡ Some place → is_shared (mount_at nat_eq world place).propagation ≡ false
 
-module _ (world : World ℕ) (live : AllGroupsLive world)
-    (one : any_pair (λ (a b : Mount ℕ). nat_eq a.number b.number) world.mounts ≡ false)
-    (tree : List ℕ) (closed : HasChildrenOf tree world.mounts)
-    (attached : (mount : Mount ℕ) → Among mount world.mounts → is_among nat_eq mount.number tree ≡ true
-    → is_some mount.namespace ≡ true)
-    (free : (mount : Mount ℕ) → Among mount world.mounts → is_among nat_eq mount.number tree ≡ true
-    → is_ungrouped mount.propagation ≡ true)
-    (apart : (mount : Mount ℕ) → Among mount world.mounts → is_among nat_eq mount.number tree ≡ true
-    → IsApart world mount) where
+-- The mounts of a tree can be detached one by one: none is in a group, and none stands on a shared mount.
+pub record CanDetach (world : World ℕ) (tree : List ℕ) : Type 0 where
+  pub live : AllGroupsLive world
+  pub one : any_pair (λ (a b : Mount ℕ). nat_eq a.number b.number) world.mounts ≡ false
+  pub closed : HasChildrenOf tree world.mounts
+  pub attached : (mount : Mount ℕ) → Among mount world.mounts → is_among nat_eq mount.number tree ≡ true
+      → is_some mount.namespace ≡ true
+  pub free : (mount : Mount ℕ) → Among mount world.mounts → is_among nat_eq mount.number tree ≡ true
+      → is_ungrouped mount.propagation ≡ true
+  pub apart : (mount : Mount ℕ) → Among mount world.mounts → is_among nat_eq mount.number tree ≡ true
+      → IsApart world mount
+
+module _ {world : World ℕ} {tree : List ℕ} (can : CanDetach world tree) where
+  open can use {live, one, closed, attached, free, apart}
+
   -- these are detached, and others of the tree may have other mount points
   record IsUnderway (done : List ℕ) (now : World ℕ) : Type 0 where
     change : Mount ℕ → Mount ℕ
@@ -133,7 +139,7 @@ module _ (world : World ℕ) (live : AllGroupsLive world)
           (λ i one. members_alike world.mounts after.mounts (sym (peers world.mounts (λ x n. n))) one i)
           (among_from_all (HasLivingGroups nat_eq world) world.mounts live mount m group is))
 
-  module _ (done : List ℕ) (now : World ℕ) (so : IsUnderway done now) where
+  module _ {done : List ℕ} {now : World ℕ} (so : IsUnderway done now) where
     -- a mount of that number now
     found_now : (n : ℕ) → mount_numbered nat_eq now n
         ≡ unwrap_or (option_map so.change (find (λ (x : Mount ℕ). nat_eq n x.number) world.mounts)) (no_mount n)
@@ -158,13 +164,13 @@ module _ (world : World ℕ) (live : AllGroupsLive world)
         by (Some mount) e h = kept mount (found_in (λ (x : Mount ℕ). nat_eq n x.number) world.mounts mount e).0 h
             (is_among nat_eq mount.number tree) refl
 
-  module _ (done : List ℕ) (now : World ℕ) (so : IsUnderway done now) (number : ℕ)
+  module _ {done : List ℕ} {now : World ℕ} (so : IsUnderway done now) (number : ℕ)
       (in_tree : is_among nat_eq number tree ≡ true) where
     -- it stands on no shared mount
-    stands_apart : (place : Location ℕ) → (mount_numbered nat_eq now number).mount_point ≡ Some place
+    stands_apart : {place : Location ℕ} → (mount_numbered nat_eq now number).mount_point ≡ Some place
         → is_shared (mount_at nat_eq world place).propagation ≡ false
-    stands_apart place p = by (find (λ (x : Mount ℕ). nat_eq number x.number) world.mounts) refl
-        (ap (λ (x : Mount ℕ). x.mount_point) (sym (found_now done now so number)) ∙ p)
+    stands_apart {place} p = by (find (λ (x : Mount ℕ). nat_eq number x.number) world.mounts) refl
+        (ap (λ (x : Mount ℕ). x.mount_point) (sym (found_now so number)) ∙ p)
       where
         by : (o : Option (Mount ℕ)) → find (λ (x : Mount ℕ). nat_eq number x.number) world.mounts ≡ o
             → (unwrap_or (option_map so.change o) (no_mount number)).mount_point ≡ Some place
@@ -181,12 +187,12 @@ module _ (world : World ℕ) (live : AllGroupsLive world)
         by : (o : Option (Location ℕ)) → (mount_numbered nat_eq now number).mount_point ≡ o
             → holds_of (λ (place : Location ℕ). is_shared (mount_at nat_eq now place).propagation) o ≡ false
         by None e = refl
-        by (Some place) e = unshared_now done now so place.mount (stands_apart place e)
+        by (Some place) e = unshared_now so place.mount (stands_apart e)
 
     -- the mount of that number now
     now_is : (mount : Mount ℕ) → Among mount world.mounts → mount.number ≡ number
         → mount_numbered nat_eq now number ≡ so.change mount
-    now_is mount m numbered = found_now done now so number
+    now_is mount m numbered = found_now so number
         ∙ ap (λ o. unwrap_or (option_map so.change o) (no_mount number)) (found mount m numbered)
       where
         found : (mount : Mount ℕ) → Among mount world.mounts → mount.number ≡ number
@@ -205,21 +211,11 @@ module _ (world : World ℕ) (live : AllGroupsLive world)
 
     split : (mount : Mount ℕ) → is_among nat_eq mount.number (number ∷ done) ≡ true
         → (mount.number ≡ number) ⊎ (is_among nat_eq mount.number done ≡ true)
-    split mount e = by (nat_eq mount.number number) refl e
-      where
-        by : (b : Bool) → nat_eq mount.number number ≡ b → (b || is_among nat_eq mount.number done) ≡ true
-            → (mount.number ≡ number) ⊎ (is_among nat_eq mount.number done ≡ true)
-        by true f h = inl (eqb-true mount.number number f)
-        by false f h = inr h
+    split mount e = grind (arith, common_steps, eqb-true)
 
     other_yet : (mount : Mount ℕ) → is_among nat_eq mount.number (number ∷ done) ≡ false
         → (nat_eq mount.number number ≡ false) × (is_among nat_eq mount.number done ≡ false)
-    other_yet mount e = by (nat_eq mount.number number) refl e
-      where
-        by : (b : Bool) → nat_eq mount.number number ≡ b → (b || is_among nat_eq mount.number done) ≡ false
-            → (nat_eq mount.number number ≡ false) × (is_among nat_eq mount.number done ≡ false)
-        by true f h = absurd (true≢false h)
-        by false f h = (f, h)
+    other_yet mount e = grind (arith, common_steps)
 
     -- an event that is skipped
     skipped : is_some (mount_numbered nat_eq now number).namespace ≡ false → IsUnderway (number ∷ done) now
@@ -265,15 +261,9 @@ module _ (world : World ℕ) (live : AllGroupsLive world)
       mount_point = (ap (option_map (mount_point_left nat_eq now (number ∷ []))) none ∙ sym none) i;
     })
 
-    placed_stays : (x : Mount ℕ) (place : Location ℕ) → nat_eq x.number number ≡ false → x.mount_point ≡ Some place
+    placed_stays : (x : Mount ℕ) {place : Location ℕ} → nat_eq x.number number ≡ false → x.mount_point ≡ Some place
         → nat_eq place.mount number ≡ false → after_going nat_eq now (number ∷ []) x ≡ x
-    placed_stays x place other p apart_from =
-        let stays = Taken.stays_there now (number ∷ []) now.namespaces x (stays_so x other) in
-        stays ∙ (λ i. record x {
-          mount_point = (ap (λ (y : Mount ℕ). y.mount_point) (sym stays)
-              ∙ Taken.same_place now (number ∷ []) now.namespaces false x place p (stays_so x other)
-              (ap (λ b. b || false) apart_from) ∙ sym p) i;
-        })
+    placed_stays x {place} other p apart_from = grind (arith, common_steps)
 
     -- one outside the tree stands on none of it
     outside_stays : (mount : Mount ℕ) → Among mount world.mounts → is_among nat_eq mount.number tree ≡ false
@@ -290,7 +280,7 @@ module _ (world : World ℕ) (live : AllGroupsLive world)
 
         by : (o : Option (Location ℕ)) → mount.mount_point ≡ o → after_going nat_eq now (number ∷ []) mount ≡ mount
         by None p = unplaced_stays mount (other mount.number out) p
-        by (Some place) p = placed_stays mount place (other mount.number out) p
+        by (Some place) p = placed_stays mount (other mount.number out) p
             (other place.mount (under (is_among nat_eq place.mount tree) refl))
           where
             under : (b : Bool) → is_among nat_eq place.mount tree ≡ b → b ≡ false
@@ -328,7 +318,7 @@ module _ (world : World ℕ) (live : AllGroupsLive world)
             → cond (b || false) (mount_at nat_eq now at).mount_point None ≡ Some under
             → is_shared (mount_at nat_eq world under).propagation ≡ false
         stands at false e under p = none_is_some under p
-        stands at true e under p = stands_apart under
+        stands at true e under p = stands_apart
             (ap (λ n. (mount_numbered nat_eq now n).mount_point) (sym (eqb-true at.mount number e)) ∙ p)
 
         last : (steps : ℕ) (default at : Location ℕ) → is_shared (mount_at nat_eq world default).propagation ≡ false
@@ -393,12 +383,11 @@ module _ (world : World ℕ) (live : AllGroupsLive world)
 
   all_events : (events : List (Mount ℕ))
       → ((mount : Mount ℕ) → Among mount events → is_among nat_eq mount.number tree ≡ true)
-      → (done : List ℕ) (now : World ℕ) → IsUnderway done now
+      → {done : List ℕ} {now : World ℕ} → IsUnderway done now
       → IsUnderway (taken_by events done) (folded (unmounted_if_there nat_eq) now events)
-  all_events [] within done now so = so
-  all_events (mount ∷ events) within done now so =
-      all_events events (λ x m. within x (inr m)) (mount.number ∷ done) (unmounted_if_there nat_eq now mount)
-      (next_event done now so mount.number (within mount (inl refl)) mount refl)
+  all_events [] within so = so
+  all_events (mount ∷ events) within {done} {now} so =
+      all_events events (λ x m. within x (inr m)) (next_event so mount.number (within mount (inl refl)) mount refl)
 
   stays_taken : (events : List (Mount ℕ)) (done : List ℕ) (number : ℕ) → Among number done
       → Among number (taken_by events done)
@@ -419,7 +408,7 @@ module _ (world : World ℕ) (live : AllGroupsLive world)
       → (mount : Mount ℕ) × Among mount events × (mount.number ≡ number))
       → folded (unmounted_if_there nat_eq) world events ≡ detached_world tree world
   events_detach events within each =
-      let so = all_events events within [] world begun in
+      let so = all_events events within begun in
       so.is ∙ ap (with_mounts world) (map_alike so.change (detached_in tree) world.mounts
       (λ mount m. by so mount m (is_among nat_eq mount.number tree) refl))
     where
@@ -464,7 +453,7 @@ tree_parent (suc depth) mounts top x m = ⊎_elim inl (λ later.
       above.2,
     )) (tree_parent depth mounts under.0 x under.2))) m
 
-module _ (world : World ℕ) (kept : MountInvariants nat_eq world) (number : ℕ)
+module _ {world : World ℕ} (kept : MountInvariants nat_eq world) (number : ℕ)
     (there : is_some (mount_numbered nat_eq world number).namespace ≡ true) where
   abbrev top : Mount ℕ
   top = mount_numbered nat_eq world number
@@ -535,8 +524,14 @@ module _ (world : World ℕ) (kept : MountInvariants nat_eq world) (number : ℕ
   pub lazily_is_detached : list_all (λ n. is_ungrouped (mount_in nat_eq world.mounts n).propagation) numbers ≡ true
       → IsApart world top → lazily_unmounted nat_eq world number ≡ detached_world numbers world
   lazily_is_detached ungrouped apart =
-      events_detach world kept.groups kept.one_number numbers tree_has_children tree_attached
-      (tree_is_free ungrouped) each_apart (deepest_first nat_eq world tree) (λ mount m. ⊎_elim (λ none. absurd none)
+      events_detach (record {
+        live = kept.groups;
+        one = kept.one_number;
+        closed = tree_has_children;
+        attached = tree_attached;
+        free = tree_is_free ungrouped;
+        apart = each_apart;
+      }) (deepest_first nat_eq world tree) (λ mount m. ⊎_elim (λ none. absurd none)
       (λ n. is_among_numbers mount.number numbers (among-map (λ (x : Mount ℕ). x.number) tree mount n))
       (among_sorted world mount tree [] m))
       (λ n within. let from = among-from_map (λ (x : Mount ℕ). x.number) tree n (among_numbers n numbers within) in

@@ -1,9 +1,8 @@
 -- Events of tasks after which one location is left.
-use Rattle.std.proofs.Common.{◌≡◌, ◌≢◌, refl, sym, ap, subst, ◌∙◌, inl, ℕ, nat_eq, eqb-true, Bool, true, false, true≢false, cond, not, ◌&&◌, ◌||◌, List, [], ◌∷◌, ◌++◌, map, find, Option, Some, None, option_map, is_some, unwrap_or, arith, nat_lt, lt-ltb}
-use Rattle.vt_spec.proofs.Common.{Mount, Permit, Task, TaskName, World, all_locations, common_steps, eqb-false, is_among, mount_numbered, no_mount, without_dead_mounts}
+use Rattle.std.proofs.Common.{◌≡◌, ◌≢◌, refl, sym, ap, subst, ◌∙◌, ℕ, nat_eq, eqb-true, Bool, true, false, true≢false, cond, not, ◌&&◌, ◌||◌, List, [], ◌∷◌, map, find, Option, Some, None, option_map, is_some, unwrap_or, arith, nat_lt, lt-ltb}
+use Rattle.vt_spec.proofs.Common.{Mount, Permit, Task, TaskName, World, common_steps, eqb-false, is_among, mount_numbered, no_mount, without_dead_mounts}
 use Rattle.vt_laws_mounts.proofs.counts.going.Gone.{mount_goes_at_zero}
-use Rattle.vt_laws_mounts.proofs.counts.using.MountRoots as Roots
-use Rattle.vt_mounting.proofs.Common.{Among, CountsItsUses, Filesystems, IsHeld, MountEntry, Tasks, WorldValue, all_in_use, among-append_right, among-from_map, among_from_list_all, entry_numbered, mount_uses, mounts_go_one_by_one, mounts_of_worlds_stand, times, without_mount, world_of}
+use Rattle.vt_mounting.proofs.Common.{Among, CountsItsUses, Filesystems, IsHeld, MountEntry, Tasks, WorldValue, all_in_use, among-from_map, among_from_list_all, entry_numbered, mount_uses, mounts_go_one_by_one, mounts_of_worlds_stand, times, without_mount, world_of}
 pub use Rattle.vt_laws_mounts.proofs.letting_go.Lists.{found_in}
 use Rattle.vt_laws_mounts.proofs.letting_go.leaving.PlacesLeft.{mounts_but}
 use Rattle.vt_mounting.specs.Detach.Uses as meant
@@ -21,15 +20,23 @@ pub none_among : (number : ℕ) (mounts : List (Mount ℕ)) → find (λ x. nat_
 none_among number [] e = refl
 none_among number (x ∷ xs) e = grind (arith, common_steps, none_among number xs)
 
-module _ (value : WorldValue) (whole : IsHeld value) (tasks : Tasks) (more : List Use) (left_use : Use)
-    (moves : Moves value tasks more (left_use ∷ []))
-    (mounts : List MountEntry) (filesystems : Filesystems) (overlays : List Merged)
-    (is_kept : kept_with mounts filesystems overlays ≡ meant.let_go_mount left_use.location.mount
-    (moved_kept (world_of value) more (left_use ∷ []) (kept_of value)))
-    (name : TaskName) (permit : Permit ℕ) (task : Task ℕ)
-    (is : IsApplied value name permit task (world_of (after value tasks)))
-    (inside : (namespace : ℕ) → times (λ task. nat_eq namespace task.namespace) tasks
-    ≡ times (λ task. nat_eq namespace task.namespace) value.tasks) where
+-- A use is left, with its mount if nothing is on it then, and each namespace has as many tasks as before.
+pub record LeavesUse (value : WorldValue) (tasks : Tasks) (more : List Use) (left_use : Use)
+    (mounts : List MountEntry) (filesystems : Filesystems) (overlays : List Merged) (name : TaskName)
+    (permit : Permit ℕ) (task : Task ℕ) : Type 0 where
+  pub whole : IsHeld value
+  pub moves : Moves value tasks more (left_use ∷ [])
+  pub is_kept : kept_with mounts filesystems overlays ≡ meant.let_go_mount left_use.location.mount
+      (moved_kept (world_of value) more (left_use ∷ []) (kept_of value))
+  pub is : IsApplied value name permit task (world_of (after value tasks))
+  pub inside : (namespace : ℕ) → times (λ task. nat_eq namespace task.namespace) tasks
+      ≡ times (λ task. nat_eq namespace task.namespace) value.tasks
+
+module _ {value : WorldValue} {tasks : Tasks} {more : List Use} {left_use : Use} {mounts : List MountEntry}
+    {filesystems : Filesystems} {overlays : List Merged} {name : TaskName} {permit : Permit ℕ} {task : Task ℕ}
+    (leaves : LeavesUse value tasks more left_use mounts filesystems overlays name permit task) where
+  open leaves use {whole, moves, is_kept, is, inside}
+
   abbrev world : World ℕ
   world = world_of value
 
@@ -44,12 +51,7 @@ module _ (value : WorldValue) (whole : IsHeld value) (tasks : Tasks) (more : Lis
 
   -- the mount is one of the world
   mount_listed : is_among nat_eq number (map (λ x. x.number) world.mounts) ≡ true
-  mount_listed =
-      among_from_list_all (λ location. is_among nat_eq location.mount (map (λ x. x.number) world.mounts))
-      (all_locations world)
-      (Roots.locations_of_worlds_stand world whole.in_world) left_use.location
-      (subst (λ all. Among left_use.location all) (sym moves.was)
-      (among-append_right moves.front ((left_use.location ∷ []) ++ moves.back) left_use.location (inl refl)))
+  mount_listed = grind (arith, common_steps, among_from_list_all)
 
   -- the sweep looks at that mount alone
   looked : without_dead_mounts nat_eq next
@@ -118,7 +120,13 @@ module _ (value : WorldValue) (whole : IsHeld value) (tasks : Tasks) (more : Lis
           chosen true f c g = stays (looked_so true (nat_lt 0 entry.uses) f refl) (kept_so true c f g)
           chosen false f false g = stays (looked_so false true f (some_uses g)) (kept_so false false f g)
           chosen false f true g =
-              gone_done value whole tasks more left_use moves mounts filesystems overlays entry.mount mount_is mount_listed f
-              (sym uses_are ∙ eqb-true entry.uses 0 g)
-              (looked_so false false f (ap (nat_lt 0) (eqb-true entry.uses 0 g)))
-              (kept_so false true f g) name permit task is inside
+              gone_done (record {
+                whole = whole;
+                moves = moves;
+                found_so = mount_is;
+                there = mount_listed;
+                nowhere = f;
+                unused = sym uses_are ∙ eqb-true entry.uses 0 g;
+                dead = looked_so false false f (ap (nat_lt 0) (eqb-true entry.uses 0 g));
+                is_kept = kept_so false true f g;
+              }) is inside

@@ -1,14 +1,14 @@
 -- A task has left a namespace: what code has then is what the sweep leaves, once mounts get the types that groups tell.
-use Rattle.std.proofs.Common.{◌≡◌, refl, sym, ap, subst, ◌∙◌, ℕ, nat_eq, eq-eqb, Bool, true, false, true≢false, ◌&&◌, List, [], map, Option, Some, None, is_some, arith}
-use Rattle.vt_spec.proofs.Common.{Location, Mount, MountInvariants, Namespace, World, common_steps, holds_of, mount_at, regrouped}
+use Rattle.std.proofs.Common.{◌≡◌, refl, sym, ap, subst, ◌∙◌, ℕ, nat_eq, eq-eqb, Bool, true, false, ◌&&◌, List, [], map, is_some, arith}
+use Rattle.vt_spec.proofs.Common.{Mount, Namespace, World, common_steps, holds_of, regrouped}
 use Rattle.vt_mounting.proofs.Common.{Among, AreTyped, Grouping, Has, Inode, IsHeld, MountEntry, NamespaceEntry, TakesAway, Tasks, WorldValue, among_from_all, counted, map_same, none_among, typed_by, typed_entry}
 use Rattle.vt_group.proofs.Others.{has_ordered}
 use Rattle.vt_mounting.specs.Detach.NamespacesLeft.{MountsAreLeft, NamespaceIsLeft, is_attached_in, namespace_entry, numbers_inside}
 use Rattle.vt_mounting.specs.Detach.Uses.{Kept}
 use Rattle.vt_mounting.proofs.detach.Midway.{Reached}
 use Rattle.vt_mounting.proofs.detach.MidwayDone.{detaches_all}
-use Rattle.vt_mounting.proofs.detach.NamespacesEnded.{CountsOneMore, ends, ends_by}
-use Rattle.vt_mounting.proofs.detach.NamespacesTyped.{gone_numbers, left_has_groups, left_has_same, left_world}
+use Rattle.vt_mounting.proofs.detach.NamespacesEnded.{AllCountOneMore, ends, ends_by}
+use Rattle.vt_mounting.proofs.detach.NamespacesTyped.{CanGo, gone_numbers, left_has_groups, left_has_same, left_world}
 pub use Rattle.std.proofs.Math.Bool.{and-false}
 
 -- the mounts of a namespace go, if it ends
@@ -17,12 +17,7 @@ goes_with ends namespace mount = ends && holds_of (nat_eq namespace) mount.names
 
 goes_with_attached : (ends : Bool) (namespace : ℕ) (mount : Mount ℕ) → goes_with ends namespace mount ≡ true
     → is_some mount.namespace ≡ true
-goes_with_attached ends namespace mount e = by ends mount.namespace e
-  where
-    by : (b : Bool) (o : Option ℕ) → (b && holds_of (nat_eq namespace) o) ≡ true → is_some o ≡ true
-    by true (Some n) f = refl
-    by true None f = absurd (true≢false (sym f))
-    by false o f = absurd (true≢false (sym f))
+goes_with_attached ends namespace mount e = grind (arith, common_steps)
 
 -- mounts that have the types that groups tell keep them
 all_typed : (groups : Grouping) (entries : List MountEntry) → AreTyped groups entries
@@ -41,26 +36,29 @@ pub record IsLeft (value : WorldValue) (start : World ℕ) (gained : List Inode)
   pub typed : new.mounts ≡ map (typed_entry groups) entries
   pub has : Has (regrouped nat_eq start) groups
 
-module _ (value : WorldValue) (whole : IsHeld value) (world : World ℕ) (invariants : MountInvariants nat_eq world)
-    (tasks : Tasks) (count : ℕ) (entries : List NamespaceEntry)
-    (counts : (entry : NamespaceEntry) → Among entry entries → CountsOneMore count tasks entry)
-    (namespaces : List (Namespace ℕ)) (stays : (mount : Mount ℕ) → Among mount world.mounts
-    → goes_with (ends count tasks entries counts) (counted count) mount ≡ false
-    → (place : Location ℕ) → mount.mount_point ≡ Some place
-    → goes_with (ends count tasks entries counts) (counted count) (mount_at nat_eq world place) ≡ false) where
+module _ {value : WorldValue} (whole : IsHeld value) {world : World ℕ} {count : ℕ} {tasks : Tasks}
+    {entries : List NamespaceEntry} (all : AllCountOneMore count tasks entries)
+    (can_go : CanGo world (goes_with (ends all) (counted count))) (namespaces : List (Namespace ℕ)) where
   abbrev ends_now : Bool
-  ends_now = ends count tasks entries counts
+  ends_now = ends all
 
   abbrev pub going : Mount ℕ → Bool
-  going mount = goes_with (ends count tasks entries counts) (counted count) mount
+  going mount = goes_with (ends all) (counted count) mount
 
   abbrev start : World ℕ
-  start = left_world world invariants tasks going namespaces stays
+  start = left_world can_go tasks namespaces
 
-  module _ (before : Grouping) (has : Has world before) (gained : List Inode) (old new : Kept)
-      (reached : Reached value start gained going [] old) (typed : AreTyped before old.mounts)
-      (inside : ends_now ≡ true → numbers_inside (counted count) old.mounts
-      ≡ gone_numbers world invariants tasks going namespaces stays) (groups : Grouping) where
+  -- before it is left: its groups, what is kept, and the mounts that are to go
+  pub record IsBefore (before : Grouping) (gained : List Inode) (old : Kept) : Type 0 where
+    pub has : Has world before
+    pub reached : Reached value start gained going [] old
+    pub typed : AreTyped before old.mounts
+    pub inside : ends_now ≡ true → numbers_inside (counted count) old.mounts ≡ gone_numbers can_go tasks namespaces
+
+  module _ {before : Grouping} {gained : List Inode} {old : Kept} (is : IsBefore before gained old) (new : Kept)
+      (groups : Grouping) where
+    open is use {has, reached, typed, inside}
+
     -- no namespace ends
     stay : ends_now ≡ false → (new ≡ old) × (groups ≡ before) → IsLeft value start gained going new groups
     stay none same = record {
@@ -71,7 +69,7 @@ module _ (value : WorldValue) (whole : IsHeld value) (world : World ℕ) (invari
           (subst (λ one. map (typed_entry one) old.mounts ≡ old.mounts) (sym same.1)
           (all_typed before old.mounts typed)));
       has = subst (Has (regrouped nat_eq start)) (sym same.1)
-          (left_has_same world invariants tasks going namespaces stays goes_not before has);
+          (left_has_same can_go tasks namespaces goes_not has);
     }
       where
         goes_not : (mount : Mount ℕ) → going mount ≡ false
@@ -82,15 +80,15 @@ module _ (value : WorldValue) (whole : IsHeld value) (world : World ℕ) (invari
         → IsLeft value start gained going new groups
     leave last gone = record {
       entries = gone.entries;
-      reached = detaches_all value whole start gained going (goes_with_attached ends_now (counted count))
+      reached = detaches_all (record { whole = whole; attached = goes_with_attached ends_now (counted count) })
           (counted count) (λ mount its. (λ i. last i && holds_of (nat_eq (counted count)) (its i))
           ∙ eq-eqb (counted count) (counted count) refl)
-          gone.ends.gone [] old (record new { mounts = gone.entries }) gone.ends.detached reached;
+          gone.ends.gone (record new { mounts = gone.entries }) gone.ends.detached reached;
       all_gone = λ entry m.
           ap (λ b. ends_now && b) (none_among (is_attached_in (counted count)) gone.entries gone.ends.none_left entry m)
           ∙ and-false ends_now;
       typed = gone.types (has_ordered world before has) typed;
-      has = left_has_groups world invariants tasks going namespaces stays before groups has
+      has = left_has_groups can_go tasks namespaces groups has
           (subst (TakesAway before groups) (inside last) gone.groups);
     }
 

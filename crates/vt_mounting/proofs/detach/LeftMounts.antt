@@ -1,6 +1,6 @@
 -- A mount that leaves its namespace, and goes at once if nothing uses it.
-use Rattle.std.proofs.Common.{◌≡◌, refl, sym, ap, ◌∙◌, ℕ, nat_eq, Bool, true, false, true≢false, cond, List, [], ◌∷◌, IfSome, Option, Some, None, option_map, is_some, not}
-use Rattle.vt_spec.proofs.Common.{holds_of}
+use Rattle.std.proofs.Common.{◌≡◌, refl, sym, ap, ◌∙◌, ℕ, nat_eq, Bool, true≢false, cond, List, [], ◌∷◌, IfSome, Option, Some, None, option_map, is_some, arith}
+use Rattle.vt_spec.proofs.Common.{common_steps, holds_of}
 use Rattle.vt_location.specs.declared.locations.Location.{Location}
 use Rattle.vt_location.specs.declared.locations.NodeRef.{NodeRef}
 use Rattle.vt_mounting.proofs.Common.{MountEntry, StoreValue, changed, counted, entry_numbered, number_of, without}
@@ -11,32 +11,12 @@ found_detached : (number : ℕ) (all : List MountEntry)
     → entry_numbered (changed number detached_entry all) number
     ≡ option_map detached_entry (entry_numbered all number)
 found_detached number [] = refl
-found_detached number (entry ∷ rest) = by (nat_eq number entry.mount.number) refl (found_detached number rest)
-  where
-    by : (b : Bool) → nat_eq number entry.mount.number ≡ b
-        → entry_numbered (changed number detached_entry rest) number
-        ≡ option_map detached_entry (entry_numbered rest number)
-        → entry_numbered (cond b (detached_entry entry) entry ∷ changed number detached_entry rest) number
-        ≡ option_map detached_entry (cond b (Some entry) (entry_numbered rest number))
-    by true is later = ap (λ b. cond b (Some (detached_entry entry))
-        (entry_numbered (changed number detached_entry rest) number)) is
-    by false is later = ap (λ b. cond b (Some entry)
-        (entry_numbered (changed number detached_entry rest) number)) is ∙ later
+found_detached number (entry ∷ rest) = grind (arith, common_steps, found_detached number rest)
 
 without_detached : (number : ℕ) (all : List MountEntry)
     → without number (changed number detached_entry all) ≡ without number all
 without_detached number [] = refl
-without_detached number (entry ∷ rest) = by (nat_eq number entry.mount.number) refl (without_detached number rest)
-  where
-    by : (b : Bool) → nat_eq number entry.mount.number ≡ b
-        → without number (changed number detached_entry rest) ≡ without number rest
-        → without number (cond b (detached_entry entry) entry ∷ changed number detached_entry rest)
-        ≡ cond (not b) (entry ∷ without number rest) (without number rest)
-    by true is later = ap (λ b. cond (not b) (detached_entry entry
-        ∷ without number (changed number detached_entry rest)) (without number (changed number detached_entry rest))) is
-        ∙ later
-    by false is later = ap (λ b. cond (not b) (entry ∷ without number (changed number detached_entry rest))
-        (without number (changed number detached_entry rest))) is ∙ ap (λ l. entry ∷ l) later
+without_detached number (entry ∷ rest) = grind (arith, common_steps, without_detached number rest)
 
 -- whatever the mounts are, a root is left in the same way
 pub left_beside : (mounts : List MountEntry) (root : Option NodeRef) (old new : StoreValue)

@@ -9,6 +9,6 @@ pub seen_where_located : (value : WorldValue) → IsHeld value → (at : Locatio
     → is_located_well nat_eq (world_of value) (location_of at) ≡ true
     → (mount_at nat_eq (world_of value) (location_of at)).filesystem ≡ counted at.node.filesystem.count
 seen_where_located value held at small there =
-    at_home value held (mount_at nat_eq (world_of value) (location_of at)).filesystem at.node small
+    at_home held (mount_at nat_eq (world_of value) (location_of at)).filesystem at.node small
     (and_parts (is_among nat_eq (counted at.mount.count)
     (map (λ (mount : Mount ℕ). mount.number) (world_of value).mounts)) _ there).1

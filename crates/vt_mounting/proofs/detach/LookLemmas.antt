@@ -1,6 +1,6 @@
 -- What a world shows, by what is kept of it.
 use Rattle.std.proofs.Common.{◌≡◌, ◌≢◌, refl, sym, ap, ◌∙◌, ⊎_elim, true≢false, ℕ, nat_eq, eq-eqb, eqb-true, ne_eqb, Bool, true, false, ◌&&◌, List, [], ◌∷◌, filter, Option, Some, None, is_some, option_map, option_to_list, arith}
-use Rattle.vt_spec.proofs.Common.{Among, Filesystem, IsTree, Layer, Overlay, among_from_list_all, and-false, and-true, and_parts, common_steps, filesystem_at, filesystem_numbered, has_its_root, holds_of, is_directory_at, is_directory_node, is_directory_under, is_point, is_removed, is_removed_at, list_all, list_any, mount_at, mount_numbered, mounts_on, no_mount, node_at, of_overlay, or-false, overlay_or, points_of, then_some, upper_object, upper_points}
+use Rattle.vt_spec.proofs.Common.{Among, Filesystem, IsTree, Layer, Overlay, among_from_list_all, and-false, and-true, and_parts, common_steps, filesystem_at, filesystem_numbered, holds_of, is_directory_at, is_directory_node, is_directory_under, is_point, is_removed, is_removed_at, list_all, list_any, mount_at, mount_numbered, mounts_on, no_mount, node_at, of_overlay, or-false, overlay_or, points_of, then_some, upper_object, upper_points}
 use Rattle.vt_spec.specs.Machine.Mounts as meant
 use Rattle.vt_mounting.proofs.Common.{IsHeld, WorldValue, born_in, counted, counted_test, directory_is_there, inode_number, is_small_node, location_of, mounts_in, number_numbered, number_of, numbered_all, world_of}
 use Rattle.vt_laws_mounts.proofs.mounts.MountsFound.{found_or_none}
@@ -43,10 +43,7 @@ module _ (value : WorldValue) (held : IsHeld value) where
   mount_shows : (mount : meant.Mount ℕ) → Among mount (mounts_in value.mounts)
       → (is_directory_node ((filesystem_numbered nat_eq (world_of value) mount.filesystem).files.tree.node mount.root)
       ≡ true) × (list_all (is_directory_at nat_eq (world_of value)) (option_to_list mount.mount_point) ≡ true)
-  mount_shows mount m = and_parts (is_directory_node
-      ((filesystem_numbered nat_eq (world_of value) mount.filesystem).files.tree.node mount.root))
-      (list_all (is_directory_at nat_eq (world_of value)) (option_to_list mount.mount_point))
-      (among_from_list_all (has_its_root nat_eq (world_of value)) (mounts_in value.mounts) held.in_world.roots mount m)
+  mount_shows mount m = grind (arith, common_steps, and_parts, among_from_list_all)
 
   root_node : (mount : meant.Mount ℕ) → Among mount (mounts_in value.mounts) → IsNodeIn mount.filesystem mount.root
   root_node mount m = nodes_own value held mount.filesystem mount.root (directory_is_there _ (mount_shows mount m).0)
@@ -141,7 +138,7 @@ module _ (value : WorldValue) (held : IsHeld value) where
             (mount_at nat_eq (world_of value) (location_of at)).filesystem) ≡ (is_seen value at && b)
         there place is false e = sym (and-false (is_seen value at))
         there place is true e =
-            let home = at_home value held (mount_at nat_eq (world_of value) place).filesystem at.node small
+            let home = at_home held (mount_at nat_eq (world_of value) place).filesystem at.node small
             (ap (λ n. is_some ((filesystem_numbered nat_eq (world_of value)
             (mount_at nat_eq (world_of value) place).filesystem).files.tree.node n))
             (sym (eqb-true place.node (number_of at.node) e)) ∙ is) in
@@ -177,7 +174,7 @@ module _ (value : WorldValue) (held : IsHeld value) where
     root_apart unseen = ne_eqb (mount_at nat_eq (world_of value) (location_of at)).root (number_of at.node) (⊎_elim
         (λ m same.
         let mount = mount_at nat_eq (world_of value) (location_of at) in
-        let home = at_home value held mount.filesystem at.node small
+        let home = at_home held mount.filesystem at.node small
         (ap (λ n. is_some ((filesystem_numbered nat_eq (world_of value) mount.filesystem).files.tree.node n))
         (sym same) ∙ directory_is_there _ (mount_shows mount m).0) in
         true≢false (sym (eq-eqb mount.filesystem (counted at.node.filesystem.count) home) ∙ unseen)) (λ none same.

@@ -1,5 +1,5 @@
 -- Lists of what is counted: what a step takes from them.
-use Rattle.std.proofs.Common.{◌≡◌, ◌≢◌, not, refl, sym, ap, ◌∙◌, inl, inr, ℕ, ◌+◌, nat_eq, eqb-true, eq-eqb, Bool, true, false, cond, ◌||◌, List, [], ◌∷◌, ◌++◌, filter, find, flat_map, Some, unwrap_or, arith, nat_lt, lt-ltb}
+use Rattle.std.proofs.Common.{◌≡◌, not, refl, ap, ◌∙◌, ℕ, ◌+◌, nat_eq, eqb-true, eq-eqb, Bool, true, false, cond, ◌||◌, List, [], ◌∷◌, ◌++◌, filter, find, flat_map, Some, unwrap_or, arith, nat_lt, lt-ltb}
 use Rattle.vt_spec.proofs.Common.{Filesystem, Mount, World, any_pair, common_steps, eqb-false, filesystem_numbered, folded, list_any, map_alike, map_twice, no_filesystem, or_parts}
 use Rattle.vt_mounting.proofs.Common.{Among, Exchanges, Inode, MountEntry, OneNumberAMount, Shown, among-from_filter, among-map, changed, counted, entry_numbered, inode_uses, is_inode, mounts_in, none_among, none_from_among, times}
 use Rattle.vt_mounting.specs.Detach.Uses.{mounts_shown}
@@ -12,17 +12,13 @@ folded_append f z (x ∷ xs) ys = folded_append f (f z x) xs ys
 
 -- a number is above zero where it is not zero
 pub positive : (a : ℕ) → nat_lt 0 a ≡ not (nat_eq a 0)
-positive a = by (nat_eq a 0) refl
-  where
-    by : (b : Bool) → nat_eq a 0 ≡ b → nat_lt 0 a ≡ not b
-    by true e = ap (nat_lt 0) (eqb-true a 0 e)
-    by false e = let some : a ≢ 0 = eqb-false a 0 e in lt-ltb 0 a (omega (arith, some))
+positive a = grind (arith, common_steps, eqb-true, eqb-false, lt-ltb)
 
 -- what is lost may stand in another order
-pub lost_alike : (gained lost other : List Inode) (k : ℕ) (one two : World ℕ)
+pub lost_alike : {gained lost : List Inode} (other : List Inode) {k : ℕ} {one two : World ℕ}
     → ((n : ℕ) → times (is_inode k n) lost ≡ times (is_inode k n) other) → Exchanges gained lost k one two
     → Exchanges gained other k one two
-lost_alike gained lost other k one two same exchanges = record {
+lost_alike other {k} {two} same exchanges = record {
   same = exchanges.same;
   uses = λ n. exchanges.uses n ∙ ap (λ t. inode_uses two (filesystem_numbered nat_eq two k) n + t) (same n);
 }
@@ -31,12 +27,7 @@ lost_alike gained lost other k one two same exchanges = record {
 pub flat_map_less : {A B : Type 0} (g : A → List B) (q : A → Bool) (xs : List A)
     → ((x : A) → Among x xs → q x ≡ false → g x ≡ []) → flat_map g (filter q xs) ≡ flat_map g xs
 flat_map_less g q [] none = refl
-flat_map_less g q (x ∷ xs) none = by (q x) refl (flat_map_less g q xs (λ y m. none y (inr m)))
-  where
-    by : (b : Bool) → q x ≡ b → flat_map g (filter q xs) ≡ flat_map g xs
-        → flat_map g (cond b (x ∷ filter q xs) (filter q xs)) ≡ g x ++ flat_map g xs
-    by true e later = ap (λ rest. g x ++ rest) later
-    by false e later = later ∙ ap (λ own. own ++ flat_map g xs) (sym (none x (inl refl) e))
+flat_map_less g q (x ∷ xs) none = grind (arith, common_steps, flat_map_less g q xs)
 
 -- a filesystem that passes is found also where others are left out
 pub found_unless : (p : Filesystem ℕ → Bool) (filesystems : List (Filesystem ℕ)) (k : ℕ)
@@ -47,12 +38,12 @@ found_unless p [] k stays = refl
 found_unless p (x ∷ xs) k stays = grind (arith, common_steps, found_unless p xs k, eqb-true)
 
 -- where each counts what a rule says, so does what is found
-pub shown_by_rule : (f : ℕ) (counts : ℕ → ℕ) (all : List Shown)
+pub shown_by_rule : {f : ℕ} (counts : ℕ → ℕ) (all : List Shown)
     → ((one : Shown) → Among one all → one.mounts ≡ counts (counted one.count))
     → (one : Shown) → Among one all → f ≡ counted one.count → mounts_shown f all ≡ counts f
-shown_by_rule f counts [] each one m same = absurd m
-shown_by_rule f counts (first ∷ rest) each one m same =
-    grind (arith, common_steps, shown_by_rule f counts rest, eqb-true, eq-eqb)
+shown_by_rule counts [] each one m same = absurd m
+shown_by_rule {f} counts (first ∷ rest) each one m same =
+    grind (arith, common_steps, shown_by_rule {f = f} counts rest, eqb-true, eq-eqb)
 
 -- Mounts by their numbers
 

@@ -75,11 +75,7 @@ pub record Reached (value : WorldValue) (start : World ℕ) (gained : List Inode
   pub none : NoneUnused k
 
 pub gone_number : (goes : Mount ℕ → Bool) (mount : Mount ℕ) → (gone_if goes mount).number ≡ mount.number
-gone_number goes mount = by (goes mount)
-  where
-    by : (b : Bool) → (cond b (detached mount) mount).number ≡ mount.number
-    by true = refl
-    by false = refl
+gone_number goes mount = grind (arith, common_steps)
 
 pub gone_numbers : (goes : Mount ℕ → Bool) (mounts : List (Mount ℕ))
     → numbers_of (map (gone_if goes) mounts) ≡ numbers_of mounts
@@ -102,15 +98,29 @@ unused_parts entry e =
     let parts = and_parts (not (is_some entry.mount.namespace)) (nat_eq entry.uses 0) e in
     (not-true (is_some entry.mount.namespace) parts.0, eqb-true entry.uses 0 parts.1)
 
-module _ (value : WorldValue) (whole : IsHeld value) (start : World ℕ) (gained : List Inode) (goes : Mount ℕ → Bool)
-    (attached : (mount : Mount ℕ) → goes mount ≡ true → is_some mount.namespace ≡ true) where
+-- The mounts that go are all in a namespace.
+pub record MayLeave (value : WorldValue) (goes : Mount ℕ → Bool) : Type 0 where
+  pub whole : IsHeld value
+  pub attached : (mount : Mount ℕ) → goes mount ≡ true → is_some mount.namespace ≡ true
+
+-- what a mount is at, in the world in which the call began
+pub record IsGoing (goes : Mount ℕ → Bool) (k : Kept) (number : ℕ) (point : Option Location) (entry : MountEntry)
+    : Type 0 where
+  pub found : entry_numbered k.mounts number ≡ Some entry
+  pub goes_so : goes entry.mount ≡ true
+  pub point_is : option_map location_of point ≡ entry.mount.mount_point
+  pub small : IfSome point (λ place. is_small_node place.node ≡ true)
+
+module _ {value : WorldValue} {goes : Mount ℕ → Bool} (may : MayLeave value goes) where
+  open may use {whole, attached}
+
   abbrev world : World ℕ
   world = world_of value
 
   -- A use is left
 
-  module _ (u : Use) (left : List Use) (now : World ℕ) (k : Kept) (lost : List Inode)
-      (mid : Midway value start gained goes (u ∷ left) now k lost) where
+  module _ {start : World ℕ} {gained : List Inode} {u : Use} {left : List Use} {now : World ℕ} {k : Kept}
+      {lost : List Inode} (mid : Midway value start gained goes (u ∷ left) now k lost) where
     abbrev inode : Inode
     inode = inode_at world u.location
 
@@ -136,23 +146,12 @@ module _ (value : WorldValue) (whole : IsHeld value) (start : World ℕ) (gained
     uses_are : (was : MountEntry) → Among was k.mounts
         → (release_if was u).uses ≡ mount_uses now (release_if was u).mount.number + times
         (is_use_on (release_if was u).mount.number) left
-    uses_are was m =
-        let less = (released_counts (u ∷ []) was).uses in
-        let had = mid.uses was m in
-        let one : (release_if was u).uses
-        ≡ mount_uses now was.mount.number + times (is_use_on was.mount.number) left = omega (arith, less, had) in
-        one ∙ ap (λ (x : Mount ℕ). mount_uses now x.number + times (is_use_on x.number) left) (sym (same_mount was))
+    uses_are was m = grind (arith, common_steps)
 
     writers_are : (was : MountEntry) → Among was k.mounts
         → (release_if was u).writers ≡ writes_of (release_if was u).mount.number now.tasks + times
         (writes_on_mount (release_if was u).mount.number) left
-    writers_are was m =
-        let less = (released_counts (u ∷ []) was).writers in
-        let had = mid.writers was m in
-        let one : (release_if was u).writers
-        ≡ writes_of was.mount.number now.tasks + times (writes_on_mount was.mount.number) left = omega
-        (arith, less, had) in
-        cc (same_mount was)
+    writers_are was m = grind (arith, common_steps)
 
     shown_was : (one : Shown) → Among one new.filesystems
         → (was : Shown) × Among was k.filesystems × (one ≡ unpinned_one was)
@@ -218,29 +217,19 @@ module _ (value : WorldValue) (whole : IsHeld value) (start : World ℕ) (gained
 
   -- A mount is detached
 
-  -- what a mount is at, in the world in which the call began
-  abbrev pub IsGoing : Kept → ℕ → Option Location → MountEntry → Type 0
-  IsGoing k number point entry = (entry_numbered k.mounts number ≡ Some entry) × (goes entry.mount ≡ true)
-      × (option_map location_of point ≡ entry.mount.mount_point)
-      × IfSome point (λ place. is_small_node place.node ≡ true)
-
   not_going_detached : (mount : Mount ℕ) → goes (detached mount) ≡ false
-  not_going_detached mount = by (goes (detached mount)) refl
-    where
-      by : (b : Bool) → goes (detached mount) ≡ b → b ≡ false
-      by true e = absurd (true≢false (sym (attached (detached mount) e)))
-      by false e = refl
+  not_going_detached mount = grind (arith, common_steps)
 
   -- the points of the entries are those of the others, and of this one
-  points_are : (number : ℕ) (entries : List MountEntry) → OneNumberAMount (mounts_in entries) → (entry : MountEntry)
+  points_are : (number : ℕ) (entries : List MountEntry) → OneNumberAMount (mounts_in entries) → {entry : MountEntry}
       → entry_numbered entries number ≡ Some entry → goes entry.mount ≡ true → (test : Inode → Bool)
       → times test (points_left world goes entries) ≡ times test (inodes_of_mount_point world entry.mount) + times test
       (points_left world goes (changed number detached_entry entries))
-  points_are number [] one entry e going test = absurd cc
-  points_are number (x ∷ xs) one entry e going test =
+  points_are number [] one e going test = absurd cc
+  points_are number (x ∷ xs) one {entry} e going test =
       let parts = or_parts (list_any (λ b. nat_eq x.mount.number b.number) (mounts_in xs))
       (any_pair (λ (a b : Mount ℕ). nat_eq a.number b.number) (mounts_in xs)) one in
-      by parts.0 (nat_eq number x.mount.number) refl e (λ h. points_are number xs parts.1 entry h going test)
+      by parts.0 (nat_eq number x.mount.number) refl e (λ h. points_are number xs parts.1 h going test)
     where
       by : list_any (λ b. nat_eq x.mount.number b.number) (mounts_in xs) ≡ false → (b : Bool)
           → nat_eq number x.mount.number ≡ b → cond b (Some x) (entry_numbered xs number) ≡ Some entry
@@ -275,9 +264,9 @@ module _ (value : WorldValue) (whole : IsHeld value) (start : World ℕ) (gained
           (points_left world goes (changed number detached_entry xs)) in
           omega (arith, later, one, two)
 
-  module _ (left : List Use) (now : World ℕ) (k : Kept) (lost : List Inode)
-      (mid : Midway value start gained goes left now k lost)
-      (number : ℕ) (point : Option Location) (entry : MountEntry) (going : IsGoing k number point entry) where
+  module _ {start : World ℕ} {gained : List Inode} {left : List Use} {now : World ℕ} {k : Kept} {lost : List Inode}
+      (mid : Midway value start gained goes left now k lost) {number : ℕ} {point : Option Location} {entry : MountEntry}
+      (going : IsGoing goes k number point entry) where
     abbrev lost_here : List Inode
     lost_here = inodes_of_mount_point world entry.mount
 
@@ -292,7 +281,7 @@ module _ (value : WorldValue) (whole : IsHeld value) (start : World ℕ) (gained
 
     is_entry : (was : MountEntry) → Among was k.mounts → nat_eq number was.mount.number ≡ true → was ≡ entry
     is_entry was m e = same_Some was entry (sym (entry_itself k.mounts one_number was m)
-        ∙ ap (entry_numbered k.mounts) (sym (eqb-true number was.mount.number e)) ∙ going.0)
+        ∙ ap (entry_numbered k.mounts) (sym (eqb-true number was.mount.number e)) ∙ going.found)
 
     -- a detached mount is what it is to become
     same_gone : (was : MountEntry) → Among was k.mounts → gone_if goes (take was).mount ≡ gone_if goes was.mount
@@ -309,7 +298,7 @@ module _ (value : WorldValue) (whole : IsHeld value) (start : World ℕ) (gained
     unpinned_are : unpinned_at point k.filesystems ≡ map (λ (one : Shown). record one {
       inodes = folded (unpinned_if (counted one.count)) one.inodes lost_here;
     }) k.filesystems
-    unpinned_are = by point going.2 going.3
+    unpinned_are = by point going.point_is going.small
       where
         by : (o : Option Location) → option_map location_of o ≡ entry.mount.mount_point
             → IfSome o (λ place. is_small_node place.node ≡ true) → unpinned_at o k.filesystems
@@ -323,7 +312,7 @@ module _ (value : WorldValue) (whole : IsHeld value) (start : World ℕ) (gained
             }) k.filesystems)
         by (Some place) is few =
             let well = ap (λ o. list_all (is_located_well nat_eq world) (option_to_list o)) is
-            ∙ mid.well entry (entry_found_at k.mounts number entry going.0).0 going.1 in
+            ∙ mid.well entry (entry_found_at k.mounts number entry going.found).0 going.goes_so in
             (λ i. unpinned_in (
               sym (seen_where_located value whole place few (and_parts _ _ well).0) i,
               number_of place.node,
@@ -364,7 +353,7 @@ module _ (value : WorldValue) (whole : IsHeld value) (start : World ℕ) (gained
         (inodes_of_uses world left ++ points_left world goes taken.mounts) in
         let d = times_append test lost lost_here in
         let e = times_append test (inodes_of_uses world left) (points_left world goes taken.mounts) in
-        let p = points_are number k.mounts one_number entry going.0 going.1 test in
+        let p = points_are number k.mounts one_number going.found going.goes_so test in
         omega (arith, a, b, c, d, e, p)
 
     entry_before : (e : MountEntry) → Among e taken.mounts → (was : MountEntry) × Among was k.mounts × (e ≡ take was)
@@ -377,12 +366,7 @@ module _ (value : WorldValue) (whole : IsHeld value) (start : World ℕ) (gained
 
     well_still : (was : MountEntry) → Among was k.mounts → goes (take was).mount ≡ true
         → list_all (is_located_well nat_eq world) (option_to_list (take was).mount.mount_point) ≡ true
-    well_still was m = by (nat_eq number was.mount.number)
-      where
-        by : (b : Bool) → goes (cond b (detached_entry was) was).mount ≡ true → list_all (is_located_well nat_eq world)
-            (option_to_list (cond b (detached_entry was) was).mount.mount_point) ≡ true
-        by true e = refl
-        by false e = mid.well was m e
+    well_still was m = grind (arith, common_steps)
 
     pub mount_taken : Midway value start gained goes left now taken (lost ++ lost_here)
     mount_taken = record {
@@ -408,9 +392,7 @@ module _ (value : WorldValue) (whole : IsHeld value) (start : World ℕ) (gained
           subst (λ count. Exchanges gained
           ((lost ++ lost_here) ++ (inodes_of_uses world left ++ points_left world goes taken.mounts))
           (counted count) world now) (ap (λ (x : Shown). x.count) (sym from.2))
-          (lost_alike gained (lost ++ (inodes_of_uses world left ++ points_left world goes k.mounts))
-          ((lost ++ lost_here) ++ (inodes_of_uses world left ++ points_left world goes taken.mounts))
-          (counted from.0.count) world now
+          (lost_alike ((lost ++ lost_here) ++ (inodes_of_uses world left ++ points_left world goes taken.mounts))
           (λ n. same_lost (is_inode (counted from.0.count) n)) (mid.exchanges from.0 from.1));
       numbers = mid.numbers ∙ sym (map_twice (λ (one : Shown). counted one.count) unpinned_here k.filesystems)
           ∙ sym (ap (map (λ (one : Shown). counted one.count)) unpinned_are);

@@ -1,6 +1,6 @@
 -- Where tasks have left uses and a namespace, before code has taken anything away.
 use Rattle.std.proofs.Common.{◌≡◌, refl, sym, ap, subst, ◌∙◌, ⊎_elim, ℕ, ◌+◌, nat_eq, eqb-true, Bool, true, false, true≢false, cond, not, ◌&&◌, ◌||◌, List, [], ◌∷◌, ◌++◌, map, flat_map, Option, Some, None, is_some, append_assoc, arith, option_to_list, append-nil}
-use Rattle.vt_spec.proofs.Common.{Filesystem, Location, Mount, Namespace, Stands, World, all_locations, and_parts, at_root, common_steps, detached, folded, has_its_root, is_among, is_directory_at, is_located, is_located_well, is_nowhere_or_attached, list_all, map_twice, mount_at, mount_in, mount_lives, mount_numbered, no_mount, node_at, not-true, on_parent, root_of, same_Some}
+use Rattle.vt_spec.proofs.Common.{Filesystem, Location, Mount, Namespace, Stands, World, all_locations, and_parts, at_root, common_steps, detached, folded, has_its_root, is_among, is_directory_at, is_located, is_located_well, is_nowhere_or_attached, list_all, map_twice, mount_at, mount_in, mount_lives, mount_numbered, node_at, not-true, on_parent, root_of, same_Some}
 use Rattle.vt_mounting.proofs.Common.{Among, CountsItsMounts, CountsItsUses, Exchanges, FilesystemEntry, Inode, IsHeld, LocationsStand, MountEntry, MountsStand, OneNumberAMount, Shown, Tasks, WorldValue, all_in_use, among-append, among-append_left, among-append_right, among-filter_map, among-from_map, among-map, among_from_all, among_from_list_all, counted, directory_is_there, exchanges_follow, filesystem_seen, found_itself, inode_at, inodes_of_mount_point, layer_count, list_all_from_among, located_while_counted, locations_use_mounts, mount_is_placed, mount_uses, mounts_in, mounts_of_worlds_stand, pinned_if, places_of, shown, shown_entry, stands_on_attached, times, world_of, writes_of}
 use Rattle.vt_laws_mounts.proofs.counts.using.MountRoots as Roots
 use Rattle.vt_mounting.specs.Detach.Uses.{Kept, is_unused, kept_of}
@@ -18,12 +18,7 @@ module _ (goes : Mount ℕ → Bool)
     (attached : (mount : Mount ℕ) → goes mount ≡ true → is_some mount.namespace ≡ true) where
   pub gone_shows : (mount : Mount ℕ)
       → ((gone_if goes mount).filesystem ≡ mount.filesystem) × ((gone_if goes mount).root ≡ mount.root)
-  gone_shows mount = by (goes mount)
-    where
-      by : (b : Bool) → ((cond b (detached mount) mount).filesystem ≡ mount.filesystem)
-          × ((cond b (detached mount) mount).root ≡ mount.root)
-      by true = (refl, refl)
-      by false = (refl, refl)
+  gone_shows mount = grind (arith, common_steps)
 
   pub gone_showing : (c : ℕ) (mounts : List (Mount ℕ))
       → times (λ (x : Mount ℕ). nat_eq c x.filesystem) (map (gone_if goes) mounts)
@@ -33,11 +28,7 @@ module _ (goes : Mount ℕ → Bool)
 
   pub mount_in_gone : (mounts : List (Mount ℕ)) (n : ℕ)
       → mount_in nat_eq (map (gone_if goes) mounts) n ≡ gone_if goes (mount_in nat_eq mounts n)
-  mount_in_gone [] n = by (goes (no_mount n)) refl
-    where
-      by : (b : Bool) → goes (no_mount n) ≡ b → no_mount n ≡ cond b (detached (no_mount n)) (no_mount n)
-      by true e = absurd (true≢false (sym (attached (no_mount n) e)))
-      by false e = refl
+  mount_in_gone [] n = grind (arith, common_steps)
   mount_in_gone (x ∷ xs) n = grind (arith, common_steps, mount_in_gone xs n, gone_if, gone_number)
 
   -- some are detached, the others not yet
@@ -121,9 +112,16 @@ parent_inside world one stands mount m place p = by (stands mount m) (found_itse
         let it : at ≡ place = same_Some at place (sym e ∙ ap (λ (x : Mount ℕ). x.mount_point) itself ∙ p) in
         cc
 
-module _ (value : WorldValue) (whole : IsHeld value) (tasks : Tasks) (more less : List Use)
-    (moves : Moves value tasks more less)
-    (inside : Option ℕ → Bool) (nowhere_stays : inside None ≡ false) (namespaces : List (Namespace ℕ)) where
+-- Tasks move, and with that the mounts of a namespace may go, which is one that mounts in none are not in.
+pub record MayGo (value : WorldValue) (tasks : Tasks) (more less : List Use) (inside : Option ℕ → Bool) : Type 0 where
+  pub whole : IsHeld value
+  pub moves : Moves value tasks more less
+  pub nowhere_stays : inside None ≡ false
+
+module _ {value : WorldValue} {tasks : Tasks} {more less : List Use} {inside : Option ℕ → Bool}
+    (may_go : MayGo value tasks more less inside) (namespaces : List (Namespace ℕ)) where
+  open may_go use {whole, moves, nowhere_stays}
+
   abbrev world : World ℕ
   world = world_of value
 
@@ -135,11 +133,7 @@ module _ (value : WorldValue) (whole : IsHeld value) (tasks : Tasks) (more less 
   goes mount = inside mount.namespace
 
   pub goes_attached : (mount : Mount ℕ) → goes mount ≡ true → is_some mount.namespace ≡ true
-  goes_attached mount e = by mount.namespace e
-    where
-      by : (o : Option ℕ) → inside o ≡ true → is_some o ≡ true
-      by None f = absurd (true≢false (sym f ∙ nowhere_stays))
-      by (Some n) f = refl
+  goes_attached mount e = grind (arith, common_steps)
 
   -- the world when all is left
   abbrev pub ended : World ℕ
@@ -214,9 +208,9 @@ module _ (value : WorldValue) (whole : IsHeld value) (tasks : Tasks) (more less 
       (λ i. (standing i && directory_is_there (node_at nat_eq world place) directory i) && true)
 
   -- what mounts stand on stays with them
-  pub parent_stays : (mount : Mount ℕ) → Among mount world.mounts → goes mount ≡ false → (place : Location ℕ)
+  pub parent_stays : (mount : Mount ℕ) → Among mount world.mounts → goes mount ≡ false → {place : Location ℕ}
       → mount.mount_point ≡ Some place → goes (mount_at nat_eq world place) ≡ false
-  parent_stays mount m stays place e = ap inside (sym (parent_inside world whole.in_world.mounts.one_number
+  parent_stays mount m stays {place} e = ap inside (sym (parent_inside world whole.in_world.mounts.one_number
       (λ x n. among_from_all (λ (x : Mount ℕ). Stands nat_eq world x.number) world.mounts whole.in_world.mounts.standing x n) mount m place e))
       ∙ stays
 
@@ -240,7 +234,7 @@ module _ (value : WorldValue) (whole : IsHeld value) (tasks : Tasks) (more less 
       still x m stays (Some place) e h = ap (λ (y : Mount ℕ). is_some y.namespace && true)
           (mount_in_gone goes goes_attached world.mounts place.mount
           ∙ ap (λ b. cond b (detached (mount_at nat_eq world place)) (mount_at nat_eq world place))
-          (parent_stays x m stays place e)) ∙ h
+          (parent_stays x m stays e)) ∙ h
 
       on : (x : Mount ℕ) → Among x world.mounts → (b : Bool) → goes x ≡ b
           → stands_on_attached ended (cond b (detached x) x) ≡ true
@@ -338,7 +332,7 @@ module _ (value : WorldValue) (whole : IsHeld value) (tasks : Tasks) (more less 
         ∙ sym (ap (map (λ (one : Shown). counted one.count)) (filesystems_gained world more (kept_of value)));
     stand = stand_ended;
     located = located_ended;
-    leaves = leaves_alike world ended refl (λ n. gone_showing goes goes_attached n world.mounts) value
+    leaves = leaves_alike world ended refl (λ n. gone_showing goes goes_attached n world.mounts)
         (leaves_at_first value whole);
     same = refl;
   }

@@ -1,14 +1,14 @@
 -- The steps by which tasks leave uses and namespaces, and the world after the last of them.
 use Rattle.std.proofs.Common.{◌≡◌, refl, sym, ap, subst, ◌∙◌, ℕ, ◌+◌, nat_eq, Bool, true, false, true≢false, cond, not, ◌&&◌, ◌||◌, List, [], ◌∷◌, ◌++◌, map, filter, flat_map, Option, Some, is_some, arith, All, append-nil}
 use Rattle.vt_spec.proofs.Common.{Filesystem, Location, Mount, Task, World, detached, filesystem_lives, folded, is_located, is_mounted, is_overlay, map_twice, mount_lives, without_changes, without_dead_filesystems, without_dead_mounts}
-use Rattle.vt_mounting.proofs.Common.{Among, CountsItsUses, CountsWhatIsInIt, Exchanges, FilesystemEntry, Inode, IsHeld, IsMountedSoOften, MountEntry, Shown, WorldValue, all_from_among, among-filter, among-from_map, among-map, among_from_all, counted, filter_all, in_use_of, inode_at, inodes_of_mount_point, layer_count, located_while_counted, map_same, mount_uses, mounts_in, mounts_showing, overlays_seen, shown_entry, world_of, writes_of}
+use Rattle.vt_mounting.proofs.Common.{Among, CountsItsUses, CountsWhatIsInIt, Exchanges, FilesystemEntry, Inode, IsMountedSoOften, MountEntry, Shown, WorldValue, all_from_among, among-filter, among-from_map, among-map, among_from_all, counted, filter_all, in_use_of, inode_at, inodes_of_mount_point, layer_count, located_while_counted, map_same, mount_uses, mounts_in, mounts_showing, overlays_seen, shown_entry, world_of, writes_of}
 use Rattle.vt_laws_mounts.proofs.letting_go.Lists.{flat_map_none}
 use Rattle.vt_location.specs.declared.locations.Location.{Location as Place}
 use Rattle.vt_mounting.specs.Detach.NamespacesLeft.{AreDetached, Detached}
 use Rattle.vt_mounting.specs.Detach.Uses.{Kept, Merged, kept_with, overlays_kept, without_attachment, without_use}
 use Rattle.vt_mounting.proofs.detach.Bridging.{IsSwept}
 use Rattle.vt_mounting.proofs.detach.Finishing.{CountsBeside}
-use Rattle.vt_mounting.proofs.detach.Midway.{IsGoing, Midway, Reached, gone_if, left_alone, mount_taken, point_left, points_left, taken_alone, use_left}
+use Rattle.vt_mounting.proofs.detach.Midway.{IsGoing, MayLeave, Midway, Reached, gone_if, left_alone, mount_taken, point_left, points_left, taken_alone, use_left}
 use Rattle.vt_mounting.proofs.detach.MidwayGoes.{mount_looked_at}
 use Rattle.vt_mounting.proofs.detach.MountsLeave.{counted_lives, overlay_lives_still}
 use Rattle.vt_mounting.proofs.detach.Moving.{Use, inodes_of_uses}
@@ -21,47 +21,53 @@ use Rattle.vt_mounting.proofs.detach.OverlaysRemade.{counted_kept, seen_kept}
 abbrev pub leave_use : World ℕ → Kept → Use → Kept
 leave_use world k u = without_use u.location.mount (inode_at world u.location) u.writes k
 
-module _ (value : WorldValue) (whole : IsHeld value) (start : World ℕ) (gained : List Inode) (goes : Mount ℕ → Bool)
-    (attached : (mount : Mount ℕ) → goes mount ≡ true → is_some mount.namespace ≡ true) where
-  abbrev world : World ℕ
-  world = world_of value
-
-  pub leaves_one : (u : Use) (left : List Use) (k : Kept) → Reached value start gained goes (u ∷ left) k
-      → Reached value start gained goes left (leave_use world k u)
-  leaves_one u left k at = mount_looked_at value whole start gained goes attached u.location.mount left at.now _ _
-      (use_left value whole start gained goes attached u left at.now k at.lost at.midway)
-      (left_alone value whole start gained goes attached u left at.now k at.lost at.midway at.none)
+module _ {value : WorldValue} {start : World ℕ} {gained : List Inode} {goes : Mount ℕ → Bool}
+    (may : MayLeave value goes) where
+  pub leaves_one : {u : Use} {left : List Use} {k : Kept} → Reached value start gained goes (u ∷ left) k
+      → Reached value start gained goes left (leave_use (world_of value) k u)
+  leaves_one {u} at = mount_looked_at may u.location.mount (use_left may at.midway) (left_alone may at.midway at.none)
 
   pub leaves_all : (left : List Use) (k : Kept) → Reached value start gained goes left k
-      → Reached value start gained goes [] (folded (leave_use world) k left)
+      → Reached value start gained goes [] (folded (leave_use (world_of value)) k left)
   leaves_all [] k at = at
-  leaves_all (u ∷ left) k at = leaves_all left (leave_use world k u) (leaves_one u left k at)
+  leaves_all (u ∷ left) k at = leaves_all left (leave_use (world_of value) k u) (leaves_one at)
 
-  pub detaches_one : (number : ℕ) (point : Option Place) (entry : MountEntry) (left : List Use) (k : Kept)
-      → IsGoing value whole start gained goes attached k number point entry → Reached value start gained goes left k
+  pub detaches_one : {number : ℕ} {point : Option Place} {entry : MountEntry} {left : List Use} {k : Kept}
+      → IsGoing goes k number point entry → Reached value start gained goes left k
       → Reached value start gained goes left (without_attachment number point k)
-  detaches_one number point entry left k going at =
-      mount_looked_at value whole start gained goes attached number left at.now _ _
-      (mount_taken value whole start gained goes attached left at.now k at.lost at.midway number point entry going)
-      (taken_alone value whole start gained goes attached left at.now k at.lost at.midway number point entry going at.none)
+  detaches_one {number} going at =
+      mount_looked_at may number (mount_taken may at.midway going) (taken_alone may at.midway going at.none)
 
   -- the mounts of a namespace, one after the other
   pub detaches_all : (namespace : ℕ) → ((mount : Mount ℕ) → mount.namespace ≡ Some namespace → goes mount ≡ true)
-      → (gone : List Detached) (left : List Use) (k new : Kept) → AreDetached namespace gone k new
+      → (gone : List Detached) {left : List Use} {k : Kept} (new : Kept) → AreDetached namespace gone k new
       → Reached value start gained goes left k → Reached value start gained goes left new
-  detaches_all namespace its [] left k new same at = subst (Reached value start gained goes left) (sym same) at
-  detaches_all namespace its (one ∷ rest) left k new are at =
+  detaches_all namespace its [] {left} new same at = subst (Reached value start gained goes left) (sym same) at
+  detaches_all namespace its (one ∷ rest) {left} {k} new are at =
       let is = are.0 in
-      detaches_all namespace its rest left (without_attachment one.number one.point k) new are.1
-      (detaches_one one.number one.point is.entry left k (is.found, its is.entry.mount is.inside, is.point, is.slot) at)
+      detaches_all namespace its rest {left = left} {k = without_attachment one.number one.point k} new are.1
+      (detaches_one (record {
+        found = is.found;
+        goes_so = its is.entry.mount is.inside;
+        point_is = is.point;
+        small = is.slot;
+      }) at)
 
--- When nothing is left to do, code has what the sweep leaves
+-- When nothing is left to do, code has what the sweep leaves.
+pub record HasReached (value : WorldValue) (start : World ℕ) (gained : List Inode) (goes : Mount ℕ → Bool)
+    (new : WorldValue) (overlays : List Merged) : Type 0 where
+  pub at : Reached value start gained goes [] (kept_with new.mounts new.filesystems overlays)
+  pub all_gone : (entry : MountEntry) → Among entry new.mounts → goes entry.mount ≡ false
+  pub same_tasks : start.tasks ≡ new.tasks
+  pub same_overlays : new.overlays ≡ overlays_kept overlays value.overlays
 
-module _ (value : WorldValue) (start : World ℕ) (gained : List Inode) (goes : Mount ℕ → Bool) (k : Kept)
-    (at : Reached value start gained goes [] k)
-    (all_gone : (entry : MountEntry) → Among entry k.mounts → goes entry.mount ≡ false)
-    (new : WorldValue) (overlays : List Merged) (is_kept : kept_with new.mounts new.filesystems overlays ≡ k)
-    (same_tasks : start.tasks ≡ new.tasks) (same_overlays : new.overlays ≡ overlays_kept overlays value.overlays) where
+module _ {value : WorldValue} {start : World ℕ} {gained : List Inode} {goes : Mount ℕ → Bool} {new : WorldValue}
+    {overlays : List Merged} (reached : HasReached value start gained goes new overlays) where
+  open reached use {at, all_gone, same_tasks, same_overlays}
+
+  abbrev k : Kept
+  k = kept_with new.mounts new.filesystems overlays
+
   abbrev now : World ℕ
   now = at.now
 
@@ -115,24 +121,24 @@ module _ (value : WorldValue) (start : World ℕ) (gained : List Inode) (goes : 
   filesystem_is_used f m = by (is_overlay f) refl
     where
       by : (b : Bool) → is_overlay f ≡ b → filesystem_lives nat_eq now f ≡ true
-      by true e = overlay_lives_still value mid.held now mid.leaves f m e
+      by true e = overlay_lives_still mid.held mid.leaves f m e
       by false e =
           let from = among-from_map (λ (one : Shown). counted one.count) k.filesystems f.number
           (subst (λ all. Among f.number all) mid.numbers
           (among-map (λ (x : Filesystem ℕ). x.number) (filter is_plain_one now.filesystems) f
           (among-filter is_plain_one now.filesystems f m (ap not e)))) in
           let is = mid.shown from.0 from.1 in
-          counted_lives value mid.held now mid.leaves f
+          counted_lives mid.held mid.leaves f
           (positive (mounts_showing now f.number + layer_count now f.number) ∙ ap (λ n. not (nat_eq n 0))
           (ap (λ n. mounts_showing now n + layer_count now n) from.2 ∙ sym is.mounts) ∙ ap not is.mounted)
 
   merged_now : overlays ≡ map (merged_in now) (filter is_overlay now.filesystems)
-  merged_now = ap (λ (one : Kept). one.overlays) is_kept ∙ mid.merged
+  merged_now = mid.merged
 
   -- the overlays are those of before that mounts show still
   overlays_left : overlays_seen new.overlays
       ≡ filter (λ overlay. is_mounted nat_eq now overlay.number) (overlays_seen value.overlays)
-  overlays_left = ap overlays_seen same_overlays ∙ seen_kept value mid.held now mid.leaves overlays merged_now
+  overlays_left = ap overlays_seen same_overlays ∙ seen_kept mid.held mid.leaves merged_now
 
   living_is : in_use_of start ≡ now
   living_is = sym mid.same ∙ ap (without_dead_filesystems nat_eq) still ∙ (λ i. record now {
@@ -143,11 +149,7 @@ module _ (value : WorldValue) (start : World ℕ) (gained : List Inode) (goes : 
       still = λ i. record now { mounts = filter_all (mount_lives nat_eq now) now.mounts mount_is_used i }
 
   shown_of : (entry : FilesystemEntry) → Among entry new.filesystems → Among (shown_entry entry) k.filesystems
-  shown_of entry m = subst (λ (one : Kept). Among (shown_entry entry) one.filesystems) is_kept
-      (among-map shown_entry new.filesystems entry m)
-
-  entry_of : (entry : MountEntry) → Among entry new.mounts → Among entry k.mounts
-  entry_of entry m = subst (λ (one : Kept). Among entry one.mounts) is_kept m
+  shown_of entry m = among-map shown_entry new.filesystems entry m
 
   pub reached_swept : KeepsOverlays value start
       → (without_changes start).namespaces ≡ (without_changes (world_of new)).namespaces
@@ -159,8 +161,7 @@ module _ (value : WorldValue) (start : World ℕ) (gained : List Inode) (goes : 
         (sym living_is);
     mounts = ap (λ (w : World ℕ). w.mounts) living_is ∙ mounts_are;
     numbers = ap (λ (w : World ℕ). map (λ (f : Filesystem ℕ). f.number) (filter is_plain_one w.filesystems)) living_is
-        ∙ mid.numbers ∙ ap (λ (one : Kept). map (λ (x : Shown). counted x.count) one.filesystems) (sym is_kept)
-        ∙ map_twice (λ (x : Shown). counted x.count) shown_entry new.filesystems;
+        ∙ mid.numbers ∙ map_twice (λ (x : Shown). counted x.count) shown_entry new.filesystems;
     entries = λ entry m. let is = mid.shown (shown_entry entry) (shown_of entry m) in record {
       was = is.was;
       among = is.among;
@@ -179,8 +180,8 @@ module _ (value : WorldValue) (start : World ℕ) (gained : List Inode) (goes : 
   pub reached_counted : All (CountsWhatIsInIt (world_of new)) new.namespaces → CountsBeside new
   reached_counted namespaces = record {
     uses = all_from_among (CountsItsUses (world_of new)) new.mounts (λ entry m.
-        let uses = mid.uses entry (entry_of entry m) in
-        let writers = mid.writers entry (entry_of entry m) in
+        let uses = mid.uses entry m in
+        let writers = mid.writers entry m in
         let all : entry.uses ≡ mount_uses now entry.mount.number = omega (arith, uses) in
         let written : entry.writers ≡ writes_of entry.mount.number now.tasks = omega (arith, writers) in
         record {
@@ -192,11 +193,11 @@ module _ (value : WorldValue) (start : World ℕ) (gained : List Inode) (goes : 
     mounts = λ entry m. let is = mid.shown (shown_entry entry) (shown_of entry m) in
         is.mounts ∙ (λ i. Rattle.vt_laws_mounts.specs.LettingGo.Counts.times
         (λ (x : Mount ℕ). nat_eq (counted entry.count) x.filesystem) (mounts_are i)
-        + sym (layers_of_fewer value new mid.held.overlays (λ overlay. is_mounted nat_eq now overlay.number)
-        overlays_left now mid.leaves.overlays (counted entry.count)) i);
-    overlays = all_from_among (IsMountedSoOften (world_of new)) new.overlays (λ entry m.
-        among_from_all (IsMountedSoOften now) (overlays_kept overlays value.overlays)
-        (counted_kept value mid.held now mid.leaves overlays merged_now) entry
+        + sym (layers_of_fewer new mid.held.overlays (λ overlay. is_mounted nat_eq now overlay.number) overlays_left
+        now mid.leaves.overlays (counted entry.count)) i);
+    overlays = all_from_among (IsMountedSoOften (world_of new)) new.overlays (λ entry m. among_from_all
+        (IsMountedSoOften now) (overlays_kept overlays value.overlays)
+        (counted_kept mid.held mid.leaves merged_now) entry
         (subst (λ all. Among entry all) same_overlays m) ∙ (λ i. Rattle.vt_laws_mounts.specs.LettingGo.Counts.times
         (λ (x : Mount ℕ). nat_eq entry.number x.filesystem) (mounts_are i)));
     namespaces = namespaces;

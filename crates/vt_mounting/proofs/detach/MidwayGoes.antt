@@ -3,18 +3,18 @@
 -- task leaves.
 use Rattle.std.proofs.Common.{◌≡◌, refl, sym, ap, subst, ◌∙◌, ℕ, ◌+◌, nat_eq, eqb-true, eq-eqb, Bool, true, false, true≢false, cond, not, ◌&&◌, ◌||◌, List, [], ◌∷◌, ◌++◌, map, filter, find, flat_map, Option, Some, None, is_some, arith, nat_lt, option_to_list}
 use Rattle.vt_spec.proofs.Common.{Filesystem, Location, Mount, World, all_locations, and_parts, common_steps, detached, filesystem_lives, folded, has_layer_on, is_among, is_located, is_mounted, is_nowhere_or_attached, is_overlay, list_all, list_any, mount_at, mount_in, mount_lives, mount_numbered, not-false, or_parts, same_Some, without_dead_filesystems, without_dead_mounts}
-use Rattle.vt_mounting.proofs.Common.{Among, Exchanges, Inode, IsHeld, LocationsStand, MountEntry, MountsStand, OneNumberAMount, Shown, WorldValue, among-filter, among-from_filter, among-from_map, among-map, among_from_list_all, among_numbers, any-filter, any_among, any_from_among, counted, entry_numbered, exchanges_follow, filter-map, filter_alike, filter_less, found_itself, in_use_of, inodes_of_mount_point, inodes_seen, is_among_numbers, is_mount_used, layer_count, list_all_from_among, located_while_counted, mount_takes_its_count, mount_uses, mounted_layer_count, mounts_in, mounts_showing, none_among, overlays_seen, pinned_if, stands_on_attached, unpinned_if, without, without_mount, world_of}
+use Rattle.vt_mounting.proofs.Common.{Among, Exchanges, Inode, LocationsStand, MountEntry, MountsStand, OneNumberAMount, Shown, WorldValue, among-filter, among-from_filter, among-from_map, among-map, among_from_list_all, among_numbers, any-filter, any_among, any_from_among, counted, entry_numbered, exchanges_follow, filter-map, filter_alike, filter_less, found_itself, in_use_of, inodes_of_mount_point, inodes_seen, is_among_numbers, is_mount_used, layer_count, list_all_from_among, located_while_counted, mount_takes_its_count, mount_uses, mounted_layer_count, mounts_in, mounts_showing, none_among, overlays_seen, pinned_if, stands_on_attached, unpinned_if, without, without_mount, world_of}
 use Rattle.vt_laws_mounts.proofs.counts.using.MountRoots as Roots
 use Rattle.vt_mounting.specs.Detach.Uses as meant
 use Rattle.vt_mounting.specs.Detach.Uses.{Kept, is_unused, let_go_entry}
 use Rattle.vt_mounting.proofs.detach.LayersLeft.{later_shown}
 use Rattle.vt_mounting.proofs.detach.LostUses.{entry_found_at, entry_itself, flat_map_less, folded_append, one_number_less, positive}
-use Rattle.vt_mounting.proofs.detach.Midway.{IsShown, Midway, NoneUnused, Reached, UnusedOnly, gone_if, gone_number, one_number_kept, point_left, points_left, unused_parts}
+use Rattle.vt_mounting.proofs.detach.Midway.{IsShown, MayLeave, Midway, NoneUnused, Reached, UnusedOnly, gone_if, gone_number, one_number_kept, point_left, points_left, unused_parts}
 use Rattle.vt_mounting.proofs.detach.Moving.{Use, inodes_of_uses, nat_eq_turned}
 use Rattle.vt_mounting.proofs.detach.BesideOverlays.{lives_more}
 use Rattle.vt_mounting.proofs.detach.MountsGone.{exchanges_between}
-use Rattle.vt_mounting.proofs.detach.MountsLeave.{layers_exchanged, layers_stay, leaves_then, left_counted, left_shown, numbers_are, overlay_was, overlays_apart, overlays_stay, shown_are}
-use Rattle.vt_mounting.proofs.detach.OverlaysGone.{layers_gone, merged_in}
+use Rattle.vt_mounting.proofs.detach.MountsLeave.{IsKeptOf, layers_exchanged, layers_stay, leaves_then, left_counted, left_shown, numbers_are, overlay_was, overlays_apart, overlays_stay, shown_are}
+use Rattle.vt_mounting.proofs.detach.OverlaysGone.{Takes, layers_gone, merged_in}
 use Rattle.vt_mounting.proofs.detach.OverlaysKept.{merged_then}
 use Rattle.vt_mounting.proofs.detach.Overlaid.{overlay_apart}
 
@@ -87,17 +87,18 @@ module _ (now : World ℕ) (number : ℕ)
   pub living_alike : in_use_of second ≡ in_use_of now
   living_alike = λ i. record now { mounts = same_left i; filesystems = same_filesystems i }
 
-module _ (value : WorldValue) (whole : IsHeld value) (start : World ℕ) (gained : List Inode) (goes : Mount ℕ → Bool)
-    (attached : (mount : Mount ℕ) → goes mount ≡ true → is_some mount.namespace ≡ true)
-    (number : ℕ) (left : List Use) (now : World ℕ) (k : Kept) (lost : List Inode)
+module _ {value : WorldValue} {start : World ℕ} {gained : List Inode} {goes : Mount ℕ → Bool}
+    (may : MayLeave value goes) (number : ℕ) {left : List Use} {now : World ℕ} {k : Kept} {lost : List Inode}
     (mid : Midway value start gained goes left now k lost) where
+  open may use {whole, attached}
+
   abbrev world : World ℕ
   world = world_of value
 
   one_number : OneNumberAMount (mounts_in k.mounts)
   one_number = one_number_kept goes (mounts_in k.mounts) (subst OneNumberAMount mid.mounts mid.stand.one_number)
 
-  module _ (entry : MountEntry) (found : entry_numbered k.mounts number ≡ Some entry)
+  module _ {entry : MountEntry} (found : entry_numbered k.mounts number ≡ Some entry)
       (unused : is_unused entry ≡ true) where
     abbrev mount : Mount ℕ
     mount = entry.mount
@@ -109,11 +110,7 @@ module _ (value : WorldValue) (whole : IsHeld value) (start : World ℕ) (gained
     nowhere = (unused_parts entry unused).0
 
     not_going : goes mount ≡ false
-    not_going = by (goes mount) refl
-      where
-        by : (b : Bool) → goes mount ≡ b → b ≡ false
-        by true e = absurd (true≢false (sym (attached mount e) ∙ nowhere))
-        by false e = refl
+    not_going = grind (arith, common_steps)
 
     is_entry : (other : MountEntry) → Among other k.mounts → other.mount.number ≡ number → other ≡ entry
     is_entry other m e = same_Some other entry
@@ -167,23 +164,22 @@ module _ (value : WorldValue) (whole : IsHeld value) (start : World ℕ) (gained
 
     -- Filesystems
 
-    takes : (n : ℕ) → mounts_showing now n ≡ mounts_showing first n + cond (nat_eq f n) 1 0
-    takes n = mount_takes_its_count now number n mid.stand.one_number mount_listed
-        ∙ ap (λ (x : Mount ℕ). mounts_showing first n + cond (nat_eq n x.filesystem) 1 0) mount_is
-        ∙ ap (λ b. mounts_showing first n + cond b 1 0) (nat_eq_turned n f)
+    taking : Takes now number f
+    taking = record {
+      showing = λ n. mount_takes_its_count now number n mid.stand.one_number mount_listed
+          ∙ ap (λ (x : Mount ℕ). mounts_showing first n + cond (nat_eq n x.filesystem) 1 0) mount_is
+          ∙ ap (λ b. mounts_showing first n + cond b 1 0) (nat_eq_turned n f);
+    }
 
-    each : (one : Shown) → Among one k.filesystems
-        → one.mounts ≡ mounts_showing now (counted one.count) + layer_count now (counted one.count)
-    each one m = (mid.shown one m).mounts
-
-    some : (one : Shown) → Among one k.filesystems → nat_eq one.mounts 0 ≡ false
-    some one m = (mid.shown one m).mounted
-
-    apart : (one : Shown) → Among one k.filesystems → (overlay : Filesystem ℕ)
-        → Among overlay (overlays_seen value.overlays) → nat_eq (counted one.count) overlay.number ≡ false
-    apart one m overlay n =
-        let was = mid.shown one m in
-        cc (was.count, overlay_apart value whole was.was was.among overlay n)
+    keeping : IsKeptOf value now k.overlays k.filesystems
+    keeping = record {
+      merged = mid.merged;
+      each = λ one m. (mid.shown one m).mounts;
+      some = λ one m. (mid.shown one m).mounted;
+      apart = λ one m overlay n. let was = mid.shown one m in
+          cc (was.count, overlay_apart whole was.was was.among overlay n);
+      numbers = mid.numbers;
+    }
 
     abbrev after : World ℕ
     after = without_dead_filesystems nat_eq first
@@ -198,20 +194,15 @@ module _ (value : WorldValue) (whole : IsHeld value) (start : World ℕ) (gained
     abbrev lost_now : List Inode
     lost_now = lost ++ lost_here
 
-    shown_left : kept_left.filesystems
-        ≡ left_shown value whole now mid.leaves number f takes mount.root k.overlays mid.merged k.filesystems each some
-        apart mid.numbers
-    shown_left =
-        shown_are value whole now mid.leaves number f takes mount.root k.overlays mid.merged k.filesystems each some
-        apart mid.numbers
+    shown_left : kept_left.filesystems ≡ left_shown whole mid.leaves taking mount.root keeping
+    shown_left = shown_are whole mid.leaves taking mount.root keeping
 
     shown_was : (new : Shown) → Among new kept_left.filesystems
         → (one : Shown) × Among one k.filesystems × (new ≡ later_shown lost_here one)
         × (new.mounts ≡ mounts_showing after (counted new.count) + layer_count after (counted new.count))
         × (nat_eq new.mounts 0 ≡ false)
     shown_was new m =
-        left_counted value whole now mid.leaves number f takes mount.root k.overlays mid.merged k.filesystems each some
-        apart mid.numbers new (subst (λ all. Among new all) shown_left m)
+        left_counted whole mid.leaves taking mount.root keeping new (subst (λ all. Among new all) shown_left m)
 
     same_count : (new : Shown) → (m : Among new kept_left.filesystems) → new.count ≡ (shown_was new m).0.count
     same_count new m = ap (λ (x : Shown). x.count) (shown_was new m).2
@@ -332,18 +323,17 @@ module _ (value : WorldValue) (whole : IsHeld value) (start : World ℕ) (gained
     lost_in c there no_overlay = exchanges_follow now first after [] (root ∷ []) [] (layers_gone f k.overlays) c
         (subst (λ (x : Mount ℕ). Exchanges [] ((x.filesystem, x.root) ∷ []) c now first) mount_is
         (Roots.mounts_leave_their_roots now number mid.stand mid.located mount_listed not_used c))
-        (layers_exchanged value whole now mid.leaves number f takes mount.root k.overlays mid.merged k.filesystems each
-        some apart mid.numbers c there (λ overlay m. no_overlay overlay
-        (overlay_was value whole now mid.leaves overlay m).0))
+        (layers_exchanged whole mid.leaves taking mount.root keeping c there (λ overlay m. no_overlay overlay
+        (overlay_was whole mid.leaves overlay m).0))
 
     counted_there : (new : Shown) → (m : Among new kept_left.filesystems)
-        → nat_lt 0 (mounts_showing first (counted (shown_was new m).0.count)
-        + mounted_layer_count first (counted (shown_was new m).0.count)) ≡ true
+        → nat_lt 0 (mounts_showing first (counted (shown_was new m).0.count) + mounted_layer_count first
+        (counted (shown_was new m).0.count)) ≡ true
     counted_there new m =
         let from = shown_was new m in
         let c = counted from.0.count in
         positive (mounts_showing first c + mounted_layer_count first c) ∙ ap (λ n. not (nat_eq n 0))
-        (ap (λ n. mounts_showing first c + n) (sym (layers_stay value whole now mid.leaves number f takes c))
+        (ap (λ n. mounts_showing first c + n) (sym (layers_stay whole mid.leaves taking c))
         ∙ ap (λ n. mounts_showing after n + layer_count after n) (sym (ap counted (same_count new m))) ∙ sym from.3)
         ∙ ap not from.4
 
@@ -358,14 +348,14 @@ module _ (value : WorldValue) (whole : IsHeld value) (start : World ℕ) (gained
         (inodes_of_uses world left ++ points_left world goes (without number k.mounts))) n world after)
         (sym (ap counted (same_count new m)))
         (subst (λ points. Exchanges gained (lost_now ++ (inodes_of_uses world left ++ points)) c world after)
-        (sym same_points) (exchanges_between world now after gained lost rest lost_here c (mid.exchanges from.0 from.1)
-        (lost_in c (counted_there new m) (apart from.0 from.1))))
+        (sym same_points) (exchanges_between lost rest (mid.exchanges from.0 from.1)
+        (lost_in c (counted_there new m) (keeping.apart from.0 from.1))))
 
     merged_left : kept_left.overlays ≡ map (merged_in after) (filter is_overlay after.filesystems)
     merged_left = (λ i. meant.merged_left_by f (meant.merged_at f (mid.merged i)) (mid.merged i))
-        ∙ merged_then now number f takes (filter is_overlay now.filesystems) (overlays_apart value whole now mid.leaves)
-        (λ overlay m. (overlay_was value whole now mid.leaves overlay m).1)
-        ∙ ap (map (merged_in first)) (sym (overlays_stay value whole now mid.leaves number f takes))
+        ∙ merged_then taking (filter is_overlay now.filesystems) (overlays_apart whole mid.leaves)
+        (λ overlay m. (overlay_was whole mid.leaves overlay m).1)
+        ∙ ap (map (merged_in first)) (sym (overlays_stay whole mid.leaves taking))
 
     still_there : (e : MountEntry) → Among e (without number k.mounts)
         → Among e k.mounts × (not (nat_eq number e.mount.number) ≡ true)
@@ -381,15 +371,15 @@ module _ (value : WorldValue) (whole : IsHeld value) (start : World ℕ) (gained
       well = λ e m. mid.well e (still_there e m).0;
       shown = shown_is;
       exchanges = exchanges_are;
-      numbers = numbers_are value whole now mid.leaves number f takes mount.root k.overlays mid.merged k.filesystems
-          each some apart mid.numbers ∙ sym (ap (map (λ (one : Shown). counted one.count)) shown_left);
+      numbers = numbers_are whole mid.leaves taking mount.root keeping ∙ sym
+          (ap (map (λ (one : Shown). counted one.count)) shown_left);
       stand = record {
         one_number = stand_first.one_number;
         nowhere = stand_first.nowhere;
         on_attached = stand_first.on_attached;
       };
       located = located_first;
-      leaves = leaves_then value whole now mid.leaves number f takes;
+      leaves = leaves_then whole mid.leaves taking;
       same = living_alike now number dead ∙ mid.same;
     }
 
@@ -422,5 +412,5 @@ module _ (value : WorldValue) (whole : IsHeld value) (start : World ℕ) (gained
         where
           chosen : (b : Bool) → is_unused entry ≡ b
               → Reached value start gained goes left (cond b (meant.without_mount number entry.mount k) k)
-          chosen true h = unused_goes entry e h only
+          chosen true h = unused_goes e h only
           chosen false h = stays_as_it_is (λ x m u f. sym u ∙ ap is_unused (same_Some x entry (f ∙ e)) ∙ h)

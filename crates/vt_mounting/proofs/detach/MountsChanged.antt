@@ -33,11 +33,7 @@ entry_changed number change entry = cond (nat_eq number entry.mount.number) (wit
 
 entry_mount : (number : ℕ) (change : Mount ℕ → Mount ℕ) (entry : MountEntry)
     → (entry_changed number change entry).mount ≡ one_changed number change entry.mount
-entry_mount number change entry = by (nat_eq number entry.mount.number)
-  where
-    by : (b : Bool) → (cond b (with_mount_changed change entry) entry).mount ≡ cond b (change entry.mount) entry.mount
-    by true = refl
-    by false = refl
+entry_mount number change entry = grind (arith, common_steps)
 
 pub mounts_changed : (number : ℕ) (change : Mount ℕ → Mount ℕ) (entries : List MountEntry)
     → mounts_in (changed number (with_mount_changed change) entries)
@@ -56,7 +52,7 @@ times_alike : {A : Type 0} (test other : A → Bool) (list : List A) → ((a : A
 times_alike test other [] same = refl
 times_alike test other (a ∷ rest) same = λ i. cond (same a i) 1 0 + times_alike test other rest same i
 
-module _ (value : WorldValue) (whole : IsHeld value) (number : ℕ) (change : Mount ℕ → Mount ℕ)
+module _ {value : WorldValue} (whole : IsHeld value) (number : ℕ) {change : Mount ℕ → Mount ℕ}
     (keeps : KeepsWhatItShows change) where
   abbrev entries : List MountEntry
   entries = changed number (with_mount_changed change) value.mounts
@@ -66,26 +62,15 @@ module _ (value : WorldValue) (whole : IsHeld value) (number : ℕ) (change : Mo
 
   part_changed : {A : Type 0} (part : Mount ℕ → A) → ((mount : Mount ℕ) → part (change mount) ≡ part mount)
       → (mount : Mount ℕ) → part (one_changed number change mount) ≡ part mount
-  part_changed part same mount = by (nat_eq number mount.number)
-    where
-      by : (b : Bool) → part (cond b (change mount) mount) ≡ part mount
-      by true = same mount
-      by false = refl
+  part_changed part same mount = grind (arith, common_steps)
 
   part_kept : {A : Type 0} (part : Mount ℕ → A) → ((mount : Mount ℕ) → part (change mount) ≡ part mount)
       → (entry : MountEntry) → part (entry_changed number change entry).mount ≡ part entry.mount
-  part_kept part same entry = by (nat_eq number entry.mount.number)
-    where
-      by : (b : Bool) → part (cond b (with_mount_changed change entry) entry).mount ≡ part entry.mount
-      by true = same entry.mount
-      by false = refl
+  part_kept part same entry = grind (arith, common_steps)
 
   mount_was : (mount : Mount ℕ) → Among mount (mounts_in entries)
       → (was : MountEntry) × Among was value.mounts × (mount ≡ (entry_changed number change was).mount)
-  mount_was mount m =
-      let one = among-from_map (λ (entry : MountEntry). entry.mount) entries mount m in
-      let first = among-from_map (entry_changed number change) value.mounts one.0 one.1 in
-      (first.0, first.1, one.2 ∙ ap (λ (entry : MountEntry). entry.mount) first.2)
+  mount_was mount m = grind (arith, common_steps, among-from_map)
 
   -- where the mount keeps its type, groups stay as they are
   pub kind_kept : ((mount : Mount ℕ) → (change mount).propagation ≡ mount.propagation)
@@ -215,11 +200,11 @@ module _ (value : WorldValue) (whole : IsHeld value) (number : ℕ) (change : Mo
             → CountsItsUses (world_of new) (entry_changed number change entry)
         same_uses entry was = grind (arith, common_steps)
 
-    pub mount_is_changed : (name : TaskName) (permit : Permit ℕ) (task : Task ℕ)
+    pub mount_is_changed : {name : TaskName} {permit : Permit ℕ} {task : Task ℕ}
         → IsApplied value name permit task next_of → Has (settled nat_eq next_of) value.groups
-        → IsDone value name permit (remade value
-        (changed number (with_mount_changed change) value.mounts) filesystems value.tasks)
-    mount_is_changed name permit task is has =
+        → IsDone value name permit (remade value (changed number (with_mount_changed change) value.mounts) filesystems
+        value.tasks)
+    mount_is_changed {name} {permit} {task} is has =
         finished value whole name permit task next_of is gained lost new swept has counts refl
 
 -- The uses of inodes that come and go with the mount point of one mount
@@ -239,14 +224,14 @@ none_changed number change (entry ∷ rest) none =
     let parts = or_parts (nat_eq number entry.mount.number) _ none in
     λ i. cond (parts.0 i) (with_mount_changed change entry) entry ∷ none_changed number change rest parts.1 i
 
-entry_split : (number : ℕ) (change : Mount ℕ → Mount ℕ) (entries : List MountEntry) (entry : MountEntry)
+entry_split : (number : ℕ) (change : Mount ℕ → Mount ℕ) (entries : List MountEntry) {entry : MountEntry}
     → any_pair (λ (a b : Mount ℕ). nat_eq a.number b.number) (mounts_in entries) ≡ false
     → entry_numbered entries number ≡ Some entry → IsSplit number change entry entries
-entry_split number change [] entry one found = absurd cc
-entry_split number change (first ∷ rest) entry one found =
+entry_split number change [] one found = absurd cc
+entry_split number change (first ∷ rest) {entry} one found =
     let parts = or_parts (list_any (λ (other : Mount ℕ). nat_eq first.mount.number other.number)
     (mounts_in rest)) _ one in
-    by parts.0 (nat_eq number first.mount.number) refl found (entry_split number change rest entry parts.1)
+    by parts.0 (nat_eq number first.mount.number) refl found (entry_split number change rest {entry = entry} parts.1)
   where
     by : list_any (λ (other : Mount ℕ). nat_eq first.mount.number other.number) (mounts_in rest) ≡ false
         → (b : Bool) → nat_eq number first.mount.number ≡ b
@@ -293,16 +278,16 @@ attached_entry value number namespace is = by (entry_numbered value.mounts numbe
       ap (λ o. unwrap_or o (no_mount number)) (found ∙ ap (option_map (λ (entry : MountEntry). entry.mount)) e),
     )
 
-module _ (value : WorldValue) (whole : IsHeld value) (number : ℕ) (change : Mount ℕ → Mount ℕ)
-    (keeps : KeepsWhatItShows change) (entry : MountEntry) (is : entry_numbered value.mounts number ≡ Some entry) where
+module _ {value : WorldValue} (whole : IsHeld value) (number : ℕ) {change : Mount ℕ → Mount ℕ}
+    (keeps : KeepsWhatItShows change) {entry : MountEntry} (is : entry_numbered value.mounts number ≡ Some entry) where
   pub places_exchanged : (filesystem : ℕ)
       → Exchanges (map (inode_at (world_of value)) (option_to_list (change entry.mount).mount_point))
       (map (inode_at (world_of value)) (option_to_list entry.mount.mount_point)) filesystem
-      (world_of value) (next_of value whole number change keeps)
+      (world_of value) (next_of whole number keeps)
   places_exchanged =
-      let split = entry_split number change value.mounts entry whole.in_world.mounts.one_number is in
-      mount_is_placed (world_of value) (next_of value whole number change keeps) (mounts_in split.front)
-      (mounts_in split.back) entry.mount (change entry.mount) refl refl
+      let split = entry_split number change value.mounts whole.in_world.mounts.one_number is in
+      mount_is_placed (world_of value) (next_of whole number keeps) (mounts_in split.front) (mounts_in split.back)
+      entry.mount (change entry.mount) refl refl
       (ap mounts_in split.was ∙ map-append (λ (one : MountEntry). one.mount) split.front (entry ∷ split.back))
       (ap mounts_in split.is ∙ map-append (λ (one : MountEntry). one.mount) split.front
       (with_mount_changed change entry ∷ split.back))

@@ -1,6 +1,6 @@
 -- A mount that has left its namespace is looked at: it goes if nothing is on it, and its filesystem with its last
 -- mount.
-use Rattle.std.proofs.Common.{◌≡◌, ◌≢◌, refl, sym, ap, subst, ◌∙◌, inl, ℕ, ◌+◌, nat_eq, eqb-true, Bool, true, false, true≢false, cond, not, ◌&&◌, ◌||◌, List, [], ◌∷◌, ◌++◌, map, filter, find, Option, Some, None, option_map, is_some, unwrap_or, arith, nat_lt, option_to_list, lt-ltb}
+use Rattle.std.proofs.Common.{◌≡◌, ◌≢◌, refl, sym, ap, subst, ◌∙◌, ℕ, ◌+◌, nat_eq, eqb-true, Bool, true, false, true≢false, cond, not, ◌&&◌, ◌||◌, List, [], ◌∷◌, ◌++◌, map, filter, find, Option, Some, None, option_map, is_some, unwrap_or, arith, nat_lt, option_to_list, lt-ltb}
 use Rattle.vt_spec.proofs.Common.{Filesystem, Location, Mount, World, all_locations, common_steps, detached, eqb-false, filesystem_lives, folded, is_among, is_located, is_nowhere_or_attached, is_overlay, mount_at, mount_lives, mount_numbered, no_mount, not-true, pair-filter, without_dead_filesystems}
 use Rattle.vt_mounting.proofs.Common.{Among, CountsItsUses, Exchanges, Inode, LocationsStand, MountEntry, MountsStand, Shown, WorldValue, all_from_among, among-filter, among-from_filter, among-from_map, among-map, among_from_all, among_from_list_all, among_numbers, counted, entry_numbered, exchanges_follow, filter-map, filter_all, found_in, inodes_seen, is_among_numbers, is_inode, is_mount_used, layer_count, list_all_from_among, located_while_counted, mount_takes_its_count, mount_uses, mounted_layer_count, mounts_in, mounts_showing, none_among, or_right, overlays_seen, pinned_if, stands_on_attached, times_append, unpinned_if, without, without_mount, world_of}
 use Rattle.vt_laws_mounts.proofs.counts.going.Gone.{mount_goes_at_zero}
@@ -14,8 +14,8 @@ use Rattle.vt_mounting.proofs.detach.Going.{map_filtered}
 use Rattle.vt_mounting.proofs.detach.Keeping.{IsKeptBut, IsShownIn, detached_in, looked_at, points_lost, points_without}
 use Rattle.vt_mounting.proofs.detach.Moving.{nat_eq_turned}
 use Rattle.vt_mounting.proofs.detach.Shown.{found_entry}
-use Rattle.vt_mounting.proofs.detach.MountsLeave.{layers_exchanged, layers_stay, leaves_then, left_counted, left_shown, living_then, numbers_are, overlay_was, overlays_apart, overlays_stay, plain_ones_counted, shown_are}
-use Rattle.vt_mounting.proofs.detach.OverlaysGone.{layers_gone, merged_in}
+use Rattle.vt_mounting.proofs.detach.MountsLeave.{IsKeptOf, layers_exchanged, layers_stay, leaves_then, left_counted, left_shown, living_then, numbers_are, overlay_was, overlays_apart, overlays_stay, plain_ones_counted, shown_are}
+use Rattle.vt_mounting.proofs.detach.OverlaysGone.{Takes, layers_gone, merged_in}
 use Rattle.vt_mounting.proofs.detach.OverlaysKept.{merged_then}
 use Rattle.vt_mounting.proofs.detach.LostUses.{folded_append, positive}
 use Rattle.vt_mounting.proofs.detach.Overlaid.{is_plain_one, overlay_apart}
@@ -40,11 +40,7 @@ none_numbered number (first ∷ rest) none x m = grind (arith, common_steps, non
 module _ (pending : List ℕ) (mount : Mount ℕ) where
   still : {A : Type 0} (part : Mount ℕ → A) → part (detached mount) ≡ part mount
       → part (detached_in pending mount) ≡ part mount
-  still part same = by (is_among nat_eq mount.number pending)
-    where
-      by : (b : Bool) → part (cond b (detached mount) mount) ≡ part mount
-      by true = same
-      by false = refl
+  still part same = grind (arith, common_steps)
 
   pub pending_number : (detached_in pending mount).number ≡ mount.number
   pending_number = still (λ (one : Mount ℕ). one.number) refl
@@ -56,17 +52,14 @@ module _ (pending : List ℕ) (mount : Mount ℕ) where
   pending_root = still (λ (one : Mount ℕ). one.root) refl
 
   pub pending_nowhere : is_some mount.namespace ≡ false → is_some (detached_in pending mount).namespace ≡ false
-  pending_nowhere none = by (is_among nat_eq mount.number pending)
-    where
-      by : (b : Bool) → is_some (cond b (detached mount) mount).namespace ≡ false
-      by true = refl
-      by false = none
+  pending_nowhere none = grind (arith, common_steps)
 
 -- what is lost in between is lost before what is lost later
-pub exchanges_between : (world between after : World ℕ) (gained lost later more : List Inode) (filesystem : ℕ)
+pub exchanges_between : {world between after : World ℕ} {gained : List Inode} (lost later : List Inode)
+    {more : List Inode} {filesystem : ℕ}
     → Exchanges gained (lost ++ later) filesystem world between → Exchanges [] more filesystem between after
     → Exchanges gained ((lost ++ more) ++ later) filesystem world after
-exchanges_between world between after gained lost later more filesystem first second = record {
+exchanges_between lost later {more} {filesystem} first second = record {
   same = second.same ∙ first.same;
   uses = λ number.
       let one = first.uses number in
@@ -77,7 +70,7 @@ exchanges_between world between after gained lost later more filesystem first se
       omega (arith, one, other, a, b, c);
 }
 
-module _ (old : WorldValue) (number : ℕ) (pending : List ℕ) (gained lost : List Inode) (world : World ℕ) (k : Kept)
+module _ {old : WorldValue} {number : ℕ} {pending : List ℕ} {gained lost : List Inode} {world : World ℕ} {k : Kept}
     (is : IsKeptBut old (number ∷ pending) pending gained lost world k) where
   abbrev later : List Inode
   later = points_lost (world_of old) (mounts_in k.mounts) pending
@@ -118,7 +111,7 @@ module _ (old : WorldValue) (number : ℕ) (pending : List ℕ) (gained lost : L
       both true b c h g = or_right b c g
       both false b c h g = h
 
-  module _ (entry : MountEntry) (e : entry_numbered k.mounts number ≡ Some entry)
+  module _ {entry : MountEntry} (e : entry_numbered k.mounts number ≡ Some entry)
       (nowhere : is_some entry.mount.namespace ≡ false) (unplaced : entry.mount.mount_point ≡ None) where
     abbrev mount : Mount ℕ
     mount = entry.mount
@@ -149,15 +142,15 @@ module _ (old : WorldValue) (number : ℕ) (pending : List ℕ) (gained lost : L
     uses_are = (among_from_all (CountsItsUses world) k.mounts is.uses entry entry_found.0).uses
         ∙ ap (mount_uses world) (sym numbered)
 
-    looked : (c : Bool) → nat_lt 0 entry.uses ≡ c
+    looked : {c : Bool} → nat_lt 0 entry.uses ≡ c
         → Looks.let_go_mount world number ≡ cond c world (without_mount world number)
-    looked c f = mount_goes_at_zero world number is.stand.one_number
+    looked f = mount_goes_at_zero world number is.stand.one_number
         ∙ (λ i. cond (nowhere_so i || nat_lt 0 (sym uses_are i)) world (without_mount world number))
         ∙ ap (λ b. cond b world (without_mount world number)) f
 
-    kept_is : (b c : Bool) → is_some mount.namespace ≡ b → nat_eq entry.uses 0 ≡ c
+    kept_is : {b c : Bool} → is_some mount.namespace ≡ b → nat_eq entry.uses 0 ≡ c
         → meant.let_go_mount number k ≡ cond (not b && c) (meant.without_mount number mount k) k
-    kept_is b c f g =
+    kept_is f g =
         ap (meant.let_go_entry number k) e ∙ (λ i. cond (not (f i) && g i) (meant.without_mount number mount k) k)
 
     -- the mount is one of the world
@@ -193,37 +186,33 @@ module _ (old : WorldValue) (number : ℕ) (pending : List ℕ) (gained lost : L
       looked_is : looked_at world number ≡ remaining
       looked_is = ap (without_dead_filesystems nat_eq) dead
 
-      takes : (n : ℕ) → mounts_showing world n ≡ mounts_showing mounted n + cond (nat_eq mount.filesystem n) 1 0
-      takes n = mount_takes_its_count world number n is.stand.one_number mount_listed
-          ∙ ap (λ f. mounts_showing mounted n + cond (nat_eq n f) 1 0) shows
-          ∙ ap (λ b. mounts_showing mounted n + cond b 1 0) (nat_eq_turned n mount.filesystem)
+      taking : Takes world number mount.filesystem
+      taking = record {
+        showing = λ n. mount_takes_its_count world number n is.stand.one_number mount_listed
+            ∙ ap (λ f. mounts_showing mounted n + cond (nat_eq n f) 1 0) shows
+            ∙ ap (λ b. mounts_showing mounted n + cond b 1 0) (nat_eq_turned n mount.filesystem);
+      }
 
-      each : (one : Shown) → Among one k.filesystems
-          → one.mounts ≡ mounts_showing world (counted one.count) + layer_count world (counted one.count)
-      each one m = (is.filesystems one m).mounts
+      keeping : IsKeptOf old world k.overlays k.filesystems
+      keeping = record {
+        merged = is.merged;
+        each = λ one m. (is.filesystems one m).mounts;
+        some = λ one m.
+            let there = among-from_map (λ (f : Filesystem ℕ). f.number) (filter is_plain_one world.filesystems)
+            (counted one.count) (subst (λ all. Among (counted one.count) all) (sym is.numbers)
+            (among-map (λ (x : Shown). counted x.count) k.filesystems one m)) in
+            not-true (nat_eq one.mounts 0) (ap (λ n. not (nat_eq n 0)) ((is.filesystems one m).mounts
+            ∙ ap (λ n. mounts_showing world n + layer_count world n) there.2)
+            ∙ sym (positive (mounts_showing world there.0.number + layer_count world there.0.number))
+            ∙ plain_ones_counted is.held is.leaves is.mounted there.0
+            (among-from_filter is_plain_one world.filesystems there.0 there.1).0);
+        apart = λ one m overlay n. let was = is.filesystems one m in
+            cc (was.count, overlay_apart is.held was.was was.among overlay n);
+        numbers = is.numbers;
+      }
 
-      some : (one : Shown) → Among one k.filesystems → nat_eq one.mounts 0 ≡ false
-      some one m =
-          let there = among-from_map (λ (f : Filesystem ℕ). f.number) (filter is_plain_one world.filesystems)
-          (counted one.count) (subst (λ all. Among (counted one.count) all) (sym is.numbers)
-          (among-map (λ (x : Shown). counted x.count) k.filesystems one m)) in
-          not-true (nat_eq one.mounts 0) (ap (λ n. not (nat_eq n 0))
-          (each one m ∙ ap (λ n. mounts_showing world n + layer_count world n) there.2)
-          ∙ sym (positive (mounts_showing world there.0.number + layer_count world there.0.number))
-          ∙ plain_ones_counted old is.held world is.leaves is.mounted there.0
-          (among-from_filter is_plain_one world.filesystems there.0 there.1).0)
-
-      apart : (one : Shown) → Among one k.filesystems → (overlay : Filesystem ℕ)
-          → Among overlay (overlays_seen old.overlays) → nat_eq (counted one.count) overlay.number ≡ false
-      apart one m overlay n =
-          let was = is.filesystems one m in
-          cc (was.count, overlay_apart old is.held was.was was.among overlay n)
-
-      shown_left : kept_now.filesystems
-          ≡ left_shown old is.held world is.leaves number mount.filesystem takes mount.root k.overlays is.merged
-          k.filesystems each some apart is.numbers
-      shown_left = shown_are old is.held world is.leaves number mount.filesystem takes mount.root k.overlays is.merged
-          k.filesystems each some apart is.numbers
+      shown_left : kept_now.filesystems ≡ left_shown is.held is.leaves taking mount.root keeping
+      shown_left = shown_are is.held is.leaves taking mount.root keeping
 
       not_located : is_located nat_eq world number ≡ false
       not_located = located_while_counted world number ∙ ap (nat_lt 0) unused
@@ -241,11 +230,10 @@ module _ (old : WorldValue) (number : ℕ) (pending : List ℕ) (gained lost : L
       root_goes n some_there others =
           let first = subst (λ inode. Exchanges [] (inode ∷ []) n world mounted) root_is
           (Roots.mounts_leave_their_roots world number is.stand is.located mount_listed unused_so n) in
-          let second = layers_exchanged old is.held world is.leaves number mount.filesystem takes mount.root k.overlays
-          is.merged k.filesystems each some apart is.numbers n some_there
-          (λ overlay m. others overlay (overlay_was old is.held world is.leaves overlay m).0) in
-          exchanges_follow world mounted remaining [] (root ∷ []) [] (layers_gone mount.filesystem k.overlays) n
-          first second
+          let second = layers_exchanged is.held is.leaves taking mount.root keeping n some_there
+          (λ overlay m. others overlay (overlay_was is.held is.leaves overlay m).0) in
+          exchanges_follow world mounted remaining [] (root ∷ []) [] (layers_gone mount.filesystem k.overlays) n first
+          second
 
       -- a place that stays
       stays_there : (n : ℕ) → is_some (mount_numbered nat_eq world n).namespace ≡ true
@@ -259,13 +247,9 @@ module _ (old : WorldValue) (number : ℕ) (pending : List ℕ) (gained lost : L
               (sym same ∙ eqb-true x.number number h) ∙ nowhere_so))
           by x same false h = refl
 
-      place_attached : (x : Mount ℕ) → Among x world.mounts → (place : Location ℕ) → x.mount_point ≡ Some place
+      place_attached : (x : Mount ℕ) → Among x world.mounts → {place : Location ℕ} → x.mount_point ≡ Some place
           → is_some (mount_numbered nat_eq world place.mount).namespace ≡ true
-      place_attached x m place p =
-          among_from_list_all (λ (one : Location ℕ). is_some (mount_at nat_eq world one).namespace)
-          (option_to_list x.mount_point)
-          (among_from_list_all (stands_on_attached world) world.mounts is.stand.on_attached x m) place
-          (subst (λ o. Among place (option_to_list o)) (sym p) (inl refl))
+      place_attached x m {place} p = grind (arith, common_steps, among_from_list_all)
 
       stand_still : MountsStand remaining
       stand_still = record {
@@ -318,8 +302,8 @@ module _ (old : WorldValue) (number : ℕ) (pending : List ℕ) (gained lost : L
       shown_now : (new : Shown) → Among new kept_now.filesystems → IsShownIn old gained (lost ++ lost_here)
           (points_lost (world_of old) (mounts_in kept_mounts) pending) remaining new
       shown_now new m =
-          let from = left_counted old is.held world is.leaves number mount.filesystem takes mount.root k.overlays
-          is.merged k.filesystems each some apart is.numbers new (subst (λ all. Among new all) shown_left m) in
+          let from = left_counted is.held is.leaves taking mount.root keeping new
+          (subst (λ all. Among new all) shown_left m) in
           let was = is.filesystems from.0 from.1 in
           let count : new.count ≡ from.0.count = ap (λ (x : Shown). x.count) from.2 in
           let n = counted was.was.count in
@@ -327,7 +311,7 @@ module _ (old : WorldValue) (number : ℕ) (pending : List ℕ) (gained lost : L
           let some_there : nat_lt 0 (mounts_showing mounted n + mounted_layer_count mounted n) ≡ true =
           positive (mounts_showing mounted n + mounted_layer_count mounted n) ∙ ap (λ k. not (nat_eq k 0))
           (ap (λ k. mounts_showing mounted n + k)
-          (sym (layers_stay old is.held world is.leaves number mount.filesystem takes n))
+          (sym (layers_stay is.held is.leaves taking n))
           ∙ ap (λ k. mounts_showing remaining k + layer_count remaining k) (sym same) ∙ sym from.3) ∙ ap not from.4 in
           record {
             was = was.was;
@@ -340,8 +324,8 @@ module _ (old : WorldValue) (number : ℕ) (pending : List ℕ) (gained lost : L
                 (folded (pinned_if n) (inodes_seen was.was) gained) lost lost_here);
             exchanges = subst (λ rest. Exchanges gained ((lost ++ lost_here) ++ rest) n (world_of old) remaining)
                 (sym later_is)
-                (exchanges_between (world_of old) world remaining gained lost later lost_here n was.exchanges
-                (root_goes n some_there (overlay_apart old is.held was.was was.among)));
+                (exchanges_between lost later was.exchanges
+                (root_goes n some_there (overlay_apart is.held was.was was.among)));
             mounts = from.3;
           }
 
@@ -349,10 +333,10 @@ module _ (old : WorldValue) (number : ℕ) (pending : List ℕ) (gained lost : L
       remaining_kept = record {
         held = is.held;
         merged = (λ i. meant.merged_left_by mount.filesystem (meant.merged_at mount.filesystem (is.merged i))
-            (is.merged i)) ∙ merged_then world number mount.filesystem takes (filter is_overlay world.filesystems)
-            (overlays_apart old is.held world is.leaves)
-            (λ overlay m. (overlay_was old is.held world is.leaves overlay m).1) ∙ ap (map (merged_in mounted))
-            (sym (overlays_stay old is.held world is.leaves number mount.filesystem takes));
+            (is.merged i)) ∙ merged_then taking (filter is_overlay world.filesystems)
+            (overlays_apart is.held is.leaves)
+            (λ overlay m. (overlay_was is.held is.leaves overlay m).1) ∙ ap (map (merged_in mounted))
+            (sym (overlays_stay is.held is.leaves taking));
         mounts = ap (filter is_other) is.mounts ∙ filter-map is_other (detached_in pending) (mounts_in k.mounts)
             (λ x. ap (λ n. not (nat_eq n number)) (pending_number pending x))
             ∙ ap (map (detached_in pending)) (sym mounts_are);
@@ -360,8 +344,8 @@ module _ (old : WorldValue) (number : ℕ) (pending : List ℕ) (gained lost : L
             let counts = among_from_all (CountsItsUses world) k.mounts is.uses one
             (among-from_filter (λ (x : MountEntry). not (nat_eq number x.mount.number)) k.mounts one m).0 in
             record { uses = counts.uses; writers = counts.writers });
-        numbers = numbers_are old is.held world is.leaves number mount.filesystem takes mount.root k.overlays is.merged
-            k.filesystems each some apart is.numbers ∙ sym (ap (map (λ (one : Shown). counted one.count)) shown_left);
+        numbers = numbers_are is.held is.leaves taking mount.root keeping ∙ sym
+            (ap (map (λ (one : Shown). counted one.count)) shown_left);
         filesystems = shown_now;
         stand = stand_still;
         located = located_still;
@@ -371,13 +355,13 @@ module _ (old : WorldValue) (number : ℕ) (pending : List ℕ) (gained lost : L
             other (nat_eq x.number number) (is_among nat_eq x.number pending) (mount_lives nat_eq world x)
             (among_from_list_all (λ x. is_among nat_eq x.number (number ∷ pending)
             || mount_lives nat_eq world x) world.mounts is.in_use x from.0) from.1);
-        mounted = living_then old is.held world is.leaves number mount.filesystem takes;
-        leaves = leaves_then old is.held world is.leaves number mount.filesystem takes;
+        mounted = living_then is.held is.leaves taking;
+        leaves = leaves_then is.held is.leaves taking;
         points = λ x m point p few. is.points x (among-from_filter is_other (mounts_in k.mounts) x
             (subst (λ all. Among x all) mounts_are m)).0 point p few;
         places = λ x m place p.
             let from = (among-from_filter is_other world.mounts x m).0 in
-            ap (λ (one : Mount ℕ). one.filesystem) (stays_there place.mount (place_attached x from place p))
+            ap (λ (one : Mount ℕ). one.filesystem) (stays_there place.mount (place_attached x from p))
             ∙ is.places x from place p;
       }
         where
@@ -395,19 +379,19 @@ module _ (old : WorldValue) (number : ℕ) (pending : List ℕ) (gained lost : L
         by true g =
             let zero : entry.uses ≡ 0 = eqb-true entry.uses 0 g in
             let unused : mount_uses world number ≡ 0 = sym uses_are ∙ zero in
-            let dead = looked false (ap (nat_lt 0) zero) in (
+            let dead = looked (ap (nat_lt 0) zero) in (
               lost ++ lost_here unused dead,
               subst (λ one. IsKeptBut old pending pending gained (lost ++ lost_here unused dead) one
                   (meant.let_go_mount number k)) (sym (looked_is unused dead))
                   (subst (λ one. IsKeptBut old pending pending gained (lost ++ lost_here unused dead)
-                  (remaining unused dead) one) (sym (kept_is false true nowhere g)) (remaining_kept unused dead)),
+                  (remaining unused dead) one) (sym (kept_is nowhere g)) (remaining_kept unused dead)),
             )
         by false g =
             let some : entry.uses ≢ 0 = eqb-false entry.uses 0 g in (
               lost,
               subst (λ one. IsKeptBut old pending pending gained lost (looked_at world number) one)
-                  (sym (kept_is false false nowhere g))
-                  (mount_stays (looked true (lt-ltb 0 entry.uses (omega (arith, some))))),
+                  (sym (kept_is nowhere g))
+                  (mount_stays (looked {c = true} (lt-ltb 0 entry.uses (omega (arith, some))))),
             )
 
   -- where there is no such mount
@@ -444,4 +428,4 @@ module _ (old : WorldValue) (number : ℕ) (pending : List ℕ) (gained lost : L
           → (now : List Inode) × IsKeptBut old pending pending gained now (looked_at world number)
           (meant.let_go_mount number k)
       by None e = none_looked_at e
-      by (Some entry) e = entry_looked_at entry e (apart entry e).0 (apart entry e).1
+      by (Some entry) e = entry_looked_at e (apart entry e).0 (apart entry e).1

@@ -15,7 +15,7 @@ use Rattle.vt_mounting.proofs.detach.LayersLeft.{go_one_by_one, is_some_left, la
 use Rattle.vt_mounting.proofs.detach.LostUses.{found_unless, positive}
 use Rattle.vt_mounting.proofs.detach.Moving.{nat_eq_turned}
 use Rattle.vt_mounting.proofs.detach.Overlaid.{is_plain_one, overlays_are, plain_one_among}
-use Rattle.vt_mounting.proofs.detach.OverlaysGone.{layers_go, layers_gone, layers_gone_by, layers_of_overlays, layers_parted, layers_used, merged_in, uses_layers}
+use Rattle.vt_mounting.proofs.detach.OverlaysGone.{Takes, layers_go, layers_gone, layers_gone_by, layers_of_overlays, layers_parted, layers_used, merged_in, uses_layers}
 
 -- A world midway in an event has those overlays of before that mounts show still.
 pub record LeavesOverlays (old : WorldValue) (world : World ℕ) : Type 0 where
@@ -23,7 +23,18 @@ pub record LeavesOverlays (old : WorldValue) (world : World ℕ) : Type 0 where
       ≡ filter (λ overlay. is_mounted nat_eq world overlay.number) (overlays_seen old.overlays)
   pub rise : are_rising world.filesystems ≡ true
 
-module _ (old : WorldValue) (held : IsHeld old) (world : World ℕ) (leaves : LeavesOverlays old world) where
+-- Code keeps this of a world: its overlays, and what it shows of plain filesystems.
+pub record IsKeptOf (old : WorldValue) (world : World ℕ) (overlays : List Merged) (shown : List Shown) : Type 0 where
+  pub merged : overlays ≡ map (merged_in world) (filter is_overlay world.filesystems)
+  pub each : (one : Shown) → Among one shown
+      → one.mounts ≡ mounts_showing world (counted one.count) + layer_count world (counted one.count)
+  pub some : (one : Shown) → Among one shown → nat_eq one.mounts 0 ≡ false
+  pub apart : (one : Shown) → Among one shown → (overlay : Filesystem ℕ)
+      → Among overlay (overlays_seen old.overlays) → nat_eq (counted one.count) overlay.number ≡ false
+  pub numbers : map (λ (f : Filesystem ℕ). f.number) (filter is_plain_one world.filesystems)
+      ≡ map (λ (one : Shown). counted one.count) shown
+
+module _ {old : WorldValue} (held : IsHeld old) {world : World ℕ} (leaves : LeavesOverlays old world) where
   -- an overlay of the world is one of before, and a mount shows it
   pub overlay_was : (overlay : Filesystem ℕ) → Among overlay (filter is_overlay world.filesystems)
       → Among overlay (overlays_seen old.overlays) × (is_mounted nat_eq world overlay.number ≡ true)
@@ -39,7 +50,7 @@ module _ (old : WorldValue) (held : IsHeld old) (world : World ℕ) (leaves : Le
   -- no overlay has a layer in it
   no_layer_in : (overlay : Filesystem ℕ) → Among overlay (filter is_overlay world.filesystems)
       → HasNoLayerIn overlay.number world
-  no_layer_in overlay m = no_layer_midway old held world
+  no_layer_in overlay m = no_layer_midway held world
       (λ f n e. (overlay_was f (among-filter is_overlay world.filesystems f n e)).0) overlay (overlay_was overlay m).0
 
   -- all layers are those of overlays that mounts show
@@ -80,8 +91,9 @@ module _ (old : WorldValue) (held : IsHeld old) (world : World ℕ) (leaves : Le
       (pair-filter (λ (a b : Filesystem ℕ). nat_eq a.number b.number) is_overlay (world_of old).filesystems
       held.in_world.files.one_filesystem)))
 
-  module _ (number filesystem : ℕ) (takes : (n : ℕ) → mounts_showing world n
-      ≡ mounts_showing (without_mount world number) n + cond (nat_eq filesystem n) 1 0) where
+  module _ {number filesystem : ℕ} (taking : Takes world number filesystem) where
+    open taking use {showing as takes}
+
     abbrev mounted : World ℕ
     mounted = without_mount world number
 
@@ -195,15 +207,9 @@ module _ (old : WorldValue) (held : IsHeld old) (world : World ℕ) (leaves : Le
             )
 
     -- Code keeps this of the world, and a mount of the filesystem goes with a use of its root.
-    module _ (root : ℕ) (overlays : List Merged)
-        (merged : overlays ≡ map (merged_in world) (filter is_overlay world.filesystems)) (shown : List Shown)
-        (each : (one : Shown) → Among one shown
-        → one.mounts ≡ mounts_showing world (counted one.count) + layer_count world (counted one.count))
-        (some : (one : Shown) → Among one shown → nat_eq one.mounts 0 ≡ false)
-        (apart : (one : Shown) → Among one shown → (overlay : Filesystem ℕ)
-        → Among overlay (overlays_seen old.overlays) → nat_eq (counted one.count) overlay.number ≡ false)
-        (numbers : map (λ (f : Filesystem ℕ). f.number) (filter is_plain_one world.filesystems)
-        ≡ map (λ (one : Shown). counted one.count) shown) where
+    module _ (root : ℕ) {overlays : List Merged} {shown : List Shown} (keeping : IsKeptOf old world overlays shown) where
+      open keeping use {merged, each, some, apart, numbers}
+
       -- what is lost with it
       abbrev lost : List Inode
       lost = (filesystem, root) ∷ layers_gone filesystem overlays
@@ -213,7 +219,7 @@ module _ (old : WorldValue) (held : IsHeld old) (world : World ℕ) (leaves : Le
 
       gone_is : flat_map layers_used (filter (λ f. not (is_shown f)) (filter is_overlay world.filesystems))
           ≡ layers_gone filesystem overlays
-      gone_is = layers_go world number filesystem takes (filter is_overlay world.filesystems) overlays_apart
+      gone_is = layers_go taking (filter is_overlay world.filesystems) overlays_apart
           (λ overlay m. (overlay_was overlay m).1) ∙ ap (layers_gone filesystem) (sym merged)
 
       fewer_layers : (n : ℕ) → layer_count world n
@@ -233,7 +239,7 @@ module _ (old : WorldValue) (held : IsHeld old) (world : World ℕ) (leaves : Le
           (nat_eq_turned (counted one.count) filesystem) ∙ omega (arith, counts_are, took, layers)
 
       -- where an overlay has the number, no plain filesystem has it
-      module _ (one : Merged) (found : merged_at filesystem overlays ≡ Some one) where
+      module _ {one : Merged} (found : merged_at filesystem overlays ≡ Some one) where
         abbrev unpinned : List Shown
         unpinned = unpinned_in (filesystem, root) shown
 
@@ -274,13 +280,14 @@ module _ (old : WorldValue) (held : IsHeld old) (world : World ℕ) (leaves : Le
       pub shown_are : shown_left_by filesystem (merged_at filesystem overlays) (unpinned_in (filesystem, root) shown)
           ≡ left_shown
       shown_are = by (merged_at filesystem overlays) refl
-          ∙ go_one_by_one lost shown (λ n. mounts_showing world n + layer_count world n) each some
+          ∙ go_one_by_one lost {counts = λ n. mounts_showing world n + layer_count world n}
+          (record { each = each; some = some })
         where
           by : (o : Option Merged) → merged_at filesystem overlays ≡ o
               → shown_left_by filesystem o (unpinned_in (filesystem, root) shown)
               ≡ folded without_layer (without_layer shown (filesystem, root)) (layers_gone_by o)
           by None e = refl
-          by (Some one) e = leaves_so one e
+          by (Some one) e = leaves_so e
 
       -- which the world keeps, too
       pub numbers_are : map (λ (f : Filesystem ℕ). f.number) (filter is_plain_one left.filesystems)
@@ -368,15 +375,14 @@ some_at_first value whole was m = not-true (nat_eq was.mounts 0) (ap (λ n. not 
     (among_from_all (CountsItsMounts (world_of value)) value.filesystems whole.filesystems was m).mounts
     ∙ sym (positive (mounts_showing (world_of value) (counted was.count)
     + layer_count (world_of value) (counted was.count)))
-    ∙ plain_ones_counted value whole (world_of value) (leaves_at_first value whole)
-    (all_in_use (world_of value) whole.in_world).filesystems (filesystem_seen was)
-    (plain_one_among value whole.overlays.merged was m))
+    ∙ plain_ones_counted whole (leaves_at_first value whole) (all_in_use (world_of value) whole.in_world).filesystems
+    (filesystem_seen was) (plain_one_among value whole.overlays.merged was m))
 
 -- Overlays are left and kept where as many mounts show each filesystem.
 module _ (world other : World ℕ) (same : other.filesystems ≡ world.filesystems)
     (showing : (n : ℕ) → mounts_showing other n ≡ mounts_showing world n) where
-  pub leaves_alike : (old : WorldValue) → LeavesOverlays old world → LeavesOverlays old other
-  leaves_alike old leaves = record {
+  pub leaves_alike : {old : WorldValue} → LeavesOverlays old world → LeavesOverlays old other
+  leaves_alike {old} leaves = record {
     overlays = ap (filter is_overlay) same ∙ leaves.overlays
         ∙ filter_alike (λ (overlay : Filesystem ℕ). is_mounted nat_eq world overlay.number)
         (λ (overlay : Filesystem ℕ). is_mounted nat_eq other overlay.number) (overlays_seen old.overlays) (λ overlay m.

@@ -1,6 +1,6 @@
 -- A mount moves, with all that is below it: mount(2) with MS_MOVE. Only the mount point of the first mount changes.
 use Rattle.std.proofs.Common.{◌≡◌, refl, sym, ap, subst, ◌∙◌, inl, inr, ℕ, nat_eq, eqb-true, eq-eqb, Bool, true, false, true≢false, cond, ◌&&◌, List, [], ◌∷◌, ◌++◌, map, length, Option, Some, None, option_map, is_some, unwrap_or, filter_map, find, option_to_list, append-nil, map-id, map-id, arith}
-use Rattle.vt_spec.proofs.Common.{Copies, Fresh, Location, Mount, Private, Propagation, Shared, Slave, TaskName, ToMove, Twig, Unbindable, World, and_parts, any_pair, attach, common_steps, cons_option, copies_from, filesystem_numbered, folded, group_of, has_its_root, is_directory_at, is_directory_node, is_located_well, is_shared, list_all, list_any, map_twice, masters_with, mount_at, mount_numbered, mount_tree, no_mount, node_at, none_from_not_some, or_parts, replaced_if_same, twig_master, with_mount}
+use Rattle.vt_spec.proofs.Common.{Copies, Fresh, Location, Mount, TaskName, ToMove, Twig, World, and_parts, any_pair, attach, common_steps, copies_from, filesystem_numbered, folded, group_of, has_its_root, is_directory_at, is_directory_node, is_located_well, is_shared, list_all, list_any, map_twice, masters_with, mount_at, mount_numbered, mount_tree, no_mount, node_at, none_from_not_some, or_parts, replaced_if_same, with_mount}
 use Rattle.vt_spec.proofs.Lists as spec
 use Rattle.vt_mounting.proofs.Common.{Among, AreThere, Exchanges, FilesystemEntry, Filesystems, Inode, IsHeld, WorldValue, among-map, among_from_list_all, changed, counted, directory_is_there, found_is_there, inode_at, inodes_seen, is_among_numbers, is_small_node, location_of, mounts_in, mounts_of_worlds_stand, number_of, one_number_by_numbers, shown, stands_on_attached, world_of}
 use Rattle.vt_location.specs.declared.locations.Location.{Location as At}
@@ -60,7 +60,7 @@ module _ (mounts : List (Mount ℕ)) (one : any_pair (λ (a b : Mount ℕ). nat_
 
 -- The mounts after a move
 
-module _ (value : WorldValue) (held : IsHeld value) (number namespace : ℕ) (place : Location ℕ)
+module _ {value : WorldValue} (held : IsHeld value) (number : ℕ) {namespace : ℕ} (place : Location ℕ)
     (inside : (mount_numbered nat_eq (world_of value) number).namespace ≡ Some namespace)
     (there : (mount_at nat_eq (world_of value) place).namespace ≡ Some namespace)
     (placed : is_some (mount_numbered nat_eq (world_of value) number).mount_point ≡ true) where
@@ -97,7 +97,7 @@ module _ (value : WorldValue) (held : IsHeld value) (number namespace : ℕ) (pl
           ∙ found_itself mounts one_number mount m)
       by mount m false e = refl
 
-  module _ (rest : List (Mount ℕ))
+  module _ {rest : List (Mount ℕ)}
       (is_tree : mount_tree nat_eq (mounts_in value.mounts) (mount_numbered nat_eq (world_of value) number)
       ≡ mount_numbered nat_eq (world_of value) number ∷ rest) (new : Copies ℕ) where
     abbrev tree : List (Mount ℕ)
@@ -162,28 +162,21 @@ module _ (value : WorldValue) (held : IsHeld value) (number namespace : ℕ) (pl
     made_none : (list : List (Mount ℕ))
         → filter_map (group_by (world_of value) place tree true new) (map twig list) ≡ []
     made_none [] = refl
-    made_none (mount ∷ list) = λ i. cons_option (no_group_made mount.propagation i) (made_none list i)
-      where
-        no_group_made : (kind : Propagation ℕ)
-            → twig_master (record { origin = record mount { propagation = kind }; propagation = kind }) ≡ None
-        no_group_made (Shared group) = refl
-        no_group_made (Slave master) = refl
-        no_group_made Private = refl
-        no_group_made Unbindable = refl
+    made_none (mount ∷ list) = grind (arith, common_steps, made_none list)
 
   -- where the destination's mount is not shared
   pub tree_moved : (fresh : Fresh ℕ) → group_of (mount_at nat_eq (world_of value) place).propagation ≡ None
       → attach nat_eq (world_of value) fresh place true
       (mount_tree nat_eq (mounts_in value.mounts) (mount_numbered nat_eq (world_of value) number))
-      ≡ next_of value held number (placed_at place) (places_keep place)
+      ≡ next_of held number (places_keep place)
   tree_moved fresh alone =
       let begins = tree_top (length mounts) mounts top in
       let new = copies_from nat_eq fresh (mount_at nat_eq world place ∷ []) (top ∷ begins.0) in
       ap (λ list. attach nat_eq world fresh place true list) begins.1
       ∙ at_destination world place (top ∷ begins.0) alone true fresh ∙ (λ i. record world {
-        mounts = (append-nil _ ∙ append-nil _ ∙ map-id _ ∙ mounts_after begins.0 begins.1 new
+        mounts = (append-nil _ ∙ append-nil _ ∙ map-id _ ∙ mounts_after begins.1 new
             ∙ sym (mounts_changed number (placed_at place) value.mounts)) i;
-        master = folded (masters_with nat_eq) world.master (made_none begins.0 begins.1 new (top ∷ begins.0) i ++ []);
+        master = folded (masters_with nat_eq) world.master (made_none begins.1 new (top ∷ begins.0) i ++ []);
       })
 
 -- a mount point is there
@@ -266,20 +259,17 @@ module _ (value : WorldValue) (whole : IsHeld value) (name : TaskName) (number :
       }) value.mounts) filesystems value.tasks)
   mount_is_moved =
       let entry = attached_entry value number permits.task.namespace may.own in
-      mount_is_changed value whole number (placed_at (location_of place))
-      (places_keep (location_of place)) gained lost filesystems (shown_is ∙ shown_moved left left_is small_left)
-      (λ filesystem. subst (λ (mount : Mount ℕ). Exchanges gained
+      mount_is_changed whole number (places_keep (location_of place)) gained lost filesystems
+      (shown_is ∙ shown_moved left left_is small_left) (λ filesystem. subst (λ (mount : Mount ℕ). Exchanges gained
       (map (inode_at there_world) (option_to_list mount.mount_point)) filesystem there_world
-      (next_of value whole number (placed_at (location_of place)) (places_keep (location_of place)))) (sym entry.2)
-      (places_exchanged value whole number (placed_at (location_of place))
-      (places_keep (location_of place)) entry.0 entry.1 filesystem))
-      gained_is_there name (ToMove number (location_of place)) permits.task (record {
+      (next_of whole number (places_keep (location_of place)))) (sym entry.2)
+      (places_exchanged whole number (places_keep (location_of place)) entry.1 filesystem)) gained_is_there
+      {name = name} {permit = ToMove number (location_of place)} {task = permits.task} (record {
         called = permits.called;
         given = permits.given;
         named = λ i. attached_named value whole number permits.task.namespace may.own i
             && located_is_named value whole (location_of place) place_located i;
-        applied = λ fresh. tree_moved value whole number permits.task.namespace
-            (location_of place) may.own may.destination.own may.placed fresh
+        applied = λ fresh. tree_moved whole number (location_of place) may.own may.destination.own may.placed fresh
             (none_from_not_some (group_of (mount_at nat_eq (world_of value) (location_of place)).propagation) unshared);
       })
-      (kind_kept value whole number (placed_at (location_of place)) (places_keep (location_of place)) (λ mount. refl))
+      (kind_kept whole number (places_keep (location_of place)) (λ mount. refl))

@@ -1,6 +1,6 @@
 -- Locations that tasks come to and leave: what code counts then.
 use Rattle.std.proofs.Common.{◌≡◌, refl, sym, ap, subst, ◌∙◌, ⊎_elim, ℕ, ◌+◌, ◌-◌, nat_eq, eqb-true, eq-eqb, Bool, true, false, cond, not, ◌&&◌, ◌||◌, List, [], ◌∷◌, ◌++◌, map, Option, Some, None, is_some, arith, map-id}
-use Rattle.vt_spec.proofs.Common.{Filesystem, Location, Mount, World, all_locations, and_parts, filesystem_numbered, folded, is_located_well, is_there, list_all, map_alike, map_twice, mount_at, node_in, same_location}
+use Rattle.vt_spec.proofs.Common.{Filesystem, Location, Mount, World, all_locations, and_parts, common_steps, filesystem_numbered, folded, is_located_well, is_there, list_all, map_alike, map_twice, mount_at, node_in, same_location}
 use Rattle.vt_spec.specs.Inodes as Trees
 use Rattle.vt_mounting.proofs.Common.{Among, AreThere, CountsItsUses, Exchanges, FilesystemEntry, Inode, IsHeld, MountEntry, Shown, Tasks, WorldValue, among-append, among-append_left, among-append_right, among-from_map, among-map, among_from_all, among_from_list_all, any_from_among, counted, exchanged, held, inode_at, inodes_seen, list_all_from_among, locations_use_mounts, mount_uses, mounts_in, or_left, or_right, pinned_if, released, times, unpinned_if, world_of, writes_of}
 use Rattle.vt_laws_mounts.proofs.counts.using.Places.{locations_are_uses}
@@ -80,23 +80,7 @@ released_one entry false false = (refl, omega arith, omega arith)
 
 pub held_counts : (uses : List Use) (entry : MountEntry) → HasMore uses entry (folded hold_if entry uses)
 held_counts [] entry = record { mount = refl; uses = omega arith; writers = omega arith }
-held_counts (held_use ∷ uses) entry =
-    let first = held_one entry (nat_eq held_use.location.mount entry.mount.number) held_use.writes in
-    let turned = nat_eq_turned held_use.location.mount entry.mount.number in
-    let rest = held_counts uses (hold_if entry held_use) in
-    let one : (hold_if entry held_use).uses ≡ entry.uses + cond (is_use_on entry.mount.number held_use) 1 0 = first.1
-    ∙ ap (λ b. entry.uses + cond b 1 0) turned in
-    let two : (hold_if entry held_use).writers
-    ≡ entry.writers + cond (writes_on_mount entry.mount.number held_use) 1 0 = first.2
-    ∙ ap (λ b. entry.writers + cond (held_use.writes && b) 1 0) turned in
-    let later : (folded hold_if (hold_if entry held_use) uses).uses
-    ≡ (hold_if entry held_use).uses + times (is_use_on entry.mount.number) uses =
-    rest.uses ∙ ap (λ (m : Mount ℕ). (hold_if entry held_use).uses + times (is_use_on m.number) uses) first.0 in
-    let last : (folded hold_if (hold_if entry held_use) uses).writers
-    ≡ (hold_if entry held_use).writers + times (writes_on_mount entry.mount.number) uses =
-    rest.writers ∙ ap (λ (m : Mount ℕ). (hold_if entry held_use).writers + times
-    (writes_on_mount m.number) uses) first.0 in
-    record { mount = rest.mount ∙ first.0; uses = omega (arith, one, later); writers = omega (arith, two, last) }
+held_counts (held_use ∷ uses) entry = grind (arith, common_steps, held_counts uses, nat_eq_turned)
 
 pub released_counts : (uses : List Use) (entry : MountEntry) → HasLess uses entry (folded release_if entry uses)
 released_counts [] entry = record { mount = refl; uses = omega arith; writers = omega arith }

@@ -1,11 +1,11 @@
 -- The mounts of a namespace, while tasks leave uses: a mount that goes with its last use is in no namespace.
 use Rattle.std.proofs.Common.{◌≡◌, refl, sym, ap, subst, ◌∙◌, ℕ, nat_eq, eqb-true, Bool, true, false, cond, not, List, [], ◌∷◌, filter, Option, Some, None, is_some}
 use Rattle.vt_spec.proofs.Common.{Mount, World, folded, not-false, same_Some}
-use Rattle.vt_mounting.proofs.Common.{Inode, IsHeld, MountEntry, OneNumberAMount, WorldValue, among-from_map, entry_numbered, filter_less, mounts_in, released, world_of}
+use Rattle.vt_mounting.proofs.Common.{Inode, MountEntry, OneNumberAMount, WorldValue, among-from_map, entry_numbered, filter_less, mounts_in, released, world_of}
 use Rattle.vt_mounting.specs.Detach.Uses.{Kept, is_unused, let_go_entry, let_go_mount, without_mount}
 use Rattle.vt_mounting.proofs.detach.Going.{map_filtered}
 use Rattle.vt_mounting.proofs.detach.LostUses.{entry_itself, mounts_unchanged}
-use Rattle.vt_mounting.proofs.detach.Midway.{Reached, one_number_kept, unused_parts}
+use Rattle.vt_mounting.proofs.detach.Midway.{MayLeave, Reached, one_number_kept, unused_parts}
 use Rattle.vt_mounting.proofs.detach.MidwayDone.{leave_use, leaves_one}
 use Rattle.vt_mounting.proofs.detach.Moving.{Use, lose}
 
@@ -35,8 +35,8 @@ module _ (p : Mount ℕ → Bool) (nowhere : (mount : Mount ℕ) → is_some mou
               ∙ e) in
               ap p (from.2 ∙ ap (λ (y : MountEntry). y.mount) same) ∙ nowhere entry.mount (unused_parts entry unused).0)
 
-  module _ (value : WorldValue) (whole : IsHeld value) (start : World ℕ) (gained : List Inode) (goes : Mount ℕ → Bool)
-      (attached : (mount : Mount ℕ) → goes mount ≡ true → is_some mount.namespace ≡ true) where
+  module _ {value : WorldValue} {start : World ℕ} {gained : List Inode} {goes : Mount ℕ → Bool}
+      (may : MayLeave value goes) where
     -- all uses are left
     pub inside_stays : (left : List Use) (k : Kept) → Reached value start gained goes left k
         → filter p (mounts_in (folded (leave_use (world_of value)) k left).mounts) ≡ filter p (mounts_in k.mounts)
@@ -45,8 +45,7 @@ module _ (p : Mount ℕ → Bool) (nowhere : (mount : Mount ℕ) → is_some mou
         let same : mounts_in (lose (world_of value) k u).mounts ≡ mounts_in k.mounts =
         mounts_unchanged u.location.mount (released u.writes) k.mounts (λ entry. refl) in
         cc (
-          inside_stays left (leave_use (world_of value) k u) (leaves_one value whole start gained goes attached u
-              left k at),
+          inside_stays left (leave_use (world_of value) k u) (leaves_one may at),
           inside_kept u.location.mount (lose (world_of value) k u) (subst OneNumberAMount (sym same)
               (one_number_kept goes (mounts_in k.mounts) (subst OneNumberAMount at.midway.mounts
               at.midway.stand.one_number))),

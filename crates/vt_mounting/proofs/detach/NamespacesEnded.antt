@@ -1,6 +1,6 @@
 -- The world in which a namespace has ended, and what its entries count.
 use Rattle.std.proofs.Common.{◌≡◌, ◌≢◌, refl, sym, ap, subst, ◌∙◌, ⊎_elim, inl, inr, ℕ, ◌+◌, ◌-◌, nat_eq, nat_lt, eqb-true, eq-eqb, Bool, true, false, true≢false, cond, not, ◌&&◌, ◌||◌, List, [], ◌∷◌, map, filter, Option, Some, None, arith, All, nat_le, option_map, option_to_list, leb-false, leb-true, lt-ltb}
-use Rattle.vt_spec.proofs.Common.{Location, Mount, Namespace, Task, World, after_going, and-false, and_parts, chain, common_steps, detached, has_tasks, holds_of, is_going, is_in_ended, is_listed, last_or, list_all, list_any, map_alike, mount_at, mount_in, mount_numbered, mount_point_left, mount_point_of_parent, not-true, regrouped, same_Some, taken_away, with_mounts}
+use Rattle.vt_spec.proofs.Common.{Location, Mount, Namespace, Task, World, after_going, and-false, and_parts, common_steps, detached, has_tasks, holds_of, is_going, is_in_ended, is_listed, list_all, list_any, map_alike, mount_at, mount_in, mount_numbered, mount_point_left, not-true, regrouped, same_Some, taken_away, with_mounts}
 use Rattle.vt_mounting.proofs.Common.{Among, CountsWhatIsInIt, NamespaceEntry, OneNumberAMount, Tasks, all_from_among, among-from_filter, among-from_map, among-map, among_numbers, any_from_among, counted, counted_test, filter_all, found_itself, is_among_numbers, namespace_of, none_from_among, times}
 use Rattle.vt_mounting.specs.Detach.NamespacesLeft.{entries_left, has_one_task, left_if, namespace_entry, one_task_less, with_one_task_less}
 use Rattle.vt_mounting.proofs.detach.LostUses.{positive}
@@ -47,13 +47,7 @@ module _ (world : World ℕ) (one : OneNumberAMount world.mounts) (goes : Mount 
 
   place_stays : (place : Location ℕ) → is_going nat_eq gone place.mount ≡ false
       → mount_point_left nat_eq world gone place ≡ place
-  place_stays place e = by (Rattle.std.proofs.Common.length world.mounts)
-    where
-      by : (n : ℕ) → last_or place (chain n (mount_point_of_parent nat_eq world gone) place) ≡ place
-      by Rattle.std.proofs.Common.zero = refl
-      by (Rattle.std.proofs.Common.suc n) = λ i. last_or place
-          (elim (cond (e i) (mount_at nat_eq world place).mount_point None)
-          [ None ↦ place ∷ [] | Some b ↦ place ∷ chain n (mount_point_of_parent nat_eq world gone) b ])
+  place_stays place e = grind (arith, common_steps)
 
   taken_so : map (after_going nat_eq world gone) world.mounts ≡ map (gone_if goes) world.mounts
   taken_so = map_alike (after_going nat_eq world gone) (gone_if goes) world.mounts (λ mount m.
@@ -92,15 +86,20 @@ pub tasks_counted : (number : ℕ) (all : Tasks) → list_any (λ (task : Task �
 tasks_counted number [] e = absurd (true≢false (sym e))
 tasks_counted number (task ∷ all) e = grind (arith, common_steps, tasks_counted number all)
 
-module _ (count : ℕ) (tasks : Tasks) (entries : List NamespaceEntry)
-    (counts : (entry : NamespaceEntry) → Among entry entries → CountsOneMore count tasks entry) where
+-- Each of the entries counts its tasks, and that of the namespace `count` one more.
+pub record AllCountOneMore (count : ℕ) (tasks : Tasks) (entries : List NamespaceEntry) : Type 0 where
+  pub each : (entry : NamespaceEntry) → Among entry entries → CountsOneMore count tasks entry
+
+-- whether a namespace ends with the task
+abbrev pub ends_by : Option NamespaceEntry → Bool
+ends_by None = false
+ends_by (Some entry) = has_one_task entry
+
+module _ {count : ℕ} {tasks : Tasks} {entries : List NamespaceEntry} (all : AllCountOneMore count tasks entries) where
+  open all use {each as counts}
+
   abbrev in_it : NamespaceEntry → ℕ
   in_it entry = times (λ (task : Task ℕ). nat_eq (counted entry.count) task.namespace) tasks
-
-  -- whether it ends with the task
-  abbrev pub ends_by : Option NamespaceEntry → Bool
-  ends_by None = false
-  ends_by (Some entry) = has_one_task entry
 
   abbrev pub ends : Bool
   ends = ends_by (namespace_entry count entries)

@@ -79,10 +79,10 @@ pub nodes_own : (value : WorldValue) → IsHeld value → (number inode : ℕ)
     → IsNodeIn number inode
 nodes_own value held = node_in_world (world_of value) (own_nodes value held)
 
-pub at_home : (value : WorldValue) → IsHeld value → (number : ℕ) (node : NodeRef) → is_small_node node ≡ true
+pub at_home : {value : WorldValue} → IsHeld value → (number : ℕ) (node : NodeRef) → is_small_node node ≡ true
     → is_some ((filesystem_numbered nat_eq (world_of value) number).files.tree.node (number_of node)) ≡ true
     → number ≡ counted node.filesystem.count
-at_home value held = node_at_home (world_of value) (own_nodes value held)
+at_home {value} held = node_at_home (world_of value) (own_nodes value held)
 
 -- it is in no other
 pub in_no_other : (value : WorldValue) → IsHeld value → (number : ℕ) (node : NodeRef) → is_small_node node ≡ true
@@ -95,7 +95,7 @@ in_no_other value held number node small other =
         → (filesystem_numbered nat_eq (world_of value) number).files.tree.node (number_of node) ≡ o → o ≡ None
     by None e = refl
     by (Some found) e = absurd (true≢false (sym (eq-eqb number (counted node.filesystem.count)
-        (at_home value held number node small (ap is_some e))) ∙ other))
+        (at_home held number node small (ap is_some e))) ∙ other))
 
 -- what is counted is no inode
 pub no_counted_inode : (value : WorldValue) → IsHeld value → (number count : ℕ)

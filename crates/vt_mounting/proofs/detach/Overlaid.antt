@@ -82,10 +82,10 @@ plain_ones_apart value held = subst (λ list. any_pair (λ (a b : Filesystem ℕ
     held.in_world.files.one_filesystem)
 
 -- and no overlay has the number of one of them
-pub overlay_apart : (value : WorldValue) → IsHeld value → (entry : FilesystemEntry) → Among entry value.filesystems
+pub overlay_apart : {value : WorldValue} → IsHeld value → (entry : FilesystemEntry) → Among entry value.filesystems
     → (overlay : Filesystem ℕ) → Among overlay (overlays_seen value.overlays)
     → nat_eq (counted entry.count) overlay.number ≡ false
-overlay_apart value held entry m overlay n = by (nat_eq (counted entry.count) overlay.number) refl
+overlay_apart {value} held entry m overlay n = by (nat_eq (counted entry.count) overlay.number) refl
   where
     by : (b : Bool) → nat_eq (counted entry.count) overlay.number ≡ b → b ≡ false
     by false e = refl
@@ -255,10 +255,10 @@ still_mounted old held world same =
     (world_of old).filesystems (overlays_are_mounted (world_of old) held.in_world) f there.0 there.1)
 
 -- What holds of overlays holds still of another value of the world with the same ones.
-pub overlays_hold_still : (old new : WorldValue) → HoldsOverlays old
+pub overlays_hold_still : {old : WorldValue} (new : WorldValue) → HoldsOverlays old
     → overlays_seen new.overlays ≡ overlays_seen old.overlays → are_rising (world_of new).filesystems ≡ true
     → All (IsMountedSoOften (world_of new)) new.overlays → WritersHaveLayers (world_of new) → HoldsOverlays new
-overlays_hold_still old new holds same rising mounts writers = record {
+overlays_hold_still {old} new holds same rising mounts writers = record {
   merged = subst (All (λ filesystem. is_overlay filesystem ≡ true)) (sym same) holds.merged;
   read_only = no_upper_midway old holds (world_of new) keeps;
   writers = writers;
@@ -281,7 +281,7 @@ all_shown old world mounted =
     (overlays_seen old.overlays) mounted))
 
 -- Another value of the world with fewer overlays
-module _ (old new : WorldValue) (holds : HoldsOverlays old) (stays : Filesystem ℕ → Bool)
+module _ {old : WorldValue} (new : WorldValue) (holds : HoldsOverlays old) (stays : Filesystem ℕ → Bool)
     (left : overlays_seen new.overlays ≡ filter stays (overlays_seen old.overlays)) where
   was_there : (f : Filesystem ℕ) → Among f (overlays_seen new.overlays) → Among f (overlays_seen old.overlays)
   was_there f m = (among-from_filter stays (overlays_seen old.overlays) f (subst (Among f) left m)).0

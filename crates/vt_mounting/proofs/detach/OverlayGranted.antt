@@ -1,7 +1,7 @@
 -- What the permit of a call that mounts an overlay names is there: mount(2), and the kernel's overlayfs document,
 -- "multiple lower layers".
-use Rattle.std.proofs.Common.{◌≡◌, ◌<◌, ◌≤◌, refl, sym, ap, subst, ◌∙◌, ℕ, ◌/◌, nat_eq, true, not, ◌&&◌, List, ◌++◌, map, length, Option, Some, None, Ok, arith, All, nat_le, option_to_list, leb-true, map-id}
-use Rattle.vt_spec.proofs.Common.{Call, Fresh, Layer, Location, MountFlags, MountOverlay, Overlay, OverlayWords, Permit, Task, ToMountOverlay, World, and_parts, filesystem_numbered, has_fit_layers, is_directory_node, is_empty_list, is_overlay, is_plain_layer, judge_in, length-map, list_all, looks_of, map_alike, map_twice, most_lowers, not-true, overfills, overlay_at, task_called}
+use Rattle.std.proofs.Common.{◌≡◌, ◌<◌, ◌≤◌, refl, sym, ap, subst, ◌∙◌, ℕ, ◌/◌, nat_eq, true, not, List, ◌++◌, map, length, Option, Some, None, Ok, arith, All, option_to_list, map-id}
+use Rattle.vt_spec.proofs.Common.{Call, Fresh, Layer, Location, MountFlags, MountOverlay, Overlay, OverlayWords, Permit, Task, ToMountOverlay, World, and_parts, common_steps, filesystem_numbered, has_fit_layers, is_directory_node, is_overlay, is_plain_layer, judge_in, list_all, looks_of, map_alike, map_twice, not-true, overfills, overlay_at, task_called}
 use Rattle.vt_spec.proofs.Tables.{destination_walk}
 use Rattle.vt_laws_trees.specs.Layers.Layers.Mounted.{AreLayers}
 use Rattle.vt_laws_trees.proofs.layers.mounting.Walked.{are_walked, fit_layers, has_layers, shown_plain}
@@ -32,13 +32,13 @@ module _ (value : WorldValue) (held : IsHeld value) (fresh : Fresh ℕ) (task : 
   abbrev world : World ℕ
   world = world_of value
 
-  granted_names : (path : List ℕ) (options : Option OverlayWords) (flags : MountFlags) (permit : Permit ℕ)
+  granted_names : {path : List ℕ} {options : Option OverlayWords} {flags : MountFlags} {permit : Permit ℕ}
       → IsGranted nat_eq (looks_of nat_eq (world_of value)) (overfills nat_eq fresh (world_of value) task) task
       (MountOverlay path options flags) permit
-      → (place : Location ℕ) (overlay : Overlay ℕ) (other : MountFlags) → permit ≡ ToMountOverlay place overlay other
+      → {place : Location ℕ} {overlay : Overlay ℕ} {other : MountFlags} → permit ≡ ToMountOverlay place overlay other
       → NamesLayers (world_of value) task place overlay
-  granted_names path options flags permit (mounts_overlayfs _ words _ here places admin end walked passed free) place
-      overlay other e =
+  granted_names {path} (mounts_overlayfs _ words _ here places admin end walked passed free) {place}
+      {overlay} e =
       let reached = are_walked world task words places walked in
       let same_place : here.location ≡ place = cc in
       let same_overlay : overlay_at (looks_of nat_eq (world_of value)) task places ≡ overlay = cc in
@@ -60,9 +60,9 @@ module _ (value : WorldValue) (held : IsHeld value) (fresh : Fresh ℕ) (task : 
       judged in
       let grants = calls_are_granted nat_eq (looks_of nat_eq (world_of value)) (overfills nat_eq fresh (world_of value) task)
       task call (ToMountOverlay place overlay flags) judged in
-      granted_names for.0 for.1 flags (ToMountOverlay place overlay flags)
+      granted_names
       (subst (λ c. IsGranted nat_eq (looks_of nat_eq (world_of value)) (overfills nat_eq fresh (world_of value) task) task
-      c (ToMountOverlay place overlay flags)) for.2 grants) place overlay flags refl
+      c (ToMountOverlay place overlay flags)) for.2 grants) {place = place} {overlay = overlay} {other = flags} refl
 
 -- The layers of an overlay without an upper layer, as they are kept
 module _ (value : WorldValue) (held : IsHeld value) (overlay : Overlay ℕ) (lower : overlay.upper ≡ None)
@@ -82,7 +82,7 @@ module _ (value : WorldValue) (held : IsHeld value) (overlay : Overlay ℕ) (low
     -- it is an inode of a plain filesystem
     pub layer_in : IsSeenIn value.filesystems layer.filesystem layer.directory
     layer_in = seen_in value.filesystems held.own_inodes layer.filesystem layer.directory
-        (there_where_plain value held layer.filesystem layer.directory
+        (there_where_plain held layer.filesystem layer.directory
         (not-true (is_overlay (filesystem_numbered nat_eq (world_of value) layer.filesystem)) parts.0)
         (directory_is_there ((filesystem_numbered nat_eq (world_of value) layer.filesystem).files.tree.node
         layer.directory) parts.1))
@@ -119,14 +119,9 @@ module _ (value : WorldValue) (held : IsHeld value) (overlay : Overlay ℕ) (low
   -- they are layers of what is kept, which the world shows
   pub kept_layers : Kept.AreLayers value.filesystems (map layer_kept overlay.lowers)
       × All (ShowsLayer (world_of value) value.filesystems) (map layer_kept overlay.lowers)
-  kept_layers = plain_layers_shown value held (map layer_kept overlay.lowers)
+  kept_layers = plain_layers_shown held (map layer_kept overlay.lowers)
       (ap (list_all (is_plain_layer nat_eq (world_of value))) lowers_seen ∙ lowers_plain)
 
   -- and not too many
   pub kept_few : has_fit_layers overlay ≡ true → length (map layer_kept overlay.lowers) ≤ 128
-  kept_few fit =
-      let few = (and_parts (not (is_empty_list overlay.lowers)) (nat_le (length overlay.lowers) most_lowers)
-      (and_parts (not (is_empty_list overlay.lowers) && nat_le (length overlay.lowers) most_lowers) _ fit).0).1 in
-      let most = leb-true (length overlay.lowers) most_lowers few in
-      let as_many = length-map overlay.lowers layer_kept in
-      omega (arith, most, as_many)
+  kept_few fit = grind (arith, common_steps, and_parts)

@@ -32,8 +32,14 @@ layers_gone_by (Some one) = cond (nat_eq (one.mounts - 1) 0) one.layers []
 abbrev pub layers_gone : ℕ → List Merged → List Inode
 layers_gone number overlays = layers_gone_by (merged_at number overlays)
 
-module _ (world : World ℕ) (number filesystem : ℕ) (takes : (n : ℕ) → mounts_showing world n
-    ≡ mounts_showing (without_mount world number) n + cond (nat_eq filesystem n) 1 0) where
+-- A mount of the filesystem is one of those that show it.
+pub record Takes (world : World ℕ) (number filesystem : ℕ) : Type 0 where
+  pub showing : (n : ℕ) → mounts_showing world n
+      ≡ mounts_showing (without_mount world number) n + cond (nat_eq filesystem n) 1 0
+
+module _ {world : World ℕ} {number filesystem : ℕ} (taking : Takes world number filesystem) where
+  open taking use {showing as takes}
+
   abbrev mounted : World ℕ
   mounted = without_mount world number
 

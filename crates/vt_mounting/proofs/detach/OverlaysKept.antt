@@ -1,12 +1,13 @@
 -- What code keeps of overlays where a mount goes: those that mounts show still, with a mount less of that one.
 use Rattle.std.proofs.Common.{◌≡◌, refl, sym, ap, ◌∙◌, inl, inr, ℕ, ◌+◌, ◌-◌, nat_eq, eqb-true, Bool, true, false, cond, not, List, [], ◌∷◌, map, filter, Option, Some, None, arith}
-use Rattle.vt_spec.proofs.Common.{Filesystem, World, any_pair, is_mounted, list_any, or_parts}
+use Rattle.vt_spec.proofs.Common.{Filesystem, World, any_pair, common_steps, is_mounted, list_any, or_parts}
 use Rattle.vt_mounting.proofs.Common.{Among, mounts_showing, none_among, without_mount}
 use Rattle.vt_mounting.specs.Detach.Uses.{Merged, merged_at, merged_left_by, released_merged, without_merged}
-use Rattle.vt_mounting.proofs.detach.OverlaysGone.{goes_at_one, layers_used, merged_in, others_shown}
+use Rattle.vt_mounting.proofs.detach.OverlaysGone.{Takes, goes_at_one, merged_in, others_shown}
 
-module _ (world : World ℕ) (number filesystem : ℕ) (takes : (n : ℕ) → mounts_showing world n
-    ≡ mounts_showing (without_mount world number) n + cond (nat_eq filesystem n) 1 0) where
+module _ {world : World ℕ} {number filesystem : ℕ} (taking : Takes world number filesystem) where
+  open taking use {showing as takes}
+
   abbrev mounted : World ℕ
   mounted = without_mount world number
 
@@ -15,11 +16,7 @@ module _ (world : World ℕ) (number filesystem : ℕ) (takes : (n : ℕ) → mo
 
   same_merged : (overlay : Filesystem ℕ) → nat_eq filesystem overlay.number ≡ false
       → merged_in mounted overlay ≡ merged_in world overlay
-  same_merged overlay apart =
-      let took : mounts_showing world overlay.number ≡ mounts_showing mounted overlay.number + 0 =
-      takes overlay.number ∙ ap (λ b. mounts_showing mounted overlay.number + cond b 1 0) apart in
-      let same : mounts_showing mounted overlay.number ≡ mounts_showing world overlay.number = omega (arith, took) in
-      λ i. record { number = overlay.number; mounts = same i; layers = layers_used overlay }
+  same_merged overlay apart = grind (arith, common_steps)
 
   -- overlays of other numbers stay as they are kept
   record StayAsKept (list : List (Filesystem ℕ)) : Type 0 where
@@ -35,7 +32,7 @@ module _ (world : World ℕ) (number filesystem : ℕ) (takes : (n : ℕ) → mo
       let later = others_stay rest (λ other m. shown other (inr m)) (λ other m. apart other (inr m)) in
       let other = apart overlay (inl refl) in record {
         left = ap (λ b. map (merged_in mounted) (cond b (overlay ∷ filter is_shown rest) (filter is_shown rest)))
-            (others_shown world number filesystem takes overlay.number other ∙ shown overlay (inl refl))
+            (others_shown taking overlay.number other ∙ shown overlay (inl refl))
             ∙ (λ i. same_merged overlay other i ∷ later.left i);
         without = ap (λ b. cond (not b)
             (merged_in world overlay ∷ without_merged filesystem (map (merged_in world) rest))
@@ -96,11 +93,11 @@ module _ (world : World ℕ) (number filesystem : ℕ) (takes : (n : ℕ) → mo
               → cond b (without_merged filesystem (was ∷ kept)) (released_merged filesystem (was ∷ kept))
               ≡ map (merged_in mounted) (cond (is_shown overlay) (overlay ∷ filter is_shown rest) (filter is_shown rest))
           chosen true g =
-              cc (stay.without, stay.left, turned true (goes_at_one world number filesystem takes overlay e ∙ g))
+              cc (stay.without, stay.left, turned true (goes_at_one taking overlay e ∙ g))
           chosen false g = (λ i. cond (e i) less was ∷ stay.released i)
               ∙ (λ i. record was { mounts = sym fewer i } ∷ sym stay.left i)
               ∙ sym (ap (λ b. map (merged_in mounted) (cond b (overlay ∷ filter is_shown rest) (filter is_shown rest)))
-              (turned false (goes_at_one world number filesystem takes overlay e ∙ g)))
+              (turned false (goes_at_one taking overlay e ∙ g)))
 
       behind : (o : Option Merged) → nat_eq filesystem overlay.number ≡ false
           → merged_left_by filesystem o (was ∷ kept) ≡ was ∷ merged_left_by filesystem o kept
@@ -120,4 +117,4 @@ module _ (world : World ℕ) (number filesystem : ℕ) (takes : (n : ℕ) → mo
       by true e later = at_it e
       by false e later = behind (merged_at filesystem kept) e ∙ (λ i. sym (same_merged overlay e) i ∷ later i)
           ∙ sym (ap (λ b. map (merged_in mounted) (cond b (overlay ∷ filter is_shown rest) (filter is_shown rest)))
-          (others_shown world number filesystem takes overlay.number e ∙ shown overlay (inl refl)))
+          (others_shown taking overlay.number e ∙ shown overlay (inl refl)))

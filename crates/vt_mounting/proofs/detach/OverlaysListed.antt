@@ -54,9 +54,10 @@ pub left_released : (count : ℕ) (old new : StoreValue) → new ≡ with_mounts
 left_released count old new is = left_still old.overlays new.overlays
     (ap (λ (store : StoreValue). under_counts store.overlays) is ∙ counted_stay_in old count (λ mounts. mounts - 1))
 
-pub left_removed : (count : ℕ) (old middle new : StoreValue) → middle ≡ with_mounts count (λ mounts. mounts - 1) old
+pub left_removed : (count : ℕ) (old : StoreValue) {middle : StoreValue} (new : StoreValue) → middle
+    ≡ with_mounts count (λ mounts. mounts - 1) old
     → new.overlays ≡ without_overlay count middle.overlays → OverlaysLeft old.overlays new.overlays
-left_removed count old middle new released removed =
+left_removed count old {middle} new released removed =
     left_twice old.overlays middle.overlays new.overlays (left_released count old middle released)
     (left_so (left_without count middle.overlays))
   where

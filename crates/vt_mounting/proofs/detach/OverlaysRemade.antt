@@ -58,8 +58,8 @@ module _ (world : World ℕ) where
 abbrev counted_again : OverlayEntry → Option Merged → Option OverlayEntry
 counted_again entry found = option_map (λ (one : Merged). record entry { mounts = one.mounts }) found
 
-module _ (old : WorldValue) (held : IsHeld old) (world : World ℕ) (leaves : LeavesOverlays old world)
-    (overlays : List Merged) (merged : overlays ≡ map (merged_in world) (filter is_overlay world.filesystems)) where
+module _ {old : WorldValue} (held : IsHeld old) {world : World ℕ} (leaves : LeavesOverlays old world)
+    {overlays : List Merged} (merged : overlays ≡ map (merged_in world) (filter is_overlay world.filesystems)) where
   abbrev shows : OverlayEntry → Bool
   shows entry = is_mounted nat_eq world entry.number
 
@@ -109,8 +109,7 @@ kept_itself value whole = all value.overlays (λ entry m. m)
     all [] within = refl
     all (first ∷ rest) within = ap (λ o. cons_option (counted_again first o)
         (overlays_kept (map merged_seen value.overlays) rest))
-        (found_so value whole (world_of value) (leaves_at_first value whole) (map merged_seen value.overlays)
-        (merged_at_first value whole) first (within first (inl refl))
+        (found_so whole (leaves_at_first value whole) (merged_at_first value whole) first (within first (inl refl))
         ∙ ap (λ b. cond b (Some (merged_in (world_of value) (overlay_seen first))) None) shown)
         ∙ (λ i. record first { mounts = sym often i } ∷ all rest (λ entry m. within entry (inr m)) i)
       where

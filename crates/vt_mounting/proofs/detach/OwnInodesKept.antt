@@ -1,6 +1,6 @@
 -- Each inode keeps a number of its own filesystem, whatever changes in the filesystems.
-use Rattle.std.proofs.Common.{◌≡◌, refl, sym, ap, ◌∙◌, ℕ, nat_eq, eqb-true, Bool, true, false, Option, None, if◌then◌else◌}
-use Rattle.vt_spec.proofs.Common.{Inode, Inodes, pinned, unpinned, used_once_less, used_once_more}
+use Rattle.std.proofs.Common.{◌≡◌, ap, ℕ, nat_eq, eqb-true, false, Option, None, arith}
+use Rattle.vt_spec.proofs.Common.{Inode, Inodes, common_steps, pinned, unpinned, used_once_less, used_once_more}
 use Rattle.vt_spec.specs.Inodes.{with_inode}
 use Rattle.vt_mounting.proofs.Common.{is_own_number}
 
@@ -11,11 +11,7 @@ module _ (count : ℕ) where
   inode_set : (inodes : Inodes ℕ) (number : ℕ) (inode : Option (Inode ℕ))
       → (is_own_number count number ≡ false → inode ≡ None)
       → IsOwn count inodes → IsOwn count (with_inode nat_eq inodes number inode)
-  inode_set inodes number inode none own other e = by (nat_eq other number) refl
-    where
-      by : (b : Bool) → nat_eq other number ≡ b → (if b then inode else inodes.inode other) ≡ None
-      by true same = none (ap (is_own_number count) (sym (eqb-true other number same)) ∙ e)
-      by false same = own other e
+  inode_set inodes number inode none own other e = grind (arith, common_steps, eqb-true)
 
   pub own_pinned : (inodes : Inodes ℕ) (number : ℕ) → IsOwn count inodes → IsOwn count (pinned nat_eq inodes number)
   own_pinned inodes number own = inode_set inodes number (used_once_more (inodes.inode number))

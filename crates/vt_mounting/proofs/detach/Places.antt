@@ -66,7 +66,7 @@ located_is_named value whole location well = (λ i. mount_named i && node_named 
 abbrev pub standing : meant.Location ℕ → Use
 standing place = record { location = place; writes = false }
 
-module _ (value : WorldValue) (whole : IsHeld value) (name : TaskName) (task new : Task ℕ)
+module _ {value : WorldValue} (whole : IsHeld value) (name : TaskName) {task : Task ℕ} (new : Task ℕ)
     (found : task_called (world_of value) name ≡ Some task)
     (same_name : new.name ≡ task.name) (same_descriptors : new.descriptors ≡ task.descriptors) where
   abbrev split : IsSplit task new value.tasks (replaced new value.tasks)
@@ -118,7 +118,7 @@ module _ (value : WorldValue) (whole : IsHeld value) (name : TaskName) (task new
   }
 
 -- what code holds and leaves is what the definitions count
-kept_so : (value : WorldValue) (whole : IsHeld value) (at left : Location) (k one : Kept)
+kept_so : {value : WorldValue} (whole : IsHeld value) (at left : Location) (k : Kept) {one : Kept}
     → is_small_node at.node ≡ true → is_small_node left.node ≡ true
     → is_located_well nat_eq (world_of value) (location_of at) ≡ true
     → is_located_well nat_eq (world_of value) (location_of left) ≡ true
@@ -127,7 +127,7 @@ kept_so : (value : WorldValue) (whole : IsHeld value) (at left : Location) (k on
     ((mount_at nat_eq (world_of value) (location_of left)).filesystem, number_of left.node) false
     (with_use (counted at.mount.count)
     ((mount_at nat_eq (world_of value) (location_of at)).filesystem, number_of at.node) false k))
-kept_so value whole at left k one few few_left well well_left is = is ∙ (λ i. let_go_mount (counted left.mount.count)
+kept_so {value} whole at left k few few_left well well_left is = is ∙ (λ i. let_go_mount (counted left.mount.count)
     (released_use (counted left.mount.count)
     (sym (seen_where_located value whole left few_left well_left) i, number_of left.node) false
     (with_use (counted at.mount.count)
@@ -170,13 +170,19 @@ directory_is_set value name directory left mounts filesystems overlays tasks who
     ∙ (located_task value whole name task permits.called).1 in
     let tasks_are = is ∙ ap (changed_by (λ one. record one { directory = place }) value.tasks) permits.called in
     subst (λ all. IsDone value name (ToSetDirectory place) (remade_with value mounts filesystems overlays all)) (sym tasks_are)
-    (left_done value whole (replaced new value.tasks) (standing place ∷ []) (standing (location_of left))
-    (subst (λ location. Moves value (replaced new value.tasks) (standing place ∷ []) (standing location ∷ []))
-    (sym left_is) (directory_moves value whole name task new permits.called refl refl refl well))
-    mounts filesystems overlays (kept_so value whole directory left (kept_of value)
-    (kept_with mounts filesystems overlays) few few_left well well_left is_kept) name (ToSetDirectory place) task
-    (record { called = permits.called; given = permits.given; named = located_is_named value whole place well; applied = λ fresh. refl })
-    (same_tasks_in value whole name task new permits.called refl refl refl))
+    (left_done {task = task} (record {
+      whole = whole;
+      moves = subst (λ location. Moves value (replaced new value.tasks) (standing place ∷ []) (standing location ∷ []))
+          (sym left_is) (directory_moves whole name new permits.called refl refl refl well);
+      is_kept = kept_so whole directory left (kept_of value) few few_left well well_left is_kept;
+      is = record {
+        called = permits.called;
+        given = permits.given;
+        named = located_is_named value whole place well;
+        applied = λ fresh. refl;
+      };
+      inside = same_tasks_in whole name new permits.called refl refl refl;
+    }))
 
 pub root_is_set : (value : WorldValue) (name : TaskName) (root left : Location) (mounts : List MountEntry)
     (filesystems : Filesystems) (overlays : List Merged) (tasks : Tasks)
@@ -198,10 +204,16 @@ root_is_set value name root left mounts filesystems overlays tasks whole permits
     ∙ (located_task value whole name task permits.called).0 in
     let tasks_are = is ∙ ap (changed_by (λ one. record one { root = place }) value.tasks) permits.called in
     subst (λ all. IsDone value name (ToSetRoot place) (remade_with value mounts filesystems overlays all)) (sym tasks_are)
-    (left_done value whole (replaced new value.tasks) (standing place ∷ []) (standing (location_of left))
-    (subst (λ location. Moves value (replaced new value.tasks) (standing place ∷ []) (standing location ∷ []))
-    (sym left_is) (root_moves value whole name task new permits.called refl refl refl well))
-    mounts filesystems overlays (kept_so value whole root left (kept_of value)
-    (kept_with mounts filesystems overlays) few few_left well well_left is_kept) name (ToSetRoot place) task
-    (record { called = permits.called; given = permits.given; named = located_is_named value whole place well; applied = λ fresh. refl })
-    (same_tasks_in value whole name task new permits.called refl refl refl))
+    (left_done {task = task} (record {
+      whole = whole;
+      moves = subst (λ location. Moves value (replaced new value.tasks) (standing place ∷ []) (standing location ∷ []))
+          (sym left_is) (root_moves whole name new permits.called refl refl refl well);
+      is_kept = kept_so whole root left (kept_of value) few few_left well well_left is_kept;
+      is = record {
+        called = permits.called;
+        given = permits.given;
+        named = located_is_named value whole place well;
+        applied = λ fresh. refl;
+      };
+      inside = same_tasks_in whole name new permits.called refl refl refl;
+    }))

@@ -1,7 +1,7 @@
 -- The code's world is one of the definitions: the same mounts, overlays, namespaces and tasks, and filesystems whose
 -- counted inodes are counted there.
-use Rattle.std.proofs.Common.{◌≡◌, refl, sym, ap, subst, ◌∙◌, inl, inr, ℕ, nat_eq, true, true≢false, List, [], ◌∷◌, map, Option, Some, None, is_some, not, filter, All}
-use Rattle.vt_spec.proofs.Common.{Filesystem, IsWorld, ListsNumbers, Overlay, SameFilesystem, SameFilesystems, SameWorlds, World, filesystem_numbered, is_overlay, without_changes}
+use Rattle.std.proofs.Common.{◌≡◌, refl, sym, ap, subst, ◌∙◌, inl, inr, ℕ, nat_eq, true, List, [], ◌∷◌, map, None, is_some, filter, All, arith}
+use Rattle.vt_spec.proofs.Common.{Filesystem, IsWorld, ListsNumbers, SameFilesystem, SameFilesystems, SameWorlds, World, common_steps, filesystem_numbered, is_overlay, without_changes}
 use Rattle.vt_mounting.proofs.Common.{Among, FilesystemEntry, Filesystems, Has, IsCounted, WorldValue, all_from_among, among-from_filter, among_from_all, any_same_worlds_count_alike, are_rising, counted, filesystem_seen, filesystems_seen, found_filesystem, inodes_seen, mounts_in, numbers_apart_each, numbers_listed, overlays_seen, same_numbers_are_permuted, sameness_is_an_equivalence, world_of, woven_lists_are_alike}
 use Rattle.vt_laws_worlds.proofs.overlays_stay.weaving.WovenLists.{rising_lists_are_woven}
 use Rattle.vt_mounting.proofs.detach.Grouped.{master_is, same_has}
@@ -38,13 +38,9 @@ pub record ShowsAs (world : World ℕ) (new : WorldValue) : Type 0 where
   pub namespaces : (without_changes world).namespaces ≡ (without_changes (world_of new)).namespaces
   pub tasks : (without_changes world).tasks ≡ (without_changes (world_of new)).tasks
 
-module _ (world : World ℕ) (new : WorldValue) (shows : ShowsAs world new) (is_world : IsWorld nat_eq world) where
+module _ {world : World ℕ} {new : WorldValue} (shows : ShowsAs world new) (is_world : IsWorld nat_eq world) where
   no_overlay : (f : Filesystem ℕ) → is_plain_one f ≡ true → f.overlay ≡ None
-  no_overlay f e = by f.overlay e
-    where
-      by : (o : Option (Overlay ℕ)) → not (is_some o) ≡ true → o ≡ None
-      by None e = refl
-      by (Some overlay) e = absurd (true≢false (sym e))
+  no_overlay f e = grind (arith, common_steps)
 
   same_one : (f : Filesystem ℕ) → Among f (filter is_plain_one world.filesystems) → (entry : FilesystemEntry)
       → Among entry new.filesystems → f.number ≡ counted entry.count → SameFilesystem f (filesystem_seen entry)
@@ -86,7 +82,7 @@ module _ (world : World ℕ) (new : WorldValue) (shows : ShowsAs world new) (is_
 
   -- and has the groups that are kept
   pub shown_has : Has (world_of new) new.groups
-  shown_has = same_has world (world_of new) new.groups shows.groups (sym shows.mounts)
+  shown_has = same_has (world_of new) shows.groups (sym shows.mounts)
       (λ group. sym (master_is world new.groups is_world shows.groups group))
 
   -- its overlays are overlays

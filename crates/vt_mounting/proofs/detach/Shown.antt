@@ -1,17 +1,13 @@
 -- Filesystems with the uses of their inodes, as contracts of vt_fs change them.
-use Rattle.std.proofs.Common.{◌≡◌, refl, sym, ap, ◌∙◌, ℕ, nat_eq, ◌-◌, eqb-true, eq-eqb, ne_eqb, Bool, true, false, true≢false, cond, List, [], ◌∷◌, map, find, Option, Some, None, option_map, arith}
+use Rattle.std.proofs.Common.{◌≡◌, refl, ap, ◌∙◌, ℕ, nat_eq, ◌-◌, eqb-true, eq-eqb, ne_eqb, Bool, true, false, cond, List, [], ◌∷◌, map, find, Option, Some, option_map, arith}
 use Rattle.vt_spec.proofs.Common.{Inodes, Mount, common_steps, holds_of, pinned, unpinned}
 use Rattle.vt_mounting.proofs.Common.{ChangesInodes, Filesystems, MountEntry, Shown, counted, counted_test, entry_at, entry_numbered, mounts_in, pinned_if, shown, shown_with, unpinned_if, with_changed}
 use Rattle.vt_fs.specs.FilesystemsValue.{mounted_once_less, without, without_unmounted}
-use Rattle.vt_mounting.specs.Detach.Uses.{Kept, is_unused, let_go_entry, let_go_filesystem, let_go_mount, mounts_shown, pinned_in, released_in, unpinned_in, without_filesystem, without_mount}
+use Rattle.vt_mounting.specs.Detach.Uses.{Kept, is_unused, let_go_filesystem, let_go_mount, mounts_shown, pinned_in, released_in, unpinned_in, without_filesystem, without_mount}
 
 -- a comparison of counted numbers is one of the counts, turned round
 pub counted_eq_back : (a b : ℕ) → nat_eq (counted a) (counted b) ≡ nat_eq b a
-counted_eq_back a b = counted_test a b ∙ by (nat_eq a b) refl
-  where
-    by : (t : Bool) → nat_eq a b ≡ t → t ≡ nat_eq b a
-    by true e = sym (eq-eqb b a (sym (eqb-true a b e)))
-    by false e = sym (ne_eqb b a (λ same. true≢false (sym (eq-eqb a b (sym same)) ∙ e)))
+counted_eq_back a b = grind (arith, common_steps, eqb-true, eq-eqb, ne_eqb)
 
 -- uses of an inode that come and go
 pub changed_inodes : (count : ℕ) (change : Inodes ℕ → Inodes ℕ) (changed_so : ℕ → Inodes ℕ → Inodes ℕ)
@@ -93,11 +89,7 @@ module _ (number : ℕ) (k : Kept) where
 
   -- a mount that is attached or used stays
   pub let_go_kept : holds_of is_unused (entry_numbered k.mounts number) ≡ false → k ≡ let_go_mount number k
-  let_go_kept stays = by (entry_numbered k.mounts number) stays
-    where
-      by : (o : Option MountEntry) → holds_of is_unused o ≡ false → k ≡ let_go_entry number k o
-      by None e = refl
-      by (Some entry) e = sym (ap (λ b. cond b (without_mount number entry.mount k) k) e)
+  let_go_kept stays = grind (arith, common_steps)
 
   -- one that is neither goes
   pub let_go_unused : (mount : Mount ℕ) → found ≡ Some mount

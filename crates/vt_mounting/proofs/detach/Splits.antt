@@ -14,11 +14,12 @@ pub record IsSplit (task new : Task ℕ) (tasks after : Tasks) : Type 0 where
   pub was : tasks ≡ front ++ (task ∷ back)
   pub is : after ≡ front ++ (new ∷ back)
 
-put_split : (name : TaskName) (tasks : Tasks) (task new : Task ℕ) → AreNamedApart tasks → called name tasks ≡ Some task
+put_split : (name : TaskName) (tasks : Tasks) {task : Task ℕ} (new : Task ℕ) → AreNamedApart tasks → called name tasks
+    ≡ Some task
     → IsSplit task new tasks (put name new tasks)
-put_split name [] task new apart found = absurd cc
-put_split name (first ∷ tasks) task new apart found = by (same_name name first.name) refl found
-    (put_split name tasks task new
+put_split name [] new apart found = absurd cc
+put_split name (first ∷ tasks) {task} new apart found = by (same_name name first.name) refl found
+    (put_split name tasks {task = task} new
     (or_parts (list_any (λ (other : Task ℕ). same_name first.name other.name) tasks) _ apart).1)
   where
     by : (b : Bool) → same_name name first.name ≡ b → cond b (Some first) (called name tasks) ≡ Some task
@@ -42,7 +43,7 @@ pub replaced_split : (name : TaskName) (tasks : Tasks) (task new : Task ℕ) →
     → called name tasks ≡ Some task → new.name ≡ task.name → IsSplit task new tasks (replaced new tasks)
 replaced_split name tasks task new apart found same =
     let own : new.name ≡ name = same ∙ name-of-called name tasks task found in
-    let split = put_split name tasks task new apart found in
+    let split = put_split name tasks new apart found in
     record {
       front = split.front;
       back = split.back;

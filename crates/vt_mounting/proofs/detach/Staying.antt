@@ -1,9 +1,9 @@
 -- Events of tasks in which no location is left: umask(2), capset(2).
-use Rattle.std.proofs.Common.{◌≡◌, refl, sym, ap, subst, ◌∙◌, ℕ, ◌||◌, ◌&&◌, nat_eq, eq-eqb, true, [], ◌∷◌, ◌++◌, map, filter, flat_map, Some, arith, filter_map, option_map, unwrap_or}
-use Rattle.vt_spec.proofs.Common.{Credentials, Filesystem, Fresh, IsWorld, Location, Permit, SameWorlds, Task, TaskName, ToSetCredentials, ToSetUmask, all_locations, apply, layers_in, located_in, locations_of, mount_at, named_in, objects_of_overlay, root_of, same_Some, same_location, settled, task_called, with_dropped, with_task}
+use Rattle.std.proofs.Common.{◌≡◌, refl, sym, ap, subst, ◌∙◌, ℕ, nat_eq, eq-eqb, true, [], Some, arith, option_map, unwrap_or}
+use Rattle.vt_spec.proofs.Common.{Credentials, Filesystem, Fresh, IsWorld, Location, Permit, SameWorlds, Task, TaskName, ToSetCredentials, ToSetUmask, all_locations, apply, common_steps, located_in, locations_of, same_Some, settled, task_called, with_dropped, with_task}
 use Rattle.vt_spec.specs.Machine.World.{first_credentials}
-use Rattle.vt_mounting.proofs.Common.{Among, CountsItsMounts, CountsItsUses, CountsWhatIsInIt, IsGiven, IsHeld, KeepsTo, Tasks, WorldValue, WritersHaveLayers, all_from_among, among_from_all, any_from_among, changed_by, changed_called, counted, filesystem_seen, given_permits_give_no_upper, inode_uses, is_counted_before, list_all_from_among, one_if, or_left, permit_named, permits_keep_to_numbers, replaced, sameness_is_an_equivalence, times, world_of, writes_of, writes_of_task, writes_on}
-use Rattle.vt_laws_mounts.specs.LettingGo.Leaving.{is_location_among, only_these_are_left}
+use Rattle.vt_mounting.proofs.Common.{CountsItsMounts, CountsItsUses, CountsWhatIsInIt, IsGiven, IsHeld, KeepsTo, Tasks, WorldValue, WritersHaveLayers, all_from_among, among_from_all, any_from_among, changed_by, changed_called, counted, filesystem_seen, given_permits_give_no_upper, inode_uses, is_counted_before, list_all_from_among, one_if, permit_named, permits_keep_to_numbers, replaced, sameness_is_an_equivalence, times, world_of, writes_of, writes_of_task, writes_on}
+use Rattle.vt_laws_mounts.specs.LettingGo.Leaving.{only_these_are_left}
 use Rattle.vt_laws_mounts.proofs.letting_go.sweeps.OfWorlds.{worlds_are_settled}
 use Rattle.vt_laws_mounts.proofs.letting_go.leaving.LeftWithOverlays.{staying_keeps_overlays}
 use Rattle.vt_mounting.specs.Detach.Events.{Becomes, Permits, credentials_called, left_by, supply_of}
@@ -22,17 +22,11 @@ module _ (value : WorldValue) (tasks : Tasks)
     (same : all_locations (world_of (after value tasks)) ≡ all_locations (world_of value)) where
   same_located : (number : ℕ) → located_in nat_eq (world_of (after value tasks)) number
       ≡ located_in nat_eq (world_of value) number
-  same_located number = λ i. map (λ location. location.node)
-      (filter (λ location. nat_eq number (mount_at nat_eq (world_of value) location).filesystem)
-      (same i ++ map root_of (world_of value).mounts
-      ++ filter_map (λ mount. mount.mount_point) (world_of value).mounts))
+  same_located number = grind (arith, common_steps)
 
   same_uses : (filesystem : Filesystem ℕ) (number : ℕ)
       → inode_uses (world_of value) filesystem number ≡ inode_uses (world_of (after value tasks)) filesystem number
-  same_uses filesystem number = λ i. times (nat_eq number) (filesystem.files.tree.root
-      ∷ (named_in filesystem.files ++ sym (same_located filesystem.number) i
-      ++ layers_in nat_eq (world_of value) filesystem.number
-      ++ flat_map (objects_of_overlay nat_eq filesystem.number) (world_of value).filesystems))
+  same_uses filesystem number = grind (arith, common_steps)
 
   -- what holds of each world holds where tasks keep what they use
   pub stays_held : IsHeld value → ((mount : ℕ) → writes_of mount tasks ≡ writes_of mount value.tasks)
@@ -42,7 +36,7 @@ module _ (value : WorldValue) (tasks : Tasks)
       → WritersHaveLayers (world_of (after value tasks)) → IsHeld (after value tasks)
   stays_held held writes inside is keeps writers = record {
     in_world = is;
-    groups = same_has (world_of value) (world_of (after value tasks)) value.groups held.groups refl (λ group. refl);
+    groups = same_has (world_of (after value tasks)) held.groups refl (λ group. refl);
     given = keeps;
     mounts = all_from_among (CountsItsUses (world_of (after value tasks))) value.mounts (λ entry m.
         let was = among_from_all (CountsItsUses (world_of value)) value.mounts held.mounts entry m in record {
@@ -82,12 +76,7 @@ module _ (value : WorldValue) (tasks : Tasks)
 
   -- no location is left
   pub none_left : only_these_are_left (world_of value) tasks [] ≡ true
-  none_left = list_all_from_among (λ location. is_location_among (all_locations (world_of (after value tasks))) location
-      || is_location_among [] location) (all_locations (world_of value))
-      (λ location m. or_left _ _ (any_from_among (same_location nat_eq location)
-      (all_locations (world_of (after value tasks))) location
-      (subst (λ locations. Among location locations) (sym same) m)
-      (λ i. eq-eqb location.mount location.mount refl i && eq-eqb location.node location.node refl i)))
+  none_left = grind (arith, common_steps, eq-eqb, list_all_from_among, any_from_among)
 
 -- What an event leaves in which a task gets another umask or other credentials, in the same place
 
@@ -102,7 +91,7 @@ pub record IsStaying (value : WorldValue) (name : TaskName) (permit : Permit ℕ
   pub same_namespace : new.namespace ≡ task.namespace
   pub same_descriptors : new.descriptors ≡ task.descriptors
 
-module _ (value : WorldValue) (name : TaskName) (permit : Permit ℕ) (task new : Task ℕ) (held : IsHeld value)
+module _ {value : WorldValue} {name : TaskName} {permit : Permit ℕ} {task new : Task ℕ} (held : IsHeld value)
     (stays : IsStaying value name permit task new) where
   abbrev tasks_after : Tasks
   tasks_after = replaced new value.tasks
@@ -154,14 +143,14 @@ becomes_so value name permit new task found same other called =
     subst (λ one. SameWorlds (left_by value one permit) (world_of new)) (same_Some task other (sym found ∙ called)) same
 
 -- An event that changes a task and nothing that it uses is done.
-pub staying_is_done : (value : WorldValue) (name : TaskName) (permit : Permit ℕ) (task new : Task ℕ) (tasks : Tasks)
+pub staying_is_done : {value : WorldValue} {name : TaskName} {permit : Permit ℕ} {task new : Task ℕ} {tasks : Tasks}
     → IsHeld value → IsStaying value name permit task new → tasks ≡ replaced new value.tasks
     → IsDone value name permit (after value tasks)
-staying_is_done value name permit task new tasks held stays is =
+staying_is_done {value} {name} {permit} {task} {new} held stays is =
     subst (λ others. IsDone value name permit (after value others)) (sym is) (record {
-      held = stayed_held value name permit task new held stays;
+      held = stayed_held held stays;
       becomes = becomes_so value name permit (after value (replaced new value.tasks)) task stays.called
-          (stayed_becomes value name permit task new held stays);
+          (stayed_becomes held stays);
     })
 
 -- The events
@@ -172,7 +161,9 @@ pub umask_is_set : (value : WorldValue) (name : TaskName) (umask : ℕ) (tasks :
     → tasks ≡ changed_called name (λ task. record task { umask = umask }) value.tasks
     → IsDone value name (ToSetUmask umask) (after value tasks)
 umask_is_set value name umask tasks held permits is =
-    staying_is_done value name (ToSetUmask umask) permits.task (record permits.task { umask = umask }) tasks held
+    staying_is_done {name = name} {permit = ToSetUmask umask} {task = permits.task} {new = record permits.task {
+      umask = umask;
+    }} held
     (record {
       called = permits.called;
       given = permits.given;
@@ -190,8 +181,8 @@ pub caps_are_dropped : (value : WorldValue) (name : TaskName) (bits : ℕ) (task
     → tasks ≡ changed_called name (λ task. record task { credentials = with_dropped task.credentials bits }) value.tasks
     → IsDone value name (ToSetCredentials (with_dropped (credentials_called value name) bits)) (after value tasks)
 caps_are_dropped value name bits tasks held permits is =
-    staying_is_done value name (ToSetCredentials credentials) permits.task
-    (record permits.task { credentials = credentials }) tasks held (record {
+    staying_is_done {name = name} {permit = ToSetCredentials credentials} {task = permits.task}
+    {new = record permits.task { credentials = credentials }} held (record {
       called = permits.called;
       given = permits.given;
       named = refl;

@@ -26,7 +26,7 @@ module _ (base : WorldValue) (store : StoreValue) (held : IsHeld (with_store sto
   module _ (entry : stored.OverlayEntry) (m : Among entry store.overlays) where
     shown : AreLayers store.plain entry.overlay.lowers
         × All (ShowsLayer (world_of (with_store store base)) store.plain) entry.overlay.lowers
-    shown = layers_shown_well (with_store store base) held (overlay_of_store store.plain entry)
+    shown = layers_shown_well held (overlay_of_store store.plain entry)
         (among-map (overlay_of_store store.plain) store.overlays entry m) entry.overlay.lowers refl
 
     -- what a path leads to in a layer, in the store and in the world

@@ -36,9 +36,9 @@ module _ (base : WorldValue) (store : StoreValue) (held : IsHeld (with_store sto
   -- its overlays stand on layers
   pub store_stands : StandOnLayers store
   store_stands = all_from_among (StandsOnLayers store.plain) store.overlays (λ entry m.
-      let shown = layers_shown_well (with_store store base) held (overlay_of_store store.plain entry)
+      let shown = layers_shown_well held (overlay_of_store store.plain entry)
       (kept_among entry m) entry.overlay.lowers refl in
-      let number = layers_number (with_store store base) held (overlay_of_store store.plain entry)
+      let number = layers_number held (overlay_of_store store.plain entry)
       (kept_among entry m) entry.overlay.lowers refl in
       let few = number.1 in
       record { layers = shown.0; some = number.0; few = omega (arith, few) })

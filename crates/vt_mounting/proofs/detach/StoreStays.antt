@@ -11,9 +11,9 @@ use Rattle.vt_mounting.proofs.detach.PlainFound.{overlay_among}
 use Rattle.vt_mounting.proofs.detach.StoreShown.{overlay_found}
 
 -- Layers that a world shows, the same world but for change numbers and the order of numbers shows, too.
-shown_before : (one other : World ℕ) → SameWorlds one other → (trees : Filesystems) (layers : List LayerRef)
+shown_before : {one other : World ℕ} → SameWorlds one other → (trees : Filesystems) (layers : List LayerRef)
     → All (ShowsLayer other trees) layers → All (ShowsLayer one trees) layers
-shown_before one other same trees layers all = all_from_among (ShowsLayer one trees) layers (λ layer m.
+shown_before {one} {other} same trees layers all = all_from_among (ShowsLayer one trees) layers (λ layer m.
     let shows = among_from_all (ShowsLayer other trees) layers all layer m in
     let alike = found_same (counted layer.directory.filesystem.count) one.filesystems other.filesystems
     same.filesystems in
@@ -51,19 +51,18 @@ module _ (base new_base : WorldValue) (old new : StoreValue) (task : Task ℕ) (
       before : ShowsLayers (world_of (with_store old base)) old.plain entry.overlay
       before =
           let one = were entry m in
-          let shown = layers_shown_well (with_store old base) held (overlay_of_store old.plain one.0)
+          let shown = layers_shown_well held (overlay_of_store old.plain one.0)
           (among-map (overlay_of_store old.plain) old.overlays one.0 one.1) entry.overlay.lowers
           (ap (λ (overlay : OverlayValue). map layer_seen overlay.lowers) one.3) in
           record { are = shown.0; all = shown.1 }
 
       after : ShowsLayers (left_by (with_store old base) task permit) new.plain entry.overlay
       after =
-          let shown = layers_shown_well left_value there (overlay_of_store old.plain entry) kept entry.overlay.lowers
+          let shown = layers_shown_well there (overlay_of_store old.plain entry) kept entry.overlay.lowers
           refl in
           record {
             are = shown.0;
-            all = shown_before (left_by (with_store old base) task permit) (world_of left_value) becomes new.plain
-                entry.overlay.lowers shown.1;
+            all = shown_before becomes new.plain entry.overlay.lowers shown.1;
           }
 
       -- in the world before it is the overlay whose layers these are

@@ -1,5 +1,5 @@
 -- A store in which a filesystem has one mount less, as contracts of vt_store change it.
-use Rattle.std.proofs.Common.{◌≡◌, ◌≢◌, refl, sym, ap, ◌∙◌, ℕ, nat_eq, ◌-◌, eq-eqb, ne_eqb, Bool, true, false, true≢false, cond, List, [], ◌∷◌, map, Option, Some, None, is_some, option_map, unwrap_or, IfSome, arith}
+use Rattle.std.proofs.Common.{◌≡◌, ◌≢◌, refl, sym, ap, ◌∙◌, ℕ, nat_eq, ◌-◌, eq-eqb, ne_eqb, Bool, true, false, cond, List, [], ◌∷◌, map, Some, None, is_some, option_map, unwrap_or, IfSome, arith}
 use Rattle.vt_spec.proofs.Common.{common_steps, folded, map_alike, none_from_not_some}
 use Rattle.vt_mounting.proofs.Common.{Overlays, Shown, StoreValue, counted, counted_test, entry_in, entry_kept, filter_alike, lowers_in, shown, with_mounts, with_mounts_by, with_overlay_changed, without_overlay}
 use Rattle.vt_mount.proofs.EntryLemmas.{is_some_mapped}
@@ -62,9 +62,10 @@ layers_less (layer ∷ rest) all = layers_less rest (Stored.without_layer all la
 
 -- An overlay
 
-module _ (count : ℕ) (old held : StoreValue) (is_held : held ≡ with_mounts count (λ mounts. mounts - 1) old) (n : ℕ)
+module _ (count : ℕ) (old : StoreValue) {held : StoreValue}
+    (is_held : held ≡ with_mounts count (λ mounts. mounts - 1) old) {n : ℕ}
     (is : n ≡ mounts_in held count) where
-  module _ (entry : OverlayEntry) (e : entry_kept old.overlays count ≡ Some entry) where
+  module _ {entry : OverlayEntry} (e : entry_kept old.overlays count ≡ Some entry) where
     held_so : held ≡ record old { overlays = with_overlay_changed count less old.overlays }
     held_so = is_held ∙ ap (with_mounts_by count (λ mounts. mounts - 1) old) e
 
@@ -78,13 +79,13 @@ module _ (count : ℕ) (old held : StoreValue) (is_held : held ≡ with_mounts c
     mounts_so : n ≡ entry.mounts - 1
     mounts_so = is ∙ ap (mounts_by held.plain count) entry_so
 
-    left_by : (b : Bool) → nat_eq (entry.mounts - 1) 0 ≡ b → (new : StoreValue)
+    left_by : {b : Bool} → nat_eq (entry.mounts - 1) 0 ≡ b → (new : StoreValue)
         → shown new.plain ≡ cond b (folded without_layer (shown old.plain) (map layer_of entry.overlay.lowers))
         (shown old.plain)
         → map merged_of new.overlays ≡ cond b (without_merged (counted count) (map merged_of old.overlays))
         (released_merged (counted count) (map merged_of old.overlays))
         → kept [] new ≡ leave_filesystem (counted count) (kept [] old)
-    left_by b t new plain overlays = λ i. record {
+    left_by t new plain overlays = λ i. record {
       mounts = [];
       filesystems = (plain
           ∙ ap (λ c. cond c (folded without_layer (shown old.plain) (map layer_of entry.overlay.lowers))
@@ -106,31 +107,26 @@ module _ (count : ℕ) (old held : StoreValue) (is_held : held ≡ with_mounts c
   pub overlay_goes : n ≡ 0 → (new : StoreValue) → new.overlays ≡ without_overlay count held.overlays
       → shown new.plain ≡ without_layers (lowers_in held count) (shown held.plain) → IsLeft new
   overlay_goes zero new overlays plain = by_entry new (λ entry e.
-      left_by entry e true (eq-eqb (entry.mounts - 1) 0 (sym (mounts_so entry e) ∙ zero)) new (plain
+      left_by e (eq-eqb (entry.mounts - 1) 0 (sym (mounts_so e) ∙ zero)) new (plain
       ∙ (λ i. without_layers (unwrap_or (option_map (λ overlay. overlay.lowers)
-      (option_map (λ (one : OverlayEntry). one.overlay) (entry_so entry e i))) []) (shown (held_so entry e i).plain))
+      (option_map (λ (one : OverlayEntry). one.overlay) (entry_so e i))) []) (shown (held_so e i).plain))
       ∙ layers_less entry.overlay.lowers (shown old.plain)) (ap (map merged_of)
-      (overlays ∙ ap (λ (store : StoreValue). without_overlay count store.overlays) (held_so entry e))
+      (overlays ∙ ap (λ (store : StoreValue). without_overlay count store.overlays) (held_so e))
       ∙ removed count old.overlays))
 
   -- and stays while another shows it.
   pub overlay_stays : n ≢ 0 → IsLeft held
   overlay_stays some = by_entry held (λ entry e.
-      left_by entry e false (ne_eqb (entry.mounts - 1) 0 (λ none. some (mounts_so entry e ∙ none))) held
-      (ap (λ (store : StoreValue). shown store.plain) (held_so entry e))
-      (ap (λ (store : StoreValue). map merged_of store.overlays) (held_so entry e) ∙ released count old.overlays))
+      left_by e (ne_eqb (entry.mounts - 1) 0 (λ none. some (mounts_so e ∙ none))) held
+      (ap (λ (store : StoreValue). shown store.plain) (held_so e))
+      (ap (λ (store : StoreValue). map merged_of store.overlays) (held_so e) ∙ released count old.overlays))
 
 -- The filesystem is an overlay,
 pub merged_leaves : (number : ℕ) (old new : StoreValue) → IfSome (merged_at number (map merged_of old.overlays))
     (λ one. kept [] new ≡ leave_filesystem number (kept [] old))
     → is_some (merged_at number (map merged_of old.overlays)) ≡ true
     → kept [] new ≡ leave_filesystem number (kept [] old)
-merged_leaves number old new left there = by (merged_at number (map merged_of old.overlays)) left there
-  where
-    by : {A : Type 0} (o : Option A) → IfSome o (λ one. kept [] new ≡ leave_filesystem number (kept [] old))
-        → is_some o ≡ true → kept [] new ≡ leave_filesystem number (kept [] old)
-    by None h e = absurd (true≢false (sym e))
-    by (Some one) h e = h
+merged_leaves number old new left there = grind (arith, common_steps)
 
 -- or a plain one.
 pub plain_leaves : (number : ℕ) (old new : StoreValue) → is_some (merged_at number (map merged_of old.overlays)) ≡ false

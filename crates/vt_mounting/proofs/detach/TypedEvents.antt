@@ -37,7 +37,7 @@ module _ (groups : Grouping) (new : WorldValue) where
       inodes = from.inodes;
       exchanges = subst (Exchanges gained lost (counted from.was.count) (world_of old))
           (sym (living_typed groups start))
-          (exchanges_typed groups gained lost (counted from.was.count) (world_of old) (in_use_of start) from.exchanges);
+          (exchanges_typed groups from.exchanges);
     };
     namespaces = swept.namespaces;
     tasks = swept.tasks;
@@ -68,15 +68,15 @@ module _ (groups : Grouping) (new : WorldValue) where
   }
 
 -- The policy regroups a world: where mounts got the types of the groups that are left, the event is done.
-module _ (value : WorldValue) (whole : IsHeld value) (name : TaskName) (permit : Permit ℕ) (task : Task ℕ)
-    (start : World ℕ) (is : IsApplied value name permit task (regrouped nat_eq start)) (groups : Grouping)
+module _ {value : WorldValue} (whole : IsHeld value) {name : TaskName} {permit : Permit ℕ} {task : Task ℕ}
+    (start : World ℕ) (is : IsApplied value name permit task (regrouped nat_eq start)) {groups : Grouping}
     (has : Has (regrouped nat_eq start) groups)
     (nowhere : (mount : Mount ℕ) → Among mount start.mounts → is_some mount.namespace ≡ false
     → mount.propagation ≡ Private) where
-  pub typed_done : (gained lost : List Inode) (new : WorldValue) → IsSwept value start gained lost new
+  pub typed_done : {gained lost : List Inode} {new : WorldValue} → IsSwept value start gained lost new
       → CountsBeside new → new.next ≡ value.next → IsDone value name permit (typed_value groups new)
-  typed_done gained lost new swept counts next =
+  typed_done {gained} {lost} {new} swept counts next =
       finished_as value whole name permit task (regrouped nat_eq start) is (typed_world groups start)
-      (settled_typed start groups has)
-      gained lost (typed_value groups new) (swept_typed groups new value start gained lost swept)
+      (settled_typed start groups has) gained lost (typed_value groups new)
+      (swept_typed groups new value start gained lost swept)
       (settled_typed_has start groups has nowhere) (counts_typed groups new counts) next

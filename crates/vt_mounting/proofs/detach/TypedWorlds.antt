@@ -66,9 +66,9 @@ module _ (groups : Grouping) where
       ++ flat_map (objects_of_overlay nat_eq filesystem.number) world.filesystems))
 
   -- uses that are gained and lost are the same where types change
-  pub exchanges_typed : (gained lost : List Inode) (filesystem : ℕ) (before world : World ℕ)
+  pub exchanges_typed : {gained lost : List Inode} {filesystem : ℕ} {before world : World ℕ}
       → Exchanges gained lost filesystem before world → Exchanges gained lost filesystem before (typed_world world)
-  exchanges_typed gained lost filesystem before world exchanges = record {
+  exchanges_typed {lost} {filesystem} {world} exchanges = record {
     same = exchanges.same;
     uses = λ number. exchanges.uses number ∙ ap (λ n. n + times (is_inode filesystem number) lost)
         (sym (uses_typed world (filesystem_numbered nat_eq world filesystem) number));

@@ -1,7 +1,7 @@
 -- Mounts are detached alike whatever their types: a namespace that ends.
 use Rattle.std.proofs.Common.{◌≡◌, refl, sym, ap, subst, ◌∙◌, ℕ, nat_eq, eqb-true, eq-eqb, Bool, true, false, true≢false, ◌||◌, List, [], ◌∷◌, ◌++◌, length, map, filter, Option, Some, None, option_map, is_some, if◌then◌else◌, arith}
-use Rattle.vt_spec.proofs.Common.{Mount, Private, Propagation, Shared, Slave, Unbindable, World, common_steps, holds_of, is_among, is_unbindable, length-map, list_any, map-append, map_alike, nat_eq-swapped, regrouped, same_Some, source_of}
-use Rattle.vt_mounting.proofs.Common.{AllGroupsLive, Among, Grouping, Has, MountEntry, Shown, StillTyped, TakesAway, all_from_among, among-filter, among-from_filter, among-from_map, among-map, among_from_all, among_numbers, any-map, any_from_among, as_private, changed, entry_numbered, filter-map, found_in, is_among_numbers, mounts_in, no_groups, propagation_in, typed_entry, with_kind}
+use Rattle.vt_spec.proofs.Common.{Mount, World, common_steps, holds_of, is_among, length-map, list_any, map-append, map_alike, nat_eq-swapped, regrouped, same_Some, source_of}
+use Rattle.vt_mounting.proofs.Common.{AllGroupsLive, Among, Grouping, Has, MountEntry, Shown, StillTyped, TakesAway, all_from_among, among-filter, among-from_filter, among-from_map, among-map, among_from_all, among_numbers, any-map, any_from_among, as_private, changed, entry_numbered, filter-map, found_in, is_among_numbers, mounts_in, no_groups, typed_entry}
 use Rattle.vt_group.specs.Together.{changed_if, with_changed}
 use Rattle.vt_group.proofs.Together.{is_among-snoc, taken_has}
 use Rattle.vt_laws_mounts.proofs.letting_go.Lists.{is_among_right, held_number}
@@ -16,22 +16,7 @@ module _ (groups : Grouping) where
   told = typed_entry groups
 
   told-twice : (entry : MountEntry) → told (told entry) ≡ told entry
-  told-twice entry =
-      ap (λ kind. with_kind kind entry) (by entry.mount.propagation (propagation_in groups entry.mount.number))
-    where
-      own : (kind : Propagation ℕ) → (if is_unbindable kind then Unbindable else kind) ≡ kind
-      own (Shared group) = refl
-      own (Slave master) = refl
-      own Private = refl
-      own Unbindable = refl
-
-      by : (kind other : Propagation ℕ)
-          → (if is_unbindable (if is_unbindable kind then Unbindable else other) then Unbindable else other)
-          ≡ (if is_unbindable kind then Unbindable else other)
-      by (Shared group) other = own other
-      by (Slave master) other = own other
-      by Private other = own other
-      by Unbindable other = refl
+  told-twice entry = grind (arith, common_steps)
 
   -- with the types that the groups tell
   abbrev pub with_types : Kept → Kept
@@ -48,12 +33,7 @@ module _ (groups : Grouping) where
   detached-told : (number : ℕ) (entries : List MountEntry)
       → map told (changed number detached_entry (map told entries)) ≡ map told (changed number detached_entry entries)
   detached-told number [] = refl
-  detached-told number (entry ∷ rest) = λ i. by (nat_eq number entry.mount.number) i ∷ detached-told number rest i
-    where
-      by : (b : Bool) → told (if b then detached_entry (told entry) else told entry)
-          ≡ told (if b then detached_entry entry else entry)
-      by true = refl
-      by false = told-twice entry
+  detached-told number (entry ∷ rest) = grind (arith, common_steps, detached-told number rest)
 
   -- one more is detached
   pub detached_alike : (number : ℕ) (point : Option Location) (one other : Kept)
@@ -91,10 +71,10 @@ module _ (namespace : ℕ) (one other : List MountEntry) (same : OnlyTypesChange
       ∙ any-map (is_attached_in namespace) {q = is_attached_in namespace} bare other (λ entry. refl) ∙ none
 
   -- what is attached there is attached here
-  pub is_attached-alike : (shown : List Shown) (overlays : List Merged) (gone : Detached)
+  pub is_attached-alike : (shown : List Shown) (overlays : List Merged) {gone : Detached}
       → IsAttached namespace (record { mounts = other; filesystems = shown; overlays = overlays }) gone
       → IsAttached namespace (record { mounts = one; filesystems = shown; overlays = overlays }) gone
-  is_attached-alike shown overlays gone is = by (entry_numbered one gone.number) refl
+  is_attached-alike shown overlays {gone} is = by (entry_numbered one gone.number) refl
     where
       same_found : option_map bare (entry_numbered one gone.number) ≡ Some (bare is.entry)
       same_found = sym (found-told no_groups gone.number one)
@@ -234,10 +214,10 @@ module _ (namespace : ℕ) where
       }) (has world is living))
 
 -- one more is detached: it is private
-pub still_detached : (groups : Grouping) (numbers : List ℕ) (number : ℕ) (point : Option Location) (k : Kept)
+pub still_detached : {groups : Grouping} {numbers : List ℕ} (number : ℕ) (point : Option Location) (k : Kept)
     → StillTyped groups numbers numbers k.mounts
     → StillTyped groups (numbers ++ number ∷ []) numbers (without_attachment number point k).mounts
-still_detached groups numbers number point k still = record {
+still_detached {groups} {numbers} number point k still = record {
   typed = all_from_among (λ (entry : MountEntry). is_among nat_eq entry.mount.number (numbers ++ number ∷ []) ≡ false
       → typed_entry groups entry ≡ entry) (without_attachment number point k).mounts
       (one_left (λ (entry : MountEntry). is_among nat_eq entry.mount.number (numbers ++ number ∷ []) ≡ false

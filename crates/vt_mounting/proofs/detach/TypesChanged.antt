@@ -68,11 +68,19 @@ module _ (world : World ℕ) (kind : ℕ → Propagation ℕ → Propagation ℕ
 
 -- The code's world with such mounts and groups
 
-module _ (value : WorldValue) (whole : IsHeld value) (group : ℕ → ℕ) (word : TypeWord) (named : List (Mount ℕ))
-    (kind : ℕ → Propagation ℕ → Propagation ℕ) (groups : Grouping)
-    (mounts : mounts_in (map (retyped_entry kind) value.mounts)
-    ≡ (retyped nat_eq (world_of value) group word named).mounts)
-    (has : Has (retyped nat_eq (world_of value) group word named) groups) where
+-- The mounts and groups of code are those of the definitions, once these mounts have the type.
+pub record IsRetyped (value : WorldValue) (group : ℕ → ℕ) (word : TypeWord) (named : List (Mount ℕ))
+    (kind : ℕ → Propagation ℕ → Propagation ℕ) (groups : Grouping) : Type 0 where
+  pub whole : IsHeld value
+  pub mounts : mounts_in (map (retyped_entry kind) value.mounts)
+      ≡ (retyped nat_eq (world_of value) group word named).mounts
+  pub has : Has (retyped nat_eq (world_of value) group word named) groups
+
+module _ {value : WorldValue} {group : ℕ → ℕ} {word : TypeWord} {named : List (Mount ℕ)}
+    {kind : ℕ → Propagation ℕ → Propagation ℕ} {groups : Grouping}
+    (retypes : IsRetyped value group word named kind groups) where
+  open retypes use {whole, mounts, has}
+
   abbrev entries : List MountEntry
   entries = map (retyped_entry kind) value.mounts
 
@@ -174,35 +182,33 @@ module _ (value : WorldValue) (whole : IsHeld value) (group : ℕ → ℕ) (word
   }
 
 -- The event: the numbers of new groups are counts from the next one on.
-module _ (value : WorldValue) (whole : IsHeld value) (name : TaskName) (number : ℕ) (word : TypeWord) (recursive : Bool)
-    (permits : Permits value name (ToSetType number word recursive)) (kind : ℕ → Propagation ℕ → Propagation ℕ)
-    (groups : Grouping) where
+module _ {value : WorldValue} {name : TaskName} {number : ℕ} {word : TypeWord} {recursive : Bool}
+    (permits : Permits value name (ToSetType number word recursive)) where
   abbrev pub named : List (Mount ℕ)
   named = named_mounts nat_eq (world_of value) number recursive
 
   abbrev pub group : ℕ → ℕ
   group = numbers_by nat_eq (counts_from value.next) (named_mounts nat_eq (world_of value) number recursive)
 
-  module _ (mounts : mounts_in (map (retyped_entry kind) value.mounts)
-      ≡ (retyped nat_eq (world_of value) group word named).mounts)
-      (has : Has (retyped nat_eq (world_of value) group word named) groups) where
+  module _ {kind : ℕ → Propagation ℕ → Propagation ℕ} {groups : Grouping}
+      (retypes : IsRetyped value group word named kind groups) where
+    open retypes use {whole}
+
     abbrev settles : settled nat_eq (retyped nat_eq (world_of value) group word named)
-        ≡ world_of (retyped_value value whole group word named kind groups mounts has value.next)
-    settles = types_settled value whole group word named kind groups mounts has
+        ≡ world_of (retyped_value retypes value.next)
+    settles = types_settled retypes
 
     pub types_are_set : (next : ℕ) → KeepsTo (is_counted_before next)
-        (world_of (retyped_value value whole group word named kind groups mounts has value.next))
-        → IsDone value name (ToSetType number word recursive)
-        (retyped_value value whole group word named kind groups mounts has next)
+        (world_of (retyped_value retypes value.next)) → IsDone value name (ToSetType number word recursive)
+        (retyped_value retypes next)
     types_are_set next given = record {
-      held = types_held value whole group word named kind groups mounts has next (subst (IsWorld nat_eq) settles
+      held = types_held retypes next (subst (IsWorld nat_eq) settles
           (given_permits_give_no_upper (world_of value) (supply_of value (ToSetType number word recursive)) permits.task
           (ToSetType number word recursive) whole.in_world whole.overlays.read_only permits.given).0) given
           (subst WritersHaveLayers settles
           (left_writers value whole permits.task (ToSetType number word recursive) permits.given));
       becomes = becomes_so value name (ToSetType number word recursive)
-          (retyped_value value whole group word named kind groups mounts has next) permits.task permits.called
-          (subst (λ (world : World ℕ). SameWorlds
+          (retyped_value retypes next) permits.task permits.called (subst (λ (world : World ℕ). SameWorlds
           (left_by value permits.task (ToSetType number word recursive)) world) settles
           (sameness_is_an_equivalence.itself (left_by value permits.task (ToSetType number word recursive))));
     }

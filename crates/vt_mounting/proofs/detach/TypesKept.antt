@@ -1,13 +1,13 @@
 -- Events that change types of mounts keep to the numbers that the world had, and to those of the groups that are made.
 use Rattle.std.proofs.Common.{◌≡◌, ◌<◌, refl, sym, ap, subst, ◌∙◌, ℕ, ◌+◌, ◌*◌, ◌%◌, ◌/◌, ◌==◌, nat_eq, nat_lt, eq-eqb, ne_eqb, ltb-true, lt-ltb, Bool, true, false, cond, ◌||◌, ◌&&◌, List, [], ◌∷◌, ◌++◌, length, map, flat_map, Option, None, Some, arith}
-use Rattle.vt_spec.proofs.Common.{Fresh, Mount, Namespace, Propagation, TaskName, ToSetType, TypeWord, common_steps, group_of, has_members, holds_of, index_of, is_among, list_any-append, named_mounts, numbers_by, or-true, or_parts, retyped, settled, used_by_filesystem, used_by_mount}
+use Rattle.vt_spec.proofs.Common.{Fresh, Mount, Namespace, Propagation, TaskName, ToSetType, TypeWord, common_steps, group_of, has_members, index_of, is_among, list_any-append, named_mounts, numbers_by, or_parts, retyped, settled, used_by_filesystem, used_by_mount}
 use Rattle.vt_mounting.proofs.Common.{Grouping, Has, IsHeld, KeepsTo, WorldValue, counted_later, counts_from, index_bound, is_counted_before, mounts_in, permits_keep_to_numbers, world_of}
 use Rattle.vt_group.specs.Grouping.{LacksGroup}
 use Rattle.vt_retype.specs.Retyping.{retyped as retyped_entry}
 use Rattle.vt_mounting.specs.Detach.Events.{Permits}
 use Rattle.vt_mounting.proofs.detach.FileEvents.{permit_fits}
 use Rattle.vt_mounting.proofs.detach.Staying.{IsDone}
-use Rattle.vt_mounting.proofs.detach.TypesChanged.{retyped_value, types_are_set, types_settled}
+use Rattle.vt_mounting.proofs.detach.TypesChanged.{IsRetyped, retyped_value, types_are_set, types_settled}
 use Rattle.vt_mounting.proofs.detach.TypesSet.{attached_named}
 
 -- Numbers that are no group's
@@ -23,12 +23,7 @@ group_total (mount ∷ rest) = group_count (group_of mount.propagation) + group_
 -- one that is greater than all together
 beyond : (number : ℕ) (mounts : List (Mount ℕ)) → group_total mounts < number → has_members nat_eq mounts number ≡ false
 beyond number [] more = refl
-beyond number (mount ∷ rest) more =
-    (λ i. by (group_of mount.propagation) more i || beyond number rest (omega (arith, more)) i)
-  where
-    by : (o : Option ℕ) → group_count o + group_total rest < number → holds_of (nat_eq number) o ≡ false
-    by None less = refl
-    by (Some group) less = ne_eqb number group (λ same. omega (arith, same, less))
+beyond number (mount ∷ rest) more = grind (arith, common_steps, beyond number rest, ne_eqb)
 
 -- one that is not in use
 unused_lacks : (number : ℕ) (mounts : List (Mount ℕ)) → is_among nat_eq number (flat_map used_by_mount mounts) ≡ false
@@ -79,32 +74,32 @@ module _ (value : WorldValue) (whole : IsHeld value) (name : TaskName) (number :
   even_lacks one = beyond even (world_of value).mounts (omega arith)
 
   module _ (seen : SeenAs value word (named_mounts nat_eq (world_of value) number recursive) kind groups) where
-    abbrev here : (mounts_in (map (retyped_entry kind) value.mounts)
-        ≡ (retyped nat_eq (world_of value) group word named).mounts)
-        × Has (retyped nat_eq (world_of value) group word named) groups
-    here = seen group groups_lack
+    abbrev here : IsRetyped value group word named kind groups
+    here = let both = seen group groups_lack in record { whole = whole; mounts = both.0; has = both.1 }
 
     abbrev pub changed_value : ℕ → WorldValue
-    changed_value next = retyped_value value whole group word named kind groups here.0 here.1 next
+    changed_value next = retyped_value here next
 
     -- no number is taken: the numbers of the groups may be any
     pub keeps_numbers : KeepsTo (is_counted_before value.next) (world_of (changed_value value.next))
     keeps_numbers =
         let there = seen (λ one. even) even_lacks in
         subst (KeepsTo (is_counted_before value.next))
-        (types_settled value whole (λ one. even) word named kind groups there.0 there.1)
+        (types_settled (record { whole = whole; mounts = there.0; has = there.1 }))
         (permits_keep_to_numbers (is_counted_before value.next) (λ k. even) (world_of value) permits.task
         (ToSetType number word recursive) permits.given.called whole.given (λ k. is_even) named_number)
 
     pub types_are_changed : IsDone value name (ToSetType number word recursive) (changed_value value.next)
-    types_are_changed =
-        types_are_set value whole name number word recursive permits kind groups here.0 here.1 value.next keeps_numbers
+    types_are_changed = types_are_set permits here value.next keeps_numbers
 
   -- mounts that become shared take a number each
   module _ (mounts : mounts_in (map (retyped_entry kind) value.mounts)
       ≡ (retyped nat_eq (world_of value) group word named).mounts)
       (has : Has (retyped nat_eq (world_of value) group word named) groups)
       (some : 0 < length (named_mounts nat_eq (world_of value) number recursive)) where
+    abbrev retypes : IsRetyped value group word named kind groups
+    retypes = record { whole = whole; mounts = mounts; has = has }
+
     abbrev pub later : ℕ
     later = value.next + length (named_mounts nat_eq (world_of value) number recursive)
 
@@ -117,18 +112,14 @@ module _ (value : WorldValue) (whole : IsHeld value) (name : TaskName) (number :
 
     counted_low : (k : ℕ) (b : Bool) → nat_lt k (length named) ≡ b
         → is_counted_before later (cond b (counts_from value.next k) even) ≡ true
-    counted_low k true e =
-        let low = ltb-true k (length named) e in
-        (λ i. (counts_from value.next k % 2 == 0) || (eq-eqb (counts_from value.next k % 4) 1 (omega arith) i
-        && lt-ltb (counts_from value.next k / 4) later (omega (arith, low)) i))
-        ∙ or-true (counts_from value.next k % 2 == 0)
+    counted_low k true e = grind (arith, common_steps, eq-eqb, lt-ltb, ltb-true)
     counted_low k false e = counted_later value.next later even (omega arith) is_even
 
     keeps_taken : KeepsTo (is_counted_before later)
-        (world_of (retyped_value value whole group word named kind groups mounts has value.next))
+        (world_of (retyped_value retypes value.next))
     keeps_taken = subst (KeepsTo (is_counted_before later))
         (ap (λ numbers. settled nat_eq (retyped nat_eq (world_of value) numbers word named)) (λ i one. supply_is one i)
-        ∙ types_settled value whole group word named kind groups mounts has)
+        ∙ types_settled retypes)
         (permits_keep_to_numbers (is_counted_before later) supply (world_of value) permits.task
         (ToSetType number word recursive) permits.given.called (λ renaming leaves. whole.given renaming
         (λ n is. leaves n (counted_later value.next later n (omega arith) is)))
@@ -136,6 +127,6 @@ module _ (value : WorldValue) (whole : IsHeld value) (name : TaskName) (number :
         (counted_later value.next later number (omega arith) named_number))
 
     pub types_are_shared : IsDone value name (ToSetType number word recursive)
-        (retyped_value value whole group word named kind groups mounts has later)
+        (retyped_value retypes later)
     types_are_shared =
-        types_are_set value whole name number word recursive permits kind groups mounts has later keeps_taken
+        types_are_set permits retypes later keeps_taken

@@ -30,16 +30,16 @@ attached_named value held number namespace own = mount_named value held number
     (among-map (λ (mount : Mount ℕ). mount.number) (mounts_in value.mounts)
     (mount_numbered nat_eq (world_of value) number) (found_is_there (mounts_in value.mounts) number (ap is_some own)))))
 
-module _ (value : WorldValue) (whole : IsHeld value) (name : TaskName) (number : ℕ) (permit : Permit ℕ)
-    (change : Mount ℕ → Mount ℕ)
+module _ {value : WorldValue} (whole : IsHeld value) {name : TaskName} (number : ℕ) {permit : Permit ℕ}
+    {change : Mount ℕ → Mount ℕ}
     (keeps : KeepsWhatItShows change) (stays : (mount : Mount ℕ) → (change mount).mount_point ≡ mount.mount_point)
     (permits : Permits value name permit)
     (own : (mount_numbered nat_eq (world_of value) number).namespace ≡ Some permits.task.namespace) where
   nothing_exchanged : (filesystem : ℕ)
-      → Exchanges [] [] filesystem (world_of value) (next_of value whole number change keeps)
+      → Exchanges [] [] filesystem (world_of value) (next_of whole number keeps)
   nothing_exchanged filesystem =
       let found = attached_entry value number permits.task.namespace own in
-      let moved = places_exchanged value whole number change keeps found.0 found.1 filesystem in
+      let moved = places_exchanged whole number keeps found.1 filesystem in
       record {
         same = moved.same;
         uses = λ n.
@@ -53,13 +53,14 @@ module _ (value : WorldValue) (whole : IsHeld value) (name : TaskName) (number :
       }
 
   -- the event of a change of one mount that keeps its mount point
-  pub mount_is_retouched : Has (settled nat_eq (next_of value whole number change keeps)) value.groups
+  pub mount_is_retouched : Has (settled nat_eq (next_of whole number keeps)) value.groups
       → permit_named (is_counted_before value.next) permit ≡ true
       → ((fresh : Fresh ℕ) → (apply nat_eq fresh (world_of value) permits.task permit).world
-      ≡ next_of value whole number change keeps) → IsDone value name permit (remade value
+      ≡ next_of whole number keeps) → IsDone value name permit (remade value
       (changed number (with_mount_changed change) value.mounts) value.filesystems value.tasks)
-  mount_is_retouched has named applied = mount_is_changed value whole number change keeps [] [] value.filesystems
-      (same_shown (shown value.filesystems)) nothing_exchanged (λ was m. refl) name permit permits.task
+  mount_is_retouched has named applied = mount_is_changed whole number keeps [] [] value.filesystems
+      (same_shown (shown value.filesystems)) nothing_exchanged (λ was m. refl) {name = name} {permit = permit}
+      {task = permits.task}
       (record { called = permits.called; given = permits.given; named = named; applied = applied }) has
 
 -- Flags
@@ -81,10 +82,10 @@ pub flags_are_set : (value : WorldValue) → IsHeld value → (name : TaskName) 
     record entry { mount = record entry.mount { flags = flags } }) value.mounts) value.filesystems value.tasks)
 flags_are_set value whole name number flags permits =
     let own = (permit_fits value whole name (ToSetFlags number flags) permits).names in
-    mount_is_retouched value whole name number (ToSetFlags number flags) (with_flags flags) (flags_keep flags)
-    (λ mount. refl) permits own (kind_kept value whole number (with_flags flags) (flags_keep flags) (λ mount. refl))
-    (attached_named value whole number permits.task.namespace own) (λ fresh.
-    flags_are_of_one (world_of value) (record { mount = number; node = number }) flags whole.in_world.mounts.one_number
+    mount_is_retouched whole number (flags_keep flags) (λ mount. refl) permits own
+    (kind_kept whole number (flags_keep flags) (λ mount. refl))
+    (attached_named value whole number permits.task.namespace own) (λ fresh. flags_are_of_one (world_of value)
+    (record { mount = number; node = number }) flags whole.in_world.mounts.one_number
     ∙ ap (with_mounts (world_of value))
     (map_alike (flags_if number flags) (one_changed number (with_flags flags)) (mounts_in value.mounts)
     (λ mount m. ap (λ b. cond b (with_flags flags mount) mount) (nat_eq_turned mount.number number))

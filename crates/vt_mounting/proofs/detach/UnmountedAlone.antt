@@ -58,7 +58,8 @@ unmount_is_done value name number point mounts filesystems overlays whole permit
     let none = (or_parts (has_child nat_eq world number)
     (is_used nat_eq world (going nat_eq world (mount_numbered nat_eq world number))) names.2).0 in
     let closed = childless world number none in
-    detached_done value name (ToUnmount number) permits.task (number ∷ []) mounts filesystems overlays whole closed
+    detached_done {name = name} {permit = ToUnmount number} {task = permits.task} (number ∷ []) mounts filesystems
+    overlays whole closed
     (λ mount m its. freed mount m (nat_eq mount.number number) refl its) (record {
       called = permits.called;
       given = permits.given;
@@ -66,8 +67,7 @@ unmount_is_done value name number point mounts filesystems overlays whole permit
       applied = λ fresh. ap (taken_away nat_eq world) (goes_apart world number apart);
     })
     (subst (Rattle.vt_mounting.proofs.detach.Detached.IsDetaching value [] (in_use_of (detached_world (number ∷ []) world)) [])
-    (sym is_kept) (detaching_on value [] (in_use_of (detached_world (number ∷ []) world)) number []
-    (kept_of value) point (detaching_begins value [] [] world (kept_of value) (held_is_kept value whole)
+    (sym is_kept) (detaching_on point (detaching_begins value [] [] world (kept_of value) (held_is_kept value whole)
     (number ∷ []) closed) point_is few))
   where
     freed : (mount : Mount ℕ) → Among mount (mounts_in value.mounts) → (b : Bool) → nat_eq mount.number number ≡ b

@@ -21,7 +21,7 @@ pub all_detached : (old : WorldValue) (gained : List Inode) (last : World ℕ) (
 all_detached old gained last [] k final detaching turn = subst (IsDetaching old gained last []) (sym turn) detaching
 all_detached old gained last (number ∷ numbers) k final detaching turn =
     all_detached old gained last numbers (without_attachment number turn.0 k) final
-    (detaching_on old gained last number numbers k turn.0 detaching turn.1 turn.2) turn.3
+    (detaching_on turn.0 detaching turn.1 turn.2) turn.3
 
 pub lazy_unmount_is_done : (value : WorldValue) (name : TaskName) (number : ℕ) (numbers : List ℕ)
     (mounts : List MountEntry) (filesystems : Filesystems) (overlays : List Merged)
@@ -41,17 +41,16 @@ lazy_unmount_is_done value name number numbers mounts filesystems overlays whole
     let gone = map (λ (mount : Mount ℕ). mount.number)
     (mount_tree nat_eq world.mounts (mount_in nat_eq world.mounts number)) in
     let kept_mounts = whole.in_world.mounts in
-    let closed : HasChildrenOf gone world.mounts = tree_has_children world kept_mounts number there in
-    let free = tree_is_free world kept_mounts number there ungrouped in
-    detached_done value name (ToUnmountLazily number) permits.task gone mounts filesystems overlays whole closed
-    free (record {
+    let closed : HasChildrenOf gone world.mounts = tree_has_children kept_mounts number there in
+    let free = tree_is_free kept_mounts number there ungrouped in
+    detached_done {name = name} {permit = ToUnmountLazily number} {task = permits.task} gone mounts filesystems
+    overlays whole closed free (record {
       called = permits.called;
       given = permits.given;
       named = attached_is_named value whole number there;
-      applied = λ fresh. lazily_is_detached world kept_mounts number there ungrouped
+      applied = λ fresh. lazily_is_detached kept_mounts number there ungrouped
           (λ place p. sym (ap (holds_of (λ (at : Location ℕ). is_shared (mount_at nat_eq world at).propagation)) p)
-          ∙ apart) ∙ sym (taken_regroups world gone closed
-          ∙ alone_regroups world value.groups whole.groups kept_mounts.groups gone free);
+          ∙ apart) ∙ sym (taken_regroups world gone closed ∙ alone_regroups whole.groups kept_mounts.groups gone free);
     }) (all_detached value [] (in_use_of (detached_world gone world)) gone (kept_of value)
     (kept_with mounts filesystems overlays) (detaching_begins value [] [] world (kept_of value) start gone closed)
     (subst (λ all. LeaveInTurn all (kept_of value) (kept_with mounts filesystems overlays)) tree turn))

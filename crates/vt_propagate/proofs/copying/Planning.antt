@@ -1,6 +1,6 @@
 -- What is made by the masters that are kept is what is made in the world.
-use Rattle.std.proofs.Common.{◌≡◌, ℕ, Bool, true, false, cond, suc, zero, List, [], ◌∷◌, map, length, nat_eq, Option, None, Some, option_map, flat_map, is_some, refl, sym, ap, ◌∙◌, true≢false, ⊎_elim, subst, find, filter_map, if◌then◌else◌, not, slice_get, unwrap_or}
-use Rattle.vt_spec.proofs.Common.{Among, Copies, HasLivingGroups, Lives, Location, Mount, Private, Propagation, Shared, Slave, Twig, Unbindable, World, all_groups_made, among-from_filter, among_from_all, chain, chain_ends, chain_goes_on, cons_option, copies_at, copies_from, copy_at, copy_mount_point, copy_number, copy_type, graft_of, group_made, group_of, groups_up, has_master, has_members, has_no_master, image, is_destination, is_member_of, map_twice, mount_at, nearest_image, no_mount, parts_of, receivers_of, same_Some, slave_of_heir, source_of, takes_part, then_some, twig_master, twig_of, when}
+use Rattle.std.proofs.Common.{◌≡◌, ℕ, Bool, true, cond, suc, zero, List, [], ◌∷◌, map, length, nat_eq, Option, None, Some, option_map, flat_map, is_some, refl, sym, ap, ◌∙◌, true≢false, ⊎_elim, subst, find, filter_map, if◌then◌else◌, not, slice_get, unwrap_or, arith}
+use Rattle.vt_spec.proofs.Common.{Among, Copies, HasLivingGroups, Lives, Location, Mount, Private, Propagation, Shared, Slave, Twig, Unbindable, World, all_groups_made, among-from_filter, among_from_all, chain, chain_ends, chain_goes_on, common_steps, cons_option, copies_at, copies_from, copy_at, copy_mount_point, copy_number, copy_type, graft_of, group_made, group_of, groups_up, has_master, has_members, has_no_master, image, is_destination, is_member_of, map_twice, mount_at, nearest_image, no_mount, parts_of, receivers_of, same_Some, slave_of_heir, source_of, takes_part, then_some, twig_master, twig_of, when}
 use Rattle.vt_spec.specs.Machine.Attach as meant
 use Rattle.vt_group.specs.Grouping.{Grouping, master_in}
 use Rattle.vt_location.specs.Locations.{location_of}
@@ -8,7 +8,7 @@ use Rattle.vt_location.specs.MountValue.{mount_of}
 use Rattle.vt_location.specs.declared.mounts.Mount.{Mount as Kept}
 use Rattle.vt_mount.specs.MountsValue.{MountEntry, mounts_in}
 use Rattle.vt_propagate.specs.declared.numbering.Copying.{Copying}
-use Rattle.vt_propagate.specs.Copying.{above_of, as_kept, copied, counts_from, graft_seen, nearest_master_of, image_seen, made, nearest_part}
+use Rattle.vt_propagate.specs.Copying.{above_of, as_kept, copied, counts_from, graft_seen, nearest_master_of, image_seen, made}
 use Rattle.vt_propagate.specs.Copying.{parts_seen, supply, tree_seen, twig, type_by_master}
 use Rattle.vt_propagate.specs.Planned.{planned_copies, planned_groups}
 use Rattle.vt_propagate.specs.Seen.{IsSeen}
@@ -59,19 +59,12 @@ module _ (world : World ℕ) (copying : Copying) (origin : Mount ℕ) where
   image_of-above_of : (kind : Propagation ℕ) → then_some (group_of kind) (λ group. formed group
       (option_map (image_seen copying origin) (above_of world copying kind)))
       ≡ then_some (group_of kind) (λ group. formed group (nearest (world.master group)))
-  image_of-above_of (Shared group) = by (is_member_of nat_eq group (mount_of copying.destination)) (world.master group)
-    where
-      by : (member : Bool) (master : Option ℕ) → formed_if member group
-          (option_map (image_seen copying origin) (if member then None else nearest_part world copying master))
-          ≡ formed_if member group (nearest master)
-      by true master = refl
-      by false None = refl
-      by false (Some above) = refl
+  image_of-above_of (Shared group) = grind (arith, common_steps)
   image_of-above_of (Slave master) = refl
   image_of-above_of Private = refl
   image_of-above_of Unbindable = refl
 
-module _ (world : World ℕ) (kept : List MountEntry) (grouping : Grouping) (seen : IsSeen world kept grouping) where
+module _ {world : World ℕ} {kept : List MountEntry} {grouping : Grouping} (seen : IsSeen world kept grouping) where
   abbrev members : ℕ → Bool
   members = has_members nat_eq world.mounts
 
@@ -264,9 +257,9 @@ first_in [] = None
 first_in (mount ∷ rest) = Some mount
 
 -- the first part is the mount of the event
-pub first_part : (parts : List Kept) (first : Kept) → Some first ≡ slice_get parts 0
-    → (at : Mount ℕ) (rest : List (Mount ℕ)) → map mount_of parts ≡ at ∷ rest → mount_of first ≡ at
+pub first_part : (parts : List Kept) {first : Kept} → Some first ≡ slice_get parts 0
+    → {at : Mount ℕ} {rest : List (Mount ℕ)} → map mount_of parts ≡ at ∷ rest → mount_of first ≡ at
 unfolding first_in
-first_part [] first is at rest e = absurd (true≢false (ap is_some is))
-first_part (part ∷ parts) first is at rest e = ap mount_of (same_Some first part is)
+first_part [] is e = absurd (true≢false (ap is_some is))
+first_part (part ∷ parts) {first} is {at} e = ap mount_of (same_Some first part is)
     ∙ same_Some (mount_of part) at (ap first_in e)

@@ -1,6 +1,6 @@
 -- The mounts that stay where others are detached, by a list of their new mount points.
-use Rattle.std.proofs.Common.{◌≡◌, ℕ, Bool, true, false, cond, List, [], ◌∷◌, map, nat_eq, Option, None, Some, option_map, is_some, refl, sym, ap, subst, ◌∙◌, inl, inr, ⊎_elim, eq-eqb, true≢false, length, eqb-true, All, if◌then◌else◌, unwrap_or}
-use Rattle.vt_spec.proofs.Common.{Among, Location, Mount, World, after_going, all_from_among, among-filter, among-filter_map, among-flat_map, among-from_filter_map, among-from_flat_map, among-map, among_numbers, children, detached, holds_of, is_going, lookup, mount_in, mount_point_left, mount_point_of_parent, no_mount, or_else, regrouped, same_Some, stands_on, then_some, with_mounts}
+use Rattle.std.proofs.Common.{◌≡◌, ℕ, Bool, true, false, List, [], ◌∷◌, map, nat_eq, Option, None, Some, option_map, is_some, refl, sym, ap, subst, ◌∙◌, inl, inr, eq-eqb, true≢false, length, eqb-true, All, if◌then◌else◌, unwrap_or, arith}
+use Rattle.vt_spec.proofs.Common.{Among, Location, Mount, World, after_going, all_from_among, among-filter, among-filter_map, among-flat_map, among-from_filter_map, among-from_flat_map, among-map, among_numbers, children, common_steps, detached, holds_of, is_going, lookup, mount_in, mount_point_left, mount_point_of_parent, no_mount, or_else, regrouped, same_Some, stands_on, then_some, with_mounts}
 use Rattle.vt_mount.proofs.PointLemmas.{end-here}
 use Rattle.vt_mount.specs.MountsValue.{are_ascending}
 use Rattle.vt_propagate.specs.Falling.{FallsTo, LeavesBy, all_points_left, left_by, moved_by, of_mounts, point_left, point_left_of, points_left_on}
@@ -9,7 +9,7 @@ use Rattle.vt_propagate.proofs.Leaving.{numbered-number}
 use Rattle.vt_laws_mounts.proofs.letting_go.Lists.{found_in}
 use Rattle.vt_laws_mounts.specs.Mounts.Attaching.{numbers_of}
 
-module _ (mounts : List (Mount ℕ)) (gone : List ℕ) (number : ℕ) (mount : Mount ℕ) (found : Some mount
+module _ (mounts : List (Mount ℕ)) (gone : List ℕ) (number : ℕ) {mount : Mount ℕ} (found : Some mount
     ≡ numbered mounts number) where
   -- a mount that goes gets no new mount point
   left_none : is_going nat_eq gone number ≡ true → None ≡ point_left_of mounts gone number
@@ -20,9 +20,9 @@ module _ (mounts : List (Mount ℕ)) (gone : List ℕ) (number : ℕ) (mount : M
       ∙ ap (λ o. then_some o (point_left mounts gone)) found
 
   -- one that stays gets the place that is left below it
-  pub left_some : is_going nat_eq gone number ≡ false → (place : Location ℕ) → mount.mount_point ≡ Some place
+  pub left_some : is_going nat_eq gone number ≡ false → {place : Location ℕ} → mount.mount_point ≡ Some place
       → Some (number, mount_point_left nat_eq (of_mounts mounts) gone place) ≡ point_left_of mounts gone number
-  left_some stays place at = ap (λ n. Some (n, mount_point_left nat_eq (of_mounts mounts) gone place))
+  left_some stays {place} at = ap (λ n. Some (n, mount_point_left nat_eq (of_mounts mounts) gone place))
       (numbered-number mounts number mount found)
       ∙ ap (option_map (λ place. (mount.number, mount_point_left nat_eq (of_mounts mounts) gone place))) (sym at)
       ∙ sym (ap (λ b. if b then None else option_map (λ place. (
@@ -38,7 +38,7 @@ left_gone mounts gone number is = by (numbered mounts number) refl
   where
     by : (found : Option (Mount ℕ)) → found ≡ numbered mounts number → None ≡ point_left_of mounts gone number
     by None e = ap (λ o. then_some o (point_left mounts gone)) e
-    by (Some mount) e = left_none mounts gone number mount e is
+    by (Some mount) e = left_none mounts gone number e is
 
 -- Lists of pairs
 
@@ -47,22 +47,12 @@ module _ {B : Type 0} where
   pub lookup_pair : (number : ℕ) (pairs : List (ℕ × B)) (b : B) → lookup (nat_eq number) pairs ≡ Some b
       → Among (number, b) pairs
   lookup_pair number [] b e = absurd (true≢false (sym (ap is_some e)))
-  lookup_pair number (pair ∷ rest) b e = by (nat_eq number pair.0) refl e (lookup_pair number rest b)
-    where
-      by : (t : Bool) → nat_eq number pair.0 ≡ t → cond t (Some pair.1) (lookup (nat_eq number) rest) ≡ Some b
-          → (lookup (nat_eq number) rest ≡ Some b → Among (number, b) rest) → Among (number, b) (pair ∷ rest)
-      by true is f later = inl (λ i. (eqb-true number pair.0 is i, sym (same_Some pair.1 b f) i))
-      by false is f later = inr (later f)
+  lookup_pair number (pair ∷ rest) b e = grind (arith, common_steps, lookup_pair number rest, eqb-true, same_Some)
 
   pair_found : (number : ℕ) (pairs : List (ℕ × B)) (b : B) → Among (number, b) pairs
       → is_some (lookup (nat_eq number) pairs) ≡ true
   pair_found number [] b m = absurd m
-  pair_found number (pair ∷ rest) b m = by (nat_eq number pair.0) refl (pair_found number rest b)
-    where
-      by : (t : Bool) → nat_eq number pair.0 ≡ t → (Among (number, b) rest → is_some (lookup (nat_eq number) rest)
-          ≡ true) → is_some (cond t (Some pair.1) (lookup (nat_eq number) rest)) ≡ true
-      by true is later = refl
-      by false is later = ⊎_elim (λ e. absurd (true≢false (sym (eq-eqb number pair.0 (ap (λ p. p.0) e)) ∙ is))) later m
+  pair_found number (pair ∷ rest) b m = grind (arith, common_steps, pair_found number rest, eq-eqb)
 
 -- New mount points of the mounts that stay
 
@@ -108,17 +98,16 @@ module _ (world : World ℕ) (up : are_ascending world.mounts ≡ true) (gone : 
 
   -- a mount on one that goes has an entry
   has_entry : (mount : Mount ℕ) → Among mount world.mounts → is_going nat_eq gone mount.number ≡ false
-      → (place : Location ℕ) → mount.mount_point ≡ Some place → is_going nat_eq gone place.mount ≡ true
+      → {place : Location ℕ} → mount.mount_point ≡ Some place → is_going nat_eq gone place.mount ≡ true
       → Among (mount.number, left place) points
-  has_entry mount m stays place at goes =
+  has_entry mount m stays {place} at goes =
       among-flat_map (points_left_on world.mounts gone) gone place.mount (mount.number, left place)
       (among_numbers gone place.mount goes) (among-filter_map (point_left_of world.mounts gone) (numbers_of
       (children nat_eq world.mounts place.mount)) mount.number (mount.number, left place)
       (among-map (λ x. x.number) (children nat_eq world.mounts place.mount) mount
       (among-filter (stands_on nat_eq place.mount) world.mounts mount m
       (ap (holds_of (λ p. nat_eq place.mount p.mount)) at ∙ eq-eqb place.mount place.mount refl)))
-      (sym (left_some world.mounts gone mount.number mount (sym
-      (numbered_among world.mounts up mount m)) stays place at)))
+      (sym (left_some world.mounts gone mount.number (sym (numbered_among world.mounts up mount m)) stays at)))
 
   same_point : (mount : Mount ℕ) → Among mount world.mounts → is_going nat_eq gone mount.number ≡ false
       → option_map left mount.mount_point ≡ or_else (lookup (nat_eq mount.number) points) mount.mount_point
@@ -131,7 +120,7 @@ module _ (world : World ℕ) (up : are_ascending world.mounts ≡ true) (gone : 
         where
           choose : (b : Bool) → is_going nat_eq gone place.mount ≡ b → left place ≡ place
           choose true goes = absurd (true≢false (sym (pair_found mount.number points (left place)
-              (has_entry mount m stays place at goes)) ∙ ap is_some absent))
+              (has_entry mount m stays at goes)) ∙ ap is_some absent))
           choose false goes = end-here (mount_point_of_parent nat_eq world gone) (length world.mounts) place
               (ap (λ b. if b then (mount_in nat_eq world.mounts place.mount).mount_point else None) goes)
 

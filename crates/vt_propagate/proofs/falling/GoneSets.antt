@@ -1,30 +1,16 @@
 -- A set of the mounts that go.
-use Rattle.std.proofs.Common.{◌≡◌, ℕ, Bool, true, false, cond, List, [], ◌∷◌, ◌+◌, ◌<◌, ◌||◌, ◌++◌, flat_map, map, nat_eq, refl, sym, ap, ◌∙◌, get_or, length, take, filter_map}
-use Rattle.vt_spec.proofs.Common.{Mount, filter_none, list_any, list_any-append, map-append, or_false_left, or_false_right, stands_on, take_more}
+use Rattle.std.proofs.Common.{◌≡◌, ℕ, true, false, cond, List, [], ◌∷◌, ◌+◌, ◌<◌, ◌++◌, flat_map, map, nat_eq, refl, ap, ◌∙◌, get_or, length, take, filter_map, arith}
+use Rattle.vt_spec.proofs.Common.{Mount, common_steps, filter_none, list_any, list_any-append, map-append, or_false_left, or_false_right, stands_on}
 use Rattle.vt_location.specs.declared.numbers.MountId.{MountId}
 use Rattle.vt_location.specs.Numbers.{counted}
 use Rattle.vt_propagate.specs.Falling.{point_left_of, points_left_on}
 use Rattle.vt_propagate.proofs.Found.{counts}
-use Rattle.vt_propagate.proofs.Indexing.{turned_count}
 
 -- one more mount of a list is noted
 pub going_more : (ids : List MountId) (i : ℕ) (d id : MountId) → i < length ids
     → cond (nat_eq (get_or ids i d).count id.count) true (list_any (nat_eq (counted id.count)) (counts (take i ids)))
     ≡ list_any (nat_eq (counted id.count)) (counts (take (i + 1) ids))
-going_more ids i d id within =
-    let test : ℕ → Bool = nat_eq (counted id.count) in
-    let last : MountId = get_or ids i d in
-    ap (λ b. cond b true (list_any test (counts (take i ids)))) (turned_count last.count id.count)
-    ∙ either (test (counted last.count)) (list_any test (counts (take i ids)))
-    ∙ sym (list_any-append test (counts (take i ids)) (counts (last ∷ [])))
-    ∙ sym (ap (list_any test) (map-append (λ (id : MountId). counted id.count) (take i ids) (last ∷ [])))
-    ∙ sym (ap (λ list. list_any test (counts list)) (take_more ids i d within))
-  where
-    either : (b before : Bool) → cond b true before ≡ (before || (b || false))
-    either true true = refl
-    either true false = refl
-    either false true = refl
-    either false false = refl
+going_more ids i d id within = grind (arith, common_steps, list_any-append, map-append)
 
 -- what has no child leaves no mount behind
 pub none_left : (mounts : List (Mount ℕ)) (gone numbers : List ℕ)

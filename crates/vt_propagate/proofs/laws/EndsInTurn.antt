@@ -1,6 +1,6 @@
 -- Namespaces that end: their mounts are detached one after the other, with a sweep after each, or all at once.
-use Rattle.std.proofs.Common.{◌≡◌, refl, sym, ap, subst, ◌∙◌, ℕ, zero, suc, nat_eq, Bool, true, false, true≢false, not, ◌&&◌, ◌||◌, List, [], ◌∷◌, ◌++◌, filter, flat_map, map, Option, None, Some, is_some, option_map, length, if◌then◌else◌}
-use Rattle.vt_spec.proofs.Common.{Location, Mount, MountInvariants, Namespace, World, after_going, among_from_list_all, chain, detached, filesystems-taken_away, filter_none, has_child, has_tasks, holds_of, is_among, is_located, is_nowhere_or_attached, is_private, last_or, list_any, lost_a_group, mount_at, mount_lives, mount_numbered, or_parts, regrouped, regrouped_by, settled, stands_on, taken_away, tree_from, with_mounts}
+use Rattle.std.proofs.Common.{◌≡◌, refl, sym, ap, subst, ◌∙◌, ℕ, zero, suc, nat_eq, Bool, true, false, List, [], ◌∷◌, ◌++◌, filter, flat_map, map, Option, None, is_some, option_map, length, if◌then◌else◌, arith}
+use Rattle.vt_spec.proofs.Common.{Location, Mount, MountInvariants, Namespace, World, among_from_list_all, chain, common_steps, detached, filesystems-taken_away, filter_none, has_child, has_tasks, is_among, is_located, is_nowhere_or_attached, last_or, mount_at, mount_lives, mount_numbered, or_parts, regrouped, settled, stands_on, taken_away, tree_from, with_mounts}
 use Rattle.vt_laws_mounts.specs.LettingGo.InUse.{HasTrees, UppersArePlain}
 use Rattle.vt_laws_mounts.specs.LettingGo.Leaving.{with_sweeps}
 use Rattle.vt_laws_mounts.specs.LettingGo.Mounting.{ended_mounts}
@@ -102,15 +102,7 @@ namespaces_end_in_turn world numbers trees uppers reals kept turns are =
 namespaces_do_not_count : (world : World ℕ) (namespaces : List (Namespace ℕ)) (gone : List ℕ)
     → taken_away nat_eq (with_namespaces world namespaces) gone
     ≡ with_namespaces (taken_away nat_eq world gone) namespaces
-namespaces_do_not_count world namespaces gone = by (list_any (lost_a_group nat_eq middle) middle.mounts)
-  where
-    middle : World ℕ
-    middle = with_mounts world (map (after_going nat_eq world gone) world.mounts)
-
-    by : (b : Bool) → regrouped_by nat_eq b (with_namespaces middle namespaces)
-        ≡ with_namespaces (regrouped_by nat_eq b middle) namespaces
-    by true = refl
-    by false = refl
+namespaces_do_not_count world namespaces gone = grind (arith, common_steps)
 
 -- nor to sweeps after each
 sweeps_do_not_count : (namespaces : List (Namespace ℕ)) (numbers : List ℕ) (now : World ℕ)
@@ -132,15 +124,7 @@ unlisted_namespaces_end_in_turn world numbers trees uppers reals kept turns are 
 -- a mount outside every namespace stands on none
 stands_nowhere : (number : ℕ) (mount : Mount ℕ) → is_some mount.namespace ≡ false
     → is_nowhere_or_attached mount ≡ true → stands_on nat_eq number mount ≡ false
-stands_nowhere number mount outside nowhere = by mount.mount_point refl
-    (sym (ap (λ b. b || (not (is_some mount.mount_point) && is_private mount.propagation)) outside) ∙ nowhere)
-  where
-    by : (place : Option (Location ℕ)) → mount.mount_point ≡ place
-        → (not (is_some mount.mount_point) && is_private mount.propagation) ≡ true
-        → stands_on nat_eq number mount ≡ false
-    by None e private = ap (holds_of (λ p. nat_eq number p.mount)) e
-    by (Some place) e private =
-        absurd (true≢false (sym private ∙ ap (λ p. not (is_some p) && is_private mount.propagation) e))
+stands_nowhere number mount outside nowhere = grind (arith, common_steps)
 
 -- so that a sweep takes no child
 has_child_swept : (world : World ℕ) → MountInvariants nat_eq world → (number : ℕ)

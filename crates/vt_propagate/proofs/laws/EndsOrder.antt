@@ -50,7 +50,7 @@ module _ (start : World ℕ) (at_first : MountInvariants nat_eq start) where
     ends : (mount : Mount ℕ) → Among mount left → is_among nat_eq mount.number gone ≡ true
     itself : (mount : Mount ℕ) → Among mount left → mount_numbered nat_eq start mount.number ≡ mount
 
-  module _ (world : World ℕ) (mount : Mount ℕ) (left : List (Mount ℕ)) (are : AreLeft world (mount ∷ left)) where
+  module _ {world : World ℕ} {mount : Mount ℕ} {left : List (Mount ℕ)} (are : AreLeft world (mount ∷ left)) where
     abbrev one : ℕ
     one = mount.number
 
@@ -73,9 +73,9 @@ module _ (start : World ℕ) (at_first : MountInvariants nat_eq start) where
         omega (arith, low, first, second, same)) from.1
 
     -- so that nothing stands on the next one
-    none_on_it : (x : Mount ℕ) → Among x world.mounts → (place : Location ℕ) → x.mount_point ≡ Some place
+    none_on_it : (x : Mount ℕ) → Among x world.mounts → {place : Location ℕ} → x.mount_point ≡ Some place
         → one ≡ place.mount → ⊥
-    none_on_it x m place e same =
+    none_on_it x m {place} e same =
         let found = found_itself world.mounts are.kept.one_number x m in
         let stood_there : (mount_numbered nat_eq start x.number).mount_point ≡ Some place =
         are.stays x.number place (ap (λ (z : Mount ℕ). z.mount_point) found ∙ e) in
@@ -97,7 +97,7 @@ module _ (start : World ℕ) (at_first : MountInvariants nat_eq start) where
         by : (x : Mount ℕ) → Among x world.mounts → (place : Option (Location ℕ)) → x.mount_point ≡ place
             → stands_on nat_eq one x ≡ true → ⊥
         by x m None e on = true≢false (sym on ∙ ap (holds_of (λ p. nat_eq one p.mount)) e)
-        by x m (Some place) e on = none_on_it x m place e
+        by x m (Some place) e on = none_on_it x m e
             (eqb-true one place.mount (sym (ap (holds_of (λ p. nat_eq one p.mount)) e) ∙ on))
 
     -- and when it is detached alone, the rest is left
@@ -121,8 +121,8 @@ module _ (start : World ℕ) (at_first : MountInvariants nat_eq start) where
   left_in_turn : (left : List (Mount ℕ)) (world : World ℕ) → AreLeft world left → GoInTurn world (numbers_of left)
   left_in_turn [] world are = tt
   left_in_turn (mount ∷ left) world are = (
-    has_none world mount left are,
-    left_in_turn left (without_one world mount.number) (next_left world mount left are),
+    has_none are,
+    left_in_turn left (without_one world mount.number) (next_left are),
   )
 
   -- what is sorted is what ends

@@ -1,6 +1,6 @@
 -- Tasks that end one after the other, the last ones of their namespaces too, or all at once.
-use Rattle.std.proofs.Common.{◌≡◌, refl, sym, ap, subst, ◌∙◌, ⊎_elim, ℕ, nat_eq, Bool, true, false, true≢false, not, ◌&&◌, ◌||◌, List, [], ◌∷◌, ◌++◌, filter, map, Option, None, Some}
-use Rattle.vt_spec.proofs.Common.{Among, Mount, MountInvariants, Namespace, Stands, Task, TaskName, World, after_going, all_from_among, among-filter, among-from_filter, among-from_map, among-map, among_from_all, among_numbers, folded, found_or_none, has_tasks, holds_of, is_among, is_among_numbers, is_in_ended, list_any, list_any-append, lost_a_group, mount_numbered, namespaces_ended, none_among, none_from_among, regrouped_by, same_name, settled, stands_alike, taken_away, tasks-taken_away, with_mounts, without_dead_groups, without_task}
+use Rattle.std.proofs.Common.{◌≡◌, refl, sym, ap, subst, ◌∙◌, ⊎_elim, ℕ, nat_eq, Bool, true, false, true≢false, not, ◌&&◌, ◌||◌, List, [], ◌∷◌, ◌++◌, filter, Option, None, Some, arith}
+use Rattle.vt_spec.proofs.Common.{Among, Mount, MountInvariants, Namespace, Stands, Task, TaskName, World, all_from_among, among-filter, among-from_filter, among-from_map, among-map, among_from_all, among_numbers, common_steps, folded, found_or_none, has_tasks, holds_of, is_among, is_among_numbers, is_in_ended, list_any, list_any-append, mount_numbered, namespaces_ended, none_among, none_from_among, same_name, settled, stands_alike, taken_away, tasks-taken_away, without_dead_groups, without_task}
 use Rattle.vt_laws_mounts.specs.LettingGo.Mounting.{ended_mounts}
 use Rattle.vt_laws_mounts.specs.LettingGo.Several.{KeepsMounts, ended_task}
 use Rattle.vt_laws_mounts.proofs.letting_go.Lists.{any-filter, filter_twice}
@@ -23,15 +23,7 @@ with_others world tasks namespaces = record world { tasks = tasks; namespaces = 
 others_do_not_count : (world : World ℕ) (tasks : List (Task ℕ)) (namespaces : List (Namespace ℕ)) (gone : List ℕ)
     → taken_away nat_eq (with_others world tasks namespaces) gone
     ≡ with_others (taken_away nat_eq world gone) tasks namespaces
-others_do_not_count world tasks namespaces gone = by (list_any (lost_a_group nat_eq middle) middle.mounts)
-  where
-    middle : World ℕ
-    middle = with_mounts world (map (after_going nat_eq world gone) world.mounts)
-
-    by : (b : Bool) → regrouped_by nat_eq b (with_others middle tasks namespaces)
-        ≡ with_others (regrouped_by nat_eq b middle) tasks namespaces
-    by true = refl
-    by false = refl
+others_do_not_count world tasks namespaces gone = grind (arith, common_steps)
 
 -- The mounts that end, by number
 
@@ -94,11 +86,7 @@ module _ (world : World ℕ) (tasks : List (Task ℕ)) (kept : MountInvariants n
 
   -- a namespace without tasks has none among fewer
   none_of_fewer : (namespace : Namespace ℕ) → has_tasks nat_eq world namespace ≡ false → has_one namespace ≡ false
-  none_of_fewer namespace e = by (has_one namespace) refl
-    where
-      by : (b : Bool) → has_one namespace ≡ b → has_one namespace ≡ false
-      by true f = absurd (true≢false (sym (fewer namespace f) ∙ e))
-      by false f = f
+  none_of_fewer namespace e = grind (arith, common_steps)
 
   -- the same namespaces are left
   same_listed : filter has_one listed ≡ filter has_one world.namespaces

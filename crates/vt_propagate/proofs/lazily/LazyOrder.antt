@@ -1,8 +1,7 @@
 -- The events of a lazy unmount in order: the levels of the tree, turned round.
-use Rattle.std.proofs.Common.{◌≡◌, ◌<◌, ◌≤◌, refl, sym, ap, subst, ◌∙◌, arith, ℕ, zero, suc, nat_eq, nat_lt, eq-eqb, eqb-true, ne_eqb, Bool, true, false, true≢false, cond, List, [], ◌∷◌, ◌++◌, filter, flat_map, length, reverse, Option, None, Some, inl, inr, ⊎_elim, ltb-true, append-nil, append_assoc}
-use Rattle.vt_spec.proofs.Common.{Among, Location, Mount, MountInvariants, World, among-append, among-from_filter, among-from_flat_map, among-from_map, children, depth_of, filter-append, filter_here, filter_none, flat_map-append, folded, holds_of, insert_deepest, map-append, mount_in, mount_numbered, mount_tree, none_from_among, reverse-append, stands_on, tree_among, tree_from, ⊤}
+use Rattle.std.proofs.Common.{◌≡◌, ◌≤◌, refl, sym, ap, subst, ◌∙◌, arith, ℕ, zero, suc, nat_eq, eq-eqb, eqb-true, ne_eqb, Bool, true, false, true≢false, cond, List, [], ◌∷◌, ◌++◌, filter, flat_map, length, reverse, Option, None, Some, inl, inr, ⊎_elim, ltb-true, append-nil, append_assoc}
+use Rattle.vt_spec.proofs.Common.{Among, Location, Mount, MountInvariants, World, among-append, among-from_filter, among-from_flat_map, among-from_map, children, common_steps, depth_of, filter-append, filter_here, filter_none, flat_map-append, folded, holds_of, insert_deepest, map-append, mount_in, mount_numbered, mount_tree, none_from_among, reverse-append, stands_on, tree_among, tree_from, ⊤}
 use Rattle.vt_location.specs.declared.numbers.MountId.{MountId}
-use Rattle.vt_location.specs.Numbers.{counted}
 use Rattle.vt_laws_mounts.proofs.ends.EndingOrder.{AreDeepestFirst, among_inserted, in_order, is_itself, taken_in_turn}
 use Rattle.vt_laws_mounts.proofs.mounts.MountsFound.{number-mount_in}
 use Rattle.vt_laws_mounts.proofs.mounts.MountsReplaced.{found_itself}
@@ -103,13 +102,7 @@ module _ (key : ℕ → ℕ) where
 
   at-reverse : (d : ℕ) (list : List ℕ) → at d (reverse list) ≡ reverse (at d list)
   at-reverse d [] = refl
-  at-reverse d (x ∷ rest) =
-      ap (at d) (reverse-first x rest) ∙ filter-append (λ y. nat_eq (key y) d) (reverse rest) (x ∷ [])
-      ∙ ap (λ front. front ++ at d (x ∷ [])) (at-reverse d rest) ∙ by (nat_eq (key x) d)
-    where
-      by : (b : Bool) → reverse (at d rest) ++ cond b (x ∷ []) [] ≡ reverse (cond b (x ∷ at d rest) (at d rest))
-      by true = sym (reverse-first x (at d rest))
-      by false = append-nil (reverse (at d rest))
+  at-reverse d (x ∷ rest) = grind (arith, common_steps, at-reverse d rest)
 
   all_at : (d : ℕ) (list : List ℕ) → ((x : ℕ) → Among x list → key x ≡ d) → at d list ≡ list
   all_at d [] all = refl
@@ -270,35 +263,7 @@ module _ (world : World ℕ) (kept : MountInvariants nat_eq world) where
       → at key_of d (numbers_of (insert_deepest nat_eq world mount sorted))
       ≡ at key_of d (mount.number ∷ numbers_of sorted)
   inserted_at d mount [] deep all = refl
-  inserted_at d mount (other ∷ rest) deep all =
-      by (nat_lt (depth_of nat_eq world mount) (depth_of nat_eq world other)) refl
-      (inserted_at d mount rest deep (λ x m. all x (inr m)))
-    where
-      those : List ℕ
-      those = at key_of d (numbers_of rest)
-
-      turn : (a b : Bool) → (a ≡ true → b ≡ true → ⊥)
-          → cond b (other.number ∷ cond a (mount.number ∷ those) those) (cond a (mount.number ∷ those) those)
-          ≡ cond a (mount.number ∷ cond b (other.number ∷ those) those) (cond b (other.number ∷ those) those)
-      turn true true never = absurd (never refl refl)
-      turn true false never = refl
-      turn false true never = refl
-      turn false false never = refl
-
-      by : (b : Bool) → nat_lt (depth_of nat_eq world mount) (depth_of nat_eq world other) ≡ b
-          → at key_of d (numbers_of (insert_deepest nat_eq world mount rest))
-          ≡ at key_of d (mount.number ∷ numbers_of rest)
-          → at key_of d (numbers_of (cond b (other ∷ insert_deepest nat_eq world mount rest) (mount ∷ other ∷ rest)))
-          ≡ at key_of d (mount.number ∷ other.number ∷ numbers_of rest)
-      by true e later = ap (λ list. cond (nat_eq (key_of other.number) d) (other.number ∷ list) list) later
-          ∙ turn (nat_eq (key_of mount.number) d) (nat_eq (key_of other.number) d) (λ f g.
-          let less : depth_of nat_eq world mount < depth_of nat_eq world other =
-          ltb-true (depth_of nat_eq world mount) (depth_of nat_eq world other) e in
-          let deep_too = all other (inl refl) in
-          let one : key_of mount.number ≡ d = eqb-true (key_of mount.number) d f in
-          let same : key_of other.number ≡ d = eqb-true (key_of other.number) d g in
-          absurd (omega (arith, less, deep, deep_too, one, same)))
-      by false e later = refl
+  inserted_at d mount (other ∷ rest) deep all = grind (arith, common_steps, inserted_at d mount rest, eqb-true, ltb-true)
 
   all_inserted_at : (d : ℕ) (mounts sorted : List (Mount ℕ)) → ((x : Mount ℕ) → Among x mounts → IsDeep x)
       → ((x : Mount ℕ) → Among x sorted → IsDeep x)
@@ -379,10 +344,7 @@ no_more_levels (suc n) mounts = no_more_levels n mounts
 -- the numbers of a list turned round are its numbers turned round
 pub counts-reverse : (ids : List MountId) → counts (reverse ids) ≡ reverse (counts ids)
 counts-reverse [] = refl
-counts-reverse (id ∷ ids) =
-    ap counts (reverse-append (id ∷ []) ids) ∙ map-append (λ (one : MountId). counted one.count) (reverse ids) (id ∷ [])
-    ∙ ap (λ front. front ++ (counted id.count ∷ [])) (counts-reverse ids)
-    ∙ sym (reverse-append (counted id.count ∷ []) (counts ids))
+counts-reverse (id ∷ ids) = grind (arith, common_steps, counts-reverse ids, map-append)
 
 -- an empty list has no numbers
 pub none_counted : (ids : List MountId) → length ids ≡ 0 → counts ids ≡ []
@@ -392,9 +354,9 @@ none_counted (id ∷ ids) none = absurd (omega (arith, none))
 -- the next level follows those that are there
 module _ (mounts : List (Mount ℕ)) (all level : List ℕ) (n : ℕ) where
   -- one more level is taken from those that are left
-  pub next_level : (more next : List ℕ) → more ≡ all ++ level → next ≡ children_of mounts level
+  pub next_level : {more next : List ℕ} → more ≡ all ++ level → next ≡ children_of mounts level
       → more ++ levels_from n mounts next ≡ all ++ levels_from (suc n) mounts level
-  next_level more next is children = (λ i. is i ++ levels_from n mounts (children i))
+  next_level is children = (λ i. is i ++ levels_from n mounts (children i))
       ∙ append_assoc all level (levels_from n mounts (children_of mounts level))
 
   -- and none where a level is empty

@@ -1,6 +1,6 @@
 -- The events of a lazy unmount in turn, each seen through the mounts that those before it detached.
-use Rattle.std.proofs.Common.{◌≡◌, ◌<◌, ◌≤◌, ◌+◌, refl, sym, ap, subst, ◌∙◌, ℕ, nat_eq, Bool, true, false, true≢false, cond, ◌||◌, ◌&&◌, not, List, [], ◌∷◌, ◌++◌, drop, filter, get_or, length, Some, is_some, option_map, ⊎_elim, append-nil, append_assoc, if◌then◌else◌}
-use Rattle.vt_spec.proofs.Common.{Location, Mount, MountInvariants, World, after_going, among-filter, among-from_map, any_among, any_from_among, children, detached, drop_all, drop_more, going, has_members, is_going, is_member_of, list_any-append, may_go, mount_in, mount_numbered, mount_point_left, none_among, receivers, root_of, same_Some, stands_on, taken_away, unmounted, unmounted_if_there, without_dead_groups}
+use Rattle.std.proofs.Common.{◌≡◌, ◌<◌, ◌≤◌, ◌+◌, refl, sym, ap, subst, ◌∙◌, ℕ, nat_eq, Bool, true, false, true≢false, ◌||◌, ◌&&◌, not, List, [], ◌∷◌, ◌++◌, drop, filter, get_or, length, Some, is_some, option_map, ⊎_elim, append-nil, append_assoc, if◌then◌else◌, arith}
+use Rattle.vt_spec.proofs.Common.{Location, Mount, MountInvariants, World, after_going, among-filter, among-from_map, any_among, any_from_among, children, common_steps, detached, drop_all, drop_more, going, has_members, is_going, is_member_of, list_any-append, may_go, mount_in, mount_numbered, mount_point_left, none_among, receivers, root_of, same_Some, stands_on, taken_away, unmounted, unmounted_if_there, without_dead_groups}
 use Rattle.vt_location.specs.declared.numbers.MountId.{MountId}
 use Rattle.vt_location.specs.Numbers.{counted}
 use Rattle.vt_laws_mounts.proofs.ends.EndingLazy.{IsUnderWay, begun, childless, next}
@@ -29,24 +29,7 @@ stay_twice : (gone more : List ℕ) (numbers_of : List ℕ)
     → filter (λ n. not (is_going nat_eq more n)) (filter (λ n. not (is_going nat_eq gone n)) numbers_of)
     ≡ filter (λ n. not (is_going nat_eq (gone ++ more) n)) numbers_of
 stay_twice gone more [] = refl
-stay_twice gone more (n ∷ rest) = by (is_going nat_eq gone n) (is_going nat_eq more n) refl (stay_twice gone more rest)
-    ∙ ap (λ b. cond (not b) (n ∷ filter (λ n. not (is_going nat_eq (gone ++ more) n)) rest)
-    (filter (λ n. not (is_going nat_eq (gone ++ more) n)) rest)) (sym (list_any-append (nat_eq n) gone more))
-  where
-    stay : List ℕ → List ℕ
-    stay list = filter (λ n. not (is_going nat_eq more n)) list
-
-    others : List ℕ
-    others = filter (λ n. not (is_going nat_eq gone n)) rest
-
-    all : List ℕ
-    all = filter (λ n. not (is_going nat_eq (gone ++ more) n)) rest
-
-    by : (one other : Bool) → is_going nat_eq more n ≡ other → stay others ≡ all
-        → stay (cond (not one) (n ∷ others) others) ≡ cond (not (one || other)) (n ∷ all) all
-    by true other e later = later
-    by false true e later = ap (λ b. cond (not b) (n ∷ stay others) (stay others)) e ∙ later
-    by false false e later = ap (λ b. cond (not b) (n ∷ stay others) (stay others)) e ∙ ap (λ list. n ∷ list) later
+stay_twice gone more (n ∷ rest) = grind (arith, common_steps, stay_twice gone more rest, list_any-append)
 
 all_stay : (numbers_of : List ℕ) → numbers_of ≡ filter (λ n. not (is_going nat_eq [] n)) numbers_of
 all_stay [] = refl
@@ -89,7 +72,7 @@ module _ (start : World ℕ) (at_first : MountInvariants nat_eq start) (one : �
     at_once = λ others. refl;
   }
 
-  module _ (now : World ℕ) (mount : Mount ℕ) (left : List (Mount ℕ)) (gone : List ℕ)
+  module _ {now : World ℕ} {mount : Mount ℕ} {left : List (Mount ℕ)} {gone : List ℕ}
       (reached : IsReached now (mount ∷ left) gone) where
     abbrev later : ℕ → Mount ℕ
     later number = mount_numbered nat_eq now number
@@ -104,15 +87,15 @@ module _ (start : World ℕ) (at_first : MountInvariants nat_eq start) (one : �
         by : (b : Bool) → is_going nat_eq gone mount.number ≡ b
             → going_if_there now mount ≡ going_then_if_there start gone mount.number
         by true goes = ap (λ (m : Mount ℕ). events (is_some m.namespace))
-            (gone_then start at_first now gone reached.so mount.number goes)
-            ∙ sym (ap (λ b. if not b && is_some (mount_numbered nat_eq start mount.number).namespace
-            then going_then start gone mount.number else []) goes)
+            (gone_then at_first reached.so mount.number goes)
+            ∙ sym (ap (λ b. if not b && is_some (mount_numbered nat_eq start mount.number).namespace then going_then
+            start gone mount.number else []) goes)
         by false stays =
-            ap (λ o. events (is_some o)) (kept_then start at_first now gone reached.so mount.number stays).namespace
+            ap (λ o. events (is_some o)) (kept_then at_first reached.so mount.number stays).namespace
             ∙ ap (λ list. if is_some (mount_numbered nat_eq start mount.number).namespace then list else [])
-            (going_is_seen start at_first now gone reached.so mount.number stays)
-            ∙ sym (ap (λ b. if not b && is_some (mount_numbered nat_eq start mount.number).namespace
-            then going_then start gone mount.number else []) stays)
+            (going_is_seen at_first reached.so mount.number stays)
+            ∙ sym (ap (λ b. if not b && is_some (mount_numbered nat_eq start mount.number).namespace then going_then
+            start gone mount.number else []) stays)
 
     abbrev more : List ℕ
     more = going nat_eq now (later mount.number)
@@ -126,17 +109,12 @@ module _ (start : World ℕ) (at_first : MountInvariants nat_eq start) (one : �
     gone_still number goes = gone_with_more number ∙ ap (λ b. b || is_going nat_eq more number) goes
 
     gone_too : (number : ℕ) → is_going nat_eq more number ≡ true → is_going nat_eq (gone ++ more) number ≡ true
-    gone_too number goes = gone_with_more number ∙ ap (λ b. is_going nat_eq gone number || b) goes
-        ∙ whatever (is_going nat_eq gone number)
-      where
-        whatever : (b : Bool) → (b || true) ≡ true
-        whatever true = refl
-        whatever false = refl
+    gone_too number goes = grind (arith, common_steps)
 
     -- what stands on a mount that goes covers its root
-    on_root : (number : ℕ) (place : Location ℕ) → (later number).mount_point ≡ Some place
+    on_root : (number : ℕ) {place : Location ℕ} → (later number).mount_point ≡ Some place
         → is_going nat_eq more place.mount ≡ true → place ≡ root_of (later place.mount)
-    on_root number place at goes = same_Some place (root_of (later place.mount))
+    on_root number {place} at goes = same_Some place (root_of (later place.mount))
         (sym at ∙ stands_there (root_of (later place.mount)) (later number)
         (covers (later place.mount) (children nat_eq now.mounts (later place.mount).number) may (later number)
         (among-filter (stands_on nat_eq (later place.mount).number) now.mounts (later number)
@@ -167,7 +145,7 @@ module _ (start : World ℕ) (at_first : MountInvariants nat_eq start) (one : �
           over_further start (gone ++ more) rest at.mount number
               (over_more start gone (gone ++ more) gone_still rest at.mount (reached.so.over at.mount rest e))
               (gone_too at.mount goes) (subst (λ root. Over start (gone ++ more) root number)
-              (on_root up.0.0 at up.0.1 goes ∙ root_then start at_first now gone reached.so at.mount) up.1),
+              (on_root up.0.0 up.0.1 goes ∙ root_then at_first reached.so at.mount) up.1),
         )
 
     after_event : (b : Bool) → is_some (later mount.number).namespace ≡ b
@@ -222,10 +200,10 @@ module _ (start : World ℕ) (at_first : MountInvariants nat_eq start) (one : �
     are_gone = refl;
   }
 
-  taken_next : (gone more : List ℕ) (number : ℕ) (rest : List ℕ)
+  taken_next : {gone more : List ℕ} {number : ℕ} {rest : List ℕ}
       → IsTaken start at_first one gone (number ∷ rest) → more ≡ going_then_if_there start gone number
       → IsTaken start at_first one (gone ++ more) rest
-  taken_next gone more number rest so is = by so.left so.left_are so.reached so.are_gone
+  taken_next {gone} {more} {number} {rest} so is = by so.left so.left_are so.reached so.are_gone
     where
       none_more : [] ≡ number ∷ rest → ⊥
       none_more e = cc
@@ -244,14 +222,14 @@ module _ (start : World ℕ) (at_first : MountInvariants nat_eq start) (one : �
       by (mount ∷ left) e reached are =
           let seen : more ≡ going_if_there so.now mount =
           is ∙ ap (going_then_if_there start gone) (sym (ap (head number) e))
-          ∙ sym (event_is_seen start at_first one so.now mount left gone reached) in
+          ∙ sym (event_is_seen start at_first one reached) in
           record {
             now = unmounted_if_there nat_eq so.now mount;
             left = left;
             left_are = ap tail e;
             reached = subst
                 (λ list. IsReached start at_first one (unmounted_if_there nat_eq so.now mount) left (gone ++ list))
-                (sym seen) (next_reached start at_first one so.now mount left gone reached);
+                (sym seen) (next_reached start at_first one reached);
             are_gone = append_assoc gone more (gone_by (unmounted_if_there nat_eq so.now mount) left)
                 ∙ ap (λ list. gone ++ (list ++ gone_by (unmounted_if_there nat_eq so.now mount) left)) seen ∙ are;
           }
@@ -282,7 +260,7 @@ module _ (start : World ℕ) (at_first : MountInvariants nat_eq start) (one : �
       → IsTaken start at_first one (counts new) (counts (drop (i + 1) items))
   taken_step gone going new items i default less more so is =
       subst (λ list. IsTaken start at_first one list (counts (drop (i + 1) items))) (sym more)
-      (taken_next (counts gone) (counts going) (counted (get_or items i default).count) (counts (drop (i + 1) items))
+      (taken_next
       (subst (λ list. IsTaken start at_first one (counts gone) (counts list)) (drop_more items i default less) so) is)
 
   -- at last all that the unmount takes are taken

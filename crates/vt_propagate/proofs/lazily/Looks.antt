@@ -1,6 +1,6 @@
 -- Mounts as earlier events left them, seen through those that are gone: which mounts the next event detaches.
-use Rattle.std.proofs.Common.{◌≡◌, refl, sym, ap, subst, ◌∙◌, ℕ, nat_eq, eq-eqb, eqb-true, Bool, true, false, true≢false, cond, ◌||◌, not, List, [], ◌∷◌, filter, Option, None, Some, is_some, option_map, inl, inr, ⊎_elim, filter_map, find, if◌then◌else◌, unwrap_or}
-use Rattle.vt_spec.proofs.Common.{Among, Location, Mount, MountInvariants, World, after_going, among-filter, among-from_filter, among-map, among_from_list_all, any_from_among, any_pair, child_at, children, cons_option, detached, false_from_ne_true, found_or_none, goes_at, going, going_at, going_from, group_of, has_members, holds_of, is_going, is_member_of, is_shared, list_all_from_among, may_go, mount_at, mount_in, mount_numbered, mount_point_left, no_mount, none_among, only_cover, or_parts, pair-filter, receivers, root_of, same_Some, same_truth, share_a_mount_point, stands_at, stands_on, taken_away, then_some, when}
+use Rattle.std.proofs.Common.{◌≡◌, refl, sym, ap, subst, ◌∙◌, ℕ, nat_eq, eq-eqb, eqb-true, Bool, true, false, true≢false, cond, ◌||◌, not, List, [], ◌∷◌, filter, Option, None, Some, is_some, option_map, inl, inr, ⊎_elim, filter_map, find, if◌then◌else◌, unwrap_or, arith}
+use Rattle.vt_spec.proofs.Common.{Among, Location, Mount, MountInvariants, World, after_going, among-filter, among-from_filter, among-map, among_from_list_all, any_from_among, any_pair, child_at, children, common_steps, cons_option, detached, false_from_ne_true, found_or_none, goes_at, going, going_at, going_from, group_of, has_members, holds_of, is_going, is_member_of, is_shared, list_all_from_among, may_go, mount_at, mount_in, mount_numbered, mount_point_left, none_among, only_cover, or_parts, pair-filter, receivers, root_of, same_Some, same_truth, share_a_mount_point, stands_at, stands_on, taken_away, then_some, when}
 use Rattle.vt_spec.specs.Machine.Detach.{covers_root}
 use Rattle.vt_laws_mounts.specs.Mounts.Unmounting.{KeepsAllButMountPointAndType}
 use Rattle.vt_laws_mounts.specs.Mounts.Unmounting.FallsTo.{rests}
@@ -48,7 +48,7 @@ pub on_its_parent : (place : Location ℕ) (mount : Mount ℕ) (number : ℕ) �
 on_its_parent place mount number e same =
     ap (holds_of (λ (p : Location ℕ). nat_eq number p.mount)) e ∙ eq-eqb number place.mount (sym same)
 
-module _ (start : World ℕ) (at_first : MountInvariants nat_eq start) (now : World ℕ) (gone : List ℕ)
+module _ {start : World ℕ} (at_first : MountInvariants nat_eq start) {now : World ℕ} {gone : List ℕ}
     (so : IsLeft start now gone) where
   abbrev before : ℕ → Mount ℕ
   before number = mount_numbered nat_eq start number
@@ -80,9 +80,9 @@ module _ (start : World ℕ) (at_first : MountInvariants nat_eq start) (now : Wo
         node = (kept_then number stays).root i;
       }
 
-  stays_there : (number : ℕ) (place : Location ℕ) → (later number).mount_point ≡ Some place
+  stays_there : (number : ℕ) {place : Location ℕ} → (later number).mount_point ≡ Some place
       → is_going nat_eq gone number ≡ false
-  stays_there number place e = by (is_going nat_eq gone number) refl
+  stays_there number e = by (is_going nat_eq gone number) refl
     where
       by : (b : Bool) → is_going nat_eq gone number ≡ b → is_going nat_eq gone number ≡ false
       by true goes =
@@ -98,9 +98,9 @@ module _ (start : World ℕ) (at_first : MountInvariants nat_eq start) (now : Wo
       ∙ place_fallen start gone ((standing_is_computed start at_first.one_number).0 at_first.standing) child fall.0
       place stays fall.1 (fall.2 place (rests place there))
 
-  found_later : (place : Location ℕ) (child : Mount ℕ) → child_at nat_eq now.mounts place ≡ Some child
+  found_later : (place : Location ℕ) {child : Mount ℕ} → child_at nat_eq now.mounts place ≡ Some child
       → (later child.number ≡ child) × ((later child.number).mount_point ≡ Some place)
-  found_later place child e =
+  found_later place {child} e =
       let t = found_in (stands_at nat_eq place) now.mounts child e in
       let itself : later child.number ≡ child = found_itself now.mounts so.kept.one_number child t.0 in
       (itself, ap (λ (m : Mount ℕ). m.mount_point) itself ∙ stands_there place child t.1)
@@ -116,13 +116,13 @@ module _ (start : World ℕ) (at_first : MountInvariants nat_eq start) (now : Wo
           → option_map (λ (m : Mount ℕ). m.number) (child_at nat_eq now.mounts place)
           ≡ standing_over start.mounts gone place
       by (Some child) e found f =
-          let at : (later child.number).mount_point ≡ Some place = (found_later place child e).1 in
+          let at : (later child.number).mount_point ≡ Some place = (found_later place e).1 in
           ap (option_map (λ (m : Mount ℕ). m.number)) e
           ∙ sym (over_found start at_first gone place child.number (so.over child.number place at)
-          (stays_there child.number place at))
+          (stays_there child.number at))
       by None e None f = ap (option_map (λ (m : Mount ℕ). m.number)) e ∙ sym f
       by None e (Some child) f =
-          let over = found_over_place start at_first gone place child f in
+          let over = found_over_place start at_first gone place f in
           let at : (later child).mount_point ≡ Some place = has_fallen place child over.0 over.1 there in
           absurd (true≢false (sym (ap is_some
           (found_at_its_place now.mounts so.kept.one_child (later child) (placed_among now.mounts child place at) place
@@ -158,7 +158,7 @@ module _ (start : World ℕ) (at_first : MountInvariants nat_eq start) (now : Wo
             there : (o : Option ℕ) → standing_over start.mounts gone place ≡ o → is_some o ≡ true → ⊥
             there None f some = true≢false (sym some)
             there (Some top) f some =
-                let over = found_over_place start at_first gone place top f in
+                let over = found_over_place start at_first gone place f in
                 let at : (later top).mount_point ≡ Some place =
                 has_fallen place top over.0 over.1 (ap (is_going nat_eq gone) below ∙ stays) in
                 let on_it : Among (later top) kids =
@@ -221,22 +221,15 @@ module _ (start : World ℕ) (at_first : MountInvariants nat_eq start) (now : Wo
                 (before first.0).mount_point)) f
                 ∙ ap (λ o. not (holds_of (λ place. is_some (standing_over start.mounts gone place)) o)) first.1
                 ∙ ap (λ o. not (is_some o)) (over_found start at_first gone place x.number (so.over x.number place at)
-                (stays_there x.number place at))))
+                (stays_there x.number at))))
 
     may_go_then : may_go nat_eq now (later number) ≡ is_free_then start.mounts gone (before number)
     may_go_then = same_truth _ _ from_before from_later
 
   -- a mount that stands somewhere is found by its number
-  free_by_number : (number : ℕ) (place : Location ℕ) → (before number).mount_point ≡ Some place
+  free_by_number : (number : ℕ) {place : Location ℕ} → (before number).mount_point ≡ Some place
       → is_free_by_number start.mounts gone number ≡ is_free_then start.mounts gone (before number)
-  free_by_number number place at = by (find (λ (m : Mount ℕ). nat_eq number m.number) start.mounts) refl
-    where
-      by : (o : Option (Mount ℕ)) → find (λ (m : Mount ℕ). nat_eq number m.number) start.mounts ≡ o
-          → is_free_by_number start.mounts gone number ≡ is_free_then start.mounts gone (before number)
-      by None e = absurd (true≢false (sym (ap is_some at)
-          ∙ ap (λ o. is_some (unwrap_or o (no_mount number)).mount_point) e))
-      by (Some mount) e = ap (holds_of (is_free_then start.mounts gone)) e
-          ∙ sym (ap (λ o. is_free_then start.mounts gone (unwrap_or o (no_mount number))) e)
+  free_by_number number at = grind (arith, common_steps)
 
   -- what goes at a receiver
   goes_then : (node : ℕ) (receiver : Mount ℕ) → is_going nat_eq gone receiver.number ≡ false
@@ -258,11 +251,10 @@ module _ (start : World ℕ) (at_first : MountInvariants nat_eq start) (now : Wo
           ≡ then_some (option_map (λ (m : Mount ℕ). m.number) o) (λ n. when (is_free_by_number start.mounts gone n) n)
       by None e = refl
       by (Some child) e =
-          let t = found_later place child e in
+          let t = found_later place e in
           let point = over_falls start gone place child.number (so.over child.number place t.1) in
           ap (λ b. option_map (λ (m : Mount ℕ). m.number) (when b child)) (ap (may_go nat_eq now) (sym t.0)
-          ∙ may_go_then child.number (stays_there child.number place t.1)
-          ∙ sym (free_by_number child.number point.0 point.1))
+          ∙ may_go_then child.number (stays_there child.number t.1) ∙ sym (free_by_number child.number point.1))
           ∙ chosen (is_free_by_number start.mounts gone child.number) child
 
   -- at all receivers
@@ -323,15 +315,7 @@ module _ (start : World ℕ) (at_first : MountInvariants nat_eq start) (now : Wo
   -- the group at a place, by the mount there
   group_there : (place : Location ℕ)
       → group_at start.mounts place ≡ option_map (λ group. (place, group)) (group_of (before place.mount).propagation)
-  group_there place = by (find (λ (m : Mount ℕ). nat_eq place.mount m.number) start.mounts)
-    where
-      at : ℕ → Location ℕ × ℕ
-      at group = (place, group)
-
-      by : (o : Option (Mount ℕ)) → option_map at (then_some o (λ (parent : Mount ℕ). group_of parent.propagation))
-          ≡ option_map at (group_of (unwrap_or o (no_mount place.mount)).propagation)
-      by None = refl
-      by (Some parent) = refl
+  group_there place = grind (arith, common_steps)
 
   module _ (number : ℕ) (stays : is_going nat_eq gone number ≡ false) where
     own : (later number).number ∷ [] ≡ number ∷ []
@@ -378,12 +362,7 @@ module _ (start : World ℕ) (at_first : MountInvariants nat_eq start) (now : Wo
     -- the point of a mount, by the mount that is found
     found_point : then_some (find (λ (m : Mount ℕ). nat_eq number m.number) start.mounts)
         (λ (m : Mount ℕ). m.mount_point) ≡ (before number).mount_point
-    found_point = by (find (λ (m : Mount ℕ). nat_eq number m.number) start.mounts)
-      where
-        by : (o : Option (Mount ℕ))
-            → then_some o (λ (m : Mount ℕ). m.mount_point) ≡ (unwrap_or o (no_mount number)).mount_point
-        by None = refl
-        by (Some mount) = refl
+    found_point = grind (arith, common_steps)
 
     -- What an event detaches, seen through what is gone.
     pub going_is_seen : going nat_eq now (later number) ≡ going_then start gone number

@@ -111,11 +111,11 @@ module _ (world : World ℕ) where
         over_is_found gone place child over stays (length world.mounts) (omega (arith, bound))
 
     -- what is found over a place stands over it, and is not gone
-    found_is_over : (gone : List ℕ) (n : ℕ) (place : Location ℕ) (child : ℕ)
+    found_is_over : (gone : List ℕ) (n : ℕ) (place : Location ℕ) {child : ℕ}
         → over_from n world.mounts gone place ≡ Some child
         → Over world gone place child × (is_going nat_eq gone child ≡ false)
-    found_is_over gone zero place child e = absurd (true≢false (sym (ap is_some e)))
-    found_is_over gone (suc n) place child e = by (child_at nat_eq world.mounts place) refl e (found_is_over gone n)
+    found_is_over gone zero place e = absurd (true≢false (sym (ap is_some e)))
+    found_is_over gone (suc n) place {child} e = by (child_at nat_eq world.mounts place) refl e (found_is_over gone n)
       where
         at : (x : Mount ℕ) → child_at nat_eq world.mounts place ≡ Some x → (it x.number).mount_point ≡ Some place
         at x f =
@@ -151,7 +151,7 @@ module _ (world : World ℕ) where
         by (Some x) f g later = one x f (is_going nat_eq gone x.number) refl g later
 
     -- what is found there stands over the place, and is not gone
-    pub found_over_place : (gone : List ℕ) (place : Location ℕ) (child : ℕ)
+    pub found_over_place : (gone : List ℕ) (place : Location ℕ) {child : ℕ}
         → standing_over world.mounts gone place ≡ Some child
         → Over world gone place child × (is_going nat_eq gone child ≡ false)
-    found_over_place gone place child e = found_is_over gone (length world.mounts) place child e
+    found_over_place gone place {child} e = found_is_over gone (length world.mounts) place e

@@ -1,6 +1,6 @@
 -- Who receives from a group once mounts are gone: those that did before, but for these.
 use Rattle.std.proofs.Common.{◌≡◌, refl, sym, ap, subst, ◌∙◌, arith, ℕ, zero, suc, nat_eq, eq-eqb, ne_eqb, option_map, Bool, true, false, true≢false, ◌||◌, ◌&&◌, not, List, [], ◌∷◌, cond, filter, map, length, Option, None, Some, is_some, inl, inr, if◌then◌else◌}
-use Rattle.vt_spec.proofs.Common.{Among, HasLivingGroups, Lives, Mount, Private, Propagation, Shared, Slave, Unbindable, World, after_going, among-map, among_from_all, any_from_among, chain, chain_ends, chain_goes_on, detached, group_of, groups_up, has_master, has_members, has_no_master, heir, holds_of, inherited, inheriting, is_among, is_going, is_member_of, last_of_chain, last_or, length-map, map_twice, mount_point_left, receivers, receives, slave_of_heir, source_of, taken_away}
+use Rattle.vt_spec.proofs.Common.{Among, HasLivingGroups, Lives, Mount, Private, Propagation, Shared, Slave, Unbindable, World, after_going, among-map, among_from_all, any_from_among, chain, chain_ends, chain_goes_on, common_steps, detached, groups_up, has_master, has_members, has_no_master, heir, holds_of, inherited, inheriting, is_among, is_going, last_of_chain, last_or, length-map, map_twice, mount_point_left, receivers, receives, source_of, taken_away}
 use Rattle.vt_group.proofs.Heirs.{heir_above, heir_itself, master_inherited}
 use Rattle.vt_group.proofs.Living.{group_lives}
 use Rattle.vt_group.proofs.Receiving.{Ends, chain_same, living_ends}
@@ -101,22 +101,14 @@ module _ (world : World ℕ) (live : AllGroupsLive world) (gone : List ℕ) wher
       abbrev after_if : Bool → Mount ℕ
       after_if goes = inheriting nat_eq between (if goes then detached mount else fallen)
 
-      stays_member : (own : ℕ) → mount.propagation ≡ Shared own → is_going nat_eq gone mount.number ≡ false
+      stays_member : {own : ℕ} → mount.propagation ≡ Shared own → is_going nat_eq gone mount.number ≡ false
           → has_members nat_eq between.mounts own ≡ true
-      stays_member own e stays =
-          any_from_among (is_member_of nat_eq own) between.mounts (after_going nat_eq world gone mount)
-          (among-map (after_going nat_eq world gone) world.mounts mount m)
-          (ap (λ b. is_member_of nat_eq own (if b then detached mount else fallen)) stays
-          ∙ ap (λ kind. holds_of (nat_eq own) (group_of kind)) e ∙ eq-eqb own own refl)
+      stays_member {own} e stays = grind (arith, common_steps, eq-eqb, among-map, any_from_among)
 
       source_then : (kind : Propagation ℕ) → mount.propagation ≡ kind → is_going nat_eq gone mount.number ≡ false
           → source_of (inherited nat_eq between kind) ≡ heir nat_eq between (source_of kind)
-      source_then (Shared own) e stays = sym (heir_itself between own (stays_member own e stays))
-      source_then (Slave above) e stays = by (heir nat_eq between (Some above))
-        where
-          by : (o : Option ℕ) → source_of (slave_of_heir o) ≡ o
-          by None = refl
-          by (Some group) = refl
+      source_then (Shared own) e stays = sym (heir_itself between own (stays_member e stays))
+      source_then (Slave above) e stays = grind (arith, common_steps)
       source_then Private e stays = refl
       source_then Unbindable e stays = refl
 
@@ -139,13 +131,7 @@ module _ (world : World ℕ) (live : AllGroupsLive world) (gone : List ℕ) wher
               ∙ sym (ap (λ b. not b && receives nat_eq world group mount) e)
 
     number_after : (mount : Mount ℕ) → (after mount).number ≡ mount.number
-    number_after mount = by (is_going nat_eq gone mount.number)
-      where
-        by : (b : Bool) → (if b then detached mount else (record mount {
-          mount_point = option_map (mount_point_left nat_eq world gone) mount.mount_point;
-        })).number ≡ mount.number
-        by true = refl
-        by false = refl
+    number_after mount = grind (arith, common_steps)
 
     all_receive : (mounts : List (Mount ℕ)) → ((mount : Mount ℕ) → Among mount mounts → Among mount world.mounts)
         → numbers_of (filter (receives nat_eq left group) (map after mounts))

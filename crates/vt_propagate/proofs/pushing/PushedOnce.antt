@@ -21,9 +21,9 @@ module _ (mounts : List (Mount ℕ)) (up : are_ascending mounts ≡ true) (left 
     stands : stands_at nat_eq (at part) child ≡ true
     number_is : child.number ≡ number
 
-  one_pushed : (part : ℕ) (copies : List (Mount ℕ)) (point : Point)
+  one_pushed : (part : ℕ) (copies : List (Mount ℕ)) {point : Point}
       → pushed_at mounts left place part copies ≡ Some point → IsPushed part point.0
-  one_pushed part copies point = by (nat_eq part place.mount)
+  one_pushed part copies {point} = by (nat_eq part place.mount)
     where
       stays : (child : Mount ℕ) → child_at nat_eq mounts (at part) ≡ Some child → (b : Bool)
           → option_map (λ (n : ℕ). (n, top_of_copies nat_eq copies place)) (if b then None else Some child.number)
@@ -69,7 +69,7 @@ module _ (mounts : List (Mount ℕ)) (up : are_ascending mounts ≡ true) (left 
         part,
         inl refl,
         subst (λ (x : Point). IsPushed part.number x.0) (sym same)
-            (one_pushed part.number (take size copies) first e),
+            (one_pushed part.number (take size copies) e),
       )) (λ l. let later = again l in (later.0, inr later.1, later.2)) n
 
   -- one mount stands at one part
@@ -79,8 +79,8 @@ module _ (mounts : List (Mount ℕ)) (up : are_ascending mounts ≡ true) (left 
   same_part p q (Some x) e f = eqb-true p x.mount (and_parts (nat_eq p x.mount) _ e).0
       ∙ sym (eqb-true q x.mount (and_parts (nat_eq q x.mount) _ f).0)
 
-  one_part : (p q number : ℕ) → IsPushed p number → IsPushed q number → p ≡ q
-  one_part p q number one two =
+  one_part : {p q number : ℕ} → IsPushed p number → IsPushed q number → p ≡ q
+  one_part {p} {q} one two =
       let same : one.child ≡ two.child = same_Some one.child two.child
       (sym (numbered_among mounts up one.child one.there) ∙ ap (numbered mounts) (one.number_is ∙ sym two.number_is)
       ∙ numbered_among mounts up two.child two.there) in
@@ -103,8 +103,8 @@ module _ (mounts : List (Mount ℕ)) (up : are_ascending mounts ≡ true) (left 
       differ first e point m =
           let from = pushed_from size parts (drop size copies) point m in
           ne_eqb first.0 point.0 (λ same.
-          true≢false (sym (eq-eqb part.number from.0.number (one_part part.number from.0.number point.0
-          (subst (IsPushed part.number) same (one_pushed part.number (take size copies) first e)) from.2))
+          true≢false (sym (eq-eqb part.number from.0.number (one_part
+          (subst (IsPushed part.number) same (one_pushed part.number (take size copies) e)) from.2))
           ∙ none_among (λ (b : Mount ℕ). nat_eq part.number b.number) parts split.0 from.0 from.1))
 
       by : (o : Option Point) → pushed_at mounts left place part.number (take size copies) ≡ o

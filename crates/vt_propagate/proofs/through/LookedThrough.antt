@@ -1,6 +1,6 @@
 -- What stands where once mounts are gone, as code finds it out.
 use Rattle.std.proofs.Common.{◌≡◌, ◌<◌, ◌≤◌, ◌+◌, refl, sym, ap, ◌∙◌, arith, ℕ, suc, zero, nat_eq, Bool, true, false, true≢false, ◌&&◌, List, [], ◌∷◌, drop, get_or, length, Option, None, Some, is_some, option_map, inl, inr, if◌then◌else◌}
-use Rattle.vt_spec.proofs.Common.{Among, Location, Mount, among-from_filter, child_at, children, drop_all, drop_more, holds_of, is_going, list_all, root_of, same_Some, stands_at, stands_on, then_some, when}
+use Rattle.vt_spec.proofs.Common.{Among, Location, Mount, among-from_filter, child_at, children, common_steps, drop_all, drop_more, holds_of, is_going, list_all, root_of, same_Some, stands_at, stands_on, then_some, when}
 use Rattle.vt_location.specs.declared.numbers.MountId.{MountId}
 use Rattle.vt_location.specs.Numbers.{counted}
 use Rattle.vt_mount.specs.MountsValue.{are_ascending}
@@ -21,35 +21,23 @@ module _ (mounts : List (Mount ℕ)) (gone : List ℕ) where
   -- where no mount stands at a place none is over it
   pub over_none : (most : ℕ) (place : Location ℕ) → None ≡ found_number place
       → None ≡ over_from (suc most) mounts gone place
-  over_none most place none = by (child_at nat_eq mounts place) none
-    where
-      by : (o : Option (Mount ℕ)) → None ≡ option_map (λ (m : Mount ℕ). m.number) o → None ≡ then_some o (up_from most)
-      by None e = refl
-      by (Some child) e = absurd (true≢false (sym (ap is_some e)))
+  over_none most place none = grind (arith, common_steps)
 
   -- one that stands there and stays is over it
-  pub over_here : (most : ℕ) (place : Location ℕ) (number : ℕ) → Some number ≡ found_number place
+  pub over_here : (most : ℕ) (place : Location ℕ) {number : ℕ} → Some number ≡ found_number place
       → is_going nat_eq gone number ≡ false → Some number ≡ over_from (suc most) mounts gone place
-  over_here most place number some stays = by (child_at nat_eq mounts place) some
-    where
-      by : (o : Option (Mount ℕ)) → Some number ≡ option_map (λ (m : Mount ℕ). m.number) o
-          → Some number ≡ then_some o (up_from most)
-      by None e = absurd (true≢false (ap is_some e))
-      by (Some child) e =
-          let same : number ≡ child.number = same_Some number child.number e in
-          ap Some same ∙ sym (ap (λ b. if b then over_from most mounts gone (root_of child) else Some child.number)
-          (ap (is_going nat_eq gone) (sym same) ∙ stays))
+  over_here most place {number} some stays = grind (arith, common_steps, same_Some)
 
   module _ (up : are_ascending mounts ≡ true) where
-    found_child : (place : Location ℕ) (child : Mount ℕ) → child_at nat_eq mounts place ≡ Some child
+    found_child : (place : Location ℕ) {child : Mount ℕ} → child_at nat_eq mounts place ≡ Some child
         → numbered mounts child.number ≡ Some child
-    found_child place child e = numbered_among mounts up child (found_in (stands_at nat_eq place) mounts child e).0
+    found_child place {child} e = numbered_among mounts up child (found_in (stands_at nat_eq place) mounts child e).0
 
     -- through one that goes is looked at what stands on its root
-    pub over_next : (most : ℕ) (place : Location ℕ) (number : ℕ) (mount : Mount ℕ) → Some number ≡ found_number place
+    pub over_next : (most : ℕ) (place : Location ℕ) {number : ℕ} {mount : Mount ℕ} → Some number ≡ found_number place
         → is_going nat_eq gone number ≡ true → Some mount ≡ numbered mounts number
         → over_from (suc most) mounts gone place ≡ over_from most mounts gone (root_of mount)
-    over_next most place number mount some goes found = by (child_at nat_eq mounts place) refl some
+    over_next most place {number} {mount} some goes found = by (child_at nat_eq mounts place) refl some
       where
         by : (o : Option (Mount ℕ)) → child_at nat_eq mounts place ≡ o
             → Some number ≡ option_map (λ (m : Mount ℕ). m.number) o
@@ -58,20 +46,20 @@ module _ (mounts : List (Mount ℕ)) (gone : List ℕ) where
         by (Some child) f e =
             let same : number ≡ child.number = same_Some number child.number e in
             let it : mount ≡ child =
-            same_Some mount child (found ∙ ap (numbered mounts) same ∙ found_child place child f) in
+            same_Some mount child (found ∙ ap (numbered mounts) same ∙ found_child place f) in
             ap (λ b. if b then over_from most mounts gone (root_of child) else Some child.number)
             (ap (is_going nat_eq gone) (sym same) ∙ goes) ∙ ap (λ m. over_from most mounts gone (root_of m)) (sym it)
 
     -- what stands at a place is a mount
-    pub over_lost : (place : Location ℕ) (number : ℕ) → Some number ≡ found_number place
+    pub over_lost : (place : Location ℕ) {number : ℕ} → Some number ≡ found_number place
         → None ≡ numbered mounts number → ⊥
-    over_lost place number some none = by (child_at nat_eq mounts place) refl some
+    over_lost place {number} some none = by (child_at nat_eq mounts place) refl some
       where
         by : (o : Option (Mount ℕ)) → child_at nat_eq mounts place ≡ o
             → Some number ≡ option_map (λ (m : Mount ℕ). m.number) o → ⊥
         by None f e = true≢false (ap is_some e)
         by (Some child) f e = true≢false (sym (ap is_some (none ∙ ap (numbered mounts) (same_Some number child.number e)
-            ∙ found_child place child f)))
+            ∙ found_child place f)))
 
     -- all mounts of some, by their numbers
     all_numbered : (test : Mount ℕ → Bool) (some : List (Mount ℕ))
@@ -83,11 +71,11 @@ module _ (mounts : List (Mount ℕ)) (gone : List ℕ) where
         && all_numbered test some (λ x m. within x (inr m)) i
 
     -- a mount is free where all that stand on it rest on its root
-    pub free_if_all : (number : ℕ) (mount : Mount ℕ) → Some mount ≡ numbered mounts number → (kids : List ℕ)
+    pub free_if_all : (number : ℕ) {mount : Mount ℕ} → Some mount ≡ numbered mounts number → {kids : List ℕ}
         → kids ≡ numbers_of (children nat_eq mounts number)
         → list_all (λ n. holds_of (rests_on_root mounts gone mount) (numbered mounts n)) kids
         ≡ is_free_by_number mounts gone number
-    free_if_all number mount found kids are =
+    free_if_all number {mount} found are =
         ap (list_all (λ n. holds_of (rests_on_root mounts gone mount) (numbered mounts n)))
         (are ∙ ap (λ n. numbers_of (children nat_eq mounts n)) (numbered-number mounts number mount found))
         ∙ all_numbered (rests_on_root mounts gone mount) (children nat_eq mounts mount.number)
@@ -98,11 +86,11 @@ module _ (mounts : List (Mount ℕ)) (gone : List ℕ) where
     Known number = (mount : Mount ℕ) × (Some mount ≡ numbered mounts number)
 
     -- what is over a place is a mount
-    over_known : (most : ℕ) (place : Location ℕ) (number : ℕ) → Some number ≡ over_from most mounts gone place
+    over_known : (most : ℕ) (place : Location ℕ) {number : ℕ} → Some number ≡ over_from most mounts gone place
         → Known number
-    over_known zero place number is = absurd (true≢false (ap is_some is))
-    over_known (suc most) place number is =
-        by (λ at e. over_known most at number e) (child_at nat_eq mounts place) refl is
+    over_known zero place is = absurd (true≢false (ap is_some is))
+    over_known (suc most) place {number} is =
+        by (λ at e. over_known most at e) (child_at nat_eq mounts place) refl is
       where
         stays : (child : Mount ℕ) → child_at nat_eq mounts place ≡ Some child
             → ((at : Location ℕ) → Some number ≡ over_from most mounts gone at → Known number) → (b : Bool)
@@ -110,7 +98,7 @@ module _ (mounts : List (Mount ℕ)) (gone : List ℕ) where
             → Known number
         stays child f again true e = again (root_of child) e
         stays child f again false e =
-            (child, sym (ap (numbered mounts) (same_Some number child.number e) ∙ found_child place child f))
+            (child, sym (ap (numbered mounts) (same_Some number child.number e) ∙ found_child place f))
 
         by : ((at : Location ℕ) → Some number ≡ over_from most mounts gone at → Known number)
             → (o : Option (Mount ℕ)) → child_at nat_eq mounts place ≡ o → Some number ≡ then_some o (up_from most)
@@ -119,18 +107,17 @@ module _ (mounts : List (Mount ℕ)) (gone : List ℕ) where
         by again (Some child) f e = stays child f again (is_going nat_eq gone child.number) e
 
     -- it is free where none stands on it
-    pub over_childless : (place : Location ℕ) (number : ℕ) → Some number ≡ standing_over mounts gone place
+    pub over_childless : (place : Location ℕ) {number : ℕ} → Some number ≡ standing_over mounts gone place
         → (ids : List MountId) → counts ids ≡ numbers_of (children nat_eq mounts number) → length ids ≡ 0
         → Some number ≡ free_at_then mounts gone place
-    over_childless place number over ids on none =
-        let known = over_known (length mounts) place number over in
+    over_childless place {number} over ids on none =
+        let known = over_known (length mounts) place over in
         ap (λ b. when b number) (free ids on none
-        ∙ free_if_all number known.0 known.1 (counts ids) on)
-        ∙ ap (λ o. then_some o (λ n. when (is_free_by_number mounts gone n) n)) over
+        ∙ free_if_all number known.1 on) ∙ ap (λ o. then_some o (λ n. when (is_free_by_number mounts gone n) n)) over
       where
         free : (ids : List MountId) → counts ids ≡ numbers_of (children nat_eq mounts number) → length ids ≡ 0
             → true ≡ list_all (λ n. holds_of (rests_on_root mounts gone
-            (over_known (length mounts) place number over).0) (numbered mounts n)) (counts ids)
+            (over_known (length mounts) place over).0) (numbered mounts n)) (counts ids)
         free [] on none = refl
         free (id ∷ ids) on none = absurd (omega (arith, none))
 

@@ -5,7 +5,7 @@ use Rattle.vt_fs.specs.FilesystemsValue.{Filesystems}
 use Rattle.vt_laws_trees.proofs.layers.directories.Fit.{new_overlay_has_own_parents, new_overlay_is_tree, new_overlay_lists_numbers}
 use Rattle.vt_laws_trees.proofs.layers.layers.ShownDirectories.{AreOpen}
 use Rattle.vt_laws_trees.proofs.layers.layers.ShownMerged.{inodes, number, objects}
-use Rattle.vt_laws_trees.proofs.layers.layers.ShownMounted.{are_open, bounded, new_overlay_is_merged, root_shown}
+use Rattle.vt_laws_trees.proofs.layers.layers.ShownMounted.{are_open, bounded, can_merge, new_overlay_is_merged, root_shown}
 use Rattle.vt_laws_trees.proofs.layers.layers.ShownObjects.{Among, is_one, object_is, one_itself, placed_among}
 use Rattle.vt_laws_trees.proofs.layers.layers.ShownTree.{Arrives, arrives}
 use Rattle.vt_laws_trees.proofs.layers.layers.ShownWhole.{IsOfObject, is_of_object}
@@ -46,14 +46,14 @@ module _ (world : World ℕ) (trees : Filesystems) (overlay : OverlayValue) (is 
   made = overlay_made world trees overlay
 
   abbrev all : List (Merged ℕ)
-  all = objects layers opens most (bounded world is seen layered) (odds supply) (odds-distinct supply apart) false
+  all = objects (can_merge world is seen layered supply apart) false
 
   abbrev number_at : Merged ℕ → ℕ
-  number_at = number layers opens most (bounded world is seen layered) (odds supply) (odds-distinct supply apart) false
+  number_at = number (can_merge world is seen layered supply apart) false
 
   abbrev made_inodes : List (MergedInode ℕ)
   made_inodes =
-      inodes layers opens most (bounded world is seen layered) (odds supply) (odds-distinct supply apart) false
+      inodes (can_merge world is seen layered supply apart) false
 
   abbrev pub made_overlay : Overlay ℕ
   made_overlay = record seen { real = real_of nat_eq made_inodes }
@@ -70,7 +70,8 @@ module _ (world : World ℕ) (trees : Filesystems) (overlay : OverlayValue) (is 
       → number_at object ≡ numbered (real_object false object.seen.layer object)
   born_so object among =
       let placed = placed_among (is_one_inode nat_eq false object) 0 all object among (one_itself false object) in
-      let one = is_one layers false object placed.element (object_is layers opens most (bounded world is seen layered) object among)
+      let one = is_one layers false object placed.element (object_is layers opens most
+      (bounded world is seen layered) object among)
       (object_is layers opens most (bounded world is seen layered) placed.element placed.among) placed.passes in
       ap (λ o. odds supply (unwrap_or o 0)) placed.is ∙ ap (odds supply) (omega arith)
       ∙ inodes_get_their_numbers most trees overlay placed.place placed.element
@@ -78,19 +79,19 @@ module _ (world : World ℕ) (trees : Filesystems) (overlay : OverlayValue) (is 
       ∙ ap numbered (sym one.real)
 
   of_object : (n : ℕ) (inode : MergedInode ℕ) → inode_of made_inodes n nat_eq ≡ Some inode
-      → IsOfObject layers opens most (bounded world is seen layered) (odds supply) (odds-distinct supply apart) false n
+      → IsOfObject (can_merge world is seen layered supply apart) false n
       inode
   of_object n inode e =
-      is_of_object layers opens most (bounded world is seen layered) (odds supply) (odds-distinct supply apart) false n
+      is_of_object (can_merge world is seen layered supply apart) false n
       inode e
 
   -- what is shown at a path has a name, or is the root
   reached : (object : Merged ℕ) → shown layers object.path ≡ Some object.seen
       → led made.files.tree made.files.tree.root object.path ≡ Some (number_at object)
-  reached object s = subst (λ o. Arrives layers opens most (bounded world is seen layered)
-      (odds supply) (odds-distinct supply apart) false (root_shown world is seen layered).0
+  reached object s = subst (λ o. Arrives (can_merge world is seen layered supply apart) false
+      (root_shown world is seen layered).0
       (root_shown world is seen layered).1 o object.path (led made.files.tree made.files.tree.root object.path)) s
-      (arrives layers opens most (bounded world is seen layered) (odds supply) (odds-distinct supply apart) false
+      (arrives (can_merge world is seen layered supply apart) false
       (root_shown world is seen layered).0 (root_shown world is seen layered).1 object.path)
 
   named : IsNamedBy numbered (λ n. None) made made_overlay

@@ -6,7 +6,7 @@ use Rattle.vt_laws_mounts.proofs.counts.Listed.{same_numbers_are_permuted}
 use Rattle.vt_laws_trees.proofs.layers.directories.Order.{Pairwise, pairwise_filter_map}
 use Rattle.vt_laws_trees.proofs.layers.layers.ShownDirectories.{AreOpen}
 use Rattle.vt_laws_trees.proofs.layers.layers.ShownMerged.{inodes, one_number}
-use Rattle.vt_laws_trees.proofs.layers.layers.ShownMounted.{are_open, bounded}
+use Rattle.vt_laws_trees.proofs.layers.layers.ShownMounted.{are_open, bounded, can_merge}
 use Rattle.vt_laws_trees.proofs.layers.layers.ShownObjects.{Among, is_object}
 use Rattle.vt_laws_trees.specs.Layers.Layers.Mounted.{AreLayers}
 use Rattle.vt_laws_trees.specs.Overlays.MergedTrees.{layers_shown}
@@ -32,7 +32,7 @@ none_left a (first ∷ list) = by (nat_eq a first) refl (none_left a list)
     by true e later = later
     by false e later = ap (λ b. b || list_any (nat_eq a) (filter (λ b. not (nat_eq a b)) list)) e ∙ later
 
-once_apart : (list : List ℕ) → any_pair nat_eq (each_once nat_eq list) ≡ false
+pub once_apart : (list : List ℕ) → any_pair nat_eq (each_once nat_eq list) ≡ false
 once_apart [] = refl
 once_apart (a ∷ rest) = ap (λ b. b || any_pair nat_eq (filter (λ b. not (nat_eq a b)) (each_once nat_eq rest)))
     (none_left a (each_once nat_eq rest))
@@ -103,7 +103,8 @@ module _ (world : World ℕ) (trees : Filesystems) (overlay : OverlayValue) (is 
   among path s t = is_object opens open_so most bound path s t
 
   -- two paths have two numbers
-  paths_apart : (a b : List (List ℕ)) (x y : ℕ) → number_at trees overlay a ≡ Some x → number_at trees overlay b ≡ Some y
+  paths_apart : (a b : List (List ℕ)) (x y : ℕ) → number_at trees overlay a ≡ Some x
+      → number_at trees overlay b ≡ Some y
       → a ≢ b → x ≢ y
   unfolding path_of
   paths_apart a b x y e f apart same =
@@ -111,7 +112,7 @@ module _ (world : World ℕ) (trees : Filesystems) (overlay : OverlayValue) (is 
       let two = is_at b y f in
       let in_one = among a one.0 one.1 in
       let in_two = among b two.0 two.1 in
-      apart (ap path_of (one_number opens open_so most bound (odds supply) (odds-distinct supply supply_apart) false
+      apart (ap path_of (one_number (can_merge world is (overlay_seen overlay) layered supply supply_apart) false
       (object a one.0) (object b two.0) in_one in_two
       (born_so world trees overlay is layered shows distinct (object a one.0) in_one ∙ sym one.2 ∙ same ∙ two.2
       ∙ sym (born_so world trees overlay is layered shows distinct (object b two.0) in_two))).real)
@@ -124,7 +125,7 @@ module _ (world : World ℕ) (trees : Filesystems) (overlay : OverlayValue) (is 
 
   once_made : any_pair nat_eq made.files.numbers ≡ false
   once_made = once_apart (map (λ (inode : MergedInode ℕ). inode.number)
-      (inodes opens open_so most bound (odds supply) (odds-distinct supply supply_apart) false))
+      (inodes (can_merge world is (overlay_seen overlay) layered supply supply_apart) false))
 
   numbers_alike : IsPermutation made.files.numbers (numbers_shown trees overlay)
   numbers_alike = same_numbers_are_permuted made.files.numbers (numbers_shown trees overlay) once_made shown_apart

@@ -16,9 +16,8 @@ returns-clause-ok c =
       indexes = c.args.indexes;
     } in
     IfOk-weaker c.all_copies.result _ _ (λ copies is world seen are. is
-    ∙ copies_planned world c.args.mounts.now c.args.groups.now seen copying
-    (first_part c.args.graft.now.parts.now c.in-Some.destination.now c.in-Some.ensures.value _ _ are) are)
-    c.all_copies.ensures
+    ∙ copies_planned seen copying (first_part c.args.graft.now.parts.now c.in-Some.ensures.value are)
+    are) c.all_copies.ensures
 
 pub returns-clause-length : goal.returns-clause-length
 returns-clause-length c =

@@ -14,7 +14,6 @@ returns c =
     } in
     record {
       ok = IfOk-weaker c.all_groups.result _ _ (λ new is world seen are. is
-          ∙ groups_planned world c.args.mounts.now c.args.groups.now seen copying
-          (first_part c.args.graft.now.parts.now c.in-Some.destination.now c.in-Some.ensures.value _ _ are) are)
-          c.all_groups.ensures;
+          ∙ groups_planned seen copying (first_part c.args.graft.now.parts.now c.in-Some.ensures.value are)
+          are) c.all_groups.ensures;
     }

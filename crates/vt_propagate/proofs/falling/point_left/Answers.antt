@@ -1,6 +1,5 @@
 use Rattle.std.proofs.Common.{◌∙◌, Some, ap, sym, option_map}
 use Rattle.vt_location.specs.Locations.{location_of}
-use Rattle.vt_location.specs.MountValue.{mount_of}
 use Rattle.vt_location.specs.Numbers.{counted}
 use Rattle.vt_mount.specs.MountsValue.{mounts_in}
 use Rattle.vt_propagate.proofs.falling.Fallen.{left_gone, left_some}
@@ -15,6 +14,5 @@ returns-then-is_gone c =
 pub returns : goal.returns
 returns c = ap (λ place. Some (counted c.args.id.count, place)) c.place_left.ensures
     ∙ left_some (mounts_in c.args.mounts.now) (counts c.args.gone.now.ids.now) (counted c.args.id.count)
-    (mount_of c.in_ok-mount.mount)
-    c.in_ok-mount.ensures (sym c.is_gone.ensures ∙ c.if-is_gone.false) (location_of c.in_ok-mount-2.field-0)
+    c.in_ok-mount.ensures (sym c.is_gone.ensures ∙ c.if-is_gone.false)
     (ap (option_map location_of) c.in_ok-mount-2.was)

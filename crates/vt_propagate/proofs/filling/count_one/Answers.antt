@@ -4,11 +4,11 @@ use Rattle.vt_location.specs.declared.numbers.NamespaceId.{NamespaceId}
 use Rattle.vt_propagate.proofs.filling.count_one.Goals as goal
 use Rattle.vt_mount.specs.Indexes.{same_namespace}
 
-raised : (before after : NamespaceId → Option ℕ) (namespace : NamespaceId) (count : ℕ)
+raised : (before after : NamespaceId → Option ℕ) (namespace : NamespaceId) {count : ℕ}
     → ((q : NamespaceId) → after q ≡ cond (same_namespace namespace q) (Some (count + 1)) (before q))
     → count ≡ unwrap_or (before namespace) 0 → (one : NamespaceId) → unwrap_or (after one) 0
     ≡ unwrap_or (before one) 0 + (if same_namespace one namespace then 1 else 0)
-raised before after namespace count updates counted one = by (nat_eq one.count namespace.count) refl
+raised before after namespace {count} updates counted one = by (nat_eq one.count namespace.count) refl
   where
     by : (b : Bool) → nat_eq one.count namespace.count ≡ b
         → unwrap_or (after one) 0 ≡ unwrap_or (before one) 0 + (if b then 1 else 0)
@@ -33,7 +33,7 @@ overflow_add-count c =
 
 pub returns-in_ok-insert : goal.returns-in_ok-insert
 returns-in_ok-insert c = λ one. raised (get same_namespace c.args.counts.now)
-    (get same_namespace c.insert.new.self) c.in-Some.namespace c.unwrap_or-count.result c.in_ok-insert.ensures.updates.0
+    (get same_namespace c.insert.new.self) c.in-Some.namespace c.in_ok-insert.ensures.updates.0
     (c.unwrap_or-count.ensures ∙ ap (λ o. unwrap_or o 0) (c.copied.ensures ∙ c.get.ensures.value)) one
     ∙ ap (λ o. unwrap_or (get same_namespace c.args.counts.now one) 0 +
     (if holds_of (same_namespace one) o then 1 else 0)) (sym c.in-Some.is)

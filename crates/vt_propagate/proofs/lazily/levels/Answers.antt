@@ -25,7 +25,6 @@ loop-preserved c =
     let one : suc rest ≡ c.len-end.result - c.loop.counter = omega (arith, c.loop-test.true) in (
       c.loop.invariant.0,
       next_level mounts (counts c.loop.all.items) (counts c.loop.level.items) rest
-          (counts c.extend_from_slice.new.self.items) (counts c.in_ok-level.level.items)
           (ap counts (c.in_ok-extend_from_slice.ensures.items
           ∙ ap (λ more. c.loop.all.items ++ more) c.deref.ensures.value)
           ∙ map-append (λ (id : MountId). counted id.count) c.loop.all.items c.loop.level.items)

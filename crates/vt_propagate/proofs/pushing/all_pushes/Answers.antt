@@ -11,12 +11,10 @@ loop-part-preserved c =
     let graft = c.args.graft.now in
     record {
       rest = rest_more graft.parts.now c.loop-part.part-index c.loop-part-test.true (length graft.tree.now)
-          (length c.loop-part.rest.now)
           (length c.split_at.result.1.now) c.loop-part.invariant.rest c.split_at.ensures.back_len;
-      so_far = push_more (mounts_in c.args.mounts.now) (leaver graft) (location_of graft.place)
-          (length graft.tree.now) graft.parts.now
-          c.loop-part.part-index _ c.loop-part-test.true c.loop-part.rest.now c.split_at.result.0.now
-          c.split_at.result.1.now
-          c.split_at.ensures.front c.split_at.ensures.back (map point_of c.loop-part.points.items) _ _
+      so_far = push_more (mounts_in c.args.mounts.now) (leaver graft) (location_of graft.place) (length graft.tree.now)
+          graft.parts.now
+          c.loop-part.part-index _ c.loop-part-test.true c.loop-part.rest.now
+          c.split_at.ensures.front c.split_at.ensures.back (map point_of c.loop-part.points.items)
           c.in_ok-add_push.ensures c.loop-part.invariant.so_far;
     }

@@ -15,9 +15,8 @@ returns g c =
     sym (ap (option_map mount_of) c.unwrap-parent.ensures) ∙ c.get.ensures in
     record {
       ok = IfOk-weaker c.with_receivers.result _ _ (λ parts is world seen reaches. is
-          ∙ parts-found world c.args.mounts.now c.args.groups.now seen
-          (g.R.Reach.under c.args.directories.now) reaches c.alloc-alloc.ensures.order
-          (location_of c.args.place) (mount_of parent) found c.deref.result.now (ap counts c.deref.ensures.value
+          ∙ parts-found seen (g.R.Reach.under c.args.directories.now) reaches c.alloc-alloc.ensures.order
+          (location_of c.args.place) found c.deref.result.now (ap counts c.deref.ensures.value
           ∙ c.in_ok-receivers.ensures.ok world (mount_of parent) seen.groups seen.living refl))
           c.with_receivers.ensures;
     }

@@ -13,8 +13,7 @@ returns-then-not-rests_on_root c =
     c.children-child-items.result.now c.loop-child.child-index _ c.loop-child-test.true
     (sym c.rests_on_root.ensures ∙ c.if-not-rests_on_root.true) c.loop-child.invariant
     ∙ free_if_all mounts (counts c.args.gone.now.ids.now) c.children-child-items.ensures.order (counted c.args.id.count)
-    (mount_of c.in-Some.mount) c.in-Some.ensures (counts c.children-child-items.result.now)
-    c.children-child-items.ensures.children
+    c.in-Some.ensures c.children-child-items.ensures.children
 
 pub returns : goal.returns
 returns c =
@@ -22,5 +21,4 @@ returns c =
     all_rest mounts (counts c.args.gone.now.ids.now) (mount_of c.in-Some.mount) c.children-child-items.result.now
     c.loop-child.child-index c.loop-child-test.false c.loop-child.invariant
     ∙ free_if_all mounts (counts c.args.gone.now.ids.now) c.children-child-items.ensures.order (counted c.args.id.count)
-    (mount_of c.in-Some.mount) c.in-Some.ensures (counts c.children-child-items.result.now)
-    c.children-child-items.ensures.children
+    c.in-Some.ensures c.children-child-items.ensures.children

@@ -16,12 +16,12 @@ pub returns-then-is_empty : goal.returns-then-is_empty
 returns-then-is_empty c =
     let mounts = mounts_in c.args.mounts.now in
     let number = counted c.in_ok-child.child.count in
-    free_at-told mounts c.in_ok-child.ensures.order (location_of c.args.place) number c.in_ok-child.ensures.child true
-    (free-childless mounts c.in_ok-child.ensures.order (location_of c.args.place) number c.in_ok-child.ensures.child
+    free_at-told mounts c.in_ok-child.ensures.order (location_of c.args.place) c.in_ok-child.ensures.child
+    (free-childless mounts c.in_ok-child.ensures.order (location_of c.args.place) c.in_ok-child.ensures.child
     c.children.result.now c.children.ensures.children (eqb-true _ _ (sym c.is_empty.ensures ∙ c.if-is_empty.true)))
 
 pub returns : goal.returns
 returns c = ap (option_map (λ (id : MountId). counted id.count)) c.then_some.ensures
     ∙ taken c.is_free.result c.in_ok-child.child
     ∙ free_at-told (mounts_in c.args.mounts.now) c.in_ok-child.ensures.order (location_of c.args.place)
-    (counted c.in_ok-child.child.count) c.in_ok-child.ensures.child c.is_free.result c.is_free.ensures
+    c.in_ok-child.ensures.child c.is_free.ensures

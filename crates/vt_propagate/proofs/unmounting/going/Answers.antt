@@ -10,15 +10,14 @@ pub returns-in_default : goal.returns-in_default
 returns-in_default c = record {
   ok = IfOk-weaker c.alone.result _ _ (λ list is world seen.
       ap counts is
-      ∙ going-alone world c.args.mounts.now c.args.groups.now seen (counted c.args.id.count) (sym c.in_default.ensures))
-      c.alone.ensures.ok;
+      ∙ going-alone seen (counted c.args.id.count) (sym c.in_default.ensures)) c.alone.ensures.ok;
 }
 
 pub returns : goal.returns
 returns c = record {
   ok = IfOk-weaker c.free_on.result _ _ (λ going is world seen. is
-      ∙ going-everywhere world c.args.mounts.now c.args.groups.now seen (counted c.args.id.count)
-      (location_of c.in-Some.point, counted c.in-Some.group.count) (sym c.in-Some.ensures) c.deref.result.now
+      ∙ going-everywhere seen (counted c.args.id.count) (location_of c.in-Some.point, counted c.in-Some.group.count)
+      (sym c.in-Some.ensures) c.deref.result.now
       (ap counts c.deref.ensures.value ∙ c.in_ok-receivers.ensures.ok world seen.groups seen.living))
       c.free_on.ensures;
 }

@@ -7,7 +7,6 @@ use Rattle.vt_propagate.proofs.unmounting.is_busy.Goals as goal
 pub returns : goal.returns
 returns c = record {
   ok = λ world seen uses. c.are_used.ensures
-      ∙ busy-told world c.args.mounts.now c.args.groups.now seen uses (counted c.args.id.count)
-      (sym c.has_child.ensures ∙ c.if-has_child.false) (counts c.deref.result.now)
+      ∙ busy-told seen uses (counted c.args.id.count) (sym c.has_child.ensures ∙ c.if-has_child.false)
       (ap counts c.deref.ensures.value ∙ c.in_ok-going.ensures.ok world seen);
 }

@@ -5,5 +5,5 @@ use Rattle.vt_mounting.proofs.attach.attaching.hold_overlays.Goals as goal
 
 pub hold_overlay-requires : goal.hold_overlay-requires
 hold_overlay-requires c =
-    merged_room_at c.args.new.now (map merged_of c.args.store.now.overlays) (map merged_of c.loop-mount.store.overlays)
-    c.loop-mount.mount-index _ c.loop-mount-test.true (omega arith) c.requires c.loop-mount.invariant.1
+    merged_room_at c.args.new.now (map merged_of c.args.store.now.overlays) c.loop-mount.mount-index _
+    c.loop-mount-test.true (omega arith) c.requires c.loop-mount.invariant.1

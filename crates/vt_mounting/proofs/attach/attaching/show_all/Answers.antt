@@ -5,5 +5,4 @@ use Rattle.vt_mounting.proofs.attach.attaching.show_all.Goals as goal
 
 pub show-requires : goal.show-requires
 show-requires c = room_at c.args.new.now (shown c.args.filesystems.now)
-    (shown c.loop-mount.filesystems) c.loop-mount.mount-index _ c.loop-mount-test.true
-    (omega arith) c.requires c.loop-mount.invariant
+    c.loop-mount.mount-index _ c.loop-mount-test.true (omega arith) c.requires c.loop-mount.invariant

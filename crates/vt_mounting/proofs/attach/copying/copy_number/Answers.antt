@@ -12,7 +12,7 @@ returns-then-is_at c =
     let place = found_place c.args.originals.now c.requires.order c.args.id.count c.args.id (Ok c.args.likely)
     (c.is_at.ensures.inside c.if-is_at.true) (λ d. cmp_same _ _ (same d)) in
     λ all are. ap (λ id. counted id.count) c.new.ensures
-    ∙ numbered_so c.args.next c.args.id c.args.originals.now c.args.likely place all are
+    ∙ numbered_so c.args.next c.args.id c.args.originals.now place all are
 
 pub returns : goal.returns
 returns c =
@@ -21,4 +21,4 @@ returns c =
     let place = c.unwrap_or-place.ensures
     ∙ found_place c.args.originals.now c.requires.order c.args.id.count c.args.id c.binary_search_by_key.result facts.bound by_key in
     λ all are. ap (λ id. counted id.count) c.new-2.ensures
-    ∙ numbered_so c.args.next c.args.id c.args.originals.now c.unwrap_or-place.result place all are
+    ∙ numbered_so c.args.next c.args.id c.args.originals.now place all are

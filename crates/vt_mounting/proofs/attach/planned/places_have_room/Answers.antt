@@ -5,4 +5,4 @@ use Rattle.vt_mounting.proofs.attach.planned.places_have_room.Goals as goal
 pub loop-point-preserved : goal.loop-point-preserved
 loop-point-preserved c =
     place_next c.args.most c.args.filesystems.now c.args.points.now c.loop-point.point-index _ c.loop-point-test.true c.loop-point.invariant
-    c.uses.result c.uses.ensures (omega (arith, c.if-uses-most.false))
+    c.uses.ensures (omega (arith, c.if-uses-most.false))

@@ -7,8 +7,8 @@ use Rattle.vt_mounting.proofs.attach.planned.unpin_all.Goals as goal
 
 pub loop-one-preserved : goal.loop-one-preserved
 loop-one-preserved c = unpinned_next c.args.moved.now
-    (shown c.args.filesystems.now) (shown c.loop-one.filesystems) (shown c.unpin_point.new.filesystems)
-    c.loop-one.one-index _ c.loop-one-test.true c.loop-one.invariant c.unpin_point.ensures
+    (shown c.args.filesystems.now) c.loop-one.one-index _ c.loop-one-test.true c.loop-one.invariant
+    c.unpin_point.ensures
 
 pub returns : goal.returns
 returns c = c.loop-one.invariant ∙ ap (λ moved. folded unpinned_by (shown c.args.filesystems.now) (left_of moved))

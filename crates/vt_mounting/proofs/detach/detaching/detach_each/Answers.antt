@@ -10,8 +10,8 @@ loop-id-init c = (λ last turn. turn, left_itself c.args.store.now.overlays c.ar
 pub loop-id-preserved : goal.loop-id-preserved
 loop-id-preserved c = (
   λ last turn. c.loop-id.invariant.0 last (turn_goes_on c.args.ids.now c.loop-id.id-index _ c.loop-id-test.true
-      (kept c.loop-id.mounts c.loop-id.store) (kept c.detach.new.mounts c.detach.new.store) last c.detach.result
-      c.detach.ensures.point c.detach.ensures.slot c.detach.ensures.left turn),
+      (kept c.loop-id.mounts c.loop-id.store) last c.detach.result c.detach.ensures.point c.detach.ensures.slot
+      c.detach.ensures.left turn),
   left_twice c.args.store.now.overlays c.loop-id.store.overlays c.detach.new.store.overlays c.loop-id.invariant.1
       c.detach.ensures.overlays,
 )

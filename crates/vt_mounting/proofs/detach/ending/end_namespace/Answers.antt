@@ -32,7 +32,7 @@ loop-last-smaller c =
     (subst (λ (new : Kept). length (filter (is_attached_in namespace) new.mounts) < length
     (filter (is_attached_in namespace) k.mounts)) (sym c.detach.ensures.left) (one_detached_less namespace k _
     (attached_so namespace c.loop-last.mounts c.loop-last.store.plain (map merged_of c.loop-last.store.overlays)
-    c.attached_in.result.now c.in-Some.last.now c.detach.result c.attached_in.ensures.order c.attached_in.ensures.are
+    c.attached_in.result.now c.detach.result c.attached_in.ensures.order c.attached_in.ensures.are
     (sym c.last.ensures.value ∙ ap option_copied c.in-Some.is) c.detach.ensures.point c.detach.ensures.slot)))
 
 pub loop-last-preserved : goal.loop-last-preserved
@@ -59,12 +59,11 @@ loop-last-preserved c =
             ∙ ap (λ (new : Kept). new.filesystems) (alike no_groups)) i;
         overlays = sym (ap (λ (new : Kept). new.overlays) c.detach.ensures.left
             ∙ ap (λ (new : Kept). new.overlays) (alike no_groups)) i;
-      }) (one_more_detached namespace sofar.gone one first alone sofar.detached
+      }) (one_more_detached sofar.gone first sofar.detached
           (is_attached-alike namespace sofar.entries c.loop-last.mounts sofar.only_types
-          (shown c.loop-last.store.plain) (map merged_of c.loop-last.store.overlays) one
-          (attached_so namespace c.loop-last.mounts c.loop-last.store.plain
-          (map merged_of c.loop-last.store.overlays) c.attached_in.result.now c.in-Some.last.now
-          point c.attached_in.ensures.order c.attached_in.ensures.are
+          (shown c.loop-last.store.plain) (map merged_of c.loop-last.store.overlays)
+          (attached_so namespace c.loop-last.mounts c.loop-last.store.plain (map merged_of c.loop-last.store.overlays)
+          c.attached_in.result.now point c.attached_in.ensures.order c.attached_in.ensures.are
           (sym c.last.ensures.value ∙ ap option_copied c.in-Some.is) c.detach.ensures.point c.detach.ensures.slot)));
       only_types = λ groups. c.leave.ensures.types groups
           ∙ ap (λ (new : Kept). map (typed_entry groups) new.mounts) c.detach.ensures.left
@@ -78,8 +77,8 @@ loop-last-preserved c =
           (still_next c.loop-last.groups c.leave.new.groups (numbers ++ number ∷ []) numbers number c.detach.new.mounts
           c.leave.new.mounts
           (subst (λ (new : Kept). StillTyped c.loop-last.groups (numbers ++ number ∷ []) numbers new.mounts)
-          (sym c.detach.ensures.left) (still_detached c.loop-last.groups numbers number point k (sofar.types typed)))
-          (last_listed number numbers) c.leave.ensures.told c.leave.ensures.slaves);
+          (sym c.detach.ensures.left) (still_detached number point k (sofar.types typed))) (last_listed number numbers)
+          c.leave.ensures.told c.leave.ensures.slaves);
       overlays = left_twice c.args.store.now.overlays c.loop-last.store.overlays c.detach.new.store.overlays
           sofar.overlays c.detach.ensures.overlays;
     }

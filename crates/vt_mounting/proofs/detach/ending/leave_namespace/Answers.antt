@@ -22,20 +22,20 @@ returns-in_default-clause-mounts c =
 
 pub returns-then-namespace-gt1-clause-namespaces : goal.returns-then-namespace-gt1-clause-namespaces
 returns-then-namespace-gt1-clause-namespaces c =
-    fewer_left c.args.id.count c.args.namespaces.now.entries c.in-Some.namespace.now _ _ c.get_mut.ensures.unique
+    fewer_left c.args.id.count c.args.namespaces.now.entries _ c.get_mut.ensures.unique
     (sym c.get_mut.ensures.value ∙ ap option_copied_mut c.in-Some.is)
     (lt-leb c.in-Some.namespace.now.tasks 1 c.if-namespace-gt1.true) refl (c.get_mut.follows.holds _).0
 
 pub returns-then-namespace-gt1-clause-mounts : goal.returns-then-namespace-gt1-clause-mounts
 returns-then-namespace-gt1-clause-mounts c =
     fewer_mounts c.args.id.count c.args.namespaces.now.entries (counted c.args.id.count)
-    (kept c.args.mounts.now c.args.store.now) c.args.groups.now c.in-Some.namespace.now
+    (kept c.args.mounts.now c.args.store.now) c.args.groups.now
     (sym c.get_mut.ensures.value ∙ ap option_copied_mut c.in-Some.is)
     (lt-leb c.in-Some.namespace.now.tasks 1 c.if-namespace-gt1.true)
 
 pub returns-clause-namespaces : goal.returns-clause-namespaces
 returns-clause-namespaces c =
-    last_left c.args.id.count c.args.namespaces.now.entries c.in-Some.namespace.now c.shift_remove.new.self.entries
+    last_left c.args.id.count c.args.namespaces.now.entries
     (sym c.get_mut.ensures.value ∙ ap option_copied_mut c.in-Some.is)
     (le-leb c.in-Some.namespace.now.tasks 1 c.if-namespace-gt1.false) (c.shift_remove.ensures.entries
     ∙ ap (remove_entry (is_id c.args.id.count)) ((c.get_mut.follows.holds c.in-Some.namespace.now).0
@@ -43,9 +43,7 @@ returns-clause-namespaces c =
     (sym c.get_mut.ensures.value ∙ ap option_copied_mut c.in-Some.is))) c.shift_remove.ensures.updates.1
 
 pub returns-clause-mounts : goal.returns-clause-mounts
-returns-clause-mounts c = last_mounts c.args.id.count c.args.namespaces.now.entries (counted c.args.id.count)
-    (kept c.args.mounts.now c.args.store.now) c.args.groups.now
-    (kept c.end_namespace.new.mounts c.end_namespace.new.store) c.end_namespace.new.groups c.in-Some.namespace.now
+returns-clause-mounts c = last_mounts c.args.id.count c.args.namespaces.now.entries
     (sym c.get_mut.ensures.value ∙ ap option_copied_mut c.in-Some.is)
     (le-leb c.in-Some.namespace.now.tasks 1 c.if-namespace-gt1.false) c.end_namespace.ensures.left
 

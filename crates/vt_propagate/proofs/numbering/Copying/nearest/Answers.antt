@@ -11,5 +11,5 @@ loop-preserved c =
     let n : c.len-end.result - c.loop.counter
     ≡ suc (c.len-end.result - (c.loop.counter + 1)) = omega (arith, c.loop-test.true) in
     find_up (has_members nat_eq (parts_seen c.args.self.now)) (master_in c.args.groups.now)
-    (counted c.loop.here.count) (counted c.in_ok-here.here.count) _ _ n
+    (counted c.loop.here.count) n
     (sym c.has_part.ensures ∙ c.if-has_part.false) (sym c.in_ok-here.ensures) ∙ c.loop.invariant
