@@ -1,6 +1,9 @@
 //! The bytes of a line that no word has, and escapes that spell none.
 use vt_io::line::LONGEST_LINE;
 
+/// How many kinds of [`ByteKind`], the first ones, are told at the first line of a file alone that has them.
+pub const TOLD_ONCE: usize = 4;
+
 /// Why bytes are of no word.
 #[derive(Clone, Copy)]
 pub enum ByteKind {
@@ -27,19 +30,6 @@ pub struct ByteFault {
     pub width: usize,
 }
 
-impl ByteFault {
-    /// The place in a list of those that are told once a file.
-    pub fn told_once(self) -> Option<usize> {
-        match self.kind {
-            ByteKind::Crlf => Some(0),
-            ByteKind::Mark => Some(1),
-            ByteKind::Tab => Some(2),
-            ByteKind::High => Some(3),
-            ByteKind::Control | ByteKind::Escape | ByteKind::Overlong => None,
-        }
-    }
-}
-
 /// Whether a byte stands for itself in a word.
 pub fn is_plain(byte: u8) -> bool {
     matches!(byte, 0x21..=0x7e) && byte != b'\\'
@@ -58,21 +48,29 @@ fn bad_escape(rest: &[u8]) -> Option<usize> {
     None
 }
 
-// What is wrong with the character that begins these bytes, if something is, and how many bytes it has. It may be the
-// first of a word, and then `\e`, the empty text.
-fn fault_of(rest: &[u8], is_first: bool) -> (Option<ByteKind>, usize) {
-    match rest {
-        [b'\\', b'e'] | [b'\\', b'e', b' ', ..] if is_first => (None, 2),
-        [b'\\', ..] => match bad_escape(rest) {
-            Some(width) => (Some(ByteKind::Escape), width),
-            None => (None, 4),
-        },
-        [b'\t', ..] => (Some(ByteKind::Tab), 1),
-        [b'\r'] => (Some(ByteKind::Crlf), 1),
-        [0x80..=0xff, ..] => (Some(ByteKind::High), 1),
-        [0x20..=0x7e, ..] | [] => (None, 1),
-        _ => (Some(ByteKind::Control), 1),
+// What is wrong with the escape that begins these bytes, if something is, and how many bytes it has. It may be the first
+// of a word, and then `\e`, the empty text.
+fn fault_of_escape(rest: &[u8], is_first: bool) -> (Option<ByteKind>, usize) {
+    if is_first && matches!(rest, [_, b'e'] | [_, b'e', b' ', ..]) {
+        return (None, 2);
     }
+    match bad_escape(rest) {
+        Some(width) => (Some(ByteKind::Escape), width),
+        None => (None, 4),
+    }
+}
+
+// What is wrong with the character that begins these bytes, if something is, and how many bytes it has.
+fn fault_of(rest: &[u8], is_first: bool) -> (Option<ByteKind>, usize) {
+    let kind = match rest.first() {
+        Some(b'\\') => return fault_of_escape(rest, is_first),
+        Some(b'\t') => ByteKind::Tab,
+        Some(b'\r') if rest.len() == 1 => ByteKind::Crlf,
+        Some(0x80..=0xff) => ByteKind::High,
+        Some(0x20..=0x7e) | None => return (None, 1),
+        Some(_) => ByteKind::Control,
+    };
+    (Some(kind), 1)
 }
 
 /// The first bytes of a line that are of no word, if there are any.

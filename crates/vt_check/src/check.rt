@@ -59,8 +59,12 @@ pub fn check<W: Write>(
     options: Options,
     output: &mut W,
 ) -> io::Result<bool> {
-    let report = report_of(options.version, alloc, script)?;
-    let is_bad = report.errors > 0 || (options.strict && report.warnings > 0);
+    let mut report = report_of(options.version, alloc, script)?;
+    if options.strict {
+        report.errors = report.errors.saturating_add(report.warnings);
+        report.warnings = 0;
+    }
+    let is_bad = report.errors > 0;
     let text = written(alloc, name, options, &report);
     drop(report);
     let text = text?;

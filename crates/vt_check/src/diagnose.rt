@@ -8,39 +8,37 @@ use crate::words::{Given, Word, parts_of};
 use std::alloc::Global;
 use vt_line::version::Version;
 
-// What is said of bytes of a kind, and how to write them.
-fn said_of(kind: ByteKind) -> (&'static str, &'static str) {
-    match kind {
-        ByteKind::Crlf => (
-            "the line ends in CR LF",
-            "lines end in LF alone; `sed -i 's/\\r$//' FILE` takes the CR away",
-        ),
-        ByteKind::Mark => (
-            "a byte order mark begins the file",
-            "a file begins with its first line: `sed -i '1s/^\\xef\\xbb\\xbf//' FILE`",
-        ),
-        ByteKind::Tab => (
-            "a tab does not separate words",
-            "words are separated by spaces; a tab in a word is `\\x09`",
-        ),
-        ByteKind::High => (
-            "a byte above 0x7e",
-            "such a byte is written `\\xhh`, with two lower-case hexadecimal digits",
-        ),
-        ByteKind::Control => (
-            "a byte that is not printed",
-            "such a byte is written `\\xhh`, with two lower-case hexadecimal digits",
-        ),
-        ByteKind::Escape => (
-            "` is no escape",
-            "an escape is `\\xhh`, with two lower-case hexadecimal digits; a backslash is `\\x5c`",
-        ),
-        ByteKind::Overlong => (
-            "the line has more than 8,192 bytes",
-            "a file has up to 1,048,576 bytes: `pwrite` writes it in parts",
-        ),
-    }
-}
+// What is said of the bytes of each kind, in the order of the kinds, and how to write them.
+static SAID: [(&str, &str); 7] = [
+    (
+        "the line ends in CR LF",
+        "lines end in LF alone; `sed -i 's/\\r$//' FILE` takes the CR away",
+    ),
+    (
+        "a byte order mark begins the file",
+        "a file begins with its first line: `sed -i '1s/^\\xef\\xbb\\xbf//' FILE`",
+    ),
+    (
+        "a tab does not separate words",
+        "words are separated by spaces; a tab in a word is `\\x09`",
+    ),
+    (
+        "a byte above 0x7e",
+        "such a byte is written `\\xhh`, with two lower-case hexadecimal digits",
+    ),
+    (
+        "a byte that is not printed",
+        "such a byte is written `\\xhh`, with two lower-case hexadecimal digits",
+    ),
+    (
+        "` is no escape",
+        "an escape is `\\xhh`, with two lower-case hexadecimal digits; a backslash is `\\x5c`",
+    ),
+    (
+        "the line has more than 8,192 bytes",
+        "a file has up to 1,048,576 bytes: `pwrite` writes it in parts",
+    ),
+];
 
 // Escapes of other languages, each with the one that stands for it here.
 static ESCAPES: [(&str, &str); 8] = [
@@ -54,8 +52,8 @@ static ESCAPES: [(&str, &str); 8] = [
     ("\\'", "\\x27"),
 ];
 
-// Writes the escape that stands for a text of other languages, or the one of two upper-case digits that begins the
-// rest, and says how many bytes of the rest it stands for.
+// Writes the escape that stands for a text of other languages, or what begins the rest in lower case, as an escape of two
+// upper-case digits is meant, and says how many bytes of the rest it stands for.
 fn write_escape(text: &mut Draft, rest: &str, width: usize) -> Option<usize> {
     let given = rest.get(..width)?;
     for (from, escape) in &ESCAPES {
@@ -65,13 +63,8 @@ fn write_escape(text: &mut Draft, rest: &str, width: usize) -> Option<usize> {
         }
     }
     let escape = rest.get(..4)?;
-    for character in escape.chars() {
-        text.push_char(character.to_ascii_lowercase());
-    }
-    match escape.as_bytes() {
-        [_, _, high, low] if high.is_ascii_hexdigit() && low.is_ascii_hexdigit() => Some(4),
-        _ => None,
-    }
+    text.push_in_case(escape, false);
+    Some(4)
 }
 
 // Proposes the line with the escape that is meant in the place of a bad one.
@@ -99,14 +92,14 @@ fn propose_spelled(found: &mut Diagnosis, line: &[u8]) {
 
 // Tells what is wrong with the bytes of a line.
 fn tell_bytes(found: &mut Diagnosis, line: &[u8], fault: ByteFault) {
-    let (said, words) = said_of(fault.kind);
+    let (said, words) = SAID[fault.kind as usize];
     found.column = fault.column;
     found.width = fault.width;
     found.words = words;
     match fault.kind {
         ByteKind::Escape => {
             let rest = line.get(fault.column..).unwrap_or_default();
-            found.message.push("`");
+            found.message.push_char('`');
             found
                 .message
                 .push_bytes(rest.get(..fault.width).unwrap_or(rest));

@@ -72,6 +72,17 @@ impl Draft {
         }
     }
 
+    /// Appends a part with capital letters alone, or with none.
+    pub fn push_in_case(&mut self, part: &str, is_upper: bool) {
+        for character in part.chars() {
+            self.push_char(if is_upper {
+                character.to_ascii_uppercase()
+            } else {
+                character.to_ascii_lowercase()
+            });
+        }
+    }
+
     /// Appends a number.
     pub fn push_number(&mut self, number: u64) {
         self.failed |= write!(self.text, "{number}").is_err();
@@ -79,14 +90,7 @@ impl Draft {
 
     /// Appends a number in octal digits, of which there are at least so many.
     pub fn push_octal(&mut self, number: u16, digits: usize) {
-        let mut bound: u16 = 8;
-        for _ in 1..digits {
-            if number < bound {
-                self.push("0");
-            }
-            bound = bound.saturating_mul(8);
-        }
-        self.failed |= write!(self.text, "{number:o}").is_err();
+        self.failed |= write!(self.text, "{number:0digits$o}").is_err();
     }
 
     /// Appends a byte as it is shown: itself, or `\xhh` where it is not printed.

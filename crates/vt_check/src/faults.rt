@@ -78,17 +78,18 @@ impl<'a> Fault<'a> {
     /// Writes it in one sentence as the message, and what else is to be known of it.
     pub fn write(self, found: &mut Diagnosis) {
         let word = self.part.text;
+        // Of both parts a form takes as many as it has places.
         let (form, first, second) = match self.wrong {
-            Wrong::NoTask => ("no task `{}`", word, ""),
-            Wrong::NoCall => ("no call `{}`", word, ""),
-            Wrong::NoDirective => ("no directive `{}`", word, ""),
-            Wrong::LacksCall => ("the line ends before its call", "", ""),
+            Wrong::NoTask => ("no task `{}`", word, word),
+            Wrong::NoCall => ("no call `{}`", word, word),
+            Wrong::NoDirective => ("no directive `{}`", word, word),
+            Wrong::LacksCall => ("the line ends before its call", word, word),
             Wrong::Later(what) => {
                 found.note = "not in this version";
                 ("{} `{}`", what, word)
             }
             Wrong::OfSecond(what) => ("`{}` is a {} of script version 2", word, what),
-            Wrong::Unmodelled(_) => ("`{}` is not modelled", word, ""),
+            Wrong::Unmodelled(_) => ("`{}` is not modelled", word, word),
             Wrong::NoOption(call) => ("`{}` has no option `{}`", call.name, word),
             Wrong::Bad(argument) => {
                 let meant = self.meant(found.version, argument);
@@ -102,7 +103,7 @@ impl<'a> Fault<'a> {
             Wrong::Lacks(call, argument) => {
                 ("the line ends before {} of {}", argument.name, call.usage)
             }
-            Wrong::Other => ("not a line of the grammar", "", ""),
+            Wrong::Other => ("not a line of the grammar", word, word),
         };
         found.message.fill(form, &[first, second]);
     }
@@ -189,8 +190,8 @@ fn of_call<'a>(found: &mut Diagnosis, line: Given<'a>, call: &'static CallWords)
 // The call of this name, in a version of the language, as its first word says which it is.
 fn call_of(line: Given<'_>, name: &str) -> Option<&'static CallWords> {
     let call = call_named(line.version, name)?;
-    match line.words.get(2) {
-        Some(word) if word.text == "overlay" && name == "mount" => Some(&MOUNT_OVERLAY),
+    match (name, line.words.get(2)) {
+        ("mount", Some(word)) if matches!(word.text, "overlay") => Some(&MOUNT_OVERLAY),
         _ => Some(call),
     }
 }
@@ -205,7 +206,7 @@ fn second_flag_of<'a>(found: &mut Diagnosis, fault: Fault<'a>) -> Option<Word<'a
     }
     let parts = parts_of(found, fault.word, [',', ',']);
     for part in &parts {
-        if part.text == "nosymfollow" {
+        if matches!(part.text, "nosymfollow") {
             return Some(*part);
         }
     }

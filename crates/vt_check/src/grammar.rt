@@ -204,8 +204,9 @@ const YES_OR_NO: Argument = Argument {
     kind: Kind::YesOrNo,
 };
 
-// Calls of tasks about one object.
-static OBJECT_CALLS: [CallWords; 7] = [
+// The calls, those that version 2 alone has last.
+static CALLS: [CallWords; 40] = [
+    // Calls about one object.
     CallWords {
         name: "ls",
         usage: "`ls PATH`",
@@ -248,10 +249,7 @@ static OBJECT_CALLS: [CallWords; 7] = [
         words: &[PATH],
         needed: 1,
     },
-];
-
-// Calls that make, move or remove objects, or change what is kept of them.
-static NAME_CALLS: [CallWords; 10] = [
+    // Calls that make, move or remove objects, or change what is kept of them.
     CallWords {
         name: "mkdir",
         usage: "`mkdir PATH [MODE]`",
@@ -312,10 +310,7 @@ static NAME_CALLS: [CallWords; 10] = [
         words: &[PATH, YES_OR_NO],
         needed: 2,
     },
-];
-
-// Calls about descriptors, and about a task itself.
-static TASK_CALLS: [CallWords; 12] = [
+    // Calls about descriptors, and about a task itself.
     CallWords {
         name: "open",
         usage: "`open PATH r|w|rw [create MODE | excl MODE]`",
@@ -388,18 +383,7 @@ static TASK_CALLS: [CallWords; 12] = [
         words: &[TASK],
         needed: 1,
     },
-];
-
-/// The mount of an overlay: the first argument says that it is one.
-pub static MOUNT_OVERLAY: CallWords = CallWords {
-    name: "mount",
-    usage: "`mount overlay PATH OPTIONS [FLAGS]`",
-    words: &[OVERLAY, PATH, OPTIONS, FLAGS],
-    needed: 3,
-};
-
-// Calls about mounts.
-static MOUNT_CALLS: [CallWords; 10] = [
+    // Calls about mounts.
     CallWords {
         name: "mount",
         usage: "`mount plain PATH [FLAGS]`",
@@ -460,15 +444,25 @@ static MOUNT_CALLS: [CallWords; 10] = [
         words: &[],
         needed: 0,
     },
+    // Of version 2 alone.
+    CallWords {
+        name: "pivot_root",
+        usage: "`pivot_root NEW PUT`",
+        words: &[NEW, PUT],
+        needed: 2,
+    },
 ];
 
-// Those that version 2 alone has.
-static SECOND_CALLS: [CallWords; 1] = [CallWords {
-    name: "pivot_root",
-    usage: "`pivot_root NEW PUT`",
-    words: &[NEW, PUT],
-    needed: 2,
-}];
+// How many calls version 1 has.
+const OF_FIRST: usize = 39;
+
+/// The mount of an overlay: the first argument says that it is one.
+pub static MOUNT_OVERLAY: CallWords = CallWords {
+    name: "mount",
+    usage: "`mount overlay PATH OPTIONS [FLAGS]`",
+    words: &[OVERLAY, PATH, OPTIONS, FLAGS],
+    needed: 3,
+};
 
 // What is said of the words of each kind.
 static ACCESS_WORDS: KindWords = KindWords {
@@ -739,37 +733,19 @@ pub static PEERS: CallWords = CallWords {
     needed: 0,
 };
 
-/// The calls of a version of the language, in parts.
-pub fn calls(version: Version) -> [&'static [CallWords]; 5] {
-    let further: &'static [CallWords] = match version {
-        Version::One => &[],
-        Version::Two => &SECOND_CALLS,
-    };
-    [
-        &OBJECT_CALLS,
-        &NAME_CALLS,
-        &TASK_CALLS,
-        &MOUNT_CALLS,
-        further,
-    ]
-}
-
-// The call of this name among some.
-fn call_among(calls: &'static [CallWords], name: &str) -> Option<&'static CallWords> {
-    for call in calls {
-        if call.name == name {
-            return Some(call);
-        }
+/// The calls of a version of the language.
+pub fn calls(version: Version) -> &'static [CallWords] {
+    match version {
+        Version::One => CALLS.get(..OF_FIRST).unwrap_or_default(),
+        Version::Two => &CALLS,
     }
-    None
 }
 
 /// The words of the call of this name, in a version of the language.
 pub fn call_named(version: Version, name: &str) -> Option<&'static CallWords> {
-    for part in calls(version) {
-        let call = call_among(part, name);
-        if call.is_some() {
-            return call;
+    for call in calls(version) {
+        if call.name == name {
+            return Some(call);
         }
     }
     None

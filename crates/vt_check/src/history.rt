@@ -34,9 +34,9 @@ struct Task {
 
 // Appends the name of the task that these numbers name.
 fn push_task(text: &mut Draft, numbers: &[u8]) {
-    text.push("t");
+    text.push_char('t');
     for number in numbers {
-        text.push(".");
+        text.push_char('.');
         text.push_number(u64::from(*number));
     }
 }
@@ -81,12 +81,13 @@ impl History {
         true
     }
 
-    // A warning about the word at this place of a line, and what to do about it. Its message is still to be written.
-    fn warning(&self, line: &[u8], place: usize, help: &'static str) -> Diagnosis {
+    // A warning about the word at this place of a line: its message, or how that begins, and what to do about it.
+    fn warning(&self, line: &[u8], place: usize, message: &str, help: &'static str) -> Diagnosis {
         let Word { column, text } = word_at(str::from_utf8(line).unwrap_or_default(), place);
         let mut found = Diagnosis::new(self.version, self.alloc);
         found.column = column;
         found.width = text.len();
+        found.message.push(message);
         found.words = help;
         found
     }
@@ -94,10 +95,9 @@ impl History {
     // A warning about a task that no line forks.
     fn unforked(&self, line: &[u8], numbers: &[u8]) -> Diagnosis {
         let help = "a task's children are `.1`, `.2` and so on, in the order of its `fork` lines";
-        let mut found = self.warning(line, 0, help);
-        found.message.push("no line above forks `");
+        let mut found = self.warning(line, 0, "no line above forks `", help);
         push_task(&mut found.message, numbers);
-        found.message.push("`");
+        found.message.push_char('`');
         found
     }
 
@@ -118,10 +118,9 @@ impl History {
         self.failed |= self.meet_child(numbers, child, umask).is_err();
         let refused = refused?;
         let help = "a refused line uses no number: mend it, or number the tasks anew";
-        let mut found = self.warning(line, 1, help);
-        found.message.push("this makes `");
+        let mut found = self.warning(line, 1, "this makes `", help);
         push_task(&mut found.message, numbers);
-        found.message.push(".");
+        found.message.push_char('.');
         found.message.push_number(child);
         found.message.push("`, since line ");
         found.message.push_number(refused);
@@ -137,8 +136,7 @@ impl History {
             return None;
         }
         let help = "`chmod` sets a mode whatever the umask is";
-        let mut found = self.warning(line, place, help);
-        found.message.push("the umask ");
+        let mut found = self.warning(line, place, "the umask ", help);
         found.message.push_octal(umask, 3);
         found.message.push(" makes ");
         found.message.push_octal(kept, 1);
@@ -152,23 +150,24 @@ impl History {
         for item in options.split(|byte| *byte == b',') {
             match LayerOptions::parse(item) {
                 Some(option) if option.upper().is_some() => {
-                    let mut found = self.warning(line, 4, READ_ONLY);
-                    found
-                        .message
-                        .push("`upperdir` is not in this version: a run refuses it");
-                    return Some(found);
+                    let message = "`upperdir` is not in this version: a run refuses it";
+                    return Some(self.warning(line, 4, message, READ_ONLY));
                 }
                 Some(_) => {}
+                None if item.is_empty() => {
+                    return Some(self.warning(
+                        line,
+                        4,
+                        "an empty option: a run refuses it",
+                        OPTIONS,
+                    ));
+                }
                 None => {
-                    let mut found = self.warning(line, 4, OPTIONS);
-                    if item.is_empty() {
-                        found.message.push("an empty option");
-                    } else {
-                        found.message.push("`");
-                        found.message.push_bytes(item);
-                        found.message.push("` is no option of an overlay here");
-                    }
-                    found.message.push(": a run refuses it");
+                    let mut found = self.warning(line, 4, "`", OPTIONS);
+                    found.message.push_bytes(item);
+                    found
+                        .message
+                        .push("` is no option of an overlay here: a run refuses it");
                     return Some(found);
                 }
             }
@@ -181,24 +180,20 @@ impl History {
     fn of_overlay(&self, line: &[u8], path: &[u8], options: &[u8]) -> Option<Diagnosis> {
         let all = LayerOptions::parse(options);
         if all.is_none() && LayerOptions::parse(path).is_some() {
+            let message = "options in the place of the path: a run refuses it";
             let help = "the path comes first: `mount overlay /m lowerdir=/high:/low`";
-            let mut found = self.warning(line, 3, help);
-            found
-                .message
-                .push("options in the place of the path: a run refuses it");
-            return Some(found);
+            return Some(self.warning(line, 3, message, help));
         }
         let bad = self.of_option(line, options);
         match all {
             _ if bad.is_some() => bad,
             Some(all) if all.lowers().nth(1).is_some() => None,
-            _ => {
-                let mut found = self.warning(line, 4, READ_ONLY);
-                found
-                    .message
-                    .push("fewer than two layers: a run refuses it");
-                Some(found)
-            }
+            _ => Some(self.warning(
+                line,
+                4,
+                "fewer than two layers: a run refuses it",
+                READ_ONLY,
+            )),
         }
     }
 
@@ -270,21 +265,20 @@ impl History {
 
     /// A warning about a line that changes a task's root, and that no change of the working directory follows.
     pub fn unfollowed(&self, line: &[u8]) -> Diagnosis {
+        let message = "no `chdir` of this task follows: it stays in its old directory";
         let help = "`chdir /` enters the new root; until then `..` leads out of it";
-        let mut found = self.warning(line, 1, help);
-        found.message.push("no `chdir` of this task follows: it stays in its old directory");
-        found
+        self.warning(line, 1, message, help)
     }
 
     /// The lines that change a task's root, and behind which its working directory was not changed, in order.
-    pub fn unfollowed_chroots(&self) -> Result<Vec<u64>, AllocError> {
+    pub fn unfollowed_chroots(&mut self) -> Vec<u64> {
         let mut lines = Vec::new(self.alloc);
         for task in self.tasks.values() {
             if let Some(line) = task.chroot {
-                lines.push(line)?;
+                self.failed |= lines.push(line).is_err();
             }
         }
-        lines.sort()?;
-        Ok(lines)
+        self.failed |= lines.sort().is_err();
+        lines
     }
 }

@@ -34,33 +34,17 @@ fn nearest(found: &mut Diagnosis, text: &str, words: &[&'static str]) -> Option<
     nearest
 }
 
-// The call of the list whose name is more like the text than all before it.
-fn nearest_among(
-    found: &mut Diagnosis,
-    text: &str,
-    calls: &'static [CallWords],
-    least: &mut usize,
-) -> Option<&'static CallWords> {
-    let mut nearest = None;
-    for call in calls {
-        if is_nearer(found, text, call.name, least) {
-            nearest = Some(call);
-        }
-    }
-    nearest
-}
-
 /// The call whose name is like the text in whichever case.
 pub fn nearest_call(found: &mut Diagnosis, text: &str) -> Option<&'static CallWords> {
     let mut lower = found.draft();
-    for character in text.chars() {
-        lower.push_char(character.to_ascii_lowercase());
-    }
+    lower.push_in_case(text, false);
     let lower = found.ended(lower)?;
     let mut nearest = None;
     let mut least = usize::MAX;
-    for part in calls(found.version) {
-        nearest = nearest_among(found, lower.as_str(), part, &mut least).or(nearest);
+    for call in calls(found.version) {
+        if is_nearer(found, lower.as_str(), call.name, &mut least) {
+            nearest = Some(call);
+        }
     }
     nearest
 }
@@ -75,9 +59,7 @@ fn capability(found: &mut Diagnosis, name: &str) -> Option<&'static str> {
     {
         whole.push("CAP_");
     }
-    for character in name.chars() {
-        whole.push_char(character.to_ascii_uppercase());
-    }
+    whole.push_in_case(name, true);
     let whole = found.ended(whole)?;
     if is_unmodelled(whole.as_str()) {
         None
@@ -100,7 +82,7 @@ fn write_capabilities(found: &mut Diagnosis, text: &str, names: &mut Draft) -> b
 // Writes a mode without what a shell or a language writes before it, and says whether there is something.
 fn write_mode(text: &str, mode: &mut Draft) -> bool {
     let digits = text.trim_start_matches("0o").trim_start_matches('0');
-    mode.push("0");
+    mode.push_char('0');
     mode.push(digits);
     matches!(digits.len(), 1..=3) && digits.len() < text.len()
 }
@@ -110,11 +92,11 @@ fn write_task(text: &str, name: &mut Draft) -> bool {
     let text = text
         .trim_start_matches(['t', 'T', '$', '%'])
         .trim_end_matches(':');
-    name.push("t");
+    name.push_char('t');
     for part in text.split(['.', '/', '-']) {
         let number = part.trim_start_matches('0');
         if !number.is_empty() {
-            name.push(".");
+            name.push_char('.');
             name.push(number);
         } else if !part.is_empty() {
             return false;
@@ -129,7 +111,7 @@ fn write_owner(text: &str, words: &mut Draft) -> bool {
         return false;
     };
     words.push(if user.is_empty() { "-" } else { user });
-    words.push(" ");
+    words.push_char(' ');
     words.push(if group.is_empty() { "-" } else { group });
     true
 }

@@ -77,7 +77,7 @@ impl Object {
         match object.to_string(alloc) {
             Ok(line) => {
                 text.push(line.as_str());
-                text.push("\n");
+                text.push_char('\n');
             }
             Err(_) => text.fail(),
         }

@@ -88,17 +88,18 @@ fn complete(found: &mut Diagnosis, line: Given<'_>, call: &CallWords) -> bool {
 // Help where a word is no task: a comment, the task that is missing before a call, or the task that is meant.
 fn help_task(found: &mut Diagnosis, line: Given<'_>, fault: Fault<'_>) {
     let who = fault.word.text;
-    if who.starts_with("//") || who.starts_with(';') || who.starts_with("--") {
+    let mut words = LINE;
+    let is_helped = if who.starts_with("//") || who.starts_with(';') || who.starts_with("--") {
         let text = line.text.trim_start_matches([' ', '/', ';', '-']);
-        if !propose_text(found, "# ", text) {
-            found.words = LINE;
-        }
+        propose_text(found, "# ", text)
     } else if call_named(line.version, who).is_some() {
-        if !propose_between(found, line.words, 0, "t", 0) {
-            found.words = LINE;
-        }
-    } else if !mend(found, line, Kind::Task, fault) {
-        found.words = Kind::Task.words(line.version).said;
+        propose_between(found, line.words, 0, "t", 0)
+    } else {
+        words = Kind::Task.words(line.version).said;
+        mend(found, line, Kind::Task, fault)
+    };
+    if !is_helped {
+        found.words = words;
     }
 }
 
@@ -131,7 +132,7 @@ fn help_further(found: &mut Diagnosis, line: Given<'_>, call: &CallWords) {
                 found.words = argument.kind.words(line.version).said;
             }
         }
-        None if call.name == "peers" => {
+        None if matches!(call.name, "peers") => {
             propose_text(found, "! peers", "");
         }
         _ => {}
@@ -168,8 +169,10 @@ fn help_parents(found: &mut Diagnosis, line: Given<'_>) -> bool {
 // Whether the line is one of a test, with the answer that it wants, or the name of a script.
 fn is_of_test(line: Given<'_>) -> bool {
     for (place, word) in line.words.iter().enumerate() {
-        if word.text == "=>" || (place == 0 && word.text == "==") {
-            return true;
+        match word.text {
+            "=>" => return true,
+            "==" if place == 0 => return true,
+            _ => {}
         }
     }
     false
@@ -177,10 +180,7 @@ fn is_of_test(line: Given<'_>) -> bool {
 
 // Whether a mode has the bits of set-user-ID or set-group-ID.
 fn has_set_id(text: &str) -> bool {
-    matches!(
-        text.as_bytes(),
-        [b'2'..=b'7', b'0'..=b'7', b'0'..=b'7', b'0'..=b'7']
-    )
+    matches!(u16::from_str_radix(text, 8), Ok(0o2000..=0o7777))
 }
 
 // Help for a fault, where no row of the rewritten calls fits.
@@ -231,7 +231,7 @@ pub fn write_help(found: &mut Diagnosis, line: Given<'_>, fault: Fault<'_>) {
             (!is_type && mend(found, line, argument.kind, fault)) || rewrite(found, line)
         }
         Wrong::Later(_) | Wrong::Unmodelled(_) | Wrong::OfSecond(_) => false,
-        Wrong::NoOption(call) if call.name == "mkdir" && fault.word.text == "-p" => {
+        Wrong::NoOption(call) if matches!((call.name, fault.word.text), ("mkdir", "-p")) => {
             help_parents(found, line)
         }
         _ => rewrite(found, line),

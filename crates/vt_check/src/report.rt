@@ -3,7 +3,7 @@ ghost use Rattle.std.specs.Prelude.{◌≡◌, IfOk};
 ghost use Rattle.vt_line.specs.Versions.{version_of};
 ghost use Rattle.vt_lines.specs.Refused.{is_refused, refused_in};
 
-use crate::bytes::byte_fault;
+use crate::bytes::{TOLD_ONCE, byte_fault};
 use crate::diagnose::diagnosis;
 use crate::draft::Draft;
 use crate::finding::Diagnosis;
@@ -50,8 +50,8 @@ pub struct Report<'a> {
     /// How many lines a run refuses by S1.
     pub errors: u64,
     pub warnings: u64,
-    /// How many lines have each of the faults that are told once, by [`crate::bytes::ByteFault::told_once`].
-    pub told: [u64; 4],
+    /// How many lines have each of the faults that are told once, in the order of [`crate::bytes::ByteKind`].
+    pub told: [u64; TOLD_ONCE],
 }
 
 /// The line of this number in a text, from 1, without its newline; an empty one behind the last.
@@ -77,7 +77,7 @@ struct Scan<'a> {
     history: History,
     findings: Vec<Finding<'a>>,
     warnings: u64,
-    told: [u64; 4],
+    told: [u64; TOLD_ONCE],
 }
 
 impl<'a> Scan<'a> {
@@ -86,8 +86,7 @@ impl<'a> Scan<'a> {
         let Some(fault) = byte_fault(line) else {
             return false;
         };
-        let place = fault.told_once().unwrap_or(usize::MAX);
-        match self.told.get_mut(place) {
+        match self.told.get_mut(fault.kind as usize) {
             Some(count) => {
                 *count = count.saturating_add(1);
                 *count > 1
@@ -211,17 +210,15 @@ impl<'a> Scan<'a> {
     }
 
     // Goes on behind the last line: warns of changes of the root that no change of the working directory follows, and
-    // puts the findings in the order of their lines.
+    // puts the findings in the order of their lines. Only of those that are shown the line is looked for.
     fn finish(&mut self, text: &'a [u8]) {
-        match self.history.unfollowed_chroots() {
-            Ok(numbers) => {
-                for number in &numbers {
-                    let line = line_at(text, *number);
-                    let warning = self.history.unfollowed(line);
-                    self.warn(*number, line, warning);
-                }
-            }
-            Err(_) => self.history.failed = true,
+        let numbers = self.history.unfollowed_chroots();
+        self.warnings = self.warnings.saturating_add(numbers.len() as u64);
+        let room = MOST_SHOWN.saturating_sub(self.findings.len());
+        for number in numbers.get(..room).unwrap_or(&numbers) {
+            let line = line_at(text, *number);
+            let warning = self.history.unfollowed(line);
+            self.find(*number, line, false, warning);
         }
         let sorted = self.findings.sort_by_key(|finding| finding.line);
         self.history.failed |= sorted.is_err();
@@ -254,7 +251,7 @@ pub fn report_of(version: Version, alloc: Global, text: &[u8]) -> Result<Report<
         history: History::new(version, alloc),
         findings: Vec::new(alloc),
         warnings: 0,
-        told: [0; 4],
+        told: [0; TOLD_ONCE],
     };
     match scan.take_all(version, text) {
         Ok(errors) => {

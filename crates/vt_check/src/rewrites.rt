@@ -48,14 +48,16 @@ fn tables() -> [&'static [Row]; 13] {
 fn is_of(pattern: &str, words: &[Word<'_>]) -> bool {
     let mut given = words.iter();
     for part in pattern.split(' ') {
-        if part == "..." {
-            return true;
-        }
-        match given.next() {
-            Some(_) if part == "*" => {}
-            Some(word) if part == "/*" && word.text.starts_with('/') => {}
-            Some(word) if part == word.text => {}
-            _ => return false,
+        let word = given.next();
+        let fits = match (part, word) {
+            ("...", _) => return true,
+            ("*", Some(_)) => true,
+            ("/*", Some(word)) => word.text.starts_with('/'),
+            (_, Some(word)) => part == word.text,
+            (_, None) => false,
+        };
+        if !fits {
+            return false;
         }
     }
     given.next().is_none()

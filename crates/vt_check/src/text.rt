@@ -1,4 +1,5 @@
 //! A report as text, in the form of a compiler's errors.
+use crate::bytes::TOLD_ONCE;
 use crate::draft::Draft;
 use crate::report::{Finding, Report};
 
@@ -9,7 +10,7 @@ const MOST_COLUMNS: usize = 84;
 const COLUMNS_BEFORE: usize = 30;
 
 // Faults that are told at the first line alone that has them: what the further lines have.
-static TOLD_ONCE: [&str; 4] = [
+static TOLD: [&str; TOLD_ONCE] = [
     "CR LF at the end",
     "a byte order mark",
     "a tab",
@@ -56,46 +57,50 @@ fn push_excerpt(text: &mut Draft, name: &str, finding: &Finding<'_>) {
     let (number, found) = (finding.line, &finding.diagnosis);
     text.push_margin(number, "--> ");
     text.push(name);
-    text.push(":");
+    text.push_char(':');
     text.push_number(number);
-    text.push(":");
+    text.push_char(':');
     text.push_number((found.column as u64).saturating_add(1));
-    text.push("\n");
+    text.push_char('\n');
     text.push_margin(number, " |\n");
     text.push_number(number);
     text.push(" | ");
     let end = found.column.saturating_add(found.width);
     let (before, width) = push_part(text, finding.text, found.column, end);
-    text.push("\n");
+    text.push_char('\n');
     text.push_margin(number, " | ");
     text.push_times(' ', before);
     text.push_times('^', width.max(1));
-    text.push("\n");
+    text.push_char('\n');
+}
+
+// Appends what is said behind a mark, if something is.
+fn push_said(text: &mut Draft, number: u64, mark: &str, said: &str) {
+    if !said.is_empty() {
+        text.push_margin(number, mark);
+        text.push(said);
+        text.push_char('\n');
+    }
 }
 
 // Appends what to write, and what else is to be known. Words about lines that are proposed are a note.
 fn push_help(text: &mut Draft, finding: &Finding<'_>) {
     let (number, found) = (finding.line, &finding.diagnosis);
     let mut mark = " = help: ";
-    for line in &found.lines {
-        if mark == " = help: " {
+    for (place, line) in found.lines.iter().enumerate() {
+        if place == 0 {
             text.push_margin(number, " = help: write `");
-            mark = " = note: ";
         } else {
             text.push("`, then `");
         }
         text.push(line.as_str());
+        mark = " = note: ";
     }
     if !found.lines.is_empty() {
         text.push("`\n");
     }
-    for (mark, said) in [(mark, found.words), (" = note: ", found.note)] {
-        if !said.is_empty() {
-            text.push_margin(number, mark);
-            text.push(said);
-            text.push("\n");
-        }
-    }
+    push_said(text, number, mark, found.words);
+    push_said(text, number, " = note: ", found.note);
 }
 
 /// Appends what is found in a line, as several lines and an empty one.
@@ -103,10 +108,10 @@ pub fn push_found(text: &mut Draft, name: &str, strict: bool, finding: &Finding<
     text.push(finding.level(strict));
     text.push(if finding.is_error { "[S1]: " } else { ": " });
     text.push_draft(&finding.diagnosis.message);
-    text.push("\n");
+    text.push_char('\n');
     push_excerpt(text, name, finding);
     push_help(text, finding);
-    text.push("\n");
+    text.push_char('\n');
 }
 
 // Appends how many of a thing there are.
@@ -119,14 +124,14 @@ fn push_count(text: &mut Draft, count: u64, one: &str, several: &str) {
 pub fn push_summary(text: &mut Draft, name: &str, report: &Report<'_>) {
     let found = report.errors.saturating_add(report.warnings);
     let mut hidden = found.saturating_sub(report.findings.len() as u64);
-    for (told, what) in report.told.iter().zip(&TOLD_ONCE) {
+    for (told, what) in report.told.iter().zip(&TOLD) {
         let further = told.saturating_sub(1);
         hidden = hidden.saturating_sub(further);
         if further > 0 {
             text.push("note: ");
             push_count(text, further, " more line has ", " more lines have ");
             text.push(what);
-            text.push("\n");
+            text.push_char('\n');
         }
     }
     if hidden > 0 {

@@ -30,7 +30,7 @@ pub fn parts_of<'a>(found: &mut Diagnosis, word: Word<'a>, marks: [char; 2]) -> 
     let mut parts = Vec::new(found.alloc);
     let mut column = word.column;
     for text in word.text.split(marks) {
-        let is_part = !text.is_empty() || !marks.contains(&' ');
+        let is_part = !text.is_empty() || marks[0] != ' ';
         if is_part && parts.push(Word { column, text }).is_err() {
             found.fail();
         }

@@ -54,19 +54,20 @@ pub struct Look<'a, 't> {
 /// What tasks have: roots, directories and open files.
 pub fn uses_in(world: &World) -> Result<Vec<Use<'_>>, AllocError> {
     let mut uses = Vec::new(world.alloc());
+    let mut failed = false;
     for task in world.tasks().kept() {
         let (held, at) = (Held::Root, task.root);
-        uses.push(Use { task, held, at })?;
+        failed |= uses.push(Use { task, held, at }).is_err();
         let (held, at) = (Held::Directory, task.directory);
-        uses.push(Use { task, held, at })?;
+        failed |= uses.push(Use { task, held, at }).is_err();
         for number in 0..=u8::MAX {
             if let Some(file) = task.descriptors.get(number) {
                 let (held, at) = (Held::File(number, file.access), file.location);
-                uses.push(Use { task, held, at })?;
+                failed |= uses.push(Use { task, held, at }).is_err();
             }
         }
     }
-    Ok(uses)
+    if failed { Err(AllocError) } else { Ok(uses) }
 }
 
 /// Ends a row by what a task has, of an open file its number, its access, and the line that opened it.
@@ -79,7 +80,7 @@ pub fn add_use(look: &Look<'_, '_>, table: &mut Table, one: &Use<'_>) {
         Held::File(number, access) => {
             text.push("open ");
             text.push_number(u64::from(number));
-            text.push(" ");
+            text.push_char(' ');
             text.push(names::access(access));
             if let Some(line) = look.earlier.line_of(&one.task.name, number, look.line) {
                 text.push(", line ");

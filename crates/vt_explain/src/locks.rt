@@ -46,7 +46,7 @@ fn add_lock(look: &Look<'_, '_>, table: &mut Table, at: Location, mount: &Mount)
                 Cell::Filesystem(true, look.picture.number_of(id)),
             ]);
             table.text.push_number(place);
-            table.text.push(" ");
+            table.text.push_char(' ');
             push_layer(&mut table.text, look.world, look.picture, mount, directory);
             table.end_word();
             return true;

@@ -40,7 +40,7 @@ pub fn add_mounter(look: &Look<'_, '_>, section: &mut Section, at: Option<Locati
             table.text.push(", line ");
             table.text.push_number(line);
         }
-        None => table.text.push("-"),
+        None => table.text.push_char('-'),
     }
     table.end_word();
     push_cells(&mut table.text, &ids_of(cred));

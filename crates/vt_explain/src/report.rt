@@ -65,7 +65,7 @@ impl Section {
         }
         match format {
             Format::Text => {
-                text.push("\n");
+                text.push_char('\n');
                 text.push(self.heads.title);
                 text.push_bytes(about);
                 self.table.write(text);

@@ -32,7 +32,7 @@ fn search_capability(cred: &Cred) -> &'static str {
 pub fn push_rights(text: &mut Draft, cred: &Cred, attr: &Attr, kind: Kind) {
     let (class, bits) = class_of(cred, attr);
     text.push(class);
-    text.push(" ");
+    text.push_char(' ');
     text.push(BITS.get(usize::from(bits)).copied().unwrap_or_default());
     if kind == Kind::Dir && bits & 1 == 0 {
         text.push(search_capability(cred));

@@ -174,11 +174,11 @@ impl<'a> Walk<'a> {
         if let Some(node) = self.view.world.node(at) {
             let attr = node.attr();
             table.text.push(names::kind(node.kind()));
-            table.text.push(" ");
+            table.text.push_char(' ');
             table.text.push_octal(attr.mode.bits(), 1);
             table.end_word();
             table.text.push_number(u64::from(attr.uid));
-            table.text.push(":");
+            table.text.push_char(':');
             table.text.push_number(u64::from(attr.gid));
             table.end_word();
             push_rights(&mut table.text, &self.view.who.cred, &attr, node.kind());

@@ -16,12 +16,12 @@ fn push_wrapped(text: &mut Draft, words: &[&str]) {
             text.push("\n    ");
             column = word.len().saturating_add(4);
         } else {
-            text.push(" ");
+            text.push_char(' ');
             column = next;
         }
         text.push(word);
     }
-    text.push("\n");
+    text.push_char('\n');
 }
 
 // Appends a text in a column of this width.
@@ -41,10 +41,10 @@ fn push_line(text: &mut Draft, rule: Rule) {
         _ => "",
     });
     text.push_number(number);
-    text.push(" ");
+    text.push_char(' ');
     push_column(text, errno.name(), 13);
     text.push(page_of(rule).meaning);
-    text.push("\n");
+    text.push_char('\n');
 }
 
 // Appends what is told of a rule.

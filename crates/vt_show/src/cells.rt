@@ -52,7 +52,7 @@ pub fn count_or_nothing<'a>(number: Option<usize>) -> Cell<'a> {
 /// Appends a part as it stands in a text.
 pub fn push_cell(text: &mut Draft, cell: &Cell<'_>) {
     match cell {
-        Cell::Nothing => text.push("-"),
+        Cell::Nothing => text.push_char('-'),
         Cell::Text(part) => text.push(*part),
         Cell::Part(part, begin, end) => text.push_part(*part, *begin, *end),
         Cell::Number(number) => text.push_number(*number),
@@ -84,7 +84,7 @@ pub fn push_cells(text: &mut Draft, cells: &[Cell<'_>]) {
 pub fn push_escaped(text: &mut Draft, words: &str) {
     for character in words.chars() {
         if matches!(character, '"' | '\\') {
-            text.push("\\");
+            text.push_char('\\');
         }
         text.push_char(character);
     }

@@ -106,11 +106,11 @@ impl Table {
                     let width = self.widths.get(before).copied().unwrap_or_default();
                     text.push_times(' ', width.saturating_sub(length).saturating_add(GAP));
                 }
-                None => text.push("\n"),
+                None => text.push_char('\n'),
             }
             text.push_part(&self.text, word.begin, word.end);
             length = word.end.saturating_sub(word.begin);
         }
-        text.push("\n");
+        text.push_char('\n');
     }
 }

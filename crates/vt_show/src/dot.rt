@@ -29,7 +29,7 @@ fn push_edge(text: &mut Draft, from: Drawn, to: Drawn, marks: &str) {
     push_name(text, from);
     text.push("\" -> \"");
     push_name(text, to);
-    text.push("\"");
+    text.push_char('"');
     text.push(marks);
     text.push(";\n");
 }
@@ -46,7 +46,7 @@ fn push_namespace(text: &mut Draft, namespace: usize, mounts: &[MountShown]) {
         push_mount(text, shown.place);
         text.push("\" [label=\"");
         push_mount(text, shown.place);
-        text.push(" ");
+        text.push_char(' ');
         push_escaped(text, shown.path());
         text.push("\"];\n");
     }

@@ -54,42 +54,46 @@ pub fn push_root(text: &mut Draft, root: &Option<String>) {
         None => GONE,
     };
     if !path.is_empty() {
-        text.push("[");
+        text.push_char('[');
         text.push(path);
-        text.push("]");
+        text.push_char(']');
     }
 }
 
 /// Appends a mount, by its namespace and its place there.
 pub fn push_mount(text: &mut Draft, place: MountPlace) {
     text.push_number(place.namespace as u64);
-    text.push(".");
+    text.push_char('.');
     text.push_number(place.place as u64);
 }
 
 /// Appends several mounts between commas, or that there is none.
 pub fn push_mounts(text: &mut Draft, places: &[MountPlace]) {
-    let mut mark = "";
+    let mut is_first = true;
     for place in places {
-        text.push(mark);
+        if !is_first {
+            text.push_char(',');
+        }
         push_mount(text, *place);
-        mark = ",";
+        is_first = false;
     }
     if places.is_empty() {
-        text.push("-");
+        text.push_char('-');
     }
 }
 
 /// Appends the numbers of groups between commas, or that there is none.
 pub fn push_ids(text: &mut Draft, ids: &[u32]) {
-    let mut mark = "";
+    let mut is_first = true;
     for id in ids {
-        text.push(mark);
+        if !is_first {
+            text.push_char(',');
+        }
         text.push_number(u64::from(*id));
-        mark = ",";
+        is_first = false;
     }
     if ids.is_empty() {
-        text.push("-");
+        text.push_char('-');
     }
 }
 
@@ -102,16 +106,16 @@ pub fn filesystem_type(is_overlay: bool) -> &'static str {
 pub fn push_filesystem(text: &mut Draft, is_overlay: bool, number: Option<usize>) {
     text.push(filesystem_type(is_overlay));
     if let Some(number) = number {
-        text.push(":");
+        text.push_char(':');
         text.push_number(number as u64);
     }
 }
 
 /// Appends a task.
 pub fn push_task(text: &mut Draft, name: &TaskName) {
-    text.push("t");
+    text.push_char('t');
     for number in name.numbers() {
-        text.push(".");
+        text.push_char('.');
         text.push_number(u64::from(*number));
     }
 }
@@ -184,7 +188,7 @@ pub fn push_capabilities(text: &mut Draft, caps: Caps) {
         return;
     }
     if has == 0 {
-        text.push("-");
+        text.push_char('-');
         return;
     }
     let tells_has = has <= lacks;
@@ -195,7 +199,7 @@ pub fn push_capabilities(text: &mut Draft, caps: Caps) {
     for (one, name) in &CAPABILITIES {
         if caps.contains(*one) == tells_has {
             if !is_first {
-                text.push(",");
+                text.push_char(',');
             }
             text.push(*name);
             is_first = false;
@@ -206,20 +210,20 @@ pub fn push_capabilities(text: &mut Draft, caps: Caps) {
 /// Appends kind and mode of an object, as ls(1) writes them.
 pub fn push_mode(text: &mut Draft, kind: Kind, mode: Mode) {
     let bits = mode.bits();
-    text.push(match kind {
-        Kind::Dir => "d",
-        Kind::File => "-",
-        Kind::Symlink => "l",
-        Kind::White => "c",
+    text.push_char(match kind {
+        Kind::Dir => 'd',
+        Kind::File => '-',
+        Kind::Symlink => 'l',
+        Kind::White => 'c',
     });
     for (bit, letter) in &LETTERS {
         text.push_char(if bits & *bit == 0 { '-' } else { *letter });
     }
     // The letter of the others' search bit beside the sticky bit.
-    text.push(match (bits & 0o1000 == 0, bits & 1 == 0) {
-        (true, true) => "-",
-        (true, false) => "x",
-        (false, true) => "T",
-        (false, false) => "t",
+    text.push_char(match (bits & 0o1000 == 0, bits & 1 == 0) {
+        (true, true) => '-',
+        (true, false) => 'x',
+        (false, true) => 'T',
+        (false, false) => 't',
     });
 }

@@ -49,7 +49,7 @@ fn push_overlay(
 ) {
     text.push("\nOVERLAY overlay:");
     text.push_number(shown.filesystem as u64);
-    text.push("\n");
+    text.push_char('\n');
     push_credentials(text, "mounter", overlay.mounter());
     let mut place: u64 = 0;
     for layer in overlay.lowers() {

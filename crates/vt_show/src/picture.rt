@@ -61,61 +61,64 @@ impl Picture {
         }
     }
 
-    /// Adds the mounts of a world.
+    /// Adds the mounts of all namespaces of a world, in the order in which those were made, and the peer groups.
     pub fn fill(&mut self, world: &World) {
-        self.failed |= self.add_all(world).is_err();
+        let mut namespace: usize = 0;
+        for id in world.namespaces() {
+            namespace = namespace.saturating_add(1);
+            self.failed |= self.starts.push(self.mounts.len()).is_err();
+            let mut place: usize = 0;
+            for mount in world.all_mounts().attached_in(*id) {
+                place = place.saturating_add(1);
+                self.add_mount(world, *mount, MountPlace { namespace, place });
+            }
+        }
+        match world.peers() {
+            Ok(groups) => self.groups = groups,
+            Err(_) => self.failed = true,
+        }
+        self.add_types();
     }
 
     /// Nothing is left of it.
     pub fn end(self) {}
 
-    // Adds the mounts of all namespaces, in the order in which those were made, and the peer groups.
-    fn add_all(&mut self, world: &World) -> Result<(), AllocError> {
-        let mut namespace: usize = 0;
-        for id in world.namespaces() {
-            namespace = namespace.saturating_add(1);
-            self.starts.push(self.mounts.len())?;
-            let mut place: usize = 0;
-            for mount in world.all_mounts().attached_in(*id) {
-                place = place.saturating_add(1);
-                self.add_mount(world, *mount, MountPlace { namespace, place })?;
-            }
-        }
-        self.groups = world.peers()?;
-        self.add_types();
-        Ok(())
-    }
-
     // Adds the mount at a place, without its peer group.
-    fn add_mount(
-        &mut self,
-        world: &World,
-        id: MountId,
-        place: MountPlace,
-    ) -> Result<(), AllocError> {
+    fn add_mount(&mut self, world: &World, id: MountId, place: MountPlace) {
         let Some(mount) = world.all_mounts().get(id) else {
-            return Ok(());
+            return;
         };
         let id = mount.root.filesystem;
-        self.filesystems.insert(id)?;
+        self.failed |= self.filesystems.insert(id).is_err();
         let index = self.filesystems.get_index_of(&id).unwrap_or_default();
-        self.mounts.push(MountShown {
+        let shown = MountShown {
             mount,
             place,
             parent: match mount.mount_point {
                 Some(point) => place_of(world, point.mount),
                 None => None,
             },
-            target: target_of(world, &mount)?,
+            target: self.path_of(target_of(world, &mount)),
             filesystem: index.saturating_add(1),
             is_overlay: world.store().is_overlay(id),
-            root: root_of(world, &mount)?,
+            root: self.path_of(root_of(world, &mount)),
             kind: match mount.propagation {
                 Propagation::Unbindable => TypeLine::Unbindable,
                 _ => TypeLine::Private,
             },
-        })?;
-        Ok(())
+        };
+        self.failed |= self.mounts.push(shown).is_err();
+    }
+
+    // A path, or nothing where an allocation failed, which is noted.
+    fn path_of(&mut self, path: Result<Option<String>, AllocError>) -> Option<String> {
+        match path {
+            Ok(path) => path,
+            Err(_) => {
+                self.failed = true;
+                None
+            }
+        }
     }
 
     // Adds to each mount its peer group.

@@ -38,7 +38,7 @@ fn push_spot(text: &mut Draft, spot: Result<Spot, AllocError>) -> bool {
         Ok(Spot::Gone) => false,
         Ok(Spot::Reached(names)) => {
             for name in &names {
-                text.push("/");
+                text.push_char('/');
                 push_name(text, name);
             }
             true

@@ -34,31 +34,38 @@ pub struct Options<'a> {
     pub task: Option<&'a str>,
 }
 
-// Whether a task has this name, as it is written.
-fn is_named(alloc: Global, task: &Task, name: &str) -> Result<bool, AllocError> {
+// Whether a task has this name, as it is written. An allocation that fails is noted.
+fn is_named(alloc: Global, task: &Task, name: &str, failed: &mut bool) -> bool {
     let mut text = Draft::new(alloc);
     names::push_task(&mut text, &task.name);
-    Ok(text.end()?.as_str() == name)
+    match text.end() {
+        Ok(text) => text.as_str() == name,
+        Err(_) => {
+            *failed = true;
+            false
+        }
+    }
 }
 
-// The tasks in the order in which they were forked: all, or the one of this name.
+// The tasks in the order in which they were forked: all, or the one of this name. An allocation that fails is noted.
 fn tasks_shown<'a>(
     alloc: Global,
     world: &'a World,
     name: Option<&str>,
-) -> Result<Vec<&'a Task>, AllocError> {
+    failed: &mut bool,
+) -> Vec<&'a Task> {
     let mut tasks = Vec::new(alloc);
     for task in world.tasks().kept() {
         let is_shown = match name {
-            Some(name) => is_named(alloc, task, name)?,
+            Some(name) => is_named(alloc, task, name, failed),
             None => true,
         };
         if is_shown {
-            tasks.push(task)?;
+            *failed |= tasks.push(task).is_err();
         }
     }
-    tasks.sort_by_key(|task| task.birth)?;
-    Ok(tasks)
+    *failed |= tasks.sort_by_key(|task| task.birth).is_err();
+    tasks
 }
 
 // Appends the peer groups as a table, if there are any.
@@ -149,11 +156,13 @@ pub fn show<W: Write>(
     options: Options<'_>,
     output: &mut W,
 ) -> io::Result<bool> {
-    let tasks = tasks_shown(alloc, world, options.task)?;
-    if options.task.is_some() && tasks.is_empty() {
+    let mut failed = false;
+    let tasks = tasks_shown(alloc, world, options.task, &mut failed);
+    if options.task.is_some() && tasks.is_empty() && !failed {
         return Ok(false);
     }
     let mut picture = Picture::new(alloc);
+    picture.failed = failed;
     picture.fill(world);
     let text = written(world, options, &tasks, &mut picture);
     picture.end();

@@ -30,13 +30,13 @@ pub fn push_told(text: &mut Draft, what: &str, number: Option<u64>, words: &[Cel
     let begin = text.len();
     text.push(what);
     if let Some(number) = number {
-        text.push(" ");
+        text.push_char(' ');
         text.push_number(number);
     }
     let length = text.len().saturating_sub(begin);
     text.push_times(' ', WORDS.saturating_sub(length));
     push_cells(text, words);
-    text.push("\n");
+    text.push_char('\n');
 }
 
 /// Appends whose credentials these are, and what they are.
@@ -84,7 +84,7 @@ pub fn push_task(world: &World, text: &mut Draft, task: &Task) {
     names::push_task(text, &task.name);
     text.push(" in namespace ");
     text.push_number(namespace_number(world, task.namespace) as u64);
-    text.push("\n");
+    text.push_char('\n');
     push_credentials(text, "ids", &task.cred);
     push_umask(text, task);
     let place = [Cell::Place(world, task.root)];

@@ -1,6 +1,5 @@
 //! The objects of a tree, one after the other.
 use crate::names::push_name;
-use std::alloc::AllocError;
 use vt_check::draft::Draft;
 use vt_location::NodeRef;
 use vt_ns::World;
@@ -47,40 +46,47 @@ impl<'a> TreeWalk<'a> {
     /// The next object, or nothing behind the last one.
     pub fn next(&mut self) -> Option<Found> {
         let found = self.waiting.pop()?;
-        self.failed |= self.push_children(&found).is_err();
+        self.push_children(&found);
         Some(found)
     }
 
     // What is in a directory waits, the first name last.
-    fn push_children(&mut self, found: &Found) -> Result<(), AllocError> {
+    fn push_children(&mut self, found: &Found) {
         let store = self.world.store();
         let Some(object) = store.object(found.node) else {
-            return Ok(());
+            return;
         };
-        let names = store.names(self.world.alloc(), found.node)?;
-        for name in names.iter().rev() {
-            if let Some(entry) = store.entry(found.node, object, name) {
-                let node = entry.node;
-                self.push_child(found, name, node)?;
+        match store.names(self.world.alloc(), found.node) {
+            Ok(names) => {
+                for name in names.iter().rev() {
+                    if let Some(entry) = store.entry(found.node, object, name) {
+                        let node = entry.node;
+                        self.push_child(found, name, node);
+                    }
+                }
             }
+            Err(_) => self.failed = true,
         }
-        Ok(())
     }
 
     // What a name leads to waits.
-    fn push_child(&mut self, found: &Found, name: &[u8], node: NodeRef) -> Result<(), AllocError> {
+    fn push_child(&mut self, found: &Found, name: &[u8], node: NodeRef) {
         let mut path = Draft::new(self.world.alloc());
         path.push(found.path.as_str());
-        path.push("/");
+        path.push_char('/');
         let begin = path.len();
         push_name(&mut path, name);
-        self.waiting.push(Found {
-            path: path.end()?,
+        let Ok(path) = path.end() else {
+            self.failed = true;
+            return;
+        };
+        let child = Found {
+            path,
             name: begin,
             depth: found.depth.saturating_add(1),
             node,
-        })?;
-        Ok(())
+        };
+        self.failed |= self.waiting.push(child).is_err();
     }
 }
 

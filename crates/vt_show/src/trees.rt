@@ -72,7 +72,7 @@ fn push_tree(text: &mut Draft, world: &World, root: NodeRef, number: usize, as_o
     if !as_objects {
         text.push("\nFILESYSTEM ");
         text.push(filesystem_type(is_overlay));
-        text.push(":");
+        text.push_char(':');
         text.push_number(number as u64);
         table.write(text);
     }

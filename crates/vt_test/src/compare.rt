@@ -1,8 +1,12 @@
 //! The answers of a run beside those that are wanted.
-use crate::suite::Answer;
-use memchr::memchr;
+use crate::suite::{Answer, Script, SuiteFault, scripts};
 use std::alloc::{AllocError, Global};
+use vt_lines::answers::answers;
 use vt_lines::lines::first_line;
+use vt_script::{Calls, Version};
+
+// In how large pieces a script is read.
+const PIECE: usize = 8192;
 
 /// A line of a script that is answered otherwise than is wanted.
 #[derive(Clone, Copy)]
@@ -12,13 +16,12 @@ pub struct Difference<'a> {
     pub given: &'a [Answer<'a>],
 }
 
-// The number at the front of a text, up to a space, and what follows the space.
+// The number at the front of a line of a run, up to a space, and what follows the space.
 fn numbered(line: &[u8]) -> Option<Answer<'_>> {
-    let space = memchr(b' ', line)?;
-    let digits = str::from_utf8(line.get(..space)?).ok()?;
+    let (digits, text) = str::from_utf8(line).ok()?.split_once(' ')?;
     Some(Answer {
         number: digits.parse().ok()?,
-        text: line.get(space.saturating_add(1)..)?,
+        text: text.as_bytes(),
     })
 }
 
@@ -36,8 +39,8 @@ pub fn given_lines(alloc: Global, answers: &[u8]) -> Result<Vec<Answer<'_>>, All
 }
 
 // Whether a text has this word.
-fn has_word(text: &[u8], word: &[u8]) -> bool {
-    for other in text.split(|byte| *byte == b' ') {
+fn has_word(text: &str, word: &str) -> bool {
+    for other in text.split(' ') {
         if other == word {
             return true;
         }
@@ -46,8 +49,8 @@ fn has_word(text: &[u8], word: &[u8]) -> bool {
 }
 
 // Whether each further word of what is wanted, as `EBUSY` or `M8`, is one of a denial.
-fn is_denial_of(wanted: &[u8], given: &[u8]) -> bool {
-    for word in wanted.split(|byte| *byte == b' ') {
+fn is_denial_of(wanted: &str, given: &str) -> bool {
+    for word in wanted.split(' ') {
         if !has_word(given, word) {
             return false;
         }
@@ -60,12 +63,14 @@ pub fn is_met(wanted: &[u8], given: &[u8]) -> bool {
     if wanted == given {
         return true;
     }
-    if wanted == b"ok ..".as_slice() {
-        return given == b"ok".as_slice() || given.starts_with(b"ok ");
+    let wanted = str::from_utf8(wanted).unwrap_or_default();
+    let given = str::from_utf8(given).unwrap_or_default();
+    if matches!(wanted, "ok ..") {
+        let value = given.strip_prefix("ok");
+        return matches!(value, Some(text) if text.is_empty() || text.starts_with(' '));
     }
-    (wanted == b"deny".as_slice() || wanted.starts_with(b"deny "))
-        && given.starts_with(b"deny ")
-        && is_denial_of(wanted, given)
+    let is_denial = matches!(wanted, "deny") || wanted.starts_with("deny ");
+    is_denial && given.starts_with("deny ") && is_denial_of(wanted, given)
 }
 
 // Whether the lines of an answer are what is wanted. `ok ..` wants no further lines, and takes any.
@@ -137,4 +142,37 @@ pub fn differences<'a>(
         rest = more;
     }
     Ok(found)
+}
+
+/// Who is told how the answers of a script differ.
+pub trait Comparing {
+    /// Goes on by the lines of a script that are answered otherwise than is wanted.
+    fn tell(&mut self, script: &Script<'_>, found: &[Difference<'_>]);
+}
+
+// Runs a script, and tells how its answers differ from those that it wants.
+fn compare_script<C: Calls, T: Comparing>(
+    alloc: Global,
+    script: &Script<'_>,
+    told: &mut T,
+) -> Result<(), AllocError> {
+    let written = answers::<C>(script.version, alloc, script.text.as_slice(), PIECE)?;
+    let given = given_lines(alloc, written.bytes())?;
+    let found = differences(alloc, script.wanted.as_slice(), given.as_slice())?;
+    told.tell(script, found.as_slice());
+    Ok(())
+}
+
+/// Runs the scripts of a file, all in this version of their language, and tells of each how its answers differ.
+pub fn compare_all<C: Calls, T: Comparing>(
+    version: Version,
+    alloc: Global,
+    file: &[u8],
+    told: &mut T,
+) -> Result<(), SuiteFault> {
+    let all = scripts(version, alloc, file)?;
+    for script in &all {
+        compare_script::<C, T>(alloc, script, told)?;
+    }
+    Ok(())
 }

@@ -1,13 +1,9 @@
 //! A file of scripts with the answers that are given.
-use crate::compare::{differences, given_lines};
-use crate::suite::{Answer, Entry, Script, SuiteFault, entry_of, scripts};
+use crate::compare::{Comparing, Difference, compare_all};
+use crate::suite::{Answer, Entry, Script, SuiteFault, entry_of};
 use std::alloc::{AllocError, Global};
-use vt_lines::answers::answers;
 use vt_lines::lines::first_line;
 use vt_script::{Calls, Version};
-
-// In how large pieces a script is read.
-const PIECE: usize = 8192;
 
 // The lines of a script that are answered otherwise, by their numbers in the file, each with its answers as they are
 // written there.
@@ -27,75 +23,77 @@ fn written(alloc: Global, given: &[Answer<'_>]) -> Result<Vec<u8>, AllocError> {
     Ok(text)
 }
 
-// Appends the changes of a script, as it is answered.
-fn push_changes<C: Calls>(
+// The changes of scripts, as they are answered. An allocation that fails is noted.
+#[derive(Drop)]
+struct Changes {
     alloc: Global,
-    changes: &mut Vec<Change>,
-    script: &Script<'_>,
-) -> Result<(), AllocError> {
-    let text = answers::<C>(script.version, alloc, script.text.as_slice(), PIECE)?;
-    let given = given_lines(alloc, text.bytes())?;
-    let found = differences(alloc, script.wanted.as_slice(), given.as_slice())?;
-    for one in &found {
-        changes.push(Change {
-            line: script.before.saturating_add(one.number),
-            answers: written(alloc, one.given)?,
-        })?;
-    }
-    Ok(())
+    all: Vec<Change>,
+    failed: bool,
 }
 
-// A file as it is written anew, with these changes.
+impl Comparing for Changes {
+    fn tell(&mut self, script: &Script<'_>, found: &[Difference<'_>]) {
+        for one in found {
+            let line = script.before.saturating_add(one.number);
+            match written(self.alloc, one.given) {
+                Ok(answers) => self.failed |= self.all.push(Change { line, answers }).is_err(),
+                Err(_) => self.failed = true,
+            }
+        }
+    }
+}
+
+// A file as it is written anew, with these changes. An allocation that fails is noted, and told at the end.
 #[derive(Drop)]
 struct Rewriting {
-    changes: Vec<Change>,
+    changes: Changes,
     // How many of the changes are made.
     made: usize,
     // Whether further lines of an answer are left out, since it is written anew.
     leaves_out: bool,
     text: Vec<u8>,
+    failed: bool,
 }
 
 impl Rewriting {
     // Writes a line of the file, whose call this is.
-    fn write(&mut self, number: u64, line: &[u8], call: &[u8]) -> Result<(), AllocError> {
-        match self.changes.get(self.made) {
+    fn write(&mut self, number: u64, line: &[u8], call: &[u8]) {
+        match self.changes.all.get(self.made) {
             Some(change) if change.line == number => {
-                self.text.extend_from_slice(call)?;
-                self.text.extend_from_slice(change.answers.as_slice())?;
+                self.failed |= self.text.extend_from_slice(call).is_err();
+                let answers = change.answers.as_slice();
+                self.failed |= self.text.extend_from_slice(answers).is_err();
                 self.leaves_out = true;
                 self.made = self.made.saturating_add(1);
             }
-            _ => self.text.extend_from_slice(line)?,
+            _ => self.failed |= self.text.extend_from_slice(line).is_err(),
         }
-        self.text.push(b'\n')?;
-        Ok(())
+        self.failed |= self.text.push(b'\n').is_err();
     }
 
     // Goes on by a line of the file.
-    fn take(&mut self, number: u64, line: &[u8]) -> Result<(), AllocError> {
+    fn take(&mut self, number: u64, line: &[u8]) {
         let call = match entry_of(line) {
-            Entry::More(_) if self.leaves_out => return Ok(()),
+            Entry::More(_) if self.leaves_out => return,
             Entry::Line(call, _) => call,
             _ => line,
         };
         self.leaves_out = false;
-        self.write(number, line, call)
+        self.write(number, line, call);
     }
 
     // Writes a file, without a last newline where the file has none.
-    fn write_all(&mut self, file: &[u8]) -> Result<(), AllocError> {
+    fn write_all(&mut self, file: &[u8]) {
         let mut rest = file;
         let mut number: u64 = 0;
         while let Some((line, after)) = first_line(rest) {
             number = number.saturating_add(1);
-            self.take(number, line)?;
+            self.take(number, line);
             rest = after;
         }
         if file.last() != Some(&b'\n') {
             self.text.pop();
         }
-        Ok(())
     }
 
     // Finds the changes of a file, and makes them.
@@ -105,11 +103,12 @@ impl Rewriting {
         alloc: Global,
         file: &[u8],
     ) -> Result<(), SuiteFault> {
-        let scripts = scripts(version, alloc, file)?;
-        for script in &scripts {
-            push_changes::<C>(alloc, &mut self.changes, script)?;
+        compare_all::<C, _>(version, alloc, file, &mut self.changes)?;
+        self.write_all(file);
+        if self.failed || self.changes.failed {
+            return Err(SuiteFault::Memory);
         }
-        Ok(self.write_all(file)?)
+        Ok(())
     }
 }
 
@@ -129,10 +128,15 @@ pub fn with_given_answers<C: Calls>(
     file: &[u8],
 ) -> Result<Rewritten, SuiteFault> {
     let mut rewriting = Rewriting {
-        changes: Vec::new(alloc),
+        changes: Changes {
+            alloc,
+            all: Vec::new(alloc),
+            failed: false,
+        },
         made: 0,
         leaves_out: false,
         text: Vec::new(alloc),
+        failed: false,
     };
     match rewriting.rewrite::<C>(version, alloc, file) {
         Ok(()) => Ok(Rewritten {

@@ -101,11 +101,10 @@ fn mark_in(line: &[u8]) -> Option<usize> {
 
 /// What a line of a file is. One that is a comment or of spaces alone, and not too long to be one, has no answer.
 pub fn entry_of(line: &[u8]) -> Entry<'_> {
-    if line == b"==".as_slice() {
-        return Entry::Name(b"");
-    }
-    if let Some(name) = line.strip_prefix(b"== ") {
-        return Entry::Name(trimmed(name));
+    if let Some(name) = line.strip_prefix(b"==") {
+        if matches!(name.first(), None | Some(b' ')) {
+            return Entry::Name(trimmed(name));
+        }
     }
     if let Some(more) = line.strip_prefix(b"=> ") {
         return Entry::More(trimmed(more));
@@ -144,29 +143,15 @@ impl<'a> Script<'a> {
         }
         false
     }
-
-    // Goes on with the script by a line of the file, which is line `number` of the script.
-    fn say(
-        &mut self,
-        number: u64,
-        call: &[u8],
-        answer: Option<&'a [u8]>,
-    ) -> Result<(), AllocError> {
-        self.text.extend_from_slice(call)?;
-        self.text.push(b'\n')?;
-        if let Some(text) = answer {
-            self.wanted.push(Answer { number, text })?;
-        }
-        Ok(())
-    }
 }
 
-// The scripts of a file, as far as it is read.
+// The scripts of a file, as far as it is read. An allocation that fails is noted, and told at the end.
 #[derive(Drop)]
 struct Reading<'a> {
     done: Vec<Script<'a>>,
     script: Script<'a>,
     names: BTreeMap<Vec<u8>, u64>,
+    failed: bool,
 }
 
 impl<'a> Reading<'a> {
@@ -181,22 +166,29 @@ impl<'a> Reading<'a> {
                 first: *first,
             });
         }
-        Ok(self.start(alloc, line, name)?)
-    }
-
-    // Begins a script of a new name.
-    fn start(&mut self, alloc: Global, line: u64, name: &'a [u8]) -> Result<(), AllocError> {
-        self.names.insert(name.to_vec(alloc)?, line)?;
-        self.end(Script::new(self.script.version, alloc, name, line))
+        match name.to_vec(alloc) {
+            Ok(name) => self.failed |= self.names.insert(name, line).is_err(),
+            Err(_) => self.failed = true,
+        }
+        self.end(Script::new(self.script.version, alloc, name, line));
+        Ok(())
     }
 
     // Ends a script, where another begins, if it has a name or a call.
-    fn end(&mut self, next: Script<'a>) -> Result<(), AllocError> {
+    fn end(&mut self, next: Script<'a>) {
         let script = mem::replace(&mut self.script, next);
         if !script.name.is_empty() || script.has_call() {
-            self.done.push(script)?;
+            self.failed |= self.done.push(script).is_err();
         }
-        Ok(())
+    }
+
+    // Goes on with a script by a line of the file, which is line `number` of the script.
+    fn say(&mut self, number: u64, call: &[u8], answer: Option<&'a [u8]>) {
+        self.failed |= self.script.text.extend_from_slice(call).is_err();
+        self.failed |= self.script.text.push(b'\n').is_err();
+        if let Some(text) = answer {
+            self.failed |= self.script.wanted.push(Answer { number, text }).is_err();
+        }
     }
 
     // Goes on by a line of the file.
@@ -212,7 +204,8 @@ impl<'a> Reading<'a> {
                 (number, call, answer)
             }
         };
-        Ok(self.script.say(number, call, answer)?)
+        self.say(number, call, answer);
+        Ok(())
     }
 
     // Goes on by all lines of a file.
@@ -224,7 +217,7 @@ impl<'a> Reading<'a> {
             self.take(alloc, number, line)?;
             rest = after;
         }
-        self.end(Script::new(version, alloc, b"", 0))?;
+        self.end(Script::new(version, alloc, b"", 0));
         Ok(())
     }
 }
@@ -239,8 +232,10 @@ pub fn scripts(
         done: Vec::new(alloc),
         script: Script::new(version, alloc, b"", 0),
         names: BTreeMap::new(alloc),
+        failed: false,
     };
     match reading.read(version, alloc, file) {
+        Ok(()) if reading.failed => Err(SuiteFault::Memory),
         Ok(()) => Ok(reading.done),
         Err(fault) => Err(fault),
     }

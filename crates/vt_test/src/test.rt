@@ -1,16 +1,12 @@
 //! Files of scripts, tested.
-use crate::compare::{differences, given_lines};
-use crate::suite::{Script, SuiteFault, scripts};
+use crate::compare::{Comparing, Difference, compare_all};
+use crate::suite::{Script, SuiteFault};
 use crate::text::push_failure;
 use crate::{json, junit};
-use std::alloc::{AllocError, Global};
+use std::alloc::Global;
 use std::io::{self, Write};
 use vt_check::draft::Draft;
-use vt_lines::answers::answers;
 use vt_script::{Calls, Version};
-
-/// In how large pieces a script is read.
-const PIECE: usize = 8192;
 
 /// The form in which outcomes are written.
 #[derive(Clone, Copy)]
@@ -37,25 +33,48 @@ impl Totals {
     }
 }
 
-// Appends what is to be said of a script, and tells whether it passes.
-fn push_tested<C: Calls>(
-    text: &mut Draft,
+// What is to be said of the scripts of a file.
+#[derive(Drop)]
+struct Tested<'a> {
+    text: Draft,
     alloc: Global,
-    file: &str,
+    file: &'a str,
     format: Format,
-    script: &Script<'_>,
-) -> Result<bool, AllocError> {
-    let written = answers::<C>(script.version, alloc, script.text.as_slice(), PIECE)?;
-    let given = given_lines(alloc, written.bytes())?;
-    let found = differences(alloc, script.wanted.as_slice(), given.as_slice())?;
-    let passed = found.is_empty();
-    match format {
-        Format::Text if passed => {}
-        Format::Text => push_failure(text, alloc, file, script, found.as_slice()),
-        Format::Json => json::push_outcome(text, alloc, file, script, found.as_slice()),
-        Format::Junit => junit::push_outcome(text, alloc, file, script, found.as_slice()),
+    totals: Totals,
+}
+
+impl Tested<'_> {
+    // Goes on by a fault of the whole file.
+    fn fail(&mut self, fault: &SuiteFault) {
+        self.totals.failed = self.totals.failed.saturating_add(1);
+        let (text, file) = (&mut self.text, self.file);
+        match format!(in self.alloc; "{fault}") {
+            Ok(said) => match self.format {
+                Format::Text => text.fill("error: {}: {}\n", &[file, said.as_str()]),
+                Format::Json => json::push_fault(text, self.alloc, file, said.as_str()),
+                Format::Junit => junit::push_fault(text, file, said.as_str()),
+            },
+            Err(_) => text.fail(),
+        }
     }
-    Ok(passed)
+}
+
+impl Comparing for Tested<'_> {
+    fn tell(&mut self, script: &Script<'_>, found: &[Difference<'_>]) {
+        let passes = found.is_empty();
+        if passes {
+            self.totals.passed = self.totals.passed.saturating_add(1);
+        } else {
+            self.totals.failed = self.totals.failed.saturating_add(1);
+        }
+        let (text, alloc, file) = (&mut self.text, self.alloc, self.file);
+        match self.format {
+            Format::Text if passes => {}
+            Format::Text => push_failure(text, alloc, file, script, found),
+            Format::Json => json::push_outcome(text, alloc, file, script, found),
+            Format::Junit => junit::push_outcome(text, alloc, file, script, found),
+        }
+    }
 }
 
 // Writes a text, if no allocation failed.
@@ -64,44 +83,6 @@ fn write_text<W: Write>(output: &mut W, text: Draft) -> io::Result<()> {
     let written = output.write_all(text.as_bytes());
     drop(text);
     written
-}
-
-// Tests scripts, and writes what is to be said of each.
-fn test_scripts<C: Calls, W: Write>(
-    alloc: Global,
-    file: &str,
-    scripts: &[Script<'_>],
-    format: Format,
-    output: &mut W,
-) -> io::Result<Totals> {
-    let mut totals = Totals::new();
-    for script in scripts {
-        let mut text = Draft::new(alloc);
-        if push_tested::<C>(&mut text, alloc, file, format, script)? {
-            totals.passed = totals.passed.saturating_add(1);
-        } else {
-            totals.failed = totals.failed.saturating_add(1);
-        }
-        write_text(output, text)?;
-    }
-    Ok(totals)
-}
-
-// What is to be said of a file that is none of scripts.
-fn told(
-    alloc: Global,
-    file: &str,
-    format: Format,
-    fault: &SuiteFault,
-) -> Result<Draft, AllocError> {
-    let said = format!(in alloc; "{fault}")?;
-    let mut text = Draft::new(alloc);
-    match format {
-        Format::Text => text.fill("error: {}: {}\n", &[file, said.as_str()]),
-        Format::Json => json::push_fault(&mut text, alloc, file, said.as_str()),
-        Format::Junit => junit::push_fault(&mut text, file, said.as_str()),
-    }
-    Ok(text)
 }
 
 /// Tests the scripts of a file, in a version of their language, and writes what is to be said of each.
@@ -113,20 +94,19 @@ pub fn test_file<C: Calls, W: Write>(
     format: Format,
     output: &mut W,
 ) -> io::Result<Totals> {
-    match scripts(version, alloc, content) {
-        Ok(all) => {
-            let totals = test_scripts::<C, W>(alloc, file, all.as_slice(), format, output);
-            drop(all);
-            totals
-        }
-        Err(fault) => {
-            write_text(output, told(alloc, file, format, &fault)?)?;
-            Ok(Totals {
-                passed: 0,
-                failed: 1,
-            })
-        }
+    let mut tested = Tested {
+        text: Draft::new(alloc),
+        alloc,
+        file,
+        format,
+        totals: Totals::new(),
+    };
+    if let Err(fault) = compare_all::<C, _>(version, alloc, content, &mut tested) {
+        tested.fail(&fault);
     }
+    let totals = tested.totals;
+    write_text(output, tested.text)?;
+    Ok(totals)
 }
 
 /// Writes what stands before all files.

@@ -31,7 +31,7 @@ fn push_answers(text: &mut Draft, number: u64, mark: &str, answers: &[Answer<'_>
     for answer in answers {
         text.push_margin(number, mark);
         text.push_bytes(answer.text);
-        text.push("\n");
+        text.push_char('\n');
     }
 }
 
@@ -48,14 +48,14 @@ fn push_difference(
     let line = line_of(script, found.number);
     text.push_margin(number, "--> ");
     text.push(file);
-    text.push(":");
+    text.push_char(':');
     text.push_number(number);
-    text.push("\n");
+    text.push_char('\n');
     text.push_margin(number, " |\n");
     text.push_number(number);
     text.push(" | ");
     text.push_bytes(line);
-    text.push("\n");
+    text.push_char('\n');
     push_answers(text, number, " | - ", found.wanted);
     push_answers(text, number, " | + ", found.given);
     match found.given.first() {
@@ -88,7 +88,7 @@ pub fn push_failure(
 ) {
     text.push("failed: ");
     push_name(text, file, script.name);
-    text.push("\n");
+    text.push_char('\n');
     for one in found.get(..MOST_SHOWN).unwrap_or(found) {
         push_difference(text, alloc, file, script, one);
     }
@@ -99,6 +99,6 @@ pub fn push_failure(
         text.push(" more differences are not shown\n");
     }
     if !text.ends_with("\n\n") {
-        text.push("\n");
+        text.push_char('\n');
     }
 }

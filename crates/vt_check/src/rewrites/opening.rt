@@ -7,13 +7,13 @@ pub static ROWS: [Row; 19] = [
     ("exec * ...", "exec $1", "it is given a path alone"),
     (
         "creat *",
-        "open $1 w create 644",
-        "it leaves a descriptor open",
+        "open $1 w create 644 | write $1 \\e",
+        "`write` empties a file that was there; a descriptor stays open",
     ),
     (
         "creat * *",
-        "open $1 w create $2",
-        "it leaves a descriptor open",
+        "open $1 w create $2 | write $1 \\e",
+        "`write` empties a file that was there; a descriptor stays open",
     ),
     (
         "fstat ...",
