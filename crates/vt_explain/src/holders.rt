@@ -149,7 +149,11 @@ fn add_copies(look: &Look<'_, '_>, table: &mut Table, busy: &MountShown) {
     ) else {
         return;
     };
-    for id in look.world.all_mounts().mounts_on(point.node) {
+    let Ok(ids) = look.world.all_mounts().mounts_on(point.node) else {
+        table.text.fail();
+        return;
+    };
+    for id in ids.as_slice() {
         if let Some(copy) = find(look.picture, *id) {
             let is_free = *id != busy.mount.number && !look.world.all_mounts().has_child(*id);
             if is_free && receives(look.picture, kind_below(look, copy), group) {
@@ -174,9 +178,9 @@ pub fn add_holders(look: &Look<'_, '_>, section: &mut Section, end: Option<Locat
             add_copies(look, table, busy);
         }
         (CallKind::Remount, Some(busy)) => add_uses(look, table, busy, true),
-        _ => {
-            let ids = look.world.all_mounts().mounts_on(at.node);
-            add_mounts(look, table, None, ids);
-        }
+        _ => match look.world.all_mounts().mounts_on(at.node) {
+            Ok(ids) => add_mounts(look, table, None, ids.as_slice()),
+            Err(_) => table.text.fail(),
+        },
     }
 }

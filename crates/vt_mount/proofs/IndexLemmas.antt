@@ -6,7 +6,7 @@ use Rattle.vt_location.specs.declared.numbers.MountId.{MountId}
 use Rattle.vt_mount.specs.declared.mounted.Mounted.{Mounted}
 use Rattle.vt_mount.specs.Indexed.{numbers_where}
 use Rattle.vt_mount.specs.Indexes.{pushed, taken}
-use Rattle.vt_mount.specs.Rising.{comes_last, same_id}
+use Rattle.vt_mount.specs.Rising.{comes_last, precedes, same_id}
 use Rattle.vt_mount.specs.MountsValue.{id_cmp, mount_kept}
 use Rattle.vt_mount.proofs.ListLemmas.{others}
 use Rattle.vt_mount.proofs.OrderLemmas.{change_kept, found, is_above, rises, tied, without_kept}
@@ -149,15 +149,15 @@ module _ (test : Mount → Bool) where
 
   -- where each mount has a smaller number, each that is listed has one
   pub last-above : (id : MountId) (kept : List (MountId × Mounted)) → is_above id kept ≡ true
-      → comes_last id (numbers_where test kept) ≡ true
+      → comes_last precedes id (numbers_where test kept) ≡ true
   last-above id [] above = refl
-  last-above id (one ∷ kept) above = ap (comes_last id) (cons-numbers test one kept)
+  last-above id (one ∷ kept) above = ap (comes_last precedes id) (cons-numbers test one kept)
       ∙ by (passes test one) (last-above id kept (and_true_right _ _ above))
     where
-      by : (b : Bool) → comes_last id (numbers_where test kept) ≡ true
-          → comes_last id (cond b (one.0 ∷ numbers_where test kept) (numbers_where test kept)) ≡ true
+      by : (b : Bool) → comes_last precedes id (numbers_where test kept) ≡ true
+          → comes_last precedes id (cond b (one.0 ∷ numbers_where test kept) (numbers_where test kept)) ≡ true
       by true rest = (λ i. and_true_left (nat_lt one.0.count id.count) (is_above id kept) above i
-          && comes_last id (numbers_where test kept)) ∙ rest
+          && comes_last precedes id (numbers_where test kept)) ∙ rest
       by false rest = rest
 
   module _ (id : MountId) (change : Mounted → Mounted) where

@@ -2,7 +2,6 @@
 use Rattle.std.proofs.Common.{◌≡◌, ℕ, Bool, true, false, cond, ◌&&◌, T, List, [], ◌∷◌, ◌++◌, map, not, nat_lt, None, Some, Result, Ok, Err, OnErr, OnOk, refl, sym, ap, ◌∙◌, true≢false, arith, eq-eqb, ne_eqb, IsOk, is_err, ltb-true}
 use Rattle.vt_spec.proofs.Common.{and_true_left, and_true_right, list_all}
 use Rattle.vt_location.specs.declared.locations.Location.{Location}
-use Rattle.vt_location.specs.declared.locations.NodeRef.{NodeRef}
 use Rattle.vt_location.specs.declared.mounts.Mount.{Mount}
 use Rattle.vt_location.specs.declared.mounts.Propagation.TheVariants.{Private}
 use Rattle.vt_location.specs.declared.numbers.MountId.{MountId}
@@ -10,11 +9,12 @@ use Rattle.vt_location.specs.declared.numbers.NamespaceId.{NamespaceId}
 use Rattle.vt_mount.specs.declared.indexes.Indexes.{Indexes}
 use Rattle.vt_mount.specs.declared.mounted.Mounted.{Mounted}
 use Rattle.vt_mount.specs.Indexed.{IsIndexed, is_kept_small, numbers_where}
-use Rattle.vt_mount.specs.Indexes.{is_at, is_in, is_on, is_over, listed_at, listed_in, listed_on, listed_over, pushed, put_in_place, taken}
-use Rattle.vt_mount.specs.Listed.{same_id}
+use Rattle.vt_mount.specs.Indexes.{count_at, count_left, count_put, is_at, is_in, is_on, listed_in, listed_on, pushed, put_in_place, taken}
+use Rattle.vt_mount.specs.Listed.{count_of, same_id}
 use Rattle.vt_mount.specs.MountsValue.{MountEntry, mount_kept, without}
 use Rattle.vt_mount.proofs.ListLemmas.{others}
-use Rattle.vt_mount.specs.Rising.{comes_last}
+use Rattle.vt_mount.specs.Rising.{comes_last, precedes}
+use Rattle.vt_mount.proofs.CountLemmas.{count-pushed, count-taken}
 use Rattle.vt_mount.proofs.RisingLemmas.{put_in_place-last, taken-last}
 use Rattle.vt_mount.proofs.IndexLemmas.{last-above, numbers-last, numbers-left, numbers-without, others-taken}
 use Rattle.vt_mount.proofs.OrderLemmas.{change_kept, found, is_above, rises, without_kept}
@@ -79,14 +79,16 @@ module _ (id : MountId) (x : Mounted) (mount : Mount) (kept left : List (MountId
   pub indexed-left : (old new : Indexes) → list_all is_kept_small left ≡ true
       → ((q : NamespaceId) → listed_in new q ≡ taken (is_in q mount) mount.number (listed_in old q))
       → ((q : MountId) → listed_on new q ≡ taken (is_on q mount) mount.number (listed_on old q))
-      → ((q : Location) → listed_at new q ≡ taken (is_at q mount) mount.number (listed_at old q))
-      → ((q : NodeRef) → listed_over new q ≡ taken (is_over q mount) mount.number (listed_over old q))
+      → ((q : Location) (one : MountId) → count_at new q one
+      ≡ count_left (is_at q mount && same_id one mount.number) (count_at old q one))
       → IsIndexed old kept → IsIndexed new left
-  indexed-left old new slots namespace parent place inode indexed = record {
+  indexed-left old new slots namespace parent place indexed = record {
     namespace = λ q. left_one (is_in q) _ _ (λ n one. refl) (indexed.namespace q) (namespace q);
     parent = λ q. left_one (is_on q) _ _ (λ n one. refl) (indexed.parent q) (parent q);
-    place = λ q. left_one (is_at q) _ _ (λ n one. refl) (indexed.place q) (place q);
-    inode = λ q. left_one (is_over q) _ _ (λ n one. refl) (indexed.inode q) (inode q);
+    place = λ q one. place q one
+        ∙ ap (count_left (is_at q mount && same_id one mount.number)) (indexed.place q one)
+        ∙ sym (count-taken (is_at q mount) mount.number one (numbers_where (is_at q) kept))
+        ∙ ap (count_of (same_id one)) (left_one (is_at q) _ _ (λ n one. refl) refl refl);
     slots = slots;
   }
 
@@ -102,14 +104,16 @@ module _ (mount : Mount) (one : Mounted) (kept : List (MountId × Mounted))
   pub indexed-entered : (old new : Indexes) → is_kept_small (mount.number, one) ≡ true
       → ((q : NamespaceId) → listed_in new q ≡ pushed (is_in q mount) mount.number (listed_in old q))
       → ((q : MountId) → listed_on new q ≡ pushed (is_on q mount) mount.number (listed_on old q))
-      → ((q : Location) → listed_at new q ≡ pushed (is_at q mount) mount.number (listed_at old q))
-      → ((q : NodeRef) → listed_over new q ≡ pushed (is_over q mount) mount.number (listed_over old q))
+      → ((q : Location) (id : MountId) → count_at new q id
+      ≡ count_put (is_at q mount && same_id id mount.number) (count_at old q id))
       → IsIndexed old kept → IsIndexed new (kept ++ (mount.number, one) ∷ [])
-  indexed-entered old new slot namespace parent place inode indexed = record {
+  indexed-entered old new slot namespace parent place indexed = record {
     namespace = λ q. put_one (is_in q) _ _ (indexed.namespace q) (namespace q);
     parent = λ q. put_one (is_on q) _ _ (indexed.parent q) (parent q);
-    place = λ q. put_one (is_at q) _ _ (indexed.place q) (place q);
-    inode = λ q. put_one (is_over q) _ _ (indexed.inode q) (inode q);
+    place = λ q id. place q id
+        ∙ ap (count_put (is_at q mount && same_id id mount.number)) (indexed.place q id)
+        ∙ sym (count-pushed (is_at q mount) mount.number id (numbers_where (is_at q) kept))
+        ∙ ap (count_of (same_id id)) (put_one (is_at q) _ _ refl refl);
     slots = slots-last (mount.number, one) kept slot indexed.slots;
   }
 
@@ -120,33 +124,34 @@ module _ (mount : Mount) (kept : List (MountId × Mounted)) (above : is_above mo
   pub put_behind : (test : Mount → Bool) (here : Bool) (list : List MountId) → list ≡ numbers_where test kept
       → put_in_place here mount.number list ≡ pushed here mount.number list
   put_behind test here list is = put_in_place-last here mount.number list
-      (ap (comes_last mount.number) is ∙ last-above test mount.number kept above)
+      (ap (comes_last precedes mount.number) is ∙ last-above test mount.number kept above)
 
   restored_one : (test : Mount → Bool) (old now left : List MountId) → old ≡ numbers_where test kept
       → taken (test mount) mount.number now ≡ taken (test mount) mount.number old
       → left ≡ taken (test mount) mount.number now → left ≡ numbers_where test kept
   restored_one test old now left was rest taken_out = taken_out ∙ rest ∙ taken-last (test mount) mount.number old
-      (ap (comes_last mount.number) was ∙ last-above test mount.number kept above) ∙ was
+      (ap (comes_last precedes mount.number) was ∙ last-above test mount.number kept above) ∙ was
 
   pub indexed-restored : (old now left : Indexes)
       → ((q : NamespaceId) → taken (is_in q mount) mount.number (listed_in now q)
       ≡ taken (is_in q mount) mount.number (listed_in old q))
       → ((q : MountId) → taken (is_on q mount) mount.number (listed_on now q)
       ≡ taken (is_on q mount) mount.number (listed_on old q))
-      → ((q : Location) → taken (is_at q mount) mount.number (listed_at now q)
-      ≡ taken (is_at q mount) mount.number (listed_at old q))
-      → ((q : NodeRef) → taken (is_over q mount) mount.number (listed_over now q)
-      ≡ taken (is_over q mount) mount.number (listed_over old q))
+      → ((q : Location) (id : MountId) → count_left (is_at q mount && same_id id mount.number) (count_at now q id)
+      ≡ count_left (is_at q mount && same_id id mount.number) (count_at old q id))
       → ((q : NamespaceId) → listed_in left q ≡ taken (is_in q mount) mount.number (listed_in now q))
       → ((q : MountId) → listed_on left q ≡ taken (is_on q mount) mount.number (listed_on now q))
-      → ((q : Location) → listed_at left q ≡ taken (is_at q mount) mount.number (listed_at now q))
-      → ((q : NodeRef) → listed_over left q ≡ taken (is_over q mount) mount.number (listed_over now q))
+      → ((q : Location) (id : MountId) → count_at left q id
+      ≡ count_left (is_at q mount && same_id id mount.number) (count_at now q id))
       → IsIndexed old kept → IsIndexed left kept
-  indexed-restored old now left in_rest on_rest at_rest over_rest in_left on_left at_left over_left indexed = record {
+  indexed-restored old now left in_rest on_rest at_rest in_left on_left at_left indexed = record {
     namespace = λ q. restored_one (is_in q) _ _ _ (indexed.namespace q) (in_rest q) (in_left q);
     parent = λ q. restored_one (is_on q) _ _ _ (indexed.parent q) (on_rest q) (on_left q);
-    place = λ q. restored_one (is_at q) _ _ _ (indexed.place q) (at_rest q) (at_left q);
-    inode = λ q. restored_one (is_over q) _ _ _ (indexed.inode q) (over_rest q) (over_left q);
+    place = λ q id. at_left q id ∙ at_rest q id
+        ∙ ap (count_left (is_at q mount && same_id id mount.number)) (indexed.place q id)
+        ∙ sym (count-taken (is_at q mount) mount.number id (numbers_where (is_at q) kept))
+        ∙ ap (count_of (same_id id)) (taken-last (is_at q mount) mount.number (numbers_where (is_at q) kept)
+        (last-above (is_at q) mount.number kept above));
     slots = indexed.slots;
   }
 

@@ -13,6 +13,8 @@ pub mod MoveLemmas
 pub mod PivotLemmas
 pub mod SourceLemmas
 mod RisingLemmas
+pub mod CountLemmas
+pub mod StandingLemmas
 mod ReservedLemmas
 mod NotedLemmas
 mod MostLemmas

@@ -7,25 +7,28 @@ use Rattle.std.proofs.lemmas.List.Sums.{count_by-le-length, length-filter}
 use Rattle.vt_location.specs.declared.numbers.MountId.{MountId}
 use Rattle.vt_location.specs.declared.numbers.NamespaceId.{NamespaceId}
 use Rattle.vt_location.specs.Numbers.{counted}
+use Rattle.std.specs.declared.cmp.PartialEq as equal
+use Rattle.vt_mount.specs.declared.ascending.Ordered as ordered
 use Rattle.vt_mount.specs.declared.indexes.Indexes.{Indexes}
-use Rattle.vt_mount.specs.declared.lists.MountsBy.{MountsBy}
+use Rattle.vt_mount.specs.declared.lists.ListsBy.{ListsBy}
 use Rattle.vt_mount.specs.declared.mounted.Mounted.{Mounted}
 use Rattle.vt_mount.specs.Attached.{attached_in}
 use Rattle.vt_mount.specs.Indexed.{IsIndexed, numbers_where}
 use Rattle.vt_mount.specs.Indexes.{is_in}
-use Rattle.vt_mount.specs.MountsValue.{mounts_in}
 use Rattle.vt_mount.proofs.EntryLemmas.{entries, mount_under}
-use Rattle.vt_mount.proofs.PlaceLemmas.{counts, in-agrees, numbers, numbers-seen}
+use Rattle.vt_mount.proofs.PlaceLemmas.{in-agrees, numbers-seen}
 use Rattle.vt_mount.specs.Listed.{NoneHasMore, listed, same_namespace}
 
 -- lists that are as they were have no more than before
-pub none_more-same : (was is : MountsBy NamespaceId) (most : ℕ)
+pub none_more-same : {o : ordered.Ghosts MountId} {e : equal.Ghosts MountId}
+    (was is : ListsBy NamespaceId MountId o e) (most : ℕ)
     → ((q : NamespaceId) → listed same_namespace q is ≡ listed same_namespace q was)
     → NoneHasMore was most → NoneHasMore is most
 none_more-same was is most same bounded q = subst (λ list. length list ≤ most) (sym (same q)) (bounded q)
 
 -- nor have they if one of them changed, and it has no more
-pub none_more-changed : (was is : MountsBy NamespaceId) (namespace : NamespaceId) (f : List MountId → List MountId)
+pub none_more-changed : {o : ordered.Ghosts MountId} {e : equal.Ghosts MountId}
+    (was is : ListsBy NamespaceId MountId o e) (namespace : NamespaceId) (f : List MountId → List MountId)
     (most more : ℕ) → ((q : NamespaceId) → listed same_namespace q is
     ≡ cond (same_namespace q namespace) (f (listed same_namespace q was)) (listed same_namespace q was))
     → ((q : NamespaceId) → same_namespace q namespace ≡ true → length (f (listed same_namespace q was)) ≤ more)
@@ -39,7 +42,8 @@ none_more-changed was is namespace f most more changed fits grown bounded q =
     by false other = let before = bounded q in omega (arith, before, grown)
 
 -- and one that a mount leaves has no more
-pub none_more-removed : (was is : MountsBy NamespaceId) (namespace : NamespaceId) (test : MountId → Bool) (most : ℕ)
+pub none_more-removed : {o : ordered.Ghosts MountId} {e : equal.Ghosts MountId}
+    (was is : ListsBy NamespaceId MountId o e) (namespace : NamespaceId) (test : MountId → Bool) (most : ℕ)
     → ((q : NamespaceId) → listed same_namespace q is
     ≡ cond (same_namespace q namespace) (filter test (listed same_namespace q was)) (listed same_namespace q was))
     → NoneHasMore was most → NoneHasMore is most
@@ -51,7 +55,8 @@ none_more-removed was is namespace test most changed bounded =
     omega (arith, fewer, counted, before)) (omega arith) bounded
 
 -- a list that gets a mount is bounded by the greater of the bound before and its own length
-pub none_more-added : (was is : MountsBy NamespaceId) (namespace : NamespaceId) (f : List MountId → List MountId)
+pub none_more-added : {o : ordered.Ghosts MountId} {e : equal.Ghosts MountId}
+    (was is : ListsBy NamespaceId MountId o e) (namespace : NamespaceId) (f : List MountId → List MountId)
     (list : List MountId) (most more : ℕ) → ((q : NamespaceId) → listed same_namespace q is
     ≡ cond (same_namespace q namespace) (f (listed same_namespace q was)) (listed same_namespace q was))
     → list ≡ listed same_namespace namespace is → more ≡ max most (length list)

@@ -2,15 +2,15 @@
 use Rattle.std.proofs.Common.{◌≡◌, ℕ, Bool, true, false, cond, ◌&&◌, T, List, [], ◌∷◌, map, not, nat_lt, ◌%◌, ◌==◌, eq-eqb, Option, None, Some, refl, sym, ap, subst, ◌∙◌, arith, le-ltb, is_lt, nat_cmp, Equal, Greater, ltb-true, ltb-false, eqb-true}
 use Rattle.vt_spec.proofs.Common.{T_and_left, T_and_right, and_true_left, and_true_right, below_all, eq_by_cmp, list_all, nat_cmp_is}
 use Rattle.vt_location.specs.declared.locations.Location.{Location}
-use Rattle.vt_location.specs.declared.locations.NodeRef.{NodeRef}
 use Rattle.vt_location.specs.declared.mounts.Mount.{Mount}
 use Rattle.vt_location.specs.declared.numbers.MountId.{MountId}
 use Rattle.vt_location.specs.declared.numbers.NamespaceId.{NamespaceId}
 use Rattle.vt_mount.specs.declared.indexes.Indexes.{Indexes}
 use Rattle.vt_mount.specs.declared.mounted.Mounted.{Mounted}
 use Rattle.vt_mount.specs.Indexed.{IsIndexed, is_kept_small, numbers_where}
-use Rattle.vt_mount.specs.Indexes.{is_at, is_in, is_on, is_over, listed_at, listed_in, listed_on, listed_over, relisted, stood_at, stood_on, stood_over}
-use Rattle.vt_mount.specs.Listed.{inserted, same_id}
+use Rattle.vt_mount.specs.Indexes.{count_at, count_left, count_put, is_at, is_in, is_on, listed_in, listed_on, relisted, stood_at, stood_on, taken}
+use Rattle.vt_mount.specs.Listed.{count_of, inserted, precedes, same_id}
+use Rattle.vt_mount.proofs.CountLemmas.{count-put_in_place, count-taken}
 use Rattle.vt_mount.specs.Moving.{is_small_point}
 use Rattle.vt_mount.specs.MountsValue.{are_ascending, entries_of, id_cmp, in_order, mount_kept, mounts_in}
 use Rattle.vt_location.specs.Numbers.{counted}
@@ -28,7 +28,7 @@ placed_kept point one = record one { mount_point = point }
 abbrev pub moved_kept : Location → Mounted → Mounted
 moved_kept place one = placed_kept (Some place) one
 
-less-than : (a b : ℕ) → T (is_lt (nat_cmp a b)) → nat_lt a b ≡ true
+pub less-than : (a b : ℕ) → T (is_lt (nat_cmp a b)) → nat_lt a b ≡ true
 less-than a b less = by (nat_lt a b) (nat_lt b a) refl refl
   where
     by : (s t : Bool) → nat_lt a b ≡ s → nat_lt b a ≡ t → nat_lt a b ≡ true
@@ -67,26 +67,26 @@ module _ (id : MountId) where
 
   module _ (test : Mount → Bool) where
     inserted-below : (kept : List (MountId × Mounted)) → T (below_all id_cmp id kept)
-        → inserted id (numbers_where test kept) ≡ id ∷ numbers_where test kept
+        → inserted precedes id (numbers_where test kept) ≡ id ∷ numbers_where test kept
     inserted-below [] below = refl
-    inserted-below (one ∷ kept) below = ap (inserted id) (cons-numbers test one kept)
+    inserted-below (one ∷ kept) below = ap (inserted precedes id) (cons-numbers test one kept)
         ∙ by (passes test one) (inserted-below kept (T_and_right _ _ below))
         ∙ ap (λ l. id ∷ l) (sym (cons-numbers test one kept))
       where
-        by : (b : Bool) → inserted id (numbers_where test kept) ≡ id ∷ numbers_where test kept
-            → inserted id (cond b (one.0 ∷ numbers_where test kept) (numbers_where test kept))
+        by : (b : Bool) → inserted precedes id (numbers_where test kept) ≡ id ∷ numbers_where test kept
+            → inserted precedes id (cond b (one.0 ∷ numbers_where test kept) (numbers_where test kept))
             ≡ id ∷ cond b (one.0 ∷ numbers_where test kept) (numbers_where test kept)
         by true rest =
-            ap (λ s. cond s (id ∷ one.0 ∷ numbers_where test kept) (one.0 ∷ inserted id (numbers_where test kept)))
+            ap (λ s. cond s (id ∷ one.0 ∷ numbers_where test kept) (one.0 ∷ inserted precedes id (numbers_where test kept)))
             (less-than id.count one.0.count (T_and_left _ _ below))
         by false rest = rest
 
     module _ (change : Mounted → Mounted)
         (always : (n : MountId) (one : Mounted) → test (mount_kept n (change one)) ≡ true) where
       numbers-moved : (x : Mounted) (kept : List (MountId × Mounted)) → T (rises kept) → found id kept ≡ Some x
-          → inserted id (others id (numbers_where test kept)) ≡ numbers_where test (map (change_kept id change) kept)
+          → inserted precedes id (others id (numbers_where test kept)) ≡ numbers_where test (map (change_kept id change) kept)
       numbers-moved x [] rising there = absurd cc
-      numbers-moved x (one ∷ kept) rising there = ap (λ l. inserted id (others id l)) (cons-numbers test one kept)
+      numbers-moved x (one ∷ kept) rising there = ap (λ l. inserted precedes id (others id l)) (cons-numbers test one kept)
           ∙ by (eq_by_cmp id_cmp id one.0) (tied id one.0) there (numbers-moved x kept (T_and_right _ _ rising))
           ∙ sym (cons-numbers test (change_kept id change one) (map (change_kept id change) kept))
         where
@@ -98,16 +98,16 @@ module _ (id : MountId) where
           gone is false = refl
 
           stays : same_id one.0 id ≡ false → nat_lt id.count one.0.count ≡ false → (b : Bool)
-              → inserted id (others id (cond b (one.0 ∷ N) N))
-              ≡ cond b (one.0 ∷ inserted id (others id N)) (inserted id (others id N))
-          stays is after true = ap (λ s. inserted id (cond (not s) (one.0 ∷ others id N) (others id N))) is
-              ∙ ap (λ s. cond s (id ∷ one.0 ∷ others id N) (one.0 ∷ inserted id (others id N))) after
+              → inserted precedes id (others id (cond b (one.0 ∷ N) N))
+              ≡ cond b (one.0 ∷ inserted precedes id (others id N)) (inserted precedes id (others id N))
+          stays is after true = ap (λ s. inserted precedes id (cond (not s) (one.0 ∷ others id N) (others id N))) is
+              ∙ ap (λ s. cond s (id ∷ one.0 ∷ others id N) (one.0 ∷ inserted precedes id (others id N))) after
           stays is after false = refl
 
           by : (s : Bool) → s ≡ same_id id one.0 → cond s (Some one.1) (found id kept) ≡ Some x
-              → (found id kept ≡ Some x → inserted id (others id N)
+              → (found id kept ≡ Some x → inserted precedes id (others id N)
               ≡ numbers_where test (map (change_kept id change) kept))
-              → inserted id (others id (cond (passes test one) (one.0 ∷ N) N))
+              → inserted precedes id (others id (cond (passes test one) (one.0 ∷ N) N))
               ≡ cond (test (mount_kept one.0 (cond (same_id id one.0) (change one.1) one.1)))
               (one.0 ∷ numbers_where test (map (change_kept id change) kept))
               (numbers_where test (map (change_kept id change) kept))
@@ -119,7 +119,7 @@ module _ (id : MountId) where
               (T_and_left _ _ rising) in
               let same_rest : N ≡ numbers_where test (map (change_kept id change) kept) = ap (numbers_where test)
               (sym (absent-same change kept none)) in
-              ap (inserted id) (gone (turned one.0 id ∙ sym is) (passes test one) ∙ absent-others test id kept none)
+              ap (inserted precedes id) (gone (turned one.0 id ∙ sym is) (passes test one) ∙ absent-others test id kept none)
               ∙ inserted-below kept below ∙ (λ i. here i ∷ same_rest i)
               ∙ sym (ap (λ b. cond b (one.0 ∷ numbers_where test (map (change_kept id change) kept))
               (numbers_where test (map (change_kept id change) kept)))
@@ -138,7 +138,7 @@ module _ (id : MountId) where
       → relisted (test (mount_kept id x)) here id (numbers_where test kept)
       ≡ numbers_where test (map (change_kept id change) kept)
   relisted-numbers test true change always x kept rising there =
-      ap (inserted id) (others-taken test id x kept rising there) ∙ numbers-moved test change always x kept rising there
+      ap (inserted precedes id) (others-taken test id x kept rising there) ∙ numbers-moved test change always x kept rising there
   relisted-numbers test false change never x kept rising there =
       others-taken test id x kept rising there ∙ sym (numbers-left test id change never kept)
 
@@ -168,41 +168,38 @@ module _ (id : MountId) (point : Option Location) (x : Mounted) (kept : List (Mo
   place-placed q =
       relisted-numbers id (is_at q) (stood_at q point) (placed_kept point) (λ n one. refl) x kept rising there
 
-  pub inode-placed : (q : NodeRef)
-      → relisted (stood_over q x.mount_point) (stood_over q point) id (numbers_where (is_over q) kept)
-      ≡ numbers_where (is_over q) (map (change_kept id (placed_kept point)) kept)
-  inode-placed q =
-      relisted-numbers id (is_over q) (stood_over q point) (placed_kept point) (λ n one. refl) x kept rising there
-
   pub indexed-placed : (old new : Indexes) → is_small_point point ≡ true
       → ((q : NamespaceId) → listed_in new q ≡ listed_in old q) → ((q : MountId) → listed_on new q
-      ≡ relisted (stood_on q x.mount_point) (stood_on q point) id (listed_on old q)) → ((q : Location) → listed_at new q
-      ≡ relisted (stood_at q x.mount_point) (stood_at q point) id (listed_at old q))
-      → ((q : NodeRef) → listed_over new q
-      ≡ relisted (stood_over q x.mount_point) (stood_over q point) id (listed_over old q))
+      ≡ relisted (stood_on q x.mount_point) (stood_on q point) id (listed_on old q)) → ((q : Location) (one : MountId)
+      → count_at new q one ≡ count_put (stood_at q point && same_id one id)
+      (count_left (stood_at q x.mount_point && same_id one id) (count_at old q one)))
       → IsIndexed old kept → IsIndexed new (map (change_kept id (placed_kept point)) kept)
-  indexed-placed old new slot namespace parent location inode indexed = record {
+  indexed-placed old new slot namespace parent location indexed = record {
     namespace = λ q. namespace q ∙ indexed.namespace q
         ∙ sym (numbers-changed (is_in q) id (placed_kept point) (λ n one. refl) kept);
     parent = λ q. parent q
         ∙ ap (relisted (stood_on q x.mount_point) (stood_on q point) id) (indexed.parent q) ∙ parent-placed q;
-    place = λ q. location q
-        ∙ ap (relisted (stood_at q x.mount_point) (stood_at q point) id) (indexed.place q) ∙ place-placed q;
-    inode = λ q. inode q
-        ∙ ap (relisted (stood_over q x.mount_point) (stood_over q point) id) (indexed.inode q) ∙ inode-placed q;
+    place = λ q one.
+        let there = stood_at q x.mount_point in
+        let here = stood_at q point in
+        let numbers = numbers_where (is_at q) kept in
+        location q one
+        ∙ ap (λ n. count_put (here && same_id one id) (count_left (there && same_id one id) n)) (indexed.place q one)
+        ∙ ap (count_put (here && same_id one id)) (sym (count-taken there id one numbers))
+        ∙ sym (count-put_in_place here id one (taken there id numbers))
+        ∙ ap (count_of (same_id one)) (place-placed q);
     slots = slots-placed id point kept slot indexed.slots;
   }
 
 -- lists that are as they were
 pub indexed-same : (kept : List (MountId × Mounted)) (old new : Indexes)
     → ((q : NamespaceId) → listed_in new q ≡ listed_in old q) → ((q : MountId) → listed_on new q ≡ listed_on old q)
-    → ((q : Location) → listed_at new q ≡ listed_at old q) → ((q : NodeRef) → listed_over new q ≡ listed_over old q)
+    → ((q : Location) (one : MountId) → count_at new q one ≡ count_at old q one)
     → IsIndexed old kept → IsIndexed new kept
-indexed-same kept old new namespace parent location inode indexed = record {
+indexed-same kept old new namespace parent location indexed = record {
   namespace = λ q. namespace q ∙ indexed.namespace q;
   parent = λ q. parent q ∙ indexed.parent q;
-  place = λ q. location q ∙ indexed.place q;
-  inode = λ q. inode q ∙ indexed.inode q;
+  place = λ q one. location q one ∙ indexed.place q one;
   slots = indexed.slots;
 }
 

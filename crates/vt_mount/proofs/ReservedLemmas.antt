@@ -1,16 +1,17 @@
 -- Room that is reserved for mounts that come and move.
-use Rattle.std.proofs.Common.{◌≡◌, ◌<◌, ◌≤◌, ◌+◌, ◌-◌, ℕ, Bool, true, false, cond, ◌&&◌, List, [], ◌∷◌, ◌++◌, map, refl, ap, subst, arith, eq-eqb}
+use Rattle.std.proofs.Common.{◌≡◌, ◌<◌, ◌≤◌, ◌+◌, ◌-◌, ℕ, Bool, true, false, cond, List, [], ◌∷◌, ◌++◌, map, refl, ap, subst, arith, eq-eqb}
 use Rattle.vt_spec.proofs.Common.{reverse-append}
-use Rattle.vt_location.proofs.NodeLemmas.{same_node-itself}
 use Rattle.vt_location.specs.declared.locations.Location.{Location}
 use Rattle.vt_location.specs.declared.numbers.MountId.{MountId}
 use Rattle.vt_location.specs.declared.numbers.NamespaceId.{NamespaceId}
+use Rattle.std.specs.declared.cmp.PartialEq as equal
+use Rattle.vt_mount.specs.declared.ascending.Ordered as ordered
 use Rattle.vt_mount.specs.declared.indexes.Indexes.{Indexes}
-use Rattle.vt_mount.specs.declared.lists.MountsBy.{MountsBy}
+use Rattle.vt_mount.specs.declared.lists.ListsBy.{ListsBy}
 use Rattle.vt_mount.specs.declared.moving.NewPoint.{NewPoint}
 use Rattle.vt_mount.specs.Reserved.{Reserves, ReservesBy, count_of, moved_places}
 use Rattle.vt_location.specs.SameNodes.{same_node}
-use Rattle.vt_mount.specs.Indexes.{same_namespace, same_place}
+use Rattle.vt_mount.specs.Indexes.{same_namespace}
 use Rattle.vt_mount.specs.Listed.{reserved, same_id}
 
 count-first : {X : Type 0} (test : X → Bool) (xs ys : List X) → count_of test xs ≤ count_of test (xs ++ ys)
@@ -22,9 +23,10 @@ count-first test (x ∷ xs) ys = by (test x) (count-first test xs ys)
     by true rest = omega (arith, rest)
     by false rest = rest
 
-module _ {K X : Type 0} (eq : K → K → Bool) (key_of : X → K) (x : X) (xs : List X) (old : MountsBy K) where
+module _ {K X T : Type 0} {o : ordered.Ghosts T} {e : equal.Ghosts T} (eq : K → K → Bool) (key_of : X → K) (x : X)
+    (xs : List X) (old : ListsBy K T o e) where
   -- room for one more, or for one less
-  pub reserves-more : (new : MountsBy K)
+  pub reserves-more : (new : ListsBy K T o e)
       → ((q : K) → reserved eq q new ≡ cond (eq q (key_of x)) (reserved eq q old + 1) (reserved eq q old))
       → ReservesBy eq key_of xs old → ReservesBy eq key_of (x ∷ xs) new
   reserves-more new more has q = by (eq q (key_of x)) (more q) (has q)
@@ -35,7 +37,7 @@ module _ {K X : Type 0} (eq : K → K → Bool) (key_of : X → K) (x : X) (xs :
       by true is was = omega (arith, is, was)
       by false is was = omega (arith, is, was)
 
-  pub reserves-less : (new : MountsBy K)
+  pub reserves-less : (new : ListsBy K T o e)
       → ((q : K) → reserved eq q new ≡ cond (eq q (key_of x)) (reserved eq q old - 1) (reserved eq q old))
       → ReservesBy eq key_of (x ∷ xs) old → ReservesBy eq key_of xs new
   reserves-less new less has q = by (eq q (key_of x)) (less q) (has q)
@@ -62,7 +64,8 @@ module _ {K X : Type 0} (eq : K → K → Bool) (key_of : X → K) (x : X) (xs :
       omega (arith, there)
 
 -- as much room as before
-pub reserves-same : {K X : Type 0} (eq : K → K → Bool) (key_of : X → K) (xs : List X) (old new : MountsBy K)
+pub reserves-same : {K X T : Type 0} {o : ordered.Ghosts T} {e : equal.Ghosts T} (eq : K → K → Bool) (key_of : X → K)
+    (xs : List X) (old new : ListsBy K T o e)
     → ((q : K) → reserved eq q new ≡ reserved eq q old) → ReservesBy eq key_of xs old → ReservesBy eq key_of xs new
 reserves-same eq key_of xs old new same has q = let is = same q in let was = has q in omega (arith, is, was)
 
@@ -72,7 +75,6 @@ pub reserves-first : (indexes : Indexes) (namespaces later : List NamespaceId) (
 reserves-first indexes namespaces later places after has = record {
   namespace = λ q. fewer (λ namespace. same_namespace q namespace) namespaces later _ (has.namespace q);
   parent = λ q. fewer (λ (place : Location). same_id q place.mount) places after _ (has.parent q);
-  place = λ q. fewer (λ place. same_place q place) places after _ (has.place q);
   inode = λ q. fewer (λ (place : Location). same_node q place.node) places after _ (has.inode q);
 }
   where
@@ -86,7 +88,6 @@ pub reserves-later : (indexes : Indexes) (namespaces : List NamespaceId) (place 
 reserves-later indexes namespaces place places has = record {
   namespace = has.namespace;
   parent = reserves-rest same_id (λ (place : Location). place.mount) place places indexes.by_parent has.parent;
-  place = reserves-rest same_place (λ (place : Location). place) place places indexes.by_location has.place;
   inode = reserves-rest same_node (λ (place : Location). place.node) place places indexes.by_inode has.inode;
 }
 
@@ -98,16 +99,12 @@ pub reserves-none : (indexes : Indexes) → Reserves indexes [] []
 reserves-none indexes = record {
   namespace = λ q. omega arith;
   parent = λ q. omega arith;
-  place = λ q. omega arith;
   inode = λ q. omega arith;
 }
 
 -- keys are equal to themselves
 pub same_id-itself : (a : MountId) → same_id a a ≡ true
 same_id-itself a = eq-eqb a.count a.count refl
-
-pub same_place-itself : (a : Location) → same_place a a ≡ true
-same_place-itself a = λ i. same_id-itself a.mount i && same_node-itself a.node i
 
 pub same_namespace-itself : (a : NamespaceId) → same_namespace a a ≡ true
 same_namespace-itself a = eq-eqb a.count a.count refl

@@ -8,9 +8,8 @@ use Rattle.vt_mount.specs.declared.indexes.Indexes.{Indexes}
 use Rattle.vt_mount.specs.declared.mounted.Mounted.{Mounted}
 use Rattle.vt_mount.specs.Indexed.{IsIndexed, is_kept_small, numbers_where}
 use Rattle.vt_location.specs.Locations.{is_small_node}
-use Rattle.vt_location.specs.SameNodes.{same_node}
-use Rattle.vt_mount.specs.Indexes.{is_at, is_in, is_on, is_over, same_namespace, same_place}
-use Rattle.vt_mount.specs.Listed.{same_id}
+use Rattle.vt_mount.specs.Indexes.{is_at, is_in, is_on, same_namespace, same_place}
+use Rattle.vt_mount.specs.Listed.{count_of as times, same_id}
 use Rattle.vt_mount.specs.MountsValue.{MountEntry, changed, entries_of, entry_of, held, in_order, released}
 use Rattle.vt_mount.proofs.EntryLemmas.{kept-changed}
 use Rattle.vt_mount.proofs.IndexLemmas.{numbers-changed}
@@ -60,10 +59,8 @@ module _ (id : MountId) (change : Mounted → Mounted)
         parent = λ q. old.parent q ∙ sym (ap (numbers_where (is_on q)) order
             ∙ numbers-changed (is_on q) id change (λ n one. ap (holds_of (λ place. same_id q place.mount)) (places one))
             (in_order es));
-        place = λ q. old.place q ∙ sym (ap (numbers_where (is_at q)) order
-            ∙ numbers-changed (is_at q) id change (λ n one. ap (holds_of (same_place q)) (places one)) (in_order es));
-        inode = λ q. old.inode q ∙ sym (ap (numbers_where (is_over q)) order ∙ numbers-changed (is_over q) id change
-            (λ n one. ap (holds_of (λ place. same_node q place.node)) (places one)) (in_order es));
+        place = λ q mount. old.place q mount ∙ ap (times (same_id mount)) (sym (ap (numbers_where (is_at q)) order
+            ∙ numbers-changed (is_at q) id change (λ n one. ap (holds_of (same_place q)) (places one)) (in_order es)));
         slots = ap (list_all is_kept_small) order ∙ slots-changed (in_order es) ∙ old.slots;
       }
 

@@ -1,5 +1,7 @@
 pub mod MountsValue
 pub mod Rising
+pub mod Standing
+pub mod Orders
 pub mod Listed
 pub mod Attached
 pub mod Indexes

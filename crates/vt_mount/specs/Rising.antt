@@ -1,43 +1,54 @@
--- Mounts in the order of their numbers.
-use Rattle.std.specs.Prelude.{Bool, List, None, Option, Some, Vec, [], if◌then◌else◌, length, nat_eq, nat_lt, not, option_to_list, true, vec_capacity, vec_len, ℕ, ◌&&◌, ◌+◌, ◌∷◌, ◌≤◌}
+-- Lists in the order of their elements: mounts in that of their numbers, and what stands on an inode.
+use Rattle.std.specs.Prelude.{Bool, List, None, Option, Some, [], false, if◌then◌else◌, length, nat_eq, nat_lt, not, option_to_list, true, ℕ, ◌≡◌, ◌&&◌, ◌-◌, ◌∷◌, ◌≤◌}
 use Rattle.std.specs.List.{list_all}
+use Rattle.vt_deque.specs.SliceDeque.{items, room}
+use Rattle.vt_deque.specs.declared.slice_deque.SliceDeque.{SliceDeque}
 use Rattle.vt_location.specs.declared.numbers.MountId.{MountId}
 
 abbrev pub same_id : MountId → MountId → Bool
 same_id a b = nat_eq a.count b.count
 
--- no mount of the list has a smaller number
-abbrev pub none_below : MountId → List MountId → Bool
-none_below id list = list_all (λ other. not (nat_lt other.count id.count)) list
+-- one mount has a smaller number than another
+abbrev pub precedes : MountId → MountId → Bool
+precedes a b = nat_lt a.count b.count
 
--- each mount of the list has a smaller number
-abbrev pub comes_last : MountId → List MountId → Bool
-comes_last id list = list_all (λ other. nat_lt other.count id.count) list
+-- of two elements that are not the same, one comes before the other
+pub record IsOrder {T : Type 0} (before same : T → T → Bool) : Type 0 where
+  pub turned : (a b : T) → before a b ≡ true → before b a ≡ false
+  pub climbs : (a b c : T) → before b a ≡ false → before c b ≡ false → before c a ≡ false
+  pub apart : (a b : T) → before a b ≡ true → same a b ≡ false
+  pub apart_behind : (a b : T) → before a b ≡ true → same b a ≡ false
+  pub total : (a b : T) → before a b ≡ false → same a b ≡ false → before b a ≡ true
+  pub itself : (a : T) → same a a ≡ true
 
--- the numbers never fall
-abbrev pub rises : List MountId → Bool
-rises [] = true
-rises (id ∷ list) = none_below id list && rises list
+module _ {T : Type 0} (before : T → T → Bool) where
+  -- no element of the list comes before one
+  abbrev pub none_below : T → List T → Bool
+  none_below one list = list_all (λ other. not (before other one)) list
 
--- a list, with a mount before the first that has a greater number
-abbrev pub inserted : MountId → List MountId → List MountId
-inserted id [] = id ∷ []
-inserted id (other ∷ list) = if nat_lt id.count other.count then id ∷ other ∷ list else other ∷ inserted id list
+  -- each element of the list comes before one
+  abbrev pub comes_last : T → List T → Bool
+  comes_last one list = list_all (λ other. before other one) list
 
--- the mounts that are held: a single one in its place, or a list
-unfoldable pub held : {A : Type 0} → Option MountId → Option (Vec MountId A) → List MountId
+  -- none comes before an earlier one
+  abbrev pub rises : List T → Bool
+  rises [] = true
+  rises (one ∷ list) = none_below one list && rises list
+
+  -- a list, with one before the first that comes behind it
+  abbrev pub inserted : T → List T → List T
+  inserted one [] = one ∷ []
+  inserted one (other ∷ list) = if before one other then one ∷ other ∷ list else other ∷ inserted one list
+
+-- what is held: a single one in its place, or a list
+unfoldable pub held : {T : Type 0} → Option T → Option (SliceDeque T) → List T
 held one None = option_to_list one
-held one (Some ids) = ids.items
+held one (Some list) = items list
 
--- how many there are, and how many there is room for in all
-abbrev pub held_count : {A : Type 0} → Option MountId → Option (Vec MountId A) → ℕ
-held_count one None = length (option_to_list one)
-held_count one (Some ids) = vec_len ids
+-- for how many more there is room
+abbrev pub room_for : {T : Type 0} → Option T → Option (SliceDeque T) → ℕ
+room_for one None = 1 - length (option_to_list one)
+room_for one (Some list) = room list
 
-abbrev pub room_in : {A : Type 0} → Option (Vec MountId A) → ℕ
-room_in None = 1
-room_in (Some ids) = vec_capacity ids
-
--- there is room for so many more
-abbrev pub HasRoom : {A : Type 0} → Option MountId → Option (Vec MountId A) → ℕ → Type 0
-HasRoom one many reserved = held_count one many + reserved ≤ room_in many
+abbrev pub HasRoom : {T : Type 0} → Option T → Option (SliceDeque T) → ℕ → Type 0
+HasRoom one many reserved = reserved ≤ room_for one many

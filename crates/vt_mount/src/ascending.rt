@@ -1,30 +1,65 @@
-//! Mounts in the order of their numbers.
+//! Lists in the order of their elements.
 #![tactic(auto, unfolding(crate::specs::Rising::held))]
 
-ghost use Rattle.std.specs.Prelude.{None, Some, ◌≡◌, ◌==◌, ◌+◌, ◌-◌, ◌++◌, ◌∷◌, ◌<◌, ◌≤◌, [], IfOk, IsTrue, OnErr, OnOk, false, filter, length, not, option_to_list, slice_index_or, true, vec_capacity, vec_len};
-ghost use Rattle.vt_mount.specs.Rising.{HasRoom, held, inserted, rises, same_id};
+ghost use Rattle.std.specs.Prelude.{Bool, None, Some, ◌≡◌, ◌==◌, ◌+◌, ◌-◌, ◌++◌, ◌∷◌, ◌<◌, ◌≤◌, [], IfOk, IsTrue, OnErr, OnOk, false, filter, length, not, option_to_list, slice_index_or, true};
+ghost use Rattle.vt_deque.specs.SliceDeque.{items, room};
+ghost use Rattle.vt_mount.specs.Rising.{HasRoom, IsOrder, held, inserted, precedes, rises};
+ghost use Rattle.vt_mount.specs.Orders.{numbers_order};
 
 use std::alloc::{AllocError, Global};
+use std::slice;
+use vt_deque::SliceDeque;
 use vt_location::MountId;
 
-// For how many mounts a list has room when it is made.
+/// Elements of which one comes before the other, unless they are equal.
+pub(crate) trait Ordered: Eq + Copy + Drop {
+    /// Whether one comes before another.
+    ghost before: { Self → Self → Bool };
+
+    /// Whether this one comes before that one.
+    fn is_before(&self, other: &Self) -> bool
+        ensures { result ≡ before self.now other.now };
+
+    /// A list of this one alone.
+    fn alone(&self) -> &[Self]
+        ensures { result.now ≡ self.now ∷ [] };
+
+    ghost order: { IsOrder before Self.eq };
+}
+
+impl Ordered for MountId {
+    ghost before = { precedes };
+
+    #[inline(always)]
+    fn is_before(&self, other: &MountId) -> bool {
+        self.count < other.count
+    }
+
+    #[inline(always)]
+    fn alone(&self) -> &[MountId] {
+        slice::from_ref(self)
+    }
+
+    ghost order = { numbers_order };
+}
+
+// For how many a list has room when it is made.
 const FIRST_ROOM: usize = 32;
 
-/// Mounts in the ascending order of their numbers, so that one is found by a binary search. A single one needs no
-/// allocation.
+/// Elements in ascending order, so that one is found by a binary search. A single one needs no allocation.
 #[derive(Debug, Drop)]
-pub(crate) struct Ascending {
-    one: Option<MountId>,
-    // All mounts, from when there were two or room for two.
-    many: Option<Vec<MountId>>,
-    // For how many more mounts there is room.
+pub(crate) struct Ascending<T: Ordered> {
+    one: Option<T>,
+    // All, from when there were two or room for two.
+    many: Option<SliceDeque<T>>,
+    // For how many more there is room.
     reserved: usize,
-    ghost rising: { IsTrue (rises (held one many)) },
+    ghost rising: { IsTrue (rises T.before (held one many)) },
     ghost room: { HasRoom one many reserved },
 }
 
-impl Ascending {
-    /// No mounts.
+impl<T: Ordered> Ascending<T> {
+    /// No elements.
     pub(crate) fn new() -> Self
         ensures items { held result.one result.many ≡ [] }
         ensures reserved { result.reserved ≡ 0 }
@@ -36,35 +71,40 @@ impl Ascending {
         }
     }
 
-    /// A single mount. It does not allocate.
-    pub(crate) fn of(mount: MountId) -> Self
-        ensures { held result.one result.many ≡ mount ∷ [] }
+    /// A single element. It does not allocate.
+    pub(crate) fn of(element: T) -> Self
+        ensures { held result.one result.many ≡ element ∷ [] }
     {
         Ascending {
-            one: Some(mount),
+            one: Some(element),
             many: None,
             reserved: 0,
         }
     }
 
-    /// The mounts, in order.
-    pub(crate) fn as_slice(&self) -> &[MountId]
-        ensures { result.now ≡ held self.now.one self.now.many }
+    /// The elements, in order.
+    pub(crate) fn as_slice(&self) -> &[T]
+        ensures value { result.now ≡ held self.now.one self.now.many }
+        ensures rising { rises T.before result.now ≡ true }
     {
-        match &self.many {
-            Some(ids) => ids.as_slice(),
-            None => self.one.as_slice(),
+        match (&self.many, &self.one) {
+            (Some(list), _) => list.as_slice(),
+            (None, Some(one)) => one.alone(),
+            (None, None) => &[],
         }
     }
 
-    /// Whether there are no mounts.
+    /// Whether there are none.
     pub(crate) fn is_empty(&self) -> bool
         ensures { result ≡ (length (held self.now.one self.now.many) == 0) }
     {
-        self.as_slice().is_empty()
+        match &self.many {
+            Some(list) => list.is_empty(),
+            None => self.one.is_none(),
+        }
     }
 
-    /// Reserves room for one more mount, beside the room that is reserved already.
+    /// Reserves room for one more, beside the room that is reserved already.
     #[inline(always)]
     pub(crate) fn reserve_one(&mut self, alloc: Global) -> Result<(), AllocError>
         ensures same { held self.new.one self.new.many ≡ held self.old.one self.old.many }
@@ -75,16 +115,16 @@ impl Ascending {
         Ok(())
     }
 
-    // Makes room for one more mount.
+    // Makes room for one more.
     fn make_room(&mut self, alloc: Global) -> Result<(), AllocError>
         ensures same { held self.new.one self.new.many ≡ held self.old.one self.old.many }
         ensures reserved { self.new.reserved ≡ self.old.reserved }
         ensures ok { OnOk result (HasRoom self.new.one self.new.many (self.old.reserved + 1)) }
     {
-        let Some(ids) = &mut self.many else {
+        let Some(list) = &mut self.many else {
             return self.spread(alloc);
         };
-        ids.reserve(self.reserved + 1)
+        list.reserve(self.reserved + 1)
     }
 
     // Makes room for one more where no list was needed up to now.
@@ -97,34 +137,34 @@ impl Ascending {
         if self.reserved == 0 && self.one.is_none() {
             return Ok(());
         }
-        let ids = list_of(alloc, self.one, self.reserved + 1)?;
-        self.many = Some(ids);
+        let list = list_of(alloc, self.one, self.reserved + 1)?;
+        self.many = Some(list);
         Ok(())
     }
 
-    /// Adds a mount.
-    pub(crate) fn add(&mut self, alloc: Global, mount: MountId) -> Result<(), AllocError>
-        ensures ok { OnOk result (held self.new.one self.new.many ≡ inserted mount (held self.old.one self.old.many)) }
+    /// Adds one.
+    pub(crate) fn add(&mut self, alloc: Global, element: T) -> Result<(), AllocError>
+        ensures ok { OnOk result (held self.new.one self.new.many ≡ inserted T.before element (held self.old.one self.old.many)) }
         ensures err { OnErr result (held self.new.one self.new.many ≡ held self.old.one self.old.many) }
     {
         self.reserve_one(alloc)?;
-        self.insert(mount);
+        self.insert(element);
         Ok(())
     }
 
-    /// Inserts a mount, for which room is reserved. It does not allocate.
+    /// Inserts one, for which room is reserved. It does not allocate.
     #[inline(always)]
-    pub(crate) fn insert(&mut self, mount: MountId)
+    pub(crate) fn insert(&mut self, element: T)
         requires { 0 < self.old.reserved }
-        ensures items { held self.new.one self.new.many ≡ inserted mount (held self.old.one self.old.many) }
+        ensures items { held self.new.one self.new.many ≡ inserted T.before element (held self.old.one self.old.many) }
         ensures reserved { self.new.reserved + 1 ≡ self.old.reserved }
     {
         self.reserved -= 1;
-        let Some(ids) = &mut self.many else {
-            self.one = Some(mount);
+        let Some(list) = &mut self.many else {
+            self.one = Some(element);
             return;
         };
-        insert_into(ids, mount);
+        insert_into(list, element);
     }
 
     /// Gives up the room that is reserved.
@@ -134,126 +174,142 @@ impl Ascending {
         self.reserved = 0;
     }
 
-    /// Removes a mount. It does not allocate.
+    /// Removes one. It does not allocate.
     #[inline]
-    pub(crate) fn remove(&mut self, mount: MountId)
-        ensures items { held self.new.one self.new.many ≡ filter (λ other. not (same_id other mount)) (held self.old.one self.old.many) }
+    pub(crate) fn remove(&mut self, element: T)
+        ensures items { held self.new.one self.new.many ≡ filter (λ other. not (T.eq other element)) (held self.old.one self.old.many) }
         ensures reserved { self.new.reserved ≡ self.old.reserved }
     {
-        let Some(ids) = &mut self.many else {
-            if self.one == Some(mount) {
+        let Some(list) = &mut self.many else {
+            if self.one == Some(element) {
                 self.one = None;
             }
             return;
         };
-        remove_from(ids, mount);
+        remove_from(list, element);
     }
 }
 
-// A list of a mount, if any, with room for so many more.
-fn list_of(alloc: Global, one: Option<MountId>, more: usize) -> Result<Vec<MountId>, AllocError>
+// A list of one element, if any, with room for so many more.
+fn list_of<T: Ordered>(
+    alloc: Global,
+    one: Option<T>,
+    more: usize,
+) -> Result<SliceDeque<T>, AllocError>
     requires { more < 3 }
-    ensures items { IfOk result (λ ids. ids.items ≡ option_to_list one) }
-    ensures room { IfOk result (λ ids. vec_len ids + more ≤ vec_capacity ids) }
+    ensures items { IfOk result (λ list. items list ≡ option_to_list one) }
+    ensures room { IfOk result (λ list. more ≤ room list) }
 {
-    let mut ids = Vec::with_capacity(alloc, FIRST_ROOM)?;
-    let Some(mount) = one else {
-        return Ok(ids);
+    let mut list = SliceDeque::with_capacity(alloc, FIRST_ROOM)?;
+    let Some(element) = one else {
+        return Ok(list);
     };
-    ids.push(mount)?;
-    Ok(ids)
+    list.push(element)?;
+    Ok(list)
 }
 
-// Inserts a mount into a list in which there is room.
-fn insert_into(ids: &mut Vec<MountId>, mount: MountId)
-    requires rising { rises ids.old.items ≡ true }
-    requires room { vec_len ids.old < vec_capacity ids.old }
-    ensures items { ids.new.items ≡ inserted mount ids.old.items }
-    ensures len { vec_len ids.new ≡ vec_len ids.old + 1 }
-    ensures capacity { vec_capacity ids.old ≤ vec_capacity ids.new }
+// Inserts one into a list in which there is room.
+fn insert_into<T: Ordered>(list: &mut SliceDeque<T>, element: T)
+    requires rising { rises T.before (items list.old) ≡ true }
+    requires room { 0 < room list.old }
+    ensures items { items list.new ≡ inserted T.before element (items list.old) }
+    ensures room { room list.old ≤ room list.new + 1 }
 {
-    // Neither fails: there is room. Mostly a mount comes after all others.
-    if goes_last(ids, mount) {
-        let _ = ids.push(mount);
+    // Neither fails: there is room. Mostly it comes after all others.
+    if goes_last(list, element) {
+        let _ = list.push(element);
     } else {
-        let place = ids.partition_point(|other| other.count <= mount.count);
-        let _ = ids.insert(place, mount);
+        let place = list
+            .as_slice()
+            .partition_point(|other| !element.is_before(other));
+        let _ = list.insert(place, element);
     }
 }
 
-// Whether no mount of a list has a greater number.
-fn goes_last(ids: &[MountId], mount: MountId) -> bool
-    requires { rises ids.now ≡ true }
-    ensures { result ≡ true → inserted mount ids.now ≡ ids.now ++ mount ∷ [] }
+// Whether an element comes before none of a list.
+fn goes_last<T: Ordered>(list: &SliceDeque<T>, element: T) -> bool
+    requires { rises T.before (items list.now) ≡ true }
+    ensures { result ≡ true → inserted T.before element (items list.now) ≡ items list.now ++ element ∷ [] }
 {
-    match ids.last() {
-        Some(last) => last.count <= mount.count,
+    match list.last() {
+        Some(last) => !element.is_before(last),
         None => true,
     }
 }
 
-// Removes a mount from a list. Mostly it is the last one. It is a call of its own, so that `remove` of a single one stays
-// small.
+// Removes one from a list. Mostly it is the last. It is a call of its own, so that `remove` of a single one stays small.
 #[inline(never)]
-fn remove_from(ids: &mut Vec<MountId>, mount: MountId)
-    requires { rises ids.old.items ≡ true }
-    ensures items { ids.new.items ≡ filter (λ other. not (same_id other mount)) ids.old.items }
-    ensures rising { rises ids.new.items ≡ true }
-    ensures len { vec_len ids.new ≤ vec_len ids.old }
-    ensures capacity { vec_capacity ids.old ≤ vec_capacity ids.new }
+fn remove_from<T: Ordered>(list: &mut SliceDeque<T>, element: T)
+    requires { rises T.before (items list.old) ≡ true }
+    ensures items { items list.new ≡ filter (λ other. not (T.eq other element)) (items list.old) }
+    ensures rising { rises T.before (items list.new) ≡ true }
+    ensures room { room list.old ≤ room list.new }
 {
-    pop_if_last(ids, mount);
-    if reaches(ids, mount) {
-        remove_within(ids, mount);
+    pop_if_last(list, element);
+    if reaches(list, element) {
+        remove_within(list, element);
     }
 }
 
-// Removes the last mount of a list, if it is this one.
-fn pop_if_last(ids: &mut Vec<MountId>, mount: MountId)
-    requires { rises ids.old.items ≡ true }
-    ensures others { filter (λ other. not (same_id other mount)) ids.new.items ≡ filter (λ other. not (same_id other mount)) ids.old.items }
-    ensures rising { rises ids.new.items ≡ true }
-    ensures len { vec_len ids.new ≤ vec_len ids.old }
-    ensures capacity { vec_capacity ids.old ≤ vec_capacity ids.new }
+// Removes the last of a list, if it is this one.
+fn pop_if_last<T: Ordered>(list: &mut SliceDeque<T>, element: T)
+    requires { rises T.before (items list.old) ≡ true }
+    ensures others { filter (λ other. not (T.eq other element)) (items list.new)
+        ≡ filter (λ other. not (T.eq other element)) (items list.old) }
+    ensures rising { rises T.before (items list.new) ≡ true }
+    ensures room { room list.old ≤ room list.new }
 {
-    if ends_with(ids, mount) {
-        ids.pop();
+    if ends_with(list, element) {
+        list.pop();
     }
 }
 
-// Whether a mount is the last one of a list.
-fn ends_with(ids: &[MountId], mount: MountId) -> bool
-    ensures inside { result ≡ true → 0 < length ids.now }
+// Whether an element is the last of a list.
+fn ends_with<T: Ordered>(list: &SliceDeque<T>, element: T) -> bool
+    ensures inside { result ≡ true → 0 < length (items list.now) }
     ensures last { result ≡ true
-        → (d : MountId) → same_id (slice_index_or ids.now (length ids.now - 1) d) mount ≡ true }
+        → (d : T) → T.eq (slice_index_or (items list.now) (length (items list.now) - 1) d) element ≡ true }
 {
-    match ids.last() {
-        Some(last) => *last == mount,
+    match list.last() {
+        Some(last) => *last == element,
         None => false,
     }
 }
 
-// Whether a mount of a list has this number or a greater one.
-fn reaches(ids: &[MountId], mount: MountId) -> bool
-    requires { rises ids.now ≡ true }
-    ensures { result ≡ false → filter (λ other. not (same_id other mount)) ids.now ≡ ids.now }
+// Whether the last of a list is this element, or one behind it.
+fn reaches<T: Ordered>(list: &SliceDeque<T>, element: T) -> bool
+    requires { rises T.before (items list.now) ≡ true }
+    ensures { result ≡ false → filter (λ other. not (T.eq other element)) (items list.now) ≡ items list.now }
 {
-    match ids.last() {
-        Some(last) => mount.count <= last.count,
+    match list.last() {
+        Some(last) => !last.is_before(&element),
         None => false,
     }
 }
 
-// Removes a mount from a list, wherever it is.
-fn remove_within(ids: &mut Vec<MountId>, mount: MountId)
-    requires { rises ids.old.items ≡ true }
-    ensures items { ids.new.items ≡ filter (λ other. not (same_id other mount)) ids.old.items }
-    ensures rising { rises ids.new.items ≡ true }
-    ensures len { vec_len ids.new ≤ vec_len ids.old }
-    ensures capacity { vec_capacity ids.old ≤ vec_capacity ids.new }
+// Removes one from a list, wherever it is. It is a call of its own, so that `remove_from` stays small.
+#[inline(never)]
+fn remove_within<T: Ordered>(list: &mut SliceDeque<T>, element: T)
+    requires { rises T.before (items list.old) ≡ true }
+    ensures items { items list.new ≡ filter (λ other. not (T.eq other element)) (items list.old) }
+    ensures rising { rises T.before (items list.new) ≡ true }
+    ensures room { room list.old ≤ room list.new }
 {
-    let place = ids.partition_point(|other| other.count < mount.count);
-    while place < ids.len() && ids[place] == mount {
-        ids.remove(place);
+    let place = list
+        .as_slice()
+        .partition_point(|other| other.is_before(&element));
+    while is_at(list.as_slice(), place, element) {
+        list.remove(place);
+    }
+}
+
+// Whether an element is the one at a place of a list.
+fn is_at<T: Ordered>(list: &[T], place: usize, element: T) -> bool
+    ensures within { result ≡ true → place < length list.now }
+    ensures found { (d : T) → place < length list.now → result ≡ T.eq (slice_index_or list.now place d) element }
+{
+    match list.get(place) {
+        Some(other) => *other == element,
+        None => false,
     }
 }

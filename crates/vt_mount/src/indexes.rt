@@ -1,31 +1,41 @@
-//! The lists of mounts by namespace, parent, mount point and inode.
-ghost use Rattle.std.specs.Prelude.{◌≡◌, ◌++◌, ◌∷◌, [], List, nat_lt, option_to_list, true, OnErr, OnOk, ◌^◌};
+//! The lists of mounts by namespace, parent and mount point.
+ghost use Rattle.std.specs.Prelude.{◌≡◌, ◌&&◌, ◌++◌, ◌∷◌, [], List, nat_lt, option_to_list, true, OnErr, OnOk, ◌^◌};
 ghost use Rattle.vt_location.specs.declared.numbers.MountId.{MountId};
 ghost use Rattle.vt_location.specs.declared.numbers.NamespaceId.{NamespaceId};
 ghost use Rattle.vt_location.specs.declared.locations.Location.{Location};
-ghost use Rattle.vt_location.specs.declared.locations.NodeRef.{NodeRef};
 ghost use Rattle.vt_mount.specs.Reserved.{Reserves};
-ghost use Rattle.vt_mount.specs.Indexes.{has_small_point, is_at, is_in, is_on, is_over, listed_at, listed_in, listed_on};
+ghost use Rattle.vt_mount.specs.Indexes.{count_at, count_left, count_put, has_small_point, is_at, is_in, is_on, listed_in, listed_on};
 ghost use Rattle.vt_location.specs.Locations.{is_small_node};
-ghost use Rattle.vt_location.specs.SameNodes.{same_node};
-ghost use Rattle.vt_mount.specs.Indexes.{listed_over, put_in_place, relisted, same_namespace, same_place};
+ghost use Rattle.vt_mount.specs.Indexes.{put_in_place, relisted, same_namespace, same_place};
 ghost use Rattle.vt_mount.specs.Moving.{is_small_point};
-ghost use Rattle.vt_mount.specs.Indexes.{stood_at, stood_on, stood_over, taken};
+ghost use Rattle.vt_mount.specs.Indexes.{stood_at, stood_on, taken};
 ghost use Rattle.vt_mount.specs.Rising.{same_id};
+ghost use Rattle.vt_mount.specs.declared.standing.Standing.{Standing};
 ghost use Rattle.vt_spec.specs.Lists.{holds_of};
 
-use crate::lists::MountsBy;
+use crate::lists::ListsBy;
 use crate::namespaces::MountsByNamespace;
+use crate::standing::Standing;
 use std::alloc::{AllocError, Global};
 use vt_location::{Location, Mount, MountId, NamespaceId, NodeRef};
 
-/// The mounts by their namespace, and by the mount, the location and the inode that they stand on.
+/// The mounts by their namespace, and by the mount and the inode that they stand on.
 #[derive(Debug, Drop)]
 pub(crate) struct Indexes {
     pub(crate) by_namespace: MountsByNamespace,
-    pub(crate) by_parent: MountsBy<MountId>,
-    pub(crate) by_location: MountsBy<Location>,
-    pub(crate) by_inode: MountsBy<NodeRef>,
+    pub(crate) by_parent: ListsBy<MountId, MountId>,
+    pub(crate) by_inode: ListsBy<NodeRef, Standing>,
+}
+
+// What is listed for a mount at a location.
+#[inline(always)]
+fn standing(place: Location, mount: MountId) -> Standing
+    ensures { result ≡ record { parent = place.mount; mount = mount } }
+{
+    Standing {
+        parent: place.mount,
+        mount,
+    }
 }
 
 impl Indexes {
@@ -33,14 +43,12 @@ impl Indexes {
     pub(crate) fn new(alloc: Global) -> Self
         ensures namespace { (q : NamespaceId) → listed_in result q ≡ [] }
         ensures parent { (q : MountId) → listed_on result q ≡ [] }
-        ensures place { (q : Location) → listed_at result q ≡ [] }
-        ensures inode { (q : NodeRef) → listed_over result q ≡ [] }
+        ensures place { (q : Location) (one : MountId) → count_at result q one ≡ 0 }
     {
         Indexes {
             by_namespace: MountsByNamespace::new(alloc),
-            by_parent: MountsBy::new(alloc),
-            by_location: MountsBy::new(alloc),
-            by_inode: MountsBy::new(alloc),
+            by_parent: ListsBy::new(alloc),
+            by_inode: ListsBy::new(alloc),
         }
     }
 
@@ -53,8 +61,7 @@ impl Indexes {
     ) -> Result<(), AllocError>
         ensures namespace { (q : NamespaceId) → listed_in self.new q ≡ listed_in self.old q }
         ensures parent { (q : MountId) → listed_on self.new q ≡ listed_on self.old q }
-        ensures place { (q : Location) → listed_at self.new q ≡ listed_at self.old q }
-        ensures inode { (q : NodeRef) → listed_over self.new q ≡ listed_over self.old q }
+        ensures place { (q : Location) (one : MountId) → count_at self.new q one ≡ count_at self.old q one }
         ensures ok { OnOk result ((namespaces : List NamespaceId) (places : List Location)
             → Reserves self.old namespaces places
             → Reserves self.new (option_to_list namespace ++ namespaces) (option_to_list place ++ places)) }
@@ -67,8 +74,7 @@ impl Indexes {
     fn reserve_in(&mut self, namespace: Option<NamespaceId>) -> Result<(), AllocError>
         ensures namespace { (q : NamespaceId) → listed_in self.new q ≡ listed_in self.old q }
         ensures parent { self.new.by_parent ≡ self.old.by_parent }
-        ensures place { self.new.by_location ≡ self.old.by_location }
-        ensures inode { self.new.by_inode ≡ self.old.by_inode }
+        ensures place { self.new.by_inode ≡ self.old.by_inode }
         ensures ok { OnOk result ((namespaces : List NamespaceId) (places : List Location)
             → Reserves self.old namespaces places
             → Reserves self.new (option_to_list namespace ++ namespaces) places) }
@@ -83,8 +89,7 @@ impl Indexes {
     fn reserve_at(&mut self, place: Option<Location>) -> Result<(), AllocError>
         ensures namespace { self.new.by_namespace ≡ self.old.by_namespace }
         ensures parent { (q : MountId) → listed_on self.new q ≡ listed_on self.old q }
-        ensures place { (q : Location) → listed_at self.new q ≡ listed_at self.old q }
-        ensures inode { (q : NodeRef) → listed_over self.new q ≡ listed_over self.old q }
+        ensures place { (q : Location) (one : MountId) → count_at self.new q one ≡ count_at self.old q one }
         ensures ok { OnOk result ((namespaces : List NamespaceId) (places : List Location)
             → Reserves self.old namespaces places → Reserves self.new namespaces (option_to_list place ++ places)) }
     {
@@ -92,7 +97,6 @@ impl Indexes {
             return Ok(());
         };
         self.by_parent.reserve(place.mount)?;
-        self.by_location.reserve(place)?;
         self.by_inode.reserve(place.node)
     }
 
@@ -100,8 +104,7 @@ impl Indexes {
     pub(crate) fn release(&mut self, namespace: Option<NamespaceId>, place: Option<Location>)
         ensures namespace { (q : NamespaceId) → listed_in self.new q ≡ listed_in self.old q }
         ensures parent { (q : MountId) → listed_on self.new q ≡ listed_on self.old q }
-        ensures place { (q : Location) → listed_at self.new q ≡ listed_at self.old q }
-        ensures inode { (q : NodeRef) → listed_over self.new q ≡ listed_over self.old q }
+        ensures place { (q : Location) (one : MountId) → count_at self.new q one ≡ count_at self.old q one }
     {
         self.release_in(namespace);
         self.release_at(place);
@@ -111,8 +114,7 @@ impl Indexes {
     fn release_in(&mut self, namespace: Option<NamespaceId>)
         ensures namespace { (q : NamespaceId) → listed_in self.new q ≡ listed_in self.old q }
         ensures parent { self.new.by_parent ≡ self.old.by_parent }
-        ensures place { self.new.by_location ≡ self.old.by_location }
-        ensures inode { self.new.by_inode ≡ self.old.by_inode }
+        ensures place { self.new.by_inode ≡ self.old.by_inode }
     {
         if let Some(namespace) = namespace {
             self.by_namespace.release(namespace);
@@ -123,12 +125,10 @@ impl Indexes {
     fn release_at(&mut self, place: Option<Location>)
         ensures namespace { self.new.by_namespace ≡ self.old.by_namespace }
         ensures parent { (q : MountId) → listed_on self.new q ≡ listed_on self.old q }
-        ensures place { (q : Location) → listed_at self.new q ≡ listed_at self.old q }
-        ensures inode { (q : NodeRef) → listed_over self.new q ≡ listed_over self.old q }
+        ensures place { (q : Location) (one : MountId) → count_at self.new q one ≡ count_at self.old q one }
     {
         if let Some(place) = place {
             self.by_parent.release(&place.mount);
-            self.by_location.release(&place);
             self.by_inode.release(&place.node);
         }
     }
@@ -140,19 +140,16 @@ impl Indexes {
             ≡ put_in_place (is_in q mount.now) mount.now.number (listed_in self.old q)) }
         ensures parent_ok { OnOk result ((q : MountId) → listed_on self.new q
             ≡ put_in_place (is_on q mount.now) mount.now.number (listed_on self.old q)) }
-        ensures place_ok { OnOk result ((q : Location) → listed_at self.new q
-            ≡ put_in_place (is_at q mount.now) mount.now.number (listed_at self.old q)) }
-        ensures inode_ok { OnOk result ((q : NodeRef) → listed_over self.new q
-            ≡ put_in_place (is_over q mount.now) mount.now.number (listed_over self.old q)) }
+        ensures place_ok { OnOk result ((q : Location) (one : MountId) → count_at self.new q one
+            ≡ count_put (is_at q mount.now && same_id one mount.now.number) (count_at self.old q one)) }
         // without the mount, the lists are as they were
         ensures namespace_rest { (q : NamespaceId) → taken (is_in q mount.now) mount.now.number (listed_in self.new q)
             ≡ taken (is_in q mount.now) mount.now.number (listed_in self.old q) }
         ensures parent_rest { (q : MountId) → taken (is_on q mount.now) mount.now.number (listed_on self.new q)
             ≡ taken (is_on q mount.now) mount.now.number (listed_on self.old q) }
-        ensures place_rest { (q : Location) → taken (is_at q mount.now) mount.now.number (listed_at self.new q)
-            ≡ taken (is_at q mount.now) mount.now.number (listed_at self.old q) }
-        ensures inode_rest { (q : NodeRef) → taken (is_over q mount.now) mount.now.number (listed_over self.new q)
-            ≡ taken (is_over q mount.now) mount.now.number (listed_over self.old q) }
+        ensures place_rest { (q : Location) (one : MountId)
+            → count_left (is_at q mount.now && same_id one mount.now.number) (count_at self.new q one)
+            ≡ count_left (is_at q mount.now && same_id one mount.now.number) (count_at self.old q one) }
     {
         self.add_in(mount.namespace, mount.number)?;
         self.add_at(mount.mount_point, mount.number)
@@ -164,8 +161,7 @@ impl Indexes {
             ≡ put_in_place (holds_of (same_namespace q) namespace) mount (listed_in self.old q)) }
         ensures namespace_err { OnErr result ((q : NamespaceId) → listed_in self.new q ≡ listed_in self.old q) }
         ensures parent { self.new.by_parent ≡ self.old.by_parent }
-        ensures place { self.new.by_location ≡ self.old.by_location }
-        ensures inode { self.new.by_inode ≡ self.old.by_inode }
+        ensures place { self.new.by_inode ≡ self.old.by_inode }
     {
         match namespace {
             Some(namespace) => self.by_namespace.add(namespace, mount),
@@ -179,23 +175,19 @@ impl Indexes {
         ensures namespace { self.new.by_namespace ≡ self.old.by_namespace }
         ensures parent_ok { OnOk result ((q : MountId) → listed_on self.new q
             ≡ put_in_place (stood_on q place) mount (listed_on self.old q)) }
-        ensures place_ok { OnOk result ((q : Location) → listed_at self.new q
-            ≡ put_in_place (stood_at q place) mount (listed_at self.old q)) }
-        ensures inode_ok { OnOk result ((q : NodeRef) → listed_over self.new q
-            ≡ put_in_place (stood_over q place) mount (listed_over self.old q)) }
+        ensures place_ok { OnOk result ((q : Location) (one : MountId) → count_at self.new q one
+            ≡ count_put (stood_at q place && same_id one mount) (count_at self.old q one)) }
         ensures parent_rest { (q : MountId) → taken (stood_on q place) mount (listed_on self.new q)
             ≡ taken (stood_on q place) mount (listed_on self.old q) }
-        ensures place_rest { (q : Location) → taken (stood_at q place) mount (listed_at self.new q)
-            ≡ taken (stood_at q place) mount (listed_at self.old q) }
-        ensures inode_rest { (q : NodeRef) → taken (stood_over q place) mount (listed_over self.new q)
-            ≡ taken (stood_over q place) mount (listed_over self.old q) }
+        ensures place_rest { (q : Location) (one : MountId)
+            → count_left (stood_at q place && same_id one mount) (count_at self.new q one)
+            ≡ count_left (stood_at q place && same_id one mount) (count_at self.old q one) }
     {
         let Some(place) = place else {
             return Ok(());
         };
         self.by_parent.add_again(place.mount, mount)?;
-        self.by_location.add(place, mount)?;
-        self.by_inode.add(place.node, mount)
+        self.by_inode.add(place.node, standing(place, mount))
     }
 
     /// Adds a mount to its lists, in which room is reserved. It does not allocate.
@@ -206,10 +198,8 @@ impl Indexes {
             ≡ put_in_place (is_in q mount.now) mount.now.number (listed_in self.old q) }
         ensures parent { (q : MountId) → listed_on self.new q
             ≡ put_in_place (is_on q mount.now) mount.now.number (listed_on self.old q) }
-        ensures place { (q : Location) → listed_at self.new q
-            ≡ put_in_place (is_at q mount.now) mount.now.number (listed_at self.old q) }
-        ensures inode { (q : NodeRef) → listed_over self.new q
-            ≡ put_in_place (is_over q mount.now) mount.now.number (listed_over self.old q) }
+        ensures place { (q : Location) (one : MountId) → count_at self.new q one
+            ≡ count_put (is_at q mount.now && same_id one mount.now.number) (count_at self.old q one) }
         ensures reserves { (namespaces : List NamespaceId) (places : List Location)
             → Reserves self.old (option_to_list mount.now.namespace ++ namespaces)
             (option_to_list mount.now.mount_point ++ places) → Reserves self.new namespaces places }
@@ -226,8 +216,7 @@ impl Indexes {
         ensures namespace { (q : NamespaceId) → listed_in self.new q
             ≡ put_in_place (holds_of (same_namespace q) namespace) mount (listed_in self.old q) }
         ensures parent { self.new.by_parent ≡ self.old.by_parent }
-        ensures place { self.new.by_location ≡ self.old.by_location }
-        ensures inode { self.new.by_inode ≡ self.old.by_inode }
+        ensures place { self.new.by_inode ≡ self.old.by_inode }
         ensures reserves { (namespaces : List NamespaceId) (places : List Location)
             → Reserves self.old (option_to_list namespace ++ namespaces) places → Reserves self.new namespaces places }
     {
@@ -246,17 +235,15 @@ impl Indexes {
         ensures namespace { (q : NamespaceId) → listed_in self.new q
             ≡ taken (holds_of (same_namespace q) namespace) mount (listed_in self.old q) }
         ensures parent { (q : MountId) → listed_on self.new q ≡ taken (stood_on q place) mount (listed_on self.old q) }
-        ensures place { (q : Location) → listed_at self.new q ≡ taken (stood_at q place) mount (listed_at self.old q) }
-        ensures inode { (q : NodeRef) → listed_over self.new q
-            ≡ taken (stood_over q place) mount (listed_over self.old q) }
+        ensures place { (q : Location) (one : MountId) → count_at self.new q one
+            ≡ count_left (stood_at q place && same_id one mount) (count_at self.old q one) }
     {
         if let Some(namespace) = namespace {
             self.by_namespace.remove(namespace, mount);
         }
         if let Some(place) = place {
             self.by_parent.remove_again(&place.mount, mount);
-            self.by_location.remove(&place, mount);
-            self.by_inode.remove(&place.node, mount);
+            self.by_inode.remove(&place.node, standing(place, mount));
         }
     }
 
@@ -271,13 +258,11 @@ impl Indexes {
         ensures namespace { (q : NamespaceId) → listed_in self.new q ≡ listed_in self.old q }
         ensures parent_ok { OnOk result ((q : MountId) → listed_on self.new q
             ≡ relisted (stood_on q was) (same_id q place.mount) mount (listed_on self.old q)) }
-        ensures place_ok { OnOk result ((q : Location) → listed_at self.new q
-            ≡ relisted (stood_at q was) (same_place q place) mount (listed_at self.old q)) }
-        ensures inode_ok { OnOk result ((q : NodeRef) → listed_over self.new q
-            ≡ relisted (stood_over q was) (same_node q place.node) mount (listed_over self.old q)) }
+        ensures place_ok { OnOk result ((q : Location) (one : MountId) → count_at self.new q one
+            ≡ count_put (same_place q place && same_id one mount)
+            (count_left (stood_at q was && same_id one mount) (count_at self.old q one))) }
         ensures parent_err { OnErr result ((q : MountId) → listed_on self.new q ≡ listed_on self.old q) }
-        ensures place_err { OnErr result ((q : Location) → listed_at self.new q ≡ listed_at self.old q) }
-        ensures inode_err { OnErr result ((q : NodeRef) → listed_over self.new q ≡ listed_over self.old q) }
+        ensures place_err { OnErr result ((q : Location) (one : MountId) → count_at self.new q one ≡ count_at self.old q one) }
     {
         if self.reserve(None, Some(place)).is_err() {
             self.release(None, Some(place));
@@ -296,10 +281,9 @@ impl Indexes {
         ensures namespace { (q : NamespaceId) → listed_in self.new q ≡ listed_in self.old q }
         ensures parent { (q : MountId) → listed_on self.new q
             ≡ relisted (stood_on q was) (same_id q place.mount) mount (listed_on self.old q) }
-        ensures place { (q : Location) → listed_at self.new q
-            ≡ relisted (stood_at q was) (same_place q place) mount (listed_at self.old q) }
-        ensures inode { (q : NodeRef) → listed_over self.new q
-            ≡ relisted (stood_over q was) (same_node q place.node) mount (listed_over self.old q) }
+        ensures place { (q : Location) (one : MountId) → count_at self.new q one
+            ≡ count_put (same_place q place && same_id one mount)
+            (count_left (stood_at q was && same_id one mount) (count_at self.old q one)) }
         ensures reserves { (namespaces : List NamespaceId) (places : List Location)
             → Reserves self.old namespaces (place ∷ places) → Reserves self.new namespaces places }
     {
@@ -311,16 +295,14 @@ impl Indexes {
     fn take_out(&mut self, was: Option<Location>, mount: MountId)
         ensures namespace { self.new.by_namespace ≡ self.old.by_namespace }
         ensures parent { (q : MountId) → listed_on self.new q ≡ taken (stood_on q was) mount (listed_on self.old q) }
-        ensures place { (q : Location) → listed_at self.new q ≡ taken (stood_at q was) mount (listed_at self.old q) }
-        ensures inode { (q : NodeRef) → listed_over self.new q
-            ≡ taken (stood_over q was) mount (listed_over self.old q) }
+        ensures place { (q : Location) (one : MountId) → count_at self.new q one
+            ≡ count_left (stood_at q was && same_id one mount) (count_at self.old q one) }
         ensures reserves { (namespaces : List NamespaceId) (places : List Location)
             → Reserves self.old namespaces places → Reserves self.new namespaces places }
     {
         if let Some(was) = was {
             self.by_parent.take_out(&was.mount, mount);
-            self.by_location.take_out(&was, mount);
-            self.by_inode.take_out(&was.node, mount);
+            self.by_inode.take_out(&was.node, standing(was, mount));
         }
     }
 
@@ -331,28 +313,23 @@ impl Indexes {
         ensures namespace { self.new.by_namespace ≡ self.old.by_namespace }
         ensures parent { (q : MountId)
             → listed_on self.new q ≡ put_in_place (same_id q place.mount) mount (listed_on self.old q) }
-        ensures place { (q : Location)
-            → listed_at self.new q ≡ put_in_place (same_place q place) mount (listed_at self.old q) }
-        ensures inode { (q : NodeRef) → listed_over self.new q
-            ≡ put_in_place (same_node q place.node) mount (listed_over self.old q) }
+        ensures place { (q : Location) (one : MountId) → count_at self.new q one
+            ≡ count_put (same_place q place && same_id one mount) (count_at self.old q one) }
         ensures reserves { (namespaces : List NamespaceId) (places : List Location)
             → Reserves self.old namespaces (place ∷ places) → Reserves self.new namespaces places }
     {
         self.by_parent.put_in(&place.mount, mount);
-        self.by_location.put_in(&place, mount);
-        self.by_inode.put_in(&place.node, mount);
+        self.by_inode.put_in(&place.node, standing(place, mount));
     }
 
     /// Drops the lists at a location that are empty.
     pub(crate) fn drop_empty(&mut self, was: Option<Location>)
         ensures namespace { self.new.by_namespace ≡ self.old.by_namespace }
         ensures parent { (q : MountId) → listed_on self.new q ≡ listed_on self.old q }
-        ensures place { (q : Location) → listed_at self.new q ≡ listed_at self.old q }
-        ensures inode { (q : NodeRef) → listed_over self.new q ≡ listed_over self.old q }
+        ensures place { (q : Location) (one : MountId) → count_at self.new q one ≡ count_at self.old q one }
     {
         if let Some(was) = was {
             self.by_parent.drop_empty(&was.mount);
-            self.by_location.drop_empty(&was);
             self.by_inode.drop_empty(&was.node);
         }
     }
@@ -361,9 +338,8 @@ impl Indexes {
     pub(crate) fn lift(&mut self, was: Option<Location>, mount: MountId)
         ensures namespace { (q : NamespaceId) → listed_in self.new q ≡ listed_in self.old q }
         ensures parent { (q : MountId) → listed_on self.new q ≡ taken (stood_on q was) mount (listed_on self.old q) }
-        ensures place { (q : Location) → listed_at self.new q ≡ taken (stood_at q was) mount (listed_at self.old q) }
-        ensures inode { (q : NodeRef) → listed_over self.new q
-            ≡ taken (stood_over q was) mount (listed_over self.old q) }
+        ensures place { (q : Location) (one : MountId) → count_at self.new q one
+            ≡ count_left (stood_at q was && same_id one mount) (count_at self.old q one) }
     {
         self.take_out(was, mount);
         self.drop_empty(was);

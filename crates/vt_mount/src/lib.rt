@@ -12,6 +12,7 @@ mod moving;
 mod namespaces;
 mod pivoting;
 mod places;
+mod standing;
 mod trees;
 
 pub use changes::Left;

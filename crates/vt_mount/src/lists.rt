@@ -1,38 +1,39 @@
-//! Mounts under keys, in the order of their numbers.
+//! Lists under keys, each in the order of its elements.
 ghost use Rattle.std.specs.Prelude.{◌≡◌, ◌+◌, ◌-◌, ◌<◌, [], Some, filter, if◌then◌else◌, is_some, not, position, true, OnErr, OnOk};
 ghost use Rattle.std.specs.Map.{keys_of, lookup};
 ghost use Rattle.vt_mount.specs.Listed.{reserved, listed};
-ghost use Rattle.vt_mount.specs.Rising.{inserted, same_id};
+ghost use Rattle.vt_mount.specs.Rising.{inserted, rises};
 
-use crate::ascending::Ascending;
+use crate::ascending::{Ascending, Ordered};
 use indexmap::IndexMap;
 use indexmap::map::Entry;
 use std::alloc::{AllocError, Global};
 use std::hash::Hash;
-use vt_location::MountId;
 
-/// Lists of mounts, each under a key: a namespace, a mount, a location or an inode.
+/// Lists, each under a key: mounts under a namespace or a mount, and what stands on an inode under that.
 #[derive(Debug, Drop)]
-pub(crate) struct MountsBy<K: Eq + Hash> {
-    lists: IndexMap<K, Ascending>,
+pub(crate) struct ListsBy<K: Eq + Hash, T: Ordered> {
+    lists: IndexMap<K, Ascending<T>>,
     // Where the list was that changed last: the next change is often one of the same list.
     recent: usize,
 }
 
-impl<K: Eq + Hash + Copy + Drop> MountsBy<K> {
+impl<K: Eq + Hash + Copy + Drop, T: Ordered> ListsBy<K, T> {
     /// No lists. It does not allocate.
     pub(crate) fn new(alloc: Global) -> Self
         ensures { (q : K) → listed K.eq q result ≡ [] }
     {
-        MountsBy {
+        ListsBy {
             lists: IndexMap::new(alloc),
             recent: 0,
         }
     }
 
-    /// The mounts under a key.
-    pub(crate) fn get(&self, key: &K) -> &[MountId]
-        ensures { result.now ≡ listed K.eq key.now self.now }
+    /// What is listed under a key.
+    #[inline(always)]
+    pub(crate) fn get(&self, key: &K) -> &[T]
+        ensures value { result.now ≡ listed K.eq key.now self.now }
+        ensures rising { rises T.before result.now ≡ true }
     {
         if self.lists.is_empty() {
             return &[];
@@ -43,8 +44,8 @@ impl<K: Eq + Hash + Copy + Drop> MountsBy<K> {
         }
     }
 
-    /// The mounts under a key, of which the list is likely the one that changed last.
-    pub(crate) fn get_again(&self, key: &K) -> &[MountId]
+    /// What is listed under a key, of which the list is likely the one that changed last.
+    pub(crate) fn get_again(&self, key: &K) -> &[T]
         ensures { result.now ≡ listed K.eq key.now self.now }
     {
         match self.lists.get_index(self.recent) {
@@ -74,7 +75,7 @@ impl<K: Eq + Hash + Copy + Drop> MountsBy<K> {
         self.lists.get_index_of(key)
     }
 
-    /// Reserves room for one more mount under a key, beside the room that is reserved there already.
+    /// Reserves room for one more under a key, beside the room that is reserved there already.
     pub(crate) fn reserve(&mut self, key: K) -> Result<(), AllocError>
         ensures same { (q : K) → listed K.eq q self.new ≡ listed K.eq q self.old }
         ensures ok { OnOk result ((q : K) → reserved K.eq q self.new
@@ -90,40 +91,40 @@ impl<K: Eq + Hash + Copy + Drop> MountsBy<K> {
         Ok(())
     }
 
-    /// Adds a mount under a key, in the order of numbers.
-    pub(crate) fn add(&mut self, key: K, mount: MountId) -> Result<(), AllocError>
+    /// Adds one under a key, in order.
+    pub(crate) fn add(&mut self, key: K, one: T) -> Result<(), AllocError>
         ensures ok { OnOk result ((q : K) → listed K.eq q self.new
-            ≡ (if K.eq q key then inserted mount (listed K.eq q self.old) else listed K.eq q self.old)) }
+            ≡ (if K.eq q key then inserted T.before one (listed K.eq q self.old) else listed K.eq q self.old)) }
         ensures err { OnErr result ((q : K) → listed K.eq q self.new ≡ listed K.eq q self.old) }
     {
         let alloc = *self.lists.allocator();
         match self.lists.entry(key)? {
-            Entry::Occupied(entry) => entry.into_mut().add(alloc, mount),
+            Entry::Occupied(entry) => entry.into_mut().add(alloc, one),
             Entry::Vacant(entry) => {
-                entry.insert(Ascending::of(mount));
+                entry.insert(Ascending::of(one));
                 Ok(())
             }
         }
     }
 
-    /// Adds a mount as `add` does, where the list is likely the one that changed last.
-    pub(crate) fn add_again(&mut self, key: K, mount: MountId) -> Result<(), AllocError>
+    /// Adds one as `add` does, where the list is likely the one that changed last.
+    pub(crate) fn add_again(&mut self, key: K, one: T) -> Result<(), AllocError>
         ensures ok { OnOk result ((q : K) → listed K.eq q self.new
-            ≡ (if K.eq q key then inserted mount (listed K.eq q self.old) else listed K.eq q self.old)) }
+            ≡ (if K.eq q key then inserted T.before one (listed K.eq q self.old) else listed K.eq q self.old)) }
         ensures err { OnErr result ((q : K) → listed K.eq q self.new ≡ listed K.eq q self.old) }
     {
         if self.is_recent(&key) {
-            return self.add_at(self.recent, mount);
+            return self.add_at(self.recent, one);
         }
         self.recent = self.lists.len();
-        self.add(key, mount)
+        self.add(key, one)
     }
 
-    // Adds a mount to the list at a place.
-    fn add_at(&mut self, place: usize, mount: MountId) -> Result<(), AllocError>
+    // Adds one to the list at a place.
+    fn add_at(&mut self, place: usize, one: T) -> Result<(), AllocError>
         ensures ok { OnOk result ((key : K) → position (K.eq key) (keys_of self.old.lists.entries) ≡ Some place
             → (q : K) → listed K.eq q self.new
-            ≡ (if K.eq q key then inserted mount (listed K.eq q self.old) else listed K.eq q self.old)) }
+            ≡ (if K.eq q key then inserted T.before one (listed K.eq q self.old) else listed K.eq q self.old)) }
         ensures err { OnErr result ((key : K) → position (K.eq key) (keys_of self.old.lists.entries) ≡ Some place
             → (q : K) → listed K.eq q self.new ≡ listed K.eq q self.old) }
     {
@@ -131,31 +132,31 @@ impl<K: Eq + Hash + Copy + Drop> MountsBy<K> {
         let Some(list) = self.lists.get_index_mut(place) else {
             return Err(AllocError);
         };
-        list.add(alloc, mount)
+        list.add(alloc, one)
     }
 
-    /// Inserts a mount under a key, where room is reserved, in the order of numbers. It does not allocate.
-    pub(crate) fn put_in(&mut self, key: &K, mount: MountId)
+    /// Inserts one under a key, where room is reserved, in order. It does not allocate.
+    pub(crate) fn put_in(&mut self, key: &K, one: T)
         requires { 0 < reserved K.eq key.now self.old }
         ensures inserted { (q : K) → listed K.eq q self.new
-            ≡ (if K.eq q key.now then inserted mount (listed K.eq q self.old) else listed K.eq q self.old) }
+            ≡ (if K.eq q key.now then inserted T.before one (listed K.eq q self.old) else listed K.eq q self.old) }
         ensures reserved { (q : K) → reserved K.eq q self.new
             ≡ (if K.eq q key.now then reserved K.eq q self.old - 1 else reserved K.eq q self.old) }
     {
         if let Some(list) = self.lists.get_mut(key) {
-            list.insert(mount);
+            list.insert(one);
         }
     }
 
-    /// Removes a mount from the list under a key, which stays even if it is empty. It does not allocate.
-    pub(crate) fn take_out(&mut self, key: &K, mount: MountId)
+    /// Removes one from the list under a key, which stays even if it is empty. It does not allocate.
+    pub(crate) fn take_out(&mut self, key: &K, one: T)
         ensures taken { (q : K) → listed K.eq q self.new
-            ≡ (if K.eq q key.now then filter (λ other. not (same_id other mount)) (listed K.eq q self.old)
+            ≡ (if K.eq q key.now then filter (λ other. not (T.eq other one)) (listed K.eq q self.old)
             else listed K.eq q self.old) }
         ensures reserved { (q : K) → reserved K.eq q self.new ≡ reserved K.eq q self.old }
     {
         if let Some(list) = self.lists.get_mut(key) {
-            list.remove(mount);
+            list.remove(one);
         }
     }
 
@@ -185,40 +186,40 @@ impl<K: Eq + Hash + Copy + Drop> MountsBy<K> {
         }
     }
 
-    /// Removes a mount from the list under a key. It does not allocate.
-    pub(crate) fn remove(&mut self, key: &K, mount: MountId)
+    /// Removes one from the list under a key. It does not allocate.
+    pub(crate) fn remove(&mut self, key: &K, one: T)
         ensures { (q : K) → listed K.eq q self.new
-            ≡ (if K.eq q key.now then filter (λ other. not (same_id other mount)) (listed K.eq q self.old)
+            ≡ (if K.eq q key.now then filter (λ other. not (T.eq other one)) (listed K.eq q self.old)
             else listed K.eq q self.old) }
     {
         if let Some(place) = self.lists.get_index_of(key) {
-            self.remove_at(place, mount);
+            self.remove_at(place, one);
         }
     }
 
-    /// Removes a mount as `remove` does, where the list is likely the one that changed last.
-    pub(crate) fn remove_again(&mut self, key: &K, mount: MountId)
+    /// Removes one as `remove` does, where the list is likely the one that changed last.
+    pub(crate) fn remove_again(&mut self, key: &K, one: T)
         ensures { (q : K) → listed K.eq q self.new
-            ≡ (if K.eq q key.now then filter (λ other. not (same_id other mount)) (listed K.eq q self.old)
+            ≡ (if K.eq q key.now then filter (λ other. not (T.eq other one)) (listed K.eq q self.old)
             else listed K.eq q self.old) }
     {
         if let Some(place) = self.place_of(key) {
             self.recent = place;
-            self.remove_at(place, mount);
+            self.remove_at(place, one);
         }
     }
 
-    // Removes a mount from the list at a place, and drops the list if it gets empty.
-    fn remove_at(&mut self, place: usize, mount: MountId)
+    // Removes one from the list at a place, and drops the list if it gets empty.
+    fn remove_at(&mut self, place: usize, one: T)
         ensures { (key : K) → position (K.eq key) (keys_of self.old.lists.entries) ≡ Some place
             → (q : K) → listed K.eq q self.new
-            ≡ (if K.eq q key then filter (λ other. not (same_id other mount)) (listed K.eq q self.old)
+            ≡ (if K.eq q key then filter (λ other. not (T.eq other one)) (listed K.eq q self.old)
             else listed K.eq q self.old) }
     {
         let Some(list) = self.lists.get_index_mut(place) else {
             return;
         };
-        list.remove(mount);
+        list.remove(one);
         if list.is_empty() {
             self.lists.swap_remove_index(place);
         }

@@ -2,16 +2,16 @@
 ghost use Rattle.std.specs.Prelude.{◌≡◌, ◌+◌, ◌-◌, ◌<◌, ◌≤◌, [], filter, if◌then◌else◌, length, not, OnErr, OnOk};
 ghost use Rattle.vt_location.specs.declared.numbers.NamespaceId.{NamespaceId};
 ghost use Rattle.vt_mount.specs.Listed.{NoneHasMore, listed, reserved, same_namespace};
-ghost use Rattle.vt_mount.specs.Rising.{inserted, same_id};
+ghost use Rattle.vt_mount.specs.Rising.{inserted, precedes, same_id};
 
-use crate::lists::MountsBy;
+use crate::lists::ListsBy;
 use std::alloc::{AllocError, Global};
 use vt_location::{MountId, NamespaceId};
 
 /// The mounts of each namespace, in the order of their numbers.
 #[derive(Debug, Drop)]
 pub(crate) struct MountsByNamespace {
-    lists: MountsBy<NamespaceId>,
+    lists: ListsBy<NamespaceId, MountId>,
     // The most mounts that a namespace has had since the first.
     most: usize,
     ghost bounded: { NoneHasMore lists most },
@@ -23,7 +23,7 @@ impl MountsByNamespace {
         ensures { (q : NamespaceId) → listed same_namespace q result.lists ≡ [] }
     {
         MountsByNamespace {
-            lists: MountsBy::new(alloc),
+            lists: ListsBy::new(alloc),
             most: 0,
         }
     }
@@ -64,7 +64,7 @@ impl MountsByNamespace {
     /// Adds a mount, in the order of numbers.
     pub(crate) fn add(&mut self, namespace: NamespaceId, mount: MountId) -> Result<(), AllocError>
         ensures ok { OnOk result ((q : NamespaceId) → listed same_namespace q self.new.lists
-            ≡ (if same_namespace q namespace then inserted mount (listed same_namespace q self.old.lists)
+            ≡ (if same_namespace q namespace then inserted precedes mount (listed same_namespace q self.old.lists)
             else listed same_namespace q self.old.lists)) }
         ensures err { OnErr result ((q : NamespaceId)
             → listed same_namespace q self.new.lists ≡ listed same_namespace q self.old.lists) }
@@ -79,7 +79,7 @@ impl MountsByNamespace {
     pub(crate) fn put_in(&mut self, namespace: NamespaceId, mount: MountId)
         requires { 0 < reserved same_namespace namespace self.old.lists }
         ensures inserted { (q : NamespaceId) → listed same_namespace q self.new.lists
-            ≡ (if same_namespace q namespace then inserted mount (listed same_namespace q self.old.lists)
+            ≡ (if same_namespace q namespace then inserted precedes mount (listed same_namespace q self.old.lists)
             else listed same_namespace q self.old.lists) }
         ensures reserved { (q : NamespaceId) → reserved same_namespace q self.new.lists
             ≡ (if same_namespace q namespace then reserved same_namespace q self.old.lists - 1

@@ -1,5 +1,5 @@
 //! Which mounts are at a location, on a mount, on an inode and in a namespace.
-ghost use Rattle.std.specs.Prelude.{IfSome, Some, ◌≡◌, ◌≤◌, ◌&&◌, filter, find, is_some, length, map, nat_eq, not, option_map, true, unwrap_or, ℕ};
+ghost use Rattle.std.specs.Prelude.{IfOk, IfSome, Some, ◌≡◌, ◌≤◌, ◌&&◌, filter, find, is_some, length, map, nat_eq, not, option_map, true, unwrap_or, ℕ};
 ghost use Rattle.std.specs.List.{list_any};
 ghost use Rattle.vt_spec.specs.Lists.{holds_of};
 ghost use Rattle.vt_spec.specs.Machine.Mounts.{child_at, children, root_of, stands_on, topmost};
@@ -9,6 +9,8 @@ ghost use Rattle.vt_mount.specs.Attached.{AreOf, attached_in};
 ghost use Rattle.vt_mount.specs.MountsValue.{IsOnItsFilesystem, are_ascending, mounts_in, stands_over};
 
 use crate::mounts::{Mounts, kept_under};
+use crate::standing::{first_on, in_order};
+use std::alloc::AllocError;
 use vt_location::{Location, MountId, NamespaceId, NodeRef};
 
 /// The topmost mount over a location.
@@ -28,7 +30,7 @@ impl Mounts {
             ≡ option_map (λ child. child.number) (child_at nat_eq (mounts_in self.now) (location_of place)) }
         ensures order { are_ascending (mounts_in self.now) ≡ true }
     {
-        self.indexes.by_location.get(&place).first().copied()
+        first_on(self.indexes.by_inode.get(&place.node), place.mount)
     }
 
     /// The children of a mount, in the order of their numbers.
@@ -126,11 +128,11 @@ impl Mounts {
     }
 
     /// The mounts on an inode, through whatever mount it is seen, in the order of their numbers.
-    pub fn mounts_on(&self, inode: NodeRef) -> &[MountId]
-        ensures { map mount_number result.now
-            ≡ map (λ mount. mount.number) (filter (stands_over (number_of inode)) (mounts_in self.now)) }
+    pub fn mounts_on(&self, inode: NodeRef) -> Result<Vec<MountId>, AllocError>
+        ensures { IfOk result (λ ids. map mount_number ids.items
+            ≡ map (λ mount. mount.number) (filter (stands_over (number_of inode)) (mounts_in self.now))) }
     {
-        self.indexes.by_inode.get(&inode)
+        in_order(self.alloc(), self.indexes.by_inode.get(&inode))
     }
 
     /// Whether an inode is a mount point in this namespace, through whatever mount it is seen: EBUSY of rmdir(2).
@@ -144,7 +146,7 @@ impl Mounts {
             .by_inode
             .get(&inode)
             .iter()
-            .any(|id| self.is_in(*id, namespace))
+            .any(|one| self.is_in(one.mount, namespace))
     }
 
     /// Whether an inode is a mount point in any namespace, through whatever mount it is seen: EBUSY of rename(2).
@@ -156,7 +158,7 @@ impl Mounts {
             .by_inode
             .get(&inode)
             .iter()
-            .any(|id| self.is_attached(*id))
+            .any(|one| self.is_attached(one.mount))
     }
 
     // Whether a mount is attached in this namespace.

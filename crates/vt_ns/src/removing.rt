@@ -51,7 +51,7 @@ pub(crate) fn trees_on(
         (map (λ mount. mount.number) (filter (stands_over (number_of inode)) (mounts_in mounts.now)))) }
 {
     let mut all = Vec::new(alloc);
-    for id in mounts.mounts_on(inode) {
+    for id in mounts.mounts_on(inode)?.as_slice() {
         let tree = mounts.tree(*id)?;
         all.extend_from_slice(&tree)?;
     }

@@ -1,70 +1,55 @@
-use Rattle.std.proofs.Common.{ap, arith, get_or, nat_lt, refl, rules, subst, sym, true, ◌∙◌, ◌≡◌, vec_len}
-use Rattle.std.proofs.lemmas.List.{get_or_read_under}
+use Rattle.std.proofs.Common.{ap, arith, false, get_or, refl, rules, subst, sym, true, ◌∙◌, ◌≡◌, ◌<◌, length}
 use Rattle.std.proofs.lemmas.List.Sorted.{IsPartitionPoint-from_clause}
-use Rattle.vt_location.specs.declared.numbers.MountId.{MountId}
-use Rattle.vt_mount.specs.Rising.{rises, same_id}
-use Rattle.vt_mount.proofs.RisingLemmas.{is_parted_below, others, others-parted, others-remove, parted, parted-remove, parted_at, rises-remove}
+use Rattle.vt_deque.specs.SliceDeque.{items}
+use Rattle.vt_mount.specs.Rising.{rises}
+use Rattle.vt_mount.proofs.RisingLemmas.{is_parted_below, others_by, others-parted, others-remove, parted, parted-remove, parted_at, rises-remove}
 use Rattle.vt_mount.proofs.ascending.remove_within.Goals as goal
 
-pub loop-ids-init : goal.loop-ids-init
-loop-ids-init c =
-    let list = c.args.ids.now.items in
-    let mount = c.args.mount in
-    let slice = c.deref.result.now in
+pub loop-element-init : goal.loop-element-init
+loop-element-init g c =
+    let list = items c.args.list.now in
+    let one = c.args.element in
+    let slice = c.as_slice.result.now in
     let found = c.partition_point-place.ensures in
-    let point = IsPartitionPoint-from_clause (λ (other : MountId). nat_lt other.count mount.count) slice _
-    found.partitioned (is_parted_below mount _ list c.deref.ensures.value c.requires) (λ a r f called. search rules) in
+    let point = IsPartitionPoint-from_clause (λ other. g.T.Ordered.before other one) slice _
+    found.partitioned (is_parted_below g.met.T.Ordered.order one _ list c.as_slice.ensures c.requires) (λ a r f called. search rules) in
     record {
       others = refl;
       rising = c.requires;
-      parted = parted_at mount _ list c.deref.ensures.value _ point;
-      len = omega arith;
-      capacity = omega arith;
+      parted = parted_at g.met.T.Ordered.order one _ list c.as_slice.ensures _ point;
+      room = omega arith;
     }
 
-pub loop-ids-preserved : goal.loop-ids-preserved
-loop-ids-preserved c =
-    let mount = c.args.mount in
+pub loop-element-preserved : goal.loop-element-preserved
+loop-element-preserved g c =
+    let one = c.args.element in
     let place = c.partition_point-place.result in
-    let ids = c.loop-ids.ids in
-    let kept = c.loop-ids.invariant in
-    let inside = c.loop-ids-test.true in
-    let counted = c.len.ensures in
-    let len = ids.ok.0 in
-    let shorter = c.remove.ensures.len in
-    let room = c.remove.ensures.capacity in
-    let is_it : (d : MountId) → same_id (get_or ids.items place d) mount ≡ true = λ d. ap (λ other. same_id other mount)
-    (sym (get_or_read_under ids.items place (vec_len ids) c.index.result.now d c.index.ensures
-    (omega (arith, inside, counted)) len)) ∙ sym c.eq.ensures ∙ c.if-eq.true in
+    let list = items c.loop-element.list in
+    let kept = c.loop-element.invariant in
+    let is = c.as_slice-in-loop-element.ensures in
+    let within = subst (λ list. place < length list) is (c.is_at.ensures.within c.loop-element-test.true) in
+    let is_it : (d : g.row.T.Denot) → g.T.PartialEq.eq (get_or list place d) one ≡ true = λ d.
+    subst (λ list. g.T.PartialEq.eq (get_or list place d) one ≡ true) is
+    (sym (c.is_at.ensures.found d (c.is_at.ensures.within c.loop-element-test.true)) ∙ c.loop-element-test.true) in
+    let room = c.remove.ensures.room in
     record {
-      others = ap (others mount) c.remove.ensures.items
-          ∙ others-remove mount ids.items place (omega (arith, inside, counted, len)) is_it ∙ kept.others;
-      rising = subst (λ list. rises list ≡ true) (sym c.remove.ensures.items)
-          (rises-remove ids.items place kept.rising);
-      parted = subst (λ list. parted mount place list ≡ true) (sym c.remove.ensures.items)
-          (parted-remove mount ids.items place kept.parted);
-      len = omega (arith, kept.len, shorter);
-      capacity = omega (arith, kept.capacity, room);
+      others = ap (others_by g.T.PartialEq.eq one) c.remove.ensures.items
+          ∙ others-remove g.met.T.Ordered.order one list place within is_it ∙ kept.others;
+      rising = subst (λ list. rises g.T.Ordered.before list ≡ true) (sym c.remove.ensures.items)
+          (rises-remove g.met.T.Ordered.order list place kept.rising);
+      parted = subst (λ list. parted g.met.T.Ordered.order one place list ≡ true) (sym c.remove.ensures.items)
+          (parted-remove g.met.T.Ordered.order one list place kept.parted);
+      room = omega (arith, kept.room, room);
     }
 
-pub returns-else-eq-clause-items : goal.returns-else-eq-clause-items
-returns-else-eq-clause-items c =
-    let mount = c.args.mount in
+pub returns-clause-items : goal.returns-clause-items
+returns-clause-items g c =
+    let one = c.args.element in
     let place = c.partition_point-place.result in
-    let ids = c.loop-ids.ids in
-    let kept = c.loop-ids.invariant in
-    let inside = c.loop-ids-test.true in
-    let counted = c.len.ensures in
-    sym (others-parted mount ids.items place kept.rising kept.parted (λ d _. ap (λ other. same_id other mount)
-    (sym (get_or_read_under ids.items place (vec_len ids) c.index.result.now d c.index.ensures
-    (omega (arith, inside, counted)) ids.ok.0)) ∙ sym c.eq.ensures ∙ c.if-eq.false)) ∙ kept.others
-
-pub returns-after-loop-ids-clause-items : goal.returns-after-loop-ids-clause-items
-returns-after-loop-ids-clause-items c =
-    let ids = c.loop-ids.ids in
-    let kept = c.loop-ids.invariant in
-    let outside = c.loop-ids-test.false in
-    let counted = c.len.ensures in
-    let len = ids.ok.0 in
-    sym (others-parted c.args.mount ids.items c.partition_point-place.result kept.rising kept.parted
-    (λ d within. absurd (omega (arith, outside, counted, len, within)))) ∙ kept.others
+    let list = items c.loop-element.list in
+    let kept = c.loop-element.invariant in
+    let is = c.as_slice-in-loop-element.ensures in
+    let apart : (d : g.row.T.Denot) → place < length list → g.T.PartialEq.eq (get_or list place d) one ≡ false = λ d within.
+    subst (λ list. place < length list → g.T.PartialEq.eq (get_or list place d) one ≡ false) is
+    (λ within. sym (c.is_at.ensures.found d within) ∙ c.loop-element-test.false) within in
+    sym (others-parted g.met.T.Ordered.order one list place kept.rising kept.parted apart) ∙ kept.others

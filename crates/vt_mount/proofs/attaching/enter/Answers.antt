@@ -3,7 +3,7 @@ use Rattle.vt_spec.proofs.Common.{lookup}
 use Rattle.vt_location.specs.MountValue.{mount_of}
 use Rattle.vt_location.specs.declared.numbers.MountId.{MountId}
 use Rattle.vt_mount.specs.Indexed.{IsIndexed}
-use Rattle.vt_mount.specs.Indexes.{has_small_point, is_at, is_in, is_on, is_over}
+use Rattle.vt_mount.specs.Indexes.{has_small_point, is_in, is_on}
 use Rattle.vt_mount.specs.Rising.{same_id}
 use Rattle.vt_mount.specs.MountsValue.{entries_of, in_order}
 use Rattle.vt_mount.proofs.EntryLemmas.{above-entries, kept-last}
@@ -30,8 +30,7 @@ returns-clause-indexed c =
     (ap has_small_point c.unused.ensures.mount ∙ entered.slot)
     (λ q. entered.namespace q ∙ last (is_in q) (is_in q c.args.mount) _ (indexed.namespace q))
     (λ q. entered.parent q ∙ last (is_on q) (is_on q c.args.mount) _ (indexed.parent q))
-    (λ q. entered.place q ∙ last (is_at q) (is_at q c.args.mount) _ (indexed.place q))
-    (λ q. entered.inode q ∙ last (is_over q) (is_over q c.args.mount) _ (indexed.inode q)) indexed)
+    entered.place indexed)
 
 pub returns-clause-mounts : goal.returns-clause-mounts
 returns-clause-mounts c =

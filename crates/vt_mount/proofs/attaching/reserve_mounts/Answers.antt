@@ -8,7 +8,7 @@ use Rattle.vt_mount.proofs.attaching.reserve_mounts.Goals as goal
 pub returns-in_err-reserve-clause-same : goal.returns-in_err-reserve-clause-same
 returns-in_err-reserve-clause-same c kept indexed =
     indexed-same kept c.loop-mount.indexes c.reserve.new.self c.in_err-reserve.ensures.namespace
-    c.in_err-reserve.ensures.parent c.in_err-reserve.ensures.place c.in_err-reserve.ensures.inode
+    c.in_err-reserve.ensures.parent c.in_err-reserve.ensures.place
     (c.loop-mount.invariant.2 kept indexed)
 
 pub loop-mount-preserved : goal.loop-mount-preserved
@@ -20,7 +20,7 @@ loop-mount-preserved c =
       so_far.1 ∙ ap (λ (rest : List Mount). rest ++ back) c.in-Some.ensures.steps
           ∙ append_assoc c.next.new.self.iter.rest.now (mount ∷ []) back,
       λ kept indexed. indexed-same kept c.loop-mount.indexes c.reserve.new.self c.reserve.ensures.namespace
-          c.reserve.ensures.parent c.reserve.ensures.place c.reserve.ensures.inode (so_far.2 kept indexed),
+          c.reserve.ensures.parent c.reserve.ensures.place (so_far.2 kept indexed),
       λ namespaces places has.
           subst (λ (all : List _). Reserves c.reserve.new.self all (mount_points_of (mount ∷ back) ++ places))
           (sym (append_assoc (option_to_list mount.namespace) (namespaces_of back) namespaces))

@@ -41,7 +41,7 @@ returns-clause-indexed c =
     (is-written c.args.point.mount change map _ c.in-Some.kept.now _ there refl (c.get_mut.follows.holds _))))
     (indexed-placed c.args.point.mount (Some c.args.point.place) c.in-Some.kept.now (in_order map.entries)
     (rises-in_order map.entries) (found-in_order c.args.point.mount map.entries ∙ there)
-    c.args.indexes.now c.shift.new.self shifts.slot shifts.namespace shifts.parent shifts.place shifts.inode
+    c.args.indexes.now c.shift.new.self shifts.slot shifts.namespace shifts.parent shifts.place
     c.requires.indexed)
 
 pub returns-clause-mounts : goal.returns-clause-mounts

@@ -8,13 +8,13 @@ use Rattle.vt_mount.proofs.moving.reserve_moves.Goals as goal
 pub returns-in_err-reserve-clause-same : goal.returns-in_err-reserve-clause-same
 returns-in_err-reserve-clause-same c kept indexed =
     indexed-same kept c.loop-point.indexes c.reserve.new.self c.in_err-reserve.ensures.namespace
-    c.in_err-reserve.ensures.parent c.in_err-reserve.ensures.place c.in_err-reserve.ensures.inode
+    c.in_err-reserve.ensures.parent c.in_err-reserve.ensures.place
     (c.loop-point.invariant.0 kept indexed)
 
 pub loop-point-preserved : goal.loop-point-preserved
 loop-point-preserved c = (
   λ kept indexed. indexed-same kept c.loop-point.indexes c.reserve.new.self c.reserve.ensures.namespace
-      c.reserve.ensures.parent c.reserve.ensures.place c.reserve.ensures.inode (c.loop-point.invariant.0 kept indexed),
+      c.reserve.ensures.parent c.reserve.ensures.place (c.loop-point.invariant.0 kept indexed),
   λ namespaces places has.
       let points = c.args.points.now in
       let so_far = take c.loop-point.point-index points in

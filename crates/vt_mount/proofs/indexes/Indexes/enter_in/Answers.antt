@@ -19,6 +19,5 @@ returns-in-Some-clause-reserves c namespaces places has =
       namespace = reserves-less same_namespace (λ (namespace : NamespaceId). namespace) c.in-Some.namespace namespaces
           c.args.self.now.by_namespace.lists c.put_in.new.self.lists c.put_in.ensures.reserved has.namespace;
       parent = has.parent;
-      place = has.place;
       inode = has.inode;
     }

@@ -1,10 +1,11 @@
-use Rattle.std.proofs.Common.{List, [], ap, refl, subst, sym, true, ◌++◌, ◌∙◌, ◌∷◌, ◌≡◌, nat_lt}
+use Rattle.std.proofs.Common.{List, [], ap, refl, subst, sym, true, ◌&&◌, ◌++◌, ◌∙◌, ◌∷◌, ◌≡◌, nat_lt}
 use Rattle.vt_spec.proofs.Common.{list_all}
 use Rattle.vt_location.specs.MountValue.{mount_of}
 use Rattle.vt_location.specs.Numbers.{counted}
 use Rattle.vt_location.specs.declared.numbers.MountId.{MountId}
 use Rattle.vt_mount.specs.Indexed.{IsIndexed}
-use Rattle.vt_mount.specs.Indexes.{has_small_point, is_at, is_in, is_on, is_over, listed_at, listed_in, listed_on, listed_over, taken}
+use Rattle.vt_mount.specs.Indexes.{count_at, count_left, has_small_point, is_at, is_in, is_on, listed_in, listed_on, taken}
+use Rattle.vt_mount.specs.Listed.{same_id}
 use Rattle.vt_mount.specs.MountsValue.{MountEntry, in_order, unused_entry, without}
 use Rattle.vt_mount.proofs.EntryLemmas.{above-entries, kept-last}
 use Rattle.vt_mount.proofs.KeptLemmas.{indexed-entered, indexed-restored, is-refused, not-err, put_behind, without-last}
@@ -32,8 +33,7 @@ invariant_of-self c =
     (ap has_small_point c.unused.ensures.mount ∙ not-err c.add.result fine entered.slot)
     (λ q. not-err c.add.result fine entered.namespace_ok q ∙ last (is_in q) (is_in q mount) _ (indexed.namespace q))
     (λ q. not-err c.add.result fine entered.parent_ok q ∙ last (is_on q) (is_on q mount) _ (indexed.parent q))
-    (λ q. not-err c.add.result fine entered.place_ok q ∙ last (is_at q) (is_at q mount) _ (indexed.place q))
-    (λ q. not-err c.add.result fine entered.inode_ok q ∙ last (is_over q) (is_over q mount) _ (indexed.inode q))
+    (not-err c.add.result fine entered.place_ok)
     indexed)
 
 -- it is in no list again
@@ -50,9 +50,9 @@ restored c indexes entries =
     c.self.inside.indexes c.then-is_err.self-inside.indexes c.leave.new.self
     (λ q. ap (λ lists. taken (is_in q mount) mount.number (listed_in lists q)) indexes ∙ rest.namespace_rest q)
     (λ q. ap (λ lists. taken (is_on q mount) mount.number (listed_on lists q)) indexes ∙ rest.parent_rest q)
-    (λ q. ap (λ lists. taken (is_at q mount) mount.number (listed_at lists q)) indexes ∙ rest.place_rest q)
-    (λ q. ap (λ lists. taken (is_over q mount) mount.number (listed_over lists q)) indexes ∙ rest.inode_rest q)
-    left.namespace left.parent left.place left.inode c.self.invariant)
+    (λ q one. ap (λ lists. count_left (is_at q mount && same_id one mount.number) (count_at lists q one)) indexes
+    ∙ rest.place_rest q one)
+    left.namespace left.parent left.place c.self.invariant)
 
 pub invariant_of-self-then-is_err : goal.invariant_of-self-then-is_err
 invariant_of-self-then-is_err c = elim c.then-is_err.branch [

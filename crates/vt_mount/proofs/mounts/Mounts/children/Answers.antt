@@ -10,7 +10,7 @@ use Rattle.vt_mount.proofs.mounts.Mounts.children.Goals as goal
 pub returns-clause-children : goal.returns-clause-children
 returns-clause-children c =
     let number = counted c.args.id.count in
-    ap counts (c.get.ensures ∙ c.self.invariant.parent c.args.id)
+    ap counts (c.get.ensures.value ∙ c.self.invariant.parent c.args.id)
     ∙ numbers-seen (is_on c.args.id) (stands_on nat_eq number) (on-agrees c.args.id)
     (in_order c.self.inside.by_number.entries) c.self.invariant.slots
     ∙ ap (λ now. numbers (children nat_eq (mounts_in now) number)) c.self.view_is

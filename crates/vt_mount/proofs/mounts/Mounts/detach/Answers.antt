@@ -35,7 +35,7 @@ invariant_of-self-2 c =
     (found-in_order c.args.id map.entries ∙ there)
     refl (loses-detached c.args.id kept) c.self.inside.indexes c.leave.new.self
     (slots-detached c.args.id kept c.self.invariant.slots)
-    c.leave.ensures.namespace c.leave.ensures.parent c.leave.ensures.place c.leave.ensures.inode c.self.invariant)
+    c.leave.ensures.namespace c.leave.ensures.parent c.leave.ensures.place c.self.invariant)
 
 pub returns-clause-rest : goal.returns-clause-rest
 returns-clause-rest c =

@@ -5,7 +5,13 @@ use Rattle.vt_location.specs.Locations.{is_small_node, number_of}
 use Rattle.vt_location.specs.Numbers.{counted}
 use Rattle.vt_mount.specs.Indexes.{is_over}
 use Rattle.vt_mount.specs.MountsValue.{in_order, mounts_in, stands_over}
-use Rattle.vt_mount.proofs.PlaceLemmas.{counts, numbers-seen, over-agrees}
+use Rattle.vt_mount.specs.Indexed.{numbers_where}
+use Rattle.vt_mount.specs.Listed.{count_of}
+use Rattle.vt_mount.specs.Standing.{same_standing}
+use Rattle.vt_mount.specs.declared.standing.Standing.{Standing}
+use Rattle.vt_mount.proofs.OrderLemmas.{rises-in_order}
+use Rattle.vt_mount.proofs.PlaceLemmas.{numbers-seen, over-agrees}
+use Rattle.vt_mount.proofs.StandingLemmas.{any-alike, any-mounts, mounts_of, over-counts}
 use Rattle.vt_mount.proofs.PointLemmas.{any-over}
 use Rattle.vt_mount.proofs.mounts.Mounts.is_mount_point_in.Goals as goal
 
@@ -13,12 +19,18 @@ pub returns : goal.returns
 returns c =
     let inode = c.args.inode in
     let less : is_small_node inode ≡ true = search rules in
-    let ids = c.get.result.now in
+    let list = c.get.result.now in
+    let kept = in_order c.self.inside.by_number.entries in
+    let order = rises-in_order c.self.inside.by_number.entries in
     let p = (λ (mount : Mount ℕ). holds_of (nat_eq (counted c.args.namespace.count)) mount.namespace) in
-    any_from_yields_List (λ (id : MountId). holds_of p
-    (find (λ mount. nat_eq (counted id.count) mount.number) (mounts_in c.args.self.now))) _ _ _
-    c.any.ensures.ran (YieldsList-from_slice ids cc) (λ x b q k. search rules)
-    ∙ any-over (stands_over (number_of inode)) p c.self.inside.by_number.entries c.args.self.now ids c.self.view_is
-    (ap counts (c.get.ensures ∙ c.self.invariant.inode inode)
-    ∙ numbers-seen (is_over inode) (stands_over (number_of inode)) (over-agrees inode less)
-    (in_order c.self.inside.by_number.entries) c.self.invariant.slots)
+    let test = λ (id : MountId). holds_of p
+    (find (λ mount. nat_eq (counted id.count) mount.number) (mounts_in c.args.self.now)) in
+    any_from_yields_List (λ (one : Standing). test one.mount) _ _ _
+    c.any.ensures.ran (YieldsList-from_slice list cc) (λ x b q k. search rules)
+    ∙ any-mounts test list ∙ any-alike test (mounts_of list) (numbers_where (is_over inode) kept)
+    (over-counts list kept inode c.get.ensures.rising order
+    (λ parent m. ap (count_of (same_standing (record { parent = parent; mount = m }))) c.get.ensures.value
+    ∙ c.self.invariant.place (record { mount = parent; node = inode }) m))
+    ∙ any-over (stands_over (number_of inode)) p c.self.inside.by_number.entries c.args.self.now
+    (numbers_where (is_over inode) kept) c.self.view_is
+    (numbers-seen (is_over inode) (stands_over (number_of inode)) (over-agrees inode less) kept c.self.invariant.slots)

@@ -24,7 +24,7 @@ invariant_of-self-2 c =
     (indexed-placed c.args.id None c.in-Some.kept.now (in_order map.entries)
     (rises-in_order map.entries) (found-in_order c.args.id map.entries ∙ there)
     c.self.inside.indexes c.lift.new.self refl c.lift.ensures.namespace
-    c.lift.ensures.parent c.lift.ensures.place c.lift.ensures.inode c.self.invariant)
+    c.lift.ensures.parent c.lift.ensures.place c.self.invariant)
 
 pub returns : goal.returns
 returns c =

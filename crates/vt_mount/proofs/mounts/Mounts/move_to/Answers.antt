@@ -22,7 +22,7 @@ pub invariant_of-self-in_err-relist : goal.invariant_of-self-in_err-relist
 invariant_of-self-in_err-relist c =
     let map = c.self.inside.by_number in
     indexed-same _ c.self.inside.indexes c.relist.new.self c.in_err-relist.ensures.namespace
-    c.in_err-relist.ensures.parent_err c.in_err-relist.ensures.place_err c.in_err-relist.ensures.inode_err
+    c.in_err-relist.ensures.parent_err c.in_err-relist.ensures.place_err
     (indexed-written c.args.id (λ one. one) (λ one. refl) (λ one. refl) _ map.entries _
     (is-written c.args.id (λ one. one) map _ c.in-Some.kept.now _
     (sym c.get_mut.ensures.value ∙ ap option_copied_mut c.in-Some.is) refl (c.get_mut.follows.holds _))
@@ -46,7 +46,7 @@ invariant_of-self-2 c =
     (indexed-placed c.args.id (Some c.args.place) c.in-Some.kept.now (in_order map.entries)
     (rises-in_order map.entries) (found-in_order c.args.id map.entries ∙ there)
     c.self.inside.indexes c.relist.new.self c.in_ok-relist.ensures.slot c.in_ok-relist.ensures.namespace
-    c.in_ok-relist.ensures.parent_ok c.in_ok-relist.ensures.place_ok c.in_ok-relist.ensures.inode_ok c.self.invariant)
+    c.in_ok-relist.ensures.parent_ok c.in_ok-relist.ensures.place_ok c.self.invariant)
 
 pub returns-clause-ok : goal.returns-clause-ok
 returns-clause-ok c =

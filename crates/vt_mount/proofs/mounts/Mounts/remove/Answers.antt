@@ -27,7 +27,7 @@ invariant_of-self-2 c =
     (found-in_order c.args.id map.entries ∙ sym c.swap_remove.ensures.value ∙ c.in_ok-kept.was)
     c.mount-mount.ensures (loses-without c.args.id kept) c.self.inside.indexes c.leave.new.self
     (slots-without c.args.id kept c.self.invariant.slots)
-    c.leave.ensures.namespace c.leave.ensures.parent c.leave.ensures.place c.leave.ensures.inode c.self.invariant)
+    c.leave.ensures.namespace c.leave.ensures.parent c.leave.ensures.place c.self.invariant)
 
 pub returns-clause-value : goal.returns-clause-value
 returns-clause-value c = ap (λ mount. Some (mount_of mount)) c.mount-mount.ensures

@@ -33,7 +33,7 @@ invariant_of-self c =
     (found-in_order c.args.id map.entries ∙ sym c.kept_under.ensures ∙ ap option_copied c.in_ok-kept.was)
     c.mount-mount.ensures (loses-without c.args.id kept) c.self.inside.indexes c.leave.new.self
     (slots-without c.args.id kept c.self.invariant.slots)
-    c.leave.ensures.namespace c.leave.ensures.parent c.leave.ensures.place c.leave.ensures.inode c.self.invariant)
+    c.leave.ensures.namespace c.leave.ensures.parent c.leave.ensures.place c.self.invariant)
 
 pub returns-clause-value : goal.returns-clause-value
 returns-clause-value c =

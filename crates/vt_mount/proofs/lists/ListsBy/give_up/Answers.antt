@@ -1,7 +1,7 @@
 use Rattle.std.proofs.Common.{Some, ap, is_some, sym, ◌∙◌}
 use Rattle.vt_spec.proofs.Common.{option_copied_mut}
 use Rattle.vt_mount.proofs.ListedLemmas.{list_kept}
-use Rattle.vt_mount.proofs.lists.MountsBy.give_up.Goals as goal
+use Rattle.vt_mount.proofs.lists.ListsBy.give_up.Goals as goal
 
 pub returns-in-Some : goal.returns-in-Some
 returns-in-Some g c q =

@@ -1,5 +1,5 @@
 use Rattle.std.proofs.Common.{sym, ◌∙◌}
-use Rattle.vt_mount.proofs.lists.MountsBy.remove_again.Goals as goal
+use Rattle.vt_mount.proofs.lists.ListsBy.remove_again.Goals as goal
 
 pub returns-in-Some : goal.returns-in-Some
 returns-in-Some g c = c.remove_at.ensures c.args.key.now (sym c.place_of.ensures.place ∙ c.in-Some.is)

@@ -1,5 +1,5 @@
 use Rattle.vt_mount.proofs.KeptLemmas.{on-err, on-ok}
-use Rattle.vt_mount.proofs.lists.MountsBy.add_again.Goals as goal
+use Rattle.vt_mount.proofs.lists.ListsBy.add_again.Goals as goal
 
 pub returns-then-is_recent-clause-ok : goal.returns-then-is_recent-clause-ok
 returns-then-is_recent-clause-ok g c = on-ok c.add_at.result c.add_at.ensures.ok (λ added.
