@@ -1,7 +1,20 @@
 -- What is in a list, once one was put into it or taken out of it.
-use Rattle.std.proofs.Common.{◌≡◌, ◌<◌, ◌+◌, ℕ, suc, Bool, true, false, List, ◌∷◌, ◌++◌, ◌||◌, drop, get_or, length, take, refl, sym, ap, ◌∙◌, arith, take-append-drop}
+use Rattle.std.proofs.Common.{◌≡◌, ◌<◌, ◌+◌, ℕ, zero, suc, Bool, true, false, List, [], ◌∷◌, ◌++◌, ◌||◌, drop, get_or, length, remove, take, refl, sym, ap, ◌∙◌, arith, take-append-drop}
 use Rattle.vt_spec.proofs.Common.{IsEquivalence, list_any, list_any-append}
 use Rattle.std.proofs.Math.Seq.{drop-cons}
+
+-- a list without the one at a place has the parts before it and behind it
+parts_without : {T : Type 0} (list : List T) (i : ℕ) → i < length list
+    → remove list i ≡ take i list ++ drop (suc i) list
+parts_without [] i within = absurd (omega (arith, within))
+parts_without (x ∷ list) zero within = refl
+parts_without (x ∷ list) (suc i) within = ap (λ rest. x ∷ rest) (parts_without list i (omega (arith, within)))
+
+pub remove_parts : {T : Type 0} (list : List T) (i : ℕ) → i < length list
+    → remove list i ≡ take i list ++ drop (i + 1) list
+remove_parts list i within =
+    let next : suc i ≡ i + 1 = omega arith in
+    parts_without list i within ∙ ap (λ n. take i list ++ drop n list) next
 
 -- some pass a test in the parts of a list
 any-parted : {T : Type 0} (test : T → Bool) (i : ℕ) (list : List T)

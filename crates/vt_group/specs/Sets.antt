@@ -3,6 +3,7 @@ use Rattle.std.specs.Prelude.{Bool, List, [], nat_eq, option_map, unwrap_or}
 use Rattle.std.specs.List.{list_any}
 use Rattle.std.specs.Map.{lookup}
 use Rattle.std.specs.Option.{option_to_list}
+use Rattle.vt_deque.specs.SliceDeque.{items}
 use Rattle.vt_location.specs.declared.numbers.GroupId.{GroupId}
 use Rattle.vt_location.specs.declared.numbers.MountId.{MountId}
 use Rattle.vt_group.specs.declared.set.Set.{Set}
@@ -17,7 +18,7 @@ same_id a b = nat_eq a.count b.count
 -- what is in a set
 abbrev pub elements : {T : Type 0} → Set T → List T
 elements (Set.One only) = option_to_list only
-elements (Set.Many many) = many.items
+elements (Set.Many many) = items many
 
 abbrev pub kept_in : {T : Type 0} → GroupId → Sets T → List T
 kept_in group sets = unwrap_or (option_map elements (lookup (same_group group) sets.sets.entries)) []

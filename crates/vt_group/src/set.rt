@@ -1,8 +1,11 @@
 //! One set of mounts or groups, as a list in ascending order. It does not allocate while it has at most one.
+//!
+//! Mounts mostly leave in the order in which they came.
 ghost use Rattle.std.specs.Prelude.{◌≡◌, ◌<◌, ◌≤◌, false, true, get_or, length, IsSome, IsTrue, OnOk, IfOk, ◌∷◌, []};
 ghost use Rattle.std.specs.List.{list_any};
 ghost use Rattle.vt_location.specs.declared.numbers.GroupId.{GroupId as GroupNumber};
 ghost use Rattle.vt_location.specs.declared.numbers.MountId.{MountId as MountNumber};
+ghost use Rattle.vt_deque.specs.SliceDeque.{items};
 ghost use Rattle.vt_group.specs.ByNumber.{value_at};
 ghost use Rattle.vt_group.specs.Sets.{elements, same_group, same_id};
 
@@ -11,6 +14,7 @@ use crate::id::Id;
 use std::alloc::{AllocError, Global};
 use std::hash::Hash;
 use std::slice;
+use vt_deque::SliceDeque;
 use vt_location::{GroupId, MountId, Propagation};
 
 /// For how many a list has room at first.
@@ -40,7 +44,7 @@ impl Element for GroupId {
 pub(crate) enum Set<T> {
     /// At most one.
     One(Option<T>),
-    Many(Vec<T>),
+    Many(SliceDeque<T>),
 }
 
 impl<T: Element> Set<T> {
@@ -102,25 +106,25 @@ impl<T: Element> Set<T> {
 }
 
 // A list of two.
-fn pair<T: Element>(alloc: Global, first: T, second: T) -> Result<Vec<T>, AllocError>
-    ensures there { IfOk result (λ list. list_any (T.eq second) list.items ≡ true) }
+fn pair<T: Element>(alloc: Global, first: T, second: T) -> Result<SliceDeque<T>, AllocError>
+    ensures there { IfOk result (λ list. list_any (T.eq second) (items list) ≡ true) }
     ensures kept { IfOk result (λ list. (other : T) → list_any (T.eq other) (first ∷ []) ≡ true
-        → list_any (T.eq other) list.items ≡ true) }
+        → list_any (T.eq other) (items list) ≡ true) }
 {
-    let mut list = Vec::with_capacity(alloc, FEW)?;
+    let mut list = SliceDeque::with_capacity(alloc, FEW)?;
     list.push(first)?;
     add(&mut list, second)?;
     Ok(list)
 }
 
 // Adds one to a list at its place, unless it is there. Mostly it comes after all others.
-fn add<T: Element>(list: &mut Vec<T>, one: T) -> Result<(), AllocError>
-    ensures there { OnOk result (list_any (T.eq one) list.new.items ≡ true) }
-    ensures kept { (other : T) → list_any (T.eq other) list.old.items ≡ true
-        → list_any (T.eq other) list.new.items ≡ true }
+fn add<T: Element>(list: &mut SliceDeque<T>, one: T) -> Result<(), AllocError>
+    ensures there { OnOk result (list_any (T.eq one) (items list.new) ≡ true) }
+    ensures kept { (other : T) → list_any (T.eq other) (items list.old) ≡ true
+        → list_any (T.eq other) (items list.new) ≡ true }
 {
-    let place = place_of(list, &one);
-    if is_at(list, place, &one) {
+    let place = place_of(list.as_slice(), &one);
+    if is_at(list.as_slice(), place, &one) {
         return Ok(());
     }
     list.insert(place, one)?;
@@ -128,12 +132,12 @@ fn add<T: Element>(list: &mut Vec<T>, one: T) -> Result<(), AllocError>
 }
 
 // Takes one out of a list, and returns whether it was there.
-fn take_out<T: Element>(list: &mut Vec<T>, one: &T) -> bool
-    ensures { (other : T) → T.eq one.now other ≡ false → list_any (T.eq other) list.old.items ≡ true
-        → list_any (T.eq other) list.new.items ≡ true }
+fn take_out<T: Element>(list: &mut SliceDeque<T>, one: &T) -> bool
+    ensures { (other : T) → T.eq one.now other ≡ false → list_any (T.eq other) (items list.old) ≡ true
+        → list_any (T.eq other) (items list.new) ≡ true }
 {
-    let place = place_of(list, one);
-    if !is_at(list, place, one) {
+    let place = place_of(list.as_slice(), one);
+    if !is_at(list.as_slice(), place, one) {
         return false;
     }
     list.remove(place);
@@ -148,6 +152,7 @@ fn place_of<T: Element>(list: &[T], one: &T) -> usize
     let number = one.number();
     match list.last() {
         Some(last) if last.number() < number => list.len(),
+        Some(last) if last.number() == number => list.len() - 1,
         _ => list.partition_point(|other| other.number() < number),
     }
 }
