@@ -1,5 +1,5 @@
 -- Task names and capabilities.
-use Rattle.std.proofs.Common.{◌≡◌, ℕ, zero, suc, Bool, true, false, cond, List, [], ◌∷◌, codes, drop, is_some, IsSome, length, Option, Some, None, option_map, refl, sym, ap, ◌∙◌, arith, nat_eq, eqb, leb, ltb, ◌≤◌, ◌<◌, ◌&&◌, subst, lit<, ltb-true, bytes_eq, IsUtf8, IsAscii}
+use Rattle.std.proofs.Common.{◌≡◌, ℕ, zero, suc, Bool, true, false, cond, List, [], ◌∷◌, codes, drop, is_some, IfSome, IsSome, length, Option, Some, None, option_map, refl, sym, ap, ◌∙◌, arith, nat_eq, eqb, leb, ltb, ◌≤◌, ◌<◌, ◌&&◌, subst, lit<, ltb-true, bytes_eq, IsUtf8, IsAscii}
 use Rattle.vt_spec.proofs.Common.{and_parts, bytes_eq-Decides, capabilities_word, capability_named, child_number, cond-None, each_of, false≢true, groups_word, identity_word, is_empty_list, list_all, nat_tests, parts, pointwise, task_word, with_first}
 use Rattle.std.specs.Bool.{then_some}
 use Rattle.std.specs.Int.Bits.{bit_or, or_zero_l}
@@ -36,6 +36,12 @@ task_some (first ∷ rest) e = by_test (bytes_eq first (codes "t")) e where
 pub task_word-some : (text : List ℕ) → is_some (task_word text) ≡ true
     → task_word text ≡ each_of child_number (drop 1 (parts 46 text))
 task_word-some text e = task_some (parts 46 text) e
+
+-- a task that is known from its word is named by it
+pub task_word-known : (text : List ℕ) (known : Option (List ℕ)) → is_some known ≡ true
+    → IfSome known (λ name. task_word text ≡ Some name) → (name : List ℕ) × (task_word text ≡ Some name)
+task_word-known text None e named = cc
+task_word-known text (Some name) e named = (name, named)
 
 -- the sets of bits that a list unites, one after another
 or_assoc : (a b c : ℕ) → bit_or (bit_or a b) c ≡ bit_or a (bit_or b c)

@@ -18,7 +18,7 @@ use crate::names::CallName;
 pub use crate::token::Unescaped;
 use crate::token::{is_silent, is_unescaped};
 use crate::version::Version;
-use crate::words::{Words, is_task, task_name};
+use crate::words::{Words, is_task_of_parts, short_task_name, task_name_of_parts};
 use std::alloc::Global;
 use vt_io::line::LONGEST_LINE;
 use vt_request::{Call, Directive, TaskName};
@@ -59,7 +59,9 @@ fn task_call<'a>(
     let Some(name) = CallName::from_text(name) else {
         return Err(Rule::S1.denial());
     };
-    if !is_task(task) {
+    // Almost every name is short, and so it is read once, and not checked here and read below.
+    let known = short_task_name(alloc, task);
+    if known.is_none() && !is_task_of_parts(task) {
         return Err(Rule::S1.denial());
     }
     // By `?` it would be moved more often.
@@ -67,7 +69,10 @@ fn task_call<'a>(
         Ok(call) => call,
         Err(error) => return Err(Deny::from(error)),
     };
-    let Ok(task) = task_name(alloc, task) else {
+    if let Some(known) = known {
+        return Ok(Line::Call(known, call));
+    }
+    let Ok(task) = task_name_of_parts(alloc, task) else {
         return Err(given_up(call));
     };
     Ok(Line::Call(task, call))

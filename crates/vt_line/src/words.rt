@@ -15,6 +15,7 @@ use std::alloc::{AllocError, Global};
 use std::marker::Model;
 use std::str;
 use vt_cred::{Caps, Flags, MAX_GROUPS, MountFlags};
+use vt_request::task::INLINE_NUMBERS;
 use vt_request::{Access, CapsWord, TaskName, TypeWord};
 
 /// The groups of a child, of which none takes memory.
@@ -46,9 +47,9 @@ pub fn is_task(text: &[u8]) -> bool
     is_task_of_parts(text)
 }
 
-/// The same, whatever the word is.
+/// The same, for any word, by its parts between points.
 #[inline(never)]
-fn is_task_of_parts(text: &[u8]) -> bool
+pub fn is_task_of_parts(text: &[u8]) -> bool
     ensures { result ≡ is_some (task_word text.now) }
 {
     let mut parts = text.split(|byte| *byte == b'.');
@@ -82,9 +83,9 @@ pub fn task_name(alloc: Global, text: &[u8]) -> Result<TaskName, AllocError>
     task_name_of_parts(alloc, text)
 }
 
-/// The same, whatever the word is.
+/// The same, for any word, by its parts between points.
 #[inline(never)]
-fn task_name_of_parts(alloc: Global, text: &[u8]) -> Result<TaskName, AllocError>
+pub fn task_name_of_parts(alloc: Global, text: &[u8]) -> Result<TaskName, AllocError>
     requires { is_some (task_word text.now) ≡ true }
     ensures value { IfOk result (λ name. task_word text.now ≡ Some name) }
     ensures memory { OnErr result (IfSome (task_word text.now) (λ name. INLINE_NUMBERS < length name)) }
@@ -97,6 +98,66 @@ fn task_name_of_parts(alloc: Global, text: &[u8]) -> Result<TaskName, AllocError
         name = name.into_child(number)?;
     }
     Ok(name)
+}
+
+/// The number that a name goes on with behind its `t`, and what is behind that.
+#[inline(always)]
+fn first_number(text: &[u8]) -> Option<(u8, &[u8])>
+    ensures value { IfSome result (λ found. IfSome (task_word (116 ∷ found.1.now))
+        (λ others. task_word (116 ∷ text.now) ≡ Some (found.0 ∷ others))) }
+    ensures range { IfSome result (λ found. (1 ≤ found.0) × (found.0 ≤ 64)) }
+    ensures shorter { IfSome result (λ found. length found.1.now < length text.now) }
+{
+    match text {
+        [b'.', tens @ b'1'..=b'9', ones @ b'0'..=b'9', rest @ ..] => {
+            let number = 10 * (*tens - b'0') + (*ones - b'0');
+            if number <= 64 {
+                Some((number, rest))
+            } else {
+                None
+            }
+        }
+        [b'.', ones @ b'1'..=b'9', rest @ ..] => Some((*ones - b'0', rest)),
+        _ => None,
+    }
+}
+
+/// The task that a word names, if by at most [`INLINE_NUMBERS`] numbers: so it cannot fail for want of memory.
+#[inline(always)]
+pub fn short_task_name(alloc: Global, text: &[u8]) -> Option<TaskName>
+    ensures { IfSome result (λ name. task_word text.now ≡ Some name) }
+{
+    if text == b"t".as_slice() {
+        return Some(TaskName::new(alloc));
+    }
+    if let Some(number) = one_digit_child(text) {
+        return TaskName::new(alloc).into_child(number).ok();
+    }
+    name_of_few(alloc, text)
+}
+
+/// The same, for any word. Words that are no names are told from longer names by `is_task_of_parts`.
+#[inline(never)]
+fn name_of_few(alloc: Global, text: &[u8]) -> Option<TaskName>
+    ensures { IfSome result (λ name. task_word text.now ≡ Some name) }
+{
+    let [b't', rest @ ..] = text else {
+        return None;
+    };
+    let mut rest = rest;
+    let mut name = TaskName::new(alloc);
+    while !rest.is_empty() {
+        if name.numbers().len() == INLINE_NUMBERS {
+            return None;
+        }
+        let (number, behind) = first_number(rest)?;
+        name = match name.into_child(number) {
+            Ok(name) => name,
+            Err(_) => return None,
+        };
+        rest = behind;
+    }
+    Some(name)
 }
 
 /// A path: any text without byte 0.
