@@ -168,21 +168,20 @@ pub fn push_type(text: &mut Draft, kind: TypeLine) {
     }
 }
 
-// How long the names are of the capabilities of a set that a task has, or of those that it has not, with commas.
-fn length_of(caps: Caps, has: bool) -> usize {
-    let mut length: usize = 0;
+/// Appends the capabilities of a task. Where the names of those that it has are longer than those of the others, the
+/// others are told.
+pub fn push_capabilities(text: &mut Draft, caps: Caps) {
+    // How long the names are, each with a comma.
+    let mut has: usize = 0;
+    let mut lacks: usize = 0;
     for (one, name) in &CAPABILITIES {
-        if caps.contains(*one) == has {
-            let comma = usize::from(length > 0);
-            length = length.saturating_add(comma).saturating_add(name.len());
+        let length = name.len().saturating_add(1);
+        if caps.contains(*one) {
+            has = has.saturating_add(length);
+        } else {
+            lacks = lacks.saturating_add(length);
         }
     }
-    length
-}
-
-/// Appends the capabilities of a task. Where it has most of them, those are told that it has not.
-pub fn push_capabilities(text: &mut Draft, caps: Caps) {
-    let (has, lacks) = (length_of(caps, true), length_of(caps, false));
     if lacks == 0 {
         text.push("all");
         return;
