@@ -40,7 +40,16 @@ module _ (test : Mount ℕ → Bool) (all : List (Mount ℕ)) where
 pub numbered_among : (all : List (Mount ℕ)) → are_ascending all ≡ true → (mount : Mount ℕ) → Among mount all
     → numbered all mount.number ≡ Some mount
 numbered_among [] up mount m = absurd m
-numbered_among (first ∷ rest) up mount m = grind (arith, common_steps, numbered_among rest, eq-eqb, and_parts, among_from_list_all, ne_eqb, ltb-true)
+numbered_among (first ∷ rest) up mount m = grind (
+  arith,
+  common_steps,
+  numbered_among rest,
+  eq-eqb,
+  and_parts,
+  among_from_list_all,
+  ne_eqb,
+  ltb-true,
+)
 
 -- the mounts of an ascending list that are numbered like some of them are these
 pub numbered_again : (all some : List (Mount ℕ)) → are_ascending all ≡ true

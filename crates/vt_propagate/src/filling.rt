@@ -59,7 +59,7 @@ pub fn overfills(
 }
 
 /// Whether each namespace has room for a tree of so many mounts on each of its mounts. Such a tree overfills none then,
-/// wherever it is attached and whatever receives it.
+/// wherever it is attached and whatever receives it. `false` tells nothing: namespaces may have had more mounts before.
 pub fn has_room_everywhere(mounts: &Mounts, count: usize) -> bool
     ensures { result ≡ true → (world : World ℕ) (new : Copies ℕ) (place : meant.Location ℕ)
         (tree : List (meant.Mount ℕ))

@@ -81,7 +81,8 @@ pub copies_ascend : (next : ℕ) (all originals : List (Mount ℕ)) → are_asce
     → are_ascending (all ++ copies_of next originals) ≡ true
 copies_ascend next all originals rising before ascending = ascending_joined all (copies_of next originals) rising
     (changed_ascend (copied_by next originals) originals ascending
-    (λ a b m n less. let rises : index_of nat_eq originals a.number < index_of nat_eq originals b.number = places_rise 0 originals ascending a b m n less in
+    (λ a b m n less. let rises : index_of nat_eq originals a.number < index_of nat_eq originals b.number =
+    places_rise 0 originals ascending a b m n less in
     omega (arith, rises))) (λ a b m n.
     let low : a.number < counted next = ltb-true a.number (counted next)
     (among_from_list_all (λ (mount : Mount ℕ). nat_lt mount.number (counted next)) all before a m) in
@@ -110,7 +111,8 @@ none_on : (count : MountEntry → ℕ) → ((mount : Attached) → count (unused
     → list_all (λ mount. nat_lt mount.number next) (mounts_in old) ≡ true
     → counted_on count (old ++ map unused_entry new) number ≡ 0
 none_on count none next number more [] new before = none_on_new count none number new
-none_on count none next number more (entry ∷ old) new before = grind (arith, common_steps, none_on count none next number more old, and_parts, ne_eqb, ltb-true)
+none_on count none next number more (entry ∷ old) new before = grind (
+    arith, common_steps, none_on count none next number more old, and_parts, ne_eqb, ltb-true)
 
 -- a root or working directory that moves goes to a copy
 later_copy : (next : ℕ) (originals : List (Mount ℕ)) (from to : Location)

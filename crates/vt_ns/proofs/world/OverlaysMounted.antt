@@ -50,7 +50,28 @@ pub record MountsIt (base : WorldValue) (store : StoreValue) (name : TaskName) (
 
 module _ (base : WorldValue) (store : StoreValue) (name : TaskName) (new : ToMountOverlay)
     (it : MountsIt base store name new) where
-  open it use {whole, permits, lowers, lowers_are, mounter, mounter_is, top, top_is, small, mount_is, graft, tree_is, place_is, binds, parts_are, counts, first, step, ascending, odd}
+  open it use {
+    whole,
+    permits,
+    lowers,
+    lowers_are,
+    mounter,
+    mounter_is,
+    top,
+    top_is,
+    small,
+    mount_is,
+    graft,
+    tree_is,
+    place_is,
+    binds,
+    parts_are,
+    counts,
+    first,
+    step,
+    ascending,
+    odd,
+  }
 
   abbrev value : WorldValue
   value = with_store store base

@@ -107,7 +107,8 @@ returns-clause-counts c =
     let at = (goal.at.returns-clause-counts c).After-graft-1 in
     let value = the_view c.self.inside in
     subst (λ (v : WorldValue). c.self.inside.next + c.in-Some.taken ≡ v.next
-    + counted_for v (location_of c.args.bind.destination) (bind_tree nat_eq (world_of v) (location_of c.args.bind.source) c.args.bind.recursive)) c.self.view_is
+    + counted_for v (location_of c.args.bind.destination)
+    (bind_tree nat_eq (world_of v) (location_of c.args.bind.source) c.args.bind.recursive)) c.self.view_is
     (counted_so value (location_of c.args.bind.destination) c.deref.result.now c.deref-2.result.now
     (bind_tree nat_eq (world_of value) (location_of c.args.bind.source) c.args.bind.recursive)
     (c.self.inside.next + c.in-Some.taken) (parts_are at) (tree_is at) (grows c))
