@@ -24,9 +24,9 @@ use vt_location::{Location, Mount, MountId, Propagation};
 
 /// The mounts of all namespaces, and those that were detached and are still in use.
 ///
-/// They are kept by hash, in no order; the lists under a namespace, a mount, a location and an inode keep the order of
-/// their numbers, which is that of attachment. Attaching a mount costs the same however many there are; one that is
-/// removed or moved is found in its lists by a binary search.
+/// They are kept by hash, in no order; the lists under a namespace and a mount keep the order of their numbers, which is
+/// that of attachment, and those under an inode that of the mounts that they stand on. Attaching a mount costs the same
+/// however many there are; one that is removed or moved is found in its lists by a binary search.
 ///
 /// What is done to a mount that does not exist has no effect.
 #[derive(Debug, Drop)]
