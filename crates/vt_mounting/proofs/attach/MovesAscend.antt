@@ -13,7 +13,15 @@ use Rattle.vt_mounting.proofs.attach.EnteringLemmas.{ascending_joined}
 pub ascending_once : (mounts : List (Mount ℕ)) → are_ascending mounts ≡ true → OneNumberAMount mounts
 ascending_once [] rising = refl
 ascending_once (first ∷ rest) rising = grind (
-    arith, common_steps, ascending_once rest, and_parts, among_from_list_all, none_from_among, ne_eqb, ltb-true)
+  arith,
+  common_steps,
+  ascending_once rest,
+  and_parts,
+  among_from_list_all,
+  none_from_among,
+  ne_eqb,
+  ltb-true,
+)
 
 -- the copies at all parts but the first
 abbrev pub copies_beside : World ℕ → Graft → Counts → List (Mount ℕ)

@@ -112,7 +112,13 @@ none_on : (count : MountEntry → ℕ) → ((mount : Attached) → count (unused
     → counted_on count (old ++ map unused_entry new) number ≡ 0
 none_on count none next number more [] new before = none_on_new count none number new
 none_on count none next number more (entry ∷ old) new before = grind (
-    arith, common_steps, none_on count none next number more old, and_parts, ne_eqb, ltb-true)
+  arith,
+  common_steps,
+  none_on count none next number more old,
+  and_parts,
+  ne_eqb,
+  ltb-true,
+)
 
 -- a root or working directory that moves goes to a copy
 later_copy : (next : ℕ) (originals : List (Mount ℕ)) (from to : Location)
