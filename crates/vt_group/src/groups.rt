@@ -28,12 +28,16 @@ use crate::listed::Listed;
 use crate::propagation::{has_source, own_group};
 use crate::types::Types;
 use indexmap::IndexSet;
+use smallvec::SmallVec;
 use std::alloc::{AllocError, Global};
 use std::marker::Model;
 use vt_location::{GroupId, Mount, MountId, Propagation};
 
-/// For how many receivers, and groups below one, there is room at first.
+/// For how many groups below one there is room at first.
 const SOME: usize = 32;
+
+/// Mounts that receive an event. Up to four, as most events have, take no memory.
+pub type Receivers = SmallVec<MountId, 4>;
 
 /// A new group, and its master.
 #[derive(Clone, Copy, Debug, PartialEq, Eq)]
@@ -114,7 +118,7 @@ impl Groups {
 
     /// The mounts that receive the events of a group, in order of attachment: its members and slaves, and those of
     /// every group below it.
-    pub fn receivers(&self, group: GroupId) -> Result<Vec<MountId>, AllocError>
+    pub fn receivers(&self, group: GroupId) -> Result<Receivers, AllocError>
         ensures ok { IfOk result (λ mounts. (world : World ℕ) → Has world self.now → AllGroupsLive world
             → map mount_number mounts.items
             ≡ numbers_of (receivers nat_eq world (group_number group))) }
@@ -123,7 +127,7 @@ impl Groups {
     }
 
     // The mounts that receive the events of a group: those of the group and of the groups below it.
-    fn receiving(&self, group: GroupId) -> Result<Vec<MountId>, AllocError>
+    fn receiving(&self, group: GroupId) -> Result<Receivers, AllocError>
         ensures { IfOk result (λ mounts. (found : ℕ → Bool)
             × FindsBelow self.now (group_number group) found
             × (map mount_number mounts.items ≡ receivers_from found self.now.peers)) }
@@ -142,26 +146,26 @@ impl Groups {
     }
 
     // The mounts that receive the events of a group with no group below it.
-    fn receiving_alone(&self, group: GroupId) -> Result<Vec<MountId>, AllocError>
+    fn receiving_alone(&self, group: GroupId) -> Result<Receivers, AllocError>
         requires { (one : ℕ) → master_in self.now one ≢ Some (group_number group) }
         ensures { IfOk result (λ mounts. (found : ℕ → Bool)
             × FindsBelow self.now (group_number group) found
             × (map mount_number mounts.items ≡ receivers_from found self.now.peers)) }
     {
-        let mut mounts = Vec::with_capacity(self.index.allocator(), SOME)?;
+        let mut mounts = SmallVec::new(self.index.allocator());
         self.add_relatives(&mut mounts, group)?;
         put_in_order(&mut mounts);
         Ok(mounts)
     }
 
     // The mounts that receive the events of a group. The groups below it are looked for level by level.
-    fn receiving_below(&self, group: GroupId) -> Result<Vec<MountId>, AllocError>
+    fn receiving_below(&self, group: GroupId) -> Result<Receivers, AllocError>
         ensures { IfOk result (λ mounts. (found : ℕ → Bool)
             × FindsBelow self.now (group_number group) found
             × (map mount_number mounts.items ≡ receivers_from found self.now.peers)) }
     {
         let alloc = self.index.allocator();
-        let mut mounts = Vec::with_capacity(alloc, SOME)?;
+        let mut mounts = SmallVec::new(alloc);
         let mut found = IndexSet::new(alloc);
         found.reserve(SOME)?;
         found.insert(group)?;
@@ -178,7 +182,7 @@ impl Groups {
 
     // Adds the members and slaves of a group.
     #[inline]
-    fn add_relatives(&self, mounts: &mut Vec<MountId>, group: GroupId) -> Result<(), AllocError>
+    fn add_relatives(&self, mounts: &mut Receivers, group: GroupId) -> Result<(), AllocError>
         ensures { OnOk result ((mount : ℕ) → is_noted mounts.new.items mount
             ≡ (receives_from self.now (nat_eq (group_number group)) (counted mount)
             || is_noted mounts.old.items mount)) }
@@ -193,7 +197,7 @@ impl Groups {
     #[inline]
     fn add_relative(
         &self,
-        mounts: &mut Vec<MountId>,
+        mounts: &mut Receivers,
         mount: MountId,
         group: GroupId,
     ) -> Result<(), AllocError>
@@ -329,10 +333,26 @@ impl Groups {
         ensures ok { OnOk result (GrowsTo self.old self.new (map typed mounts.now) (map new_group new.now)) }
         ensures err { OnErr result (self.new ≡ self.old) }
     {
-        let alloc = self.index.allocator();
-        let types = types_of(alloc, mounts)?;
-        let types = types.as_slice();
-        let before = self.types_before(alloc, types)?;
+        // Mostly one mount comes, whose type stands in no list.
+        if let [only] = mounts {
+            return self.add_typed(mounts, &[(only.number, only.propagation)], new);
+        }
+        let types = types_of(self.index.allocator(), mounts)?;
+        self.add_typed(mounts, types.as_slice(), new)
+    }
+
+    // The same, where the types are given beside the mounts.
+    fn add_typed(
+        &mut self,
+        mounts: &[Mount],
+        types: &[(MountId, Propagation)],
+        new: &[NewGroup],
+    ) -> Result<(), AllocError>
+        requires { map typed_pair types.now ≡ map typed mounts.now }
+        ensures ok { OnOk result (GrowsTo self.old self.new (map typed mounts.now) (map new_group new.now)) }
+        ensures err { OnErr result (self.new ≡ self.old) }
+    {
+        let before = self.types_before(self.index.allocator(), types)?;
         if self.index.join_all(new).is_err()
             || self.index.list_all(mounts).is_err()
             || reserve_all(&mut self.mounts, &mut self.above, types, new).is_err()
@@ -558,7 +578,7 @@ impl Groups {
 }
 
 // Puts mounts in order of attachment, each once. It does not allocate.
-fn put_in_order(mounts: &mut Vec<MountId>)
+fn put_in_order(mounts: &mut Receivers)
     ensures ordered { IsStrictlySortedBy nat_cmp (map (λ mount. mount.count) mounts.new.items) }
     ensures same { (mount : ℕ) → is_noted mounts.new.items mount ≡ is_noted mounts.old.items mount }
 {

@@ -17,6 +17,6 @@ mod set;
 mod sets;
 mod types;
 
-pub use groups::{Groups, NewGroup};
+pub use groups::{Groups, NewGroup, Receivers};
 pub use listed::Listed;
 pub use propagation::type_after_end;

@@ -9,7 +9,7 @@ ghost use Rattle.vt_propagate.specs.Falling.{FallsTo, LeavesBy, left_by, point_o
 ghost use Rattle.vt_propagate.specs.Seen.{IsSeen};
 
 use crate::falling::points_left;
-use crate::unmounting::going;
+use crate::unmounting::{Going, going};
 use std::alloc::{AllocError, Global};
 use vt_group::Groups;
 use vt_location::MountId;
@@ -19,7 +19,7 @@ use vt_mount::{Mounts, NewPoint};
 #[derive(Debug, Drop)]
 pub struct Detachment {
     /// The mounts that are detached.
-    pub gone: Vec<MountId>,
+    pub gone: Going,
     /// The new mount points of the mounts that stay.
     pub points: Vec<NewPoint>,
 }

@@ -16,6 +16,9 @@ use std::alloc::{AllocError, Global};
 use vt_location::{Location, MountId};
 use vt_mount::{Mounts, NewPoint};
 
+/// So many mounts are passed over sooner than one is looked for in a set.
+const FEW: usize = 8;
+
 /// The mounts that go, and the same as a set.
 #[derive(Clone, Copy, Debug)]
 pub(crate) struct Gone<'a> {
@@ -165,5 +168,8 @@ pub(crate) fn is_gone(gone: &Gone, id: MountId) -> bool
     requires { HasJust gone.now.set.now.keys (map mount_number gone.now.ids.now) }
     ensures { result ≡ is_going nat_eq (map mount_number gone.now.ids.now) (mount_number id) }
 {
+    if gone.ids.len() <= FEW {
+        return gone.ids.iter().any(|one| id == *one);
+    }
     gone.set.contains(&id)
 }

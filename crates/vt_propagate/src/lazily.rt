@@ -18,11 +18,19 @@ ghost use Rattle.vt_propagate.specs.Through.{going_then_if_there};
 use crate::detaching::Detachment;
 use crate::falling::{Gone, is_gone, points_left_by};
 use crate::through::going_then;
+use crate::unmounting::Going;
 use indexmap::IndexSet;
+use smallvec::SmallVec;
 use std::alloc::{AllocError, Global};
 use vt_group::Groups;
 use vt_location::MountId;
 use vt_mount::Mounts;
+
+/// For how many mounts of a tree there is room at first.
+const SOME: usize = 8;
+
+// Mounts that are as deep in a tree. Up to four take no memory.
+type Level = SmallVec<MountId, 4>;
 
 /// Plans a lazy unmount of a mount and its descendants. It changes nothing: the mounts that stay are to be moved, those
 /// that go to be detached, and these to leave their groups at once.
@@ -48,7 +56,10 @@ pub fn unmount_lazily(
             set: &set,
         },
     )?;
-    Ok(Detachment { gone, points })
+    Ok(Detachment {
+        gone: SmallVec::from_vec(gone),
+        points,
+    })
 }
 
 // The mounts that all events detach, and the same as a set.
@@ -80,9 +91,11 @@ fn all_gone(
         → map mount_number gone.0.items ≡ gone_lazily world number) }
     ensures set { IfOk result (λ gone. HasJust gone.1.keys (map mount_number gone.0.items)) }
 {
-    let mut ids = Vec::new(alloc);
+    // Mostly each event detaches a mount at one peer too.
+    let some = events.len().saturating_mul(2);
+    let mut ids = Vec::with_capacity(alloc, some)?;
     let mut set = IndexSet::new(alloc);
-    set.reserve(events.len())?;
+    set.reserve(some)?;
     for id in events {
         let gone = Gone {
             ids: &ids,
@@ -101,14 +114,14 @@ fn going_if_there(
     groups: &Groups,
     gone: &Gone,
     id: MountId,
-) -> Result<Vec<MountId>, AllocError>
+) -> Result<Going, AllocError>
     requires { HasJust gone.now.set.now.keys (map mount_number gone.now.ids.now) }
     ensures ok { IfOk result (λ going. (world : World ℕ) → IsSeen world mounts.now groups.now
         → map mount_number going.items
         ≡ going_then_if_there world (map mount_number gone.now.ids.now) (mount_number id)) }
 {
     if is_gone(gone, id) || !is_attached(mounts, id) {
-        return Ok(Vec::new(alloc));
+        return Ok(SmallVec::new(alloc));
     }
     going_then(alloc, mounts, groups, gone, id)
 }
@@ -156,8 +169,8 @@ fn levels(alloc: Global, mounts: &Mounts, id: MountId) -> Result<Vec<MountId>, A
     ensures { IfOk result (λ all. map mount_number all.items
         ≡ levels_from (length (mounts_in mounts.now)) (mounts_in mounts.now) (mount_number id ∷ [])) }
 {
-    let mut all = Vec::new(alloc);
-    let mut level = Vec::new(alloc);
+    let mut all = Vec::with_capacity(alloc, SOME)?;
+    let mut level = SmallVec::new(alloc);
     level.push(id)?;
     for _ in 0..mounts.len() {
         if level.is_empty() {
@@ -171,15 +184,11 @@ fn levels(alloc: Global, mounts: &Mounts, id: MountId) -> Result<Vec<MountId>, A
 }
 
 // The children of these mounts.
-fn children_of(
-    alloc: Global,
-    mounts: &Mounts,
-    level: &[MountId],
-) -> Result<Vec<MountId>, AllocError>
+fn children_of(alloc: Global, mounts: &Mounts, level: &[MountId]) -> Result<Level, AllocError>
     ensures { IfOk result (λ children. map mount_number children.items
         ≡ children_of (mounts_in mounts.now) (map mount_number level.now)) }
 {
-    let mut children = Vec::new(alloc);
+    let mut children = SmallVec::new(alloc);
     for id in level {
         children.extend_from_slice(mounts.children(*id))?;
     }

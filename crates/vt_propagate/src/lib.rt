@@ -24,4 +24,4 @@ pub use filling::{Load, has_room_everywhere, overfills};
 pub use lazily::unmount_lazily;
 pub use reach::Reach;
 pub use receiving::parts;
-pub use unmounting::{going, is_busy};
+pub use unmounting::{Going, going, is_busy};

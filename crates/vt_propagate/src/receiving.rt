@@ -1,5 +1,6 @@
 //! Where a tree of mounts is attached: at its destination, and at the receivers of the mount there.
-ghost use Rattle.std.specs.Prelude.{◌≡◌, ◌∷◌, IfOk, filter, map, nat_eq, true, ℕ};
+ghost use Rattle.std.specs.Prelude.{◌≡◌, ◌∷◌, IfOk, filter, map, nat_eq, not, true, ℕ};
+ghost use Rattle.std.specs.List.{list_any};
 ghost use Rattle.vt_spec.specs.Machine.Attach.{parts_of, receivers_of};
 ghost use Rattle.vt_spec.specs.Machine.Mounts as meant;
 ghost use Rattle.vt_spec.specs.Machine.World.{World};
@@ -13,8 +14,9 @@ ghost use Rattle.vt_laws_mounts.specs.Mounts.Attaching.{numbers_of};
 ghost use Rattle.vt_laws_mounts.specs.Mounts.Receivers.{AllGroupsLive};
 
 use crate::reach::Reach;
+use smallvec::SmallVec;
 use std::alloc::{AllocError, Global};
-use vt_group::Groups;
+use vt_group::{Groups, Receivers};
 use vt_location::{Location, Mount, MountId, NodeRef, Propagation};
 use vt_mount::Mounts;
 
@@ -42,7 +44,7 @@ pub(crate) fn receivers_of(
     alloc: Global,
     groups: &Groups,
     propagation: Propagation,
-) -> Result<Vec<MountId>, AllocError>
+) -> Result<Receivers, AllocError>
     ensures ok { IfOk result (λ ids. (world : World ℕ) (mount : meant.Mount ℕ) → Has world groups.now → AllGroupsLive world
         → mount.propagation ≡ propagation_of propagation
         → map mount_number ids.items ≡ numbers_of (receivers_of nat_eq world mount)) }
@@ -50,7 +52,7 @@ pub(crate) fn receivers_of(
     match propagation {
         Propagation::Shared(group) => groups.receivers(group),
         Propagation::Slave(_) | Propagation::Private | Propagation::Unbindable => {
-            Ok(Vec::new(alloc))
+            Ok(SmallVec::new(alloc))
         }
     }
 }
@@ -71,7 +73,7 @@ fn with_receivers<R: Reach>(
 {
     let mut parts = Vec::with_capacity(alloc, receivers.len().saturating_add(1))?;
     parts.push(parent)?;
-    if receivers.is_empty() {
+    if !has_other(place.mount, receivers) {
         return Ok(parts);
     }
     let shown = directories.is_under(parent.root, place.node);
@@ -83,6 +85,13 @@ fn with_receivers<R: Reach>(
         }
     }
     Ok(parts)
+}
+
+// Whether there is a mount beside this one among these.
+fn has_other(mount: MountId, ids: &[MountId]) -> bool
+    ensures { result ≡ list_any (λ id. not (nat_eq mount.count id.count)) ids.now }
+{
+    ids.iter().any(|id| *id != mount)
 }
 
 // Whether a receiver takes part: it is attached, shows the same filesystem, and its root is the destination or above

@@ -16,7 +16,8 @@ ghost use Rattle.vt_propagate.specs.Through.{standing_over as standing_over_of};
 
 use crate::falling::{Gone, is_gone, place_left};
 use crate::pushing::stands_at;
-use crate::unmounting::{alone, group_at};
+use crate::unmounting::{Going, alone, group_at};
+use smallvec::SmallVec;
 use std::alloc::{AllocError, Global};
 use vt_group::Groups;
 use vt_location::{GroupId, Location, Mount, MountId, NodeRef};
@@ -29,7 +30,7 @@ pub(crate) fn going_then(
     groups: &Groups,
     gone: &Gone,
     id: MountId,
-) -> Result<Vec<MountId>, AllocError>
+) -> Result<Going, AllocError>
     requires { HasJust gone.now.set.now.keys (map mount_number gone.now.ids.now) }
     ensures ok { IfOk result (λ going. (world : World ℕ) → IsSeen world mounts.now groups.now
         → map mount_number going.items
@@ -63,13 +64,13 @@ fn free_on_then(
     gone: &Gone,
     node: NodeRef,
     receivers: &[MountId],
-) -> Result<Vec<MountId>, AllocError>
+) -> Result<Going, AllocError>
     requires { HasJust gone.now.set.now.keys (map mount_number gone.now.ids.now) }
     ensures { IfOk result (λ going. map mount_number going.items
         ≡ free_on_then (mounts_in mounts.now) (map mount_number gone.now.ids.now) (number_of node)
         (map mount_number receivers.now)) }
 {
-    let mut going = Vec::with_capacity(alloc, receivers.len())?;
+    let mut going = SmallVec::with_capacity(alloc, receivers.len())?;
     for receiver in receivers {
         if let Some(child) = free_at_receiver(mounts, gone, node, *receiver) {
             going.push(child)?;

@@ -10,10 +10,14 @@ ghost use Rattle.vt_mount.specs.MountsValue.{mounts_in, uses_of};
 ghost use Rattle.vt_propagate.specs.Going.{CountsUses, free_at, free_on, group_at as group_at_place, is_free, shared_point};
 ghost use Rattle.vt_propagate.specs.Seen.{IsSeen};
 
+use smallvec::SmallVec;
 use std::alloc::{AllocError, Global};
 use vt_group::Groups;
 use vt_location::{GroupId, Location, MountId, NodeRef, Propagation};
 use vt_mount::Mounts;
+
+/// Mounts that an event detaches. Up to four, as most events have, take no memory.
+pub type Going = SmallVec<MountId, 4>;
 
 /// Whether an unmount is refused: the mount has a child, or a mount that would be detached is in use: EBUSY of
 /// umount(2).
@@ -50,7 +54,7 @@ pub fn going(
     mounts: &Mounts,
     groups: &Groups,
     id: MountId,
-) -> Result<Vec<MountId>, AllocError>
+) -> Result<Going, AllocError>
     ensures ok { IfOk result (λ going. (world : World ℕ) → IsSeen world mounts.now groups.now
         → map mount_number going.items
         ≡ going_of nat_eq world (mount_numbered nat_eq world (mount_number id))) }
@@ -63,10 +67,10 @@ pub fn going(
 }
 
 /// The list of one mount.
-pub(crate) fn alone(alloc: Global, id: MountId) -> Result<Vec<MountId>, AllocError>
+pub(crate) fn alone(alloc: Global, id: MountId) -> Result<Going, AllocError>
     ensures ok { IfOk result (λ list. list.items ≡ id ∷ []) }
 {
-    let mut list = Vec::new(alloc);
+    let mut list = SmallVec::new(alloc);
     list.push(id)?;
     Ok(list)
 }
@@ -96,12 +100,12 @@ fn free_on(
     mounts: &Mounts,
     node: NodeRef,
     receivers: &[MountId],
-) -> Result<Vec<MountId>, AllocError>
+) -> Result<Going, AllocError>
     ensures { IfOk result (λ going. map mount_number going.items
         ≡ map (λ mount. mount.number) (free_on (mounts_in mounts.now) (number_of node)
         (map mount_number receivers.now))) }
 {
-    let mut going = Vec::with_capacity(alloc, receivers.len())?;
+    let mut going = SmallVec::with_capacity(alloc, receivers.len())?;
     for receiver in receivers {
         let place = Location {
             mount: *receiver,

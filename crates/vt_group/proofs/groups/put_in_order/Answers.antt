@@ -1,8 +1,7 @@
-use Rattle.std.proofs.Common.{◌≡◌, ℕ, Bool, true, false, cond, List, [], ◌∷◌, ◌||◌, map, nat_cmp, nat_eq, refl, rules, sym, ap, subst, ◌∙◌, eqb-true, Less}
-use Rattle.vt_spec.proofs.Common.{AllByRecursion, answers_always, list_any-IsPermutation}
-use Rattle.std.proofs.lemmas.List.Filters.{dedup_is}
+use Rattle.std.proofs.Common.{arith, length, ◌≡◌, ℕ, Bool, true, false, cond, List, [], ◌∷◌, ◌||◌, map, nat_cmp, nat_eq, refl, rules, sym, ap, subst, ◌∙◌, eqb-true, Less}
+use Rattle.vt_spec.proofs.Common.{AllByRecursion, common_steps, answers_always, list_any-IsPermutation}
 use Rattle.std.proofs.lemmas.List.Kept.{IsStrictlySortedBy-dedup}
-use Rattle.std.specs.List.{dedup, dedup_from}
+use Rattle.std.specs.List.{dedup, dedup_from, refill}
 use Rattle.std.specs.List.Sorted.{IsStrictlySortedBy}
 use Rattle.vt_location.specs.InOrder.{cmp_by}
 use Rattle.vt_location.specs.declared.numbers.MountId.{MountId}
@@ -49,16 +48,26 @@ noted_once : (count : ℕ) (ids : List MountId) → is_noted (dedup same_id ids)
 noted_once count [] = refl
 noted_once count (id ∷ ids) = noted_from count id ids
 
+-- a list that was written as a slice of the same length
+refilled : (old new : List MountId) → length new ≡ length old → refill (length old) old new ≡ new
+refilled old new same = grind (arith, common_steps)
+
+-- what is left, from the sorted list
+left : (c : goal.After-dedup) → c.dedup.new.self.items ≡ dedup same_id c.sort_unstable_by_key.new.self
+left c = c.dedup.ensures.items ∙ ap (dedup same_id) (refilled c.args.mounts.now.items c.sort_unstable_by_key.new.self
+    (c.sort_unstable_by_key.ensures.len ∙ ap length c.deref_mut.ensures.value))
+
 pub returns-clause-ordered : goal.returns-clause-ordered
 returns-clause-ordered c =
     let by_count = c.sort_unstable_by_key.ensures.sorted count_of (answers_always _ _ _ (λ f a r g called. search rules)) in
-    subst (λ ids. IsStrictlySortedBy nat_cmp (map count_of ids)) (sym (dedup_is same_id _ _ c.dedup.ensures.filtered))
-    (counts_ascend (dedup same_id c.sort_unstable_by_key.new.self.items)
+    subst (λ ids. IsStrictlySortedBy nat_cmp (map count_of ids)) (sym (left c))
+    (counts_ascend (dedup same_id c.sort_unstable_by_key.new.self)
     (IsStrictlySortedBy-dedup (cmp_total count_of) (λ x y. sym (tied count_of x y))
-    c.sort_unstable_by_key.new.self.items by_count))
+    c.sort_unstable_by_key.new.self by_count))
 
 pub returns-clause-same : goal.returns-clause-same
-returns-clause-same c count = ap (λ ids. is_noted ids count) (dedup_is same_id _ _ c.dedup.ensures.filtered)
-    ∙ noted_once count c.sort_unstable_by_key.new.self.items
-    ∙ sym (list_any-IsPermutation (λ mount. nat_eq count mount.count) c.args.mounts.now.items
-    c.sort_unstable_by_key.new.self.items c.sort_unstable_by_key.ensures.permutation)
+returns-clause-same c count = ap (λ ids. is_noted ids count) (left c)
+    ∙ noted_once count c.sort_unstable_by_key.new.self
+    ∙ sym (list_any-IsPermutation (λ mount. nat_eq count mount.count) c.deref_mut.result.now
+    c.sort_unstable_by_key.new.self c.sort_unstable_by_key.ensures.permutation)
+    ∙ ap (λ ids. is_noted ids count) c.deref_mut.ensures.value

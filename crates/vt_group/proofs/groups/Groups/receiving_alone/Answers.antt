@@ -23,7 +23,7 @@ returns c =
       receivers_noted found c.self.inside.mounts.kinds.entries c.put_in_order.new.mounts.items
           c.self.invariant.ordered c.put_in_order.ensures.ordered (λ count.
           c.put_in_order.ensures.same count ∙ c.in_ok-add_relatives.ensures count
-          ∙ ap (λ list. receives_from groups found (counted count) || is_noted list count) c.in_ok-mounts.ensures.items
+          ∙ ap (λ list. receives_from groups found (counted count) || is_noted list count) c.new-mounts.ensures.items
           ∙ or_none (receives_from groups found (counted count))
           ∙ ap (λ groups. receives_from groups found (counted count)) (sym c.self.view_is))
           ∙ ap (λ groups. receivers_from found groups.peers) c.self.view_is,

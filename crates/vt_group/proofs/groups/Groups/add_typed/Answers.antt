@@ -12,15 +12,15 @@ use Rattle.vt_group.proofs.Answering.{listed_ok}
 use Rattle.vt_group.proofs.Coming.{FoundListed, FoundLower, all_listed, all_lower, each_joined_still}
 use Rattle.vt_group.proofs.EndedTypes.{rising_numbers}
 use Rattle.vt_group.proofs.groups.GrownMaps.{found_listed, found_lower, lists_found, lists_unlisted, still_ascends}
-use Rattle.vt_group.proofs.groups.Groups.add.Goals as goal
+use Rattle.vt_group.proofs.groups.Groups.add_typed.Goals as goal
 
 pub returns-clause-ok : goal.returns-clause-ok
 returns-clause-ok c world after has grows =
     let inside = c.self.inside in
     let peers = c.set_all.ensures.types
-    ∙ ap (λ es. folded with_type_of (map numbered_peer es) (map typed_pair c.as_slice-types.result.now))
+    ∙ ap (λ es. folded with_type_of (map numbered_peer es) (map typed_pair c.args.types.now))
     c.reserve_all.ensures.types ∙ ap (folded with_type_of (map numbered_peer inside.mounts.kinds.entries))
-    (ap (map typed_pair) c.as_slice-types.ensures.value ∙ c.in_ok-types.ensures) in
+    c.requires in
     let masters = c.set_all.ensures.masters
     ∙ ap (λ es. folded with_master_of (map numbered_master es) (map new_group c.args.new.now))
     c.reserve_all.ensures.masters in
@@ -35,9 +35,9 @@ invariant_of-self-2 c =
     let old_peers = map numbered_peer inside.mounts.kinds.entries in
     let old_masters = map numbered_master inside.above.entries in
     let peers = c.set_all.ensures.types
-    ∙ ap (λ es. folded with_type_of (map numbered_peer es) (map typed_pair c.as_slice-types.result.now))
+    ∙ ap (λ es. folded with_type_of (map numbered_peer es) (map typed_pair c.args.types.now))
     c.reserve_all.ensures.types
-    ∙ ap (folded with_type_of old_peers) (ap (map typed_pair) c.as_slice-types.ensures.value ∙ c.in_ok-types.ensures) in
+    ∙ ap (folded with_type_of old_peers) c.requires in
     let masters = c.set_all.ensures.masters
     ∙ ap (λ es. folded with_master_of (map numbered_master es) (map new_group c.args.new.now))
     c.reserve_all.ensures.masters in
