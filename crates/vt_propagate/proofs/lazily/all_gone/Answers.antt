@@ -11,9 +11,9 @@ none = record { count = 0 }
 
 pub loop-id-init : goal.loop-id-init
 loop-id-init c = (
-  λ id. cc,
+  λ id. cc c.in_ok-ids.ensures.items,
   λ world number kept seen are. subst (λ ids. IsTaken world kept number (counts ids) (counts c.args.events.now))
-      (sym c.new-ids.ensures.items) (taken_first world kept number c.args.events.now are),
+      (sym c.in_ok-ids.ensures.items) (taken_first world kept number c.args.events.now are),
 )
 
 pub loop-id-preserved : goal.loop-id-preserved
@@ -23,7 +23,7 @@ loop-id-preserved c = (
       taken_step world kept number c.loop-id.ids.items c.in_ok-going.going.items c.note_all.new.ids.items
       c.args.events.now c.loop-id.id-index none c.loop-id-test.true
       (c.in_ok-note_all.ensures.ids ∙ ap (λ more. counts c.loop-id.ids.items ++ counts more)
-      c.deref-in-loop-id.ensures.value) (c.loop-id.invariant.1 world number kept seen are)
+      c.deref-in-loop-id.ensures) (c.loop-id.invariant.1 world number kept seen are)
       (c.in_ok-going.ensures.ok world seen ∙ ap (λ ids. going_then_if_there world (counts ids)
       (counted (get_or c.args.events.now c.loop-id.id-index none).count)) c.deref.ensures.value),
 )

@@ -1,4 +1,5 @@
-use Rattle.std.proofs.Common.{ap, arith, eqb-true, suc, sym, vec_len, [], ◌++◌, ◌+◌, ◌-◌, ◌≡◌, ◌∷◌, ◌∙◌}
+use Rattle.std.proofs.Common.{ap, arith, eqb-true, suc, sym, [], ◌++◌, ◌+◌, ◌-◌, ◌≡◌, ◌∷◌, ◌∙◌}
+use Rattle.smallvec.specs.SmallVec.{small_vec_len}
 use Rattle.vt_spec.proofs.Common.{map-append}
 use Rattle.vt_location.specs.Numbers.{counted}
 use Rattle.vt_location.specs.declared.numbers.MountId.{MountId}
@@ -12,11 +13,8 @@ pub returns-then-is_empty : goal.returns-then-is_empty
 returns-then-is_empty c =
     let mounts = mounts_in c.args.mounts.now in
     no_next mounts (counts c.loop.all.items) (counts c.loop.level.items) (c.len-end.result - c.loop.counter)
-    (none_counted c.loop.level.items (omega (
-      arith,
-      eqb-true (vec_len c.loop.level) 0 (sym c.is_empty.ensures ∙ c.if-is_empty.true),
-      c.loop.level.ok.0,
-    ))) ∙ c.loop.invariant.1 ∙ ap (λ n. levels_from n mounts (counted c.args.id.count ∷ [])) c.loop.invariant.0
+    (none_counted c.loop.level.items
+    (eqb-true (small_vec_len c.loop.level) 0 (sym c.is_empty.ensures ∙ c.if-is_empty.true))) ∙ c.loop.invariant.1 ∙ ap (λ n. levels_from n mounts (counted c.args.id.count ∷ [])) c.loop.invariant.0
 
 pub loop-preserved : goal.loop-preserved
 loop-preserved c =
@@ -26,9 +24,9 @@ loop-preserved c =
       c.loop.invariant.0,
       next_level mounts (counts c.loop.all.items) (counts c.loop.level.items) rest
           (ap counts (c.in_ok-extend_from_slice.ensures.items
-          ∙ ap (λ more. c.loop.all.items ++ more) c.deref.ensures.value)
+          ∙ ap (λ more. c.loop.all.items ++ more) c.deref.ensures)
           ∙ map-append (λ (id : MountId). counted id.count) c.loop.all.items c.loop.level.items)
-          (c.in_ok-level.ensures ∙ ap (λ ids. children_of mounts (counts ids)) c.deref-in-loop.ensures.value)
+          (c.in_ok-level.ensures ∙ ap (λ ids. children_of mounts (counts ids)) c.deref-in-loop.ensures)
           ∙ ap (λ n. counts c.loop.all.items ++ levels_from n mounts (counts c.loop.level.items)) one
           ∙ c.loop.invariant.1,
     )

@@ -16,7 +16,7 @@ returns g c =
     record {
       ok = IfOk-weaker c.with_receivers.result _ _ (λ parts is world seen reaches. is
           ∙ parts-found seen (g.R.Reach.under c.args.directories.now) reaches c.alloc-alloc.ensures.order
-          (location_of c.args.place) found c.deref.result.now (ap counts c.deref.ensures.value
+          (location_of c.args.place) found c.deref.result.now (ap counts c.deref.ensures
           ∙ c.in_ok-receivers.ensures.ok world (mount_of parent) seen.groups seen.living refl))
           c.with_receivers.ensures;
     }

@@ -18,6 +18,6 @@ returns c = record {
   ok = IfOk-weaker c.free_on.result _ _ (λ going is world seen. is
       ∙ going-everywhere seen (counted c.args.id.count) (location_of c.in-Some.point, counted c.in-Some.group.count)
       (sym c.in-Some.ensures) c.deref.result.now
-      (ap counts c.deref.ensures.value ∙ c.in_ok-receivers.ensures.ok world seen.groups seen.living))
+      (ap counts c.deref.ensures ∙ c.in_ok-receivers.ensures.ok world seen.groups seen.living))
       c.free_on.ensures;
 }

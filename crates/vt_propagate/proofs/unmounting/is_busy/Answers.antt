@@ -8,5 +8,5 @@ pub returns : goal.returns
 returns c = record {
   ok = λ world seen uses. c.are_used.ensures
       ∙ busy-told seen uses (counted c.args.id.count) (sym c.has_child.ensures ∙ c.if-has_child.false)
-      (ap counts c.deref.ensures.value ∙ c.in_ok-going.ensures.ok world seen);
+      (ap counts c.deref.ensures ∙ c.in_ok-going.ensures.ok world seen);
 }
