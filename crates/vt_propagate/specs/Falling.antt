@@ -1,5 +1,5 @@
 -- Where mounts stand once others are detached, and how a list of new mount points is applied.
-use Rattle.std.specs.Prelude.{List, None, Option, Some, [], false, filter_map, find, flat_map, if◌then◌else◌, map, nat_eq, option_map, ℕ, ◌≡◌}
+use Rattle.std.specs.Prelude.{List, None, Option, Some, [], false, filter_map, find, flat_map, if◌then◌else◌, length, map, nat_eq, option_map, ℕ, ◌<◌, ◌≡◌, ◌≤◌, ◌||◌}
 use Rattle.std.specs.List.{list_any}
 use Rattle.std.specs.Map.{lookup}
 use Rattle.vt_spec.specs.Lists.{or_else, then_some}
@@ -9,7 +9,7 @@ use Rattle.vt_spec.specs.Machine.Receives.{regrouped}
 use Rattle.vt_spec.specs.Machine.World.{World, mount_numbered, with_mounts}
 use Rattle.vt_location.specs.Locations.{location_of}
 use Rattle.vt_location.specs.declared.numbers.MountId.{MountId}
-use Rattle.vt_location.specs.Numbers.{counted}
+use Rattle.vt_location.specs.Numbers.{counted, mount_number}
 use Rattle.vt_mount.specs.Listed.{same_id}
 use Rattle.vt_mount.specs.declared.moving.NewPoint.{NewPoint}
 
@@ -54,6 +54,16 @@ point_left_of mounts gone number =
 -- a set of just these mounts
 abbrev pub HasJust : List MountId → List ℕ → Type 0
 HasJust keys numbers = (id : MountId) → list_any (same_id id) keys ≡ is_going nat_eq numbers (counted id.count)
+
+-- a set has these mounts more
+abbrev pub HasMore : List MountId → List MountId → List MountId → Type 0
+HasMore old ids new = (id : MountId) → list_any (same_id id) new
+    ≡ (list_any (same_id id) old || is_going nat_eq (map mount_number ids) (counted id.count))
+
+-- a set has just these mounts if they are more than eight, else none
+pub record IsKnown (keys ids : List MountId) : Type 0 where
+  pub few : length ids ≤ 8 → keys ≡ []
+  pub many : 8 < length ids → HasJust keys (map mount_number ids)
 
 -- of all mounts on one that goes, and on all that go
 abbrev pub points_left_on : List (Mount ℕ) → List ℕ → ℕ → List (ℕ × Location ℕ)

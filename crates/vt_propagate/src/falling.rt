@@ -8,8 +8,8 @@ ghost use Rattle.vt_spec.specs.Machine.World.{World};
 ghost use Rattle.vt_location.specs.Locations.{location_of};
 ghost use Rattle.vt_location.specs.Numbers.{mount_number};
 ghost use Rattle.vt_mount.specs.MountsValue.{mounts_in};
-ghost use Rattle.vt_propagate.specs.Falling.{FallsTo, HasJust, LeavesBy, all_points_left, of_mounts, point_left_of};
-ghost use Rattle.vt_propagate.specs.Falling.{point_of};
+ghost use Rattle.vt_propagate.specs.Falling.{FallsTo, IsKnown, LeavesBy, all_points_left, of_mounts, point_left_of};
+ghost use Rattle.vt_propagate.specs.Falling.{HasMore, point_of};
 
 use indexmap::IndexSet;
 use std::alloc::{AllocError, Global};
@@ -17,9 +17,9 @@ use vt_location::{Location, MountId};
 use vt_mount::{Mounts, NewPoint};
 
 /// So many mounts are passed over sooner than one is looked for in a set.
-const FEW: usize = 8;
+pub(crate) const FEW: usize = 8;
 
-/// The mounts that go, and the same as a set.
+/// The mounts that go, and the same as a set, which is empty while they are few.
 #[derive(Clone, Copy, Debug)]
 pub(crate) struct Gone<'a> {
     pub(crate) ids: &'a [MountId],
@@ -39,7 +39,7 @@ pub(crate) fn points_left(mounts: &Mounts, gone: &[MountId]) -> Result<Vec<NewPo
 
 /// The same, where the set of the mounts that go is known.
 pub(crate) fn points_left_by(mounts: &Mounts, gone: &Gone) -> Result<Vec<NewPoint>, AllocError>
-    requires { HasJust gone.now.set.now.keys (map mount_number gone.now.ids.now) }
+    requires { IsKnown gone.now.set.now.keys gone.now.ids.now }
     ensures ok { IfOk result (λ points. (world : World ℕ) → mounts_in mounts.now ≡ world.mounts
         → LeavesBy world (map mount_number gone.now.ids.now) (map point_of points.items)) }
     ensures each { IfOk result (λ points. (world : World ℕ) → mounts_in mounts.now ≡ world.mounts
@@ -66,7 +66,7 @@ fn all_left(alloc: Global, mounts: &Mounts, gone: &[MountId]) -> Result<Vec<NewP
 
 // The same, where the set of the mounts that go is known.
 fn all_left_by(alloc: Global, mounts: &Mounts, gone: &Gone) -> Result<Vec<NewPoint>, AllocError>
-    requires { HasJust gone.now.set.now.keys (map mount_number gone.now.ids.now) }
+    requires { IsKnown gone.now.set.now.keys gone.now.ids.now }
     ensures { IfOk result (λ points. map point_of points.items
         ≡ all_points_left (mounts_in mounts.now) (map mount_number gone.now.ids.now)) }
 {
@@ -85,16 +85,27 @@ fn have_children(mounts: &Mounts, ids: &[MountId]) -> bool
     ids.iter().any(|id| mounts.has_child(*id))
 }
 
-// The set of these mounts.
+// The set of these mounts, if they are more than a few.
 fn set_of(alloc: Global, ids: &[MountId]) -> Result<IndexSet<MountId>, AllocError>
-    ensures { IfOk result (λ set. HasJust set.keys (map mount_number ids.now)) }
+    ensures { IfOk result (λ set. IsKnown set.keys ids.now) }
 {
     let mut set = IndexSet::new(alloc);
+    if ids.len() <= FEW {
+        return Ok(set);
+    }
     set.reserve(ids.len())?;
+    note_in_set(&mut set, ids)?;
+    Ok(set)
+}
+
+/// Adds these mounts to a set.
+pub(crate) fn note_in_set(set: &mut IndexSet<MountId>, ids: &[MountId]) -> Result<(), AllocError>
+    ensures { OnOk result (HasMore set.old.keys ids.now set.new.keys) }
+{
     for id in ids {
         set.insert(*id)?;
     }
-    Ok(set)
+    Ok(())
 }
 
 // Adds the new mount points of these mounts.
@@ -104,7 +115,7 @@ fn push_left(
     children: &[MountId],
     points: &mut Vec<NewPoint>,
 ) -> Result<(), AllocError>
-    requires { HasJust gone.now.set.now.keys (map mount_number gone.now.ids.now) }
+    requires { IsKnown gone.now.set.now.keys gone.now.ids.now }
     ensures { OnOk result (map point_of points.new.items ≡ map point_of points.old.items
         ++ filter_map (point_left_of (mounts_in mounts.now) (map mount_number gone.now.ids.now))
         (map mount_number children.now)) }
@@ -119,7 +130,7 @@ fn push_left(
 
 // The new mount point of a mount that stays.
 fn point_left(mounts: &Mounts, gone: &Gone, id: MountId) -> Option<NewPoint>
-    requires { HasJust gone.now.set.now.keys (map mount_number gone.now.ids.now) }
+    requires { IsKnown gone.now.set.now.keys gone.now.ids.now }
     ensures { option_map point_of result
         ≡ point_left_of (mounts_in mounts.now) (map mount_number gone.now.ids.now) (mount_number id) }
 {
@@ -135,7 +146,7 @@ fn point_left(mounts: &Mounts, gone: &Gone, id: MountId) -> Option<NewPoint>
 
 /// Where a mount point is left.
 pub(crate) fn place_left(mounts: &Mounts, gone: &Gone, place: Location) -> Location
-    requires { HasJust gone.now.set.now.keys (map mount_number gone.now.ids.now) }
+    requires { IsKnown gone.now.set.now.keys gone.now.ids.now }
     ensures { location_of result
         ≡ mount_point_left nat_eq (of_mounts (mounts_in mounts.now)) (map mount_number gone.now.ids.now)
         (location_of place) }
@@ -152,7 +163,7 @@ pub(crate) fn place_left(mounts: &Mounts, gone: &Gone, place: Location) -> Locat
 
 // The mount point of the mount that a mount point is on, if that mount goes.
 fn below_gone(mounts: &Mounts, gone: &Gone, place: Location) -> Option<Location>
-    requires { HasJust gone.now.set.now.keys (map mount_number gone.now.ids.now) }
+    requires { IsKnown gone.now.set.now.keys gone.now.ids.now }
     ensures { option_map location_of result
         ≡ mount_point_of_parent nat_eq (of_mounts (mounts_in mounts.now)) (map mount_number gone.now.ids.now)
         (location_of place) }
@@ -165,7 +176,7 @@ fn below_gone(mounts: &Mounts, gone: &Gone, place: Location) -> Option<Location>
 
 /// Whether a mount is one of these.
 pub(crate) fn is_gone(gone: &Gone, id: MountId) -> bool
-    requires { HasJust gone.now.set.now.keys (map mount_number gone.now.ids.now) }
+    requires { IsKnown gone.now.set.now.keys gone.now.ids.now }
     ensures { result ≡ is_going nat_eq (map mount_number gone.now.ids.now) (mount_number id) }
 {
     if gone.ids.len() <= FEW {

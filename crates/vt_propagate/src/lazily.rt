@@ -9,14 +9,14 @@ ghost use Rattle.vt_spec.specs.Machine.Mounts.{mount_in};
 ghost use Rattle.vt_spec.specs.Machine.World.{World};
 ghost use Rattle.vt_location.specs.Numbers.{mount_number};
 ghost use Rattle.vt_mount.specs.MountsValue.{mounts_in};
-ghost use Rattle.vt_propagate.specs.Falling.{FallsTo, HasJust, LeavesBy, point_of};
+ghost use Rattle.vt_propagate.specs.Falling.{FallsTo, IsKnown, LeavesBy, point_of};
 ghost use Rattle.vt_propagate.specs.LazyEvents.{children_of, levels_from};
 ghost use Rattle.vt_propagate.specs.LazyUnmounts.{gone_lazily, lazy_events};
 ghost use Rattle.vt_propagate.specs.Seen.{IsSeen};
 ghost use Rattle.vt_propagate.specs.Through.{going_then_if_there};
 
 use crate::detaching::Detachment;
-use crate::falling::{Gone, is_gone, points_left_by};
+use crate::falling::{FEW, Gone, is_gone, note_in_set, points_left_by};
 use crate::through::going_then;
 use crate::unmounting::Going;
 use indexmap::IndexSet;
@@ -72,7 +72,7 @@ fn going_lazily(
     ensures ok { IfOk result (λ gone. (world : World ℕ) → IsSeen world mounts.now groups.now
         → MountInvariants nat_eq world
         → map mount_number gone.0.items ≡ gone_lazily world (mount_number id)) }
-    ensures set { IfOk result (λ gone. HasJust gone.1.keys (map mount_number gone.0.items)) }
+    ensures set { IfOk result (λ gone. IsKnown gone.1.keys gone.0.items) }
 {
     let events = deepest_first(alloc, mounts, id)?;
     all_gone(alloc, mounts, groups, &events)
@@ -89,13 +89,12 @@ fn all_gone(
         → MountInvariants nat_eq world
         → map mount_number events.now ≡ map (λ mount. mount.number) (lazy_events world number)
         → map mount_number gone.0.items ≡ gone_lazily world number) }
-    ensures set { IfOk result (λ gone. HasJust gone.1.keys (map mount_number gone.0.items)) }
+    ensures set { IfOk result (λ gone. IsKnown gone.1.keys gone.0.items) }
 {
     // Mostly each event detaches a mount at one peer too.
     let some = events.len().saturating_mul(2);
     let mut ids = Vec::with_capacity(alloc, some)?;
     let mut set = IndexSet::new(alloc);
-    set.reserve(some)?;
     for id in events {
         let gone = Gone {
             ids: &ids,
@@ -115,7 +114,7 @@ fn going_if_there(
     gone: &Gone,
     id: MountId,
 ) -> Result<Going, AllocError>
-    requires { HasJust gone.now.set.now.keys (map mount_number gone.now.ids.now) }
+    requires { IsKnown gone.now.set.now.keys gone.now.ids.now }
     ensures ok { IfOk result (λ going. (world : World ℕ) → IsSeen world mounts.now groups.now
         → map mount_number going.items
         ≡ going_then_if_there world (map mount_number gone.now.ids.now) (mount_number id)) }
@@ -126,7 +125,7 @@ fn going_if_there(
     going_then(alloc, mounts, groups, gone, id)
 }
 
-// Notes that more mounts are gone, in a list and a set.
+// Notes that more mounts are gone, in a list, and in a set once they are more than a few.
 fn note_all(
     ids: &mut Vec<MountId>,
     set: &mut IndexSet<MountId>,
@@ -134,14 +133,17 @@ fn note_all(
 ) -> Result<(), AllocError>
     ensures ids { OnOk result (map mount_number ids.new.items
         ≡ map mount_number ids.old.items ++ map mount_number more.now) }
-    ensures set { OnOk result (HasJust set.old.keys (map mount_number ids.old.items)
-        → HasJust set.new.keys (map mount_number ids.new.items)) }
+    ensures set { OnOk result (IsKnown set.old.keys ids.old.items → IsKnown set.new.keys ids.new.items) }
 {
-    for id in more {
-        ids.push(*id)?;
-        set.insert(*id)?;
+    let had = ids.len();
+    ids.extend_from_slice(more)?;
+    if ids.len() <= FEW {
+        return Ok(());
     }
-    Ok(())
+    if had <= FEW {
+        return note_in_set(set, ids);
+    }
+    note_in_set(set, more)
 }
 
 // Whether a mount is in a namespace.

@@ -8,7 +8,7 @@ ghost use Rattle.vt_location.specs.Locations.{location_of, number_of};
 ghost use Rattle.vt_location.specs.MountValue.{mount_of};
 ghost use Rattle.vt_location.specs.Numbers.{group_number, mount_number};
 ghost use Rattle.vt_mount.specs.MountsValue.{mounts_in};
-ghost use Rattle.vt_propagate.specs.Falling.{HasJust};
+ghost use Rattle.vt_propagate.specs.Falling.{IsKnown};
 ghost use Rattle.vt_propagate.specs.Seen.{IsSeen};
 ghost use Rattle.vt_propagate.specs.Through.{free_at_receiver, free_at_then, free_on_then, going_then as going_then_of};
 ghost use Rattle.vt_propagate.specs.Through.{is_free_by_number, rests_on_root, shared_point_then as shared_point_then_of};
@@ -31,7 +31,7 @@ pub(crate) fn going_then(
     gone: &Gone,
     id: MountId,
 ) -> Result<Going, AllocError>
-    requires { HasJust gone.now.set.now.keys (map mount_number gone.now.ids.now) }
+    requires { IsKnown gone.now.set.now.keys gone.now.ids.now }
     ensures ok { IfOk result (λ going. (world : World ℕ) → IsSeen world mounts.now groups.now
         → map mount_number going.items
         ≡ going_then_of world (map mount_number gone.now.ids.now) (mount_number id)) }
@@ -45,7 +45,7 @@ pub(crate) fn going_then(
 
 // The mount point of a mount whose parent is shared then, and the parent's group.
 fn shared_point_then(mounts: &Mounts, gone: &Gone, id: MountId) -> Option<(Location, GroupId)>
-    requires { HasJust gone.now.set.now.keys (map mount_number gone.now.ids.now) }
+    requires { IsKnown gone.now.set.now.keys gone.now.ids.now }
     ensures { option_map (λ found. (location_of found.0, group_number found.1)) result
         ≡ shared_point_then_of (mounts_in mounts.now) (map mount_number gone.now.ids.now)
         (mount_number id) }
@@ -65,7 +65,7 @@ fn free_on_then(
     node: NodeRef,
     receivers: &[MountId],
 ) -> Result<Going, AllocError>
-    requires { HasJust gone.now.set.now.keys (map mount_number gone.now.ids.now) }
+    requires { IsKnown gone.now.set.now.keys gone.now.ids.now }
     ensures { IfOk result (λ going. map mount_number going.items
         ≡ free_on_then (mounts_in mounts.now) (map mount_number gone.now.ids.now) (number_of node)
         (map mount_number receivers.now)) }
@@ -86,7 +86,7 @@ fn free_at_receiver(
     node: NodeRef,
     receiver: MountId,
 ) -> Option<MountId>
-    requires { HasJust gone.now.set.now.keys (map mount_number gone.now.ids.now) }
+    requires { IsKnown gone.now.set.now.keys gone.now.ids.now }
     ensures { option_map mount_number result
         ≡ free_at_receiver (mounts_in mounts.now) (map mount_number gone.now.ids.now) (number_of node)
         (mount_number receiver) }
@@ -103,7 +103,7 @@ fn free_at_receiver(
 
 // The mount at a location then, if it may go.
 fn free_at_then(mounts: &Mounts, gone: &Gone, place: Location) -> Option<MountId>
-    requires { HasJust gone.now.set.now.keys (map mount_number gone.now.ids.now) }
+    requires { IsKnown gone.now.set.now.keys gone.now.ids.now }
     ensures { option_map mount_number result
         ≡ free_at_then (mounts_in mounts.now) (map mount_number gone.now.ids.now) (location_of place) }
 {
@@ -117,7 +117,7 @@ fn free_at_then(mounts: &Mounts, gone: &Gone, place: Location) -> Option<MountId
 
 // Whether a mount may go: nothing stands on it then, but on its root.
 fn is_free_then(mounts: &Mounts, gone: &Gone, id: MountId) -> bool
-    requires { HasJust gone.now.set.now.keys (map mount_number gone.now.ids.now) }
+    requires { IsKnown gone.now.set.now.keys gone.now.ids.now }
     ensures { result ≡ is_free_by_number (mounts_in mounts.now) (map mount_number gone.now.ids.now)
         (mount_number id) }
 {
@@ -134,7 +134,7 @@ fn is_free_then(mounts: &Mounts, gone: &Gone, id: MountId) -> bool
 
 // Whether what stands then at the place of a child stands on the mount's root, or nothing does.
 fn rests_on_root(mounts: &Mounts, gone: &Gone, mount: &Mount, child: MountId) -> bool
-    requires { HasJust gone.now.set.now.keys (map mount_number gone.now.ids.now) }
+    requires { IsKnown gone.now.set.now.keys gone.now.ids.now }
     ensures { result ≡ holds_of (rests_on_root (mounts_in mounts.now) (map mount_number gone.now.ids.now)
         (mount_of mount.now))
         (find (λ mount. nat_eq (mount_number child) mount.number) (mounts_in mounts.now)) }
@@ -148,7 +148,7 @@ fn rests_on_root(mounts: &Mounts, gone: &Gone, mount: &Mount, child: MountId) ->
 
 // Whether nothing stands then at the place of a mount.
 fn is_empty_then(mounts: &Mounts, gone: &Gone, mount: &Mount) -> bool
-    requires { HasJust gone.now.set.now.keys (map mount_number gone.now.ids.now) }
+    requires { IsKnown gone.now.set.now.keys gone.now.ids.now }
     ensures { result ≡ not (holds_of (λ place. is_some (standing_over_of (mounts_in mounts.now)
         (map mount_number gone.now.ids.now) place)) (mount_of mount.now).mount_point) }
 {
@@ -160,7 +160,7 @@ fn is_empty_then(mounts: &Mounts, gone: &Gone, mount: &Mount) -> bool
 
 // The mount that stands at a place then: what stood on the root of one that is gone has fallen into its place.
 fn standing_over(mounts: &Mounts, gone: &Gone, place: Location) -> Option<MountId>
-    requires { HasJust gone.now.set.now.keys (map mount_number gone.now.ids.now) }
+    requires { IsKnown gone.now.set.now.keys gone.now.ids.now }
     ensures { option_map mount_number result
         ≡ standing_over_of (mounts_in mounts.now) (map mount_number gone.now.ids.now)
         (location_of place) }

@@ -12,3 +12,6 @@ returns-then-gone-le-FEW c =
     ∙ any-seen (λ (one : MountId). counted one.count)
     (λ (one : MountId). nat_eq (counted c.args.id.count) (counted one.count))
     (nat_eq (counted c.args.id.count)) (λ one. refl) c.args.gone.now.ids.now
+
+pub returns : goal.returns
+returns c = c.contains.ensures ∙ c.requires.many c.if-gone-le-FEW.false c.args.id

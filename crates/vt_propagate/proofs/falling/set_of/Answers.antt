@@ -1,11 +1,13 @@
-use Rattle.std.proofs.Common.{ap, cond, get_or, nat_eq, true, ◌∙◌}
-use Rattle.vt_location.specs.declared.numbers.MountId.{MountId}
-use Rattle.vt_propagate.proofs.falling.GoneSets.{going_more}
+use Rattle.std.proofs.Common.{arith, ◌∙◌}
+use Rattle.vt_propagate.proofs.falling.GoneSets.{known_all}
 use Rattle.vt_propagate.proofs.falling.set_of.Goals as goal
 
-pub loop-id-preserved : goal.loop-id-preserved
-loop-id-preserved c id =
-    let none : MountId = record { count = 0 } in
-    c.in_ok-insert.ensures.updates.0 id
-    ∙ ap (cond (nat_eq (get_or c.args.ids.now c.loop-id.id-index none).count id.count) true) (c.loop-id.invariant id)
-    ∙ going_more c.args.ids.now c.loop-id.id-index none id c.loop-id-test.true
+pub returns-then-ids-le-FEW : goal.returns-then-ids-le-FEW
+returns-then-ids-le-FEW c = record {
+  few = λ _. c.new-set.ensures.empty;
+  many = λ large. absurd (omega (arith, large, c.if-ids-le-FEW.true));
+}
+
+pub returns : goal.returns
+returns c = known_all c.reserve.new.self.keys c.note_in_set.new.set.keys c.args.ids.now
+    (c.in_ok-reserve.ensures.keys ∙ c.new-set.ensures.empty) c.in_ok-note_in_set.ensures c.if-ids-le-FEW.false

@@ -3,6 +3,7 @@ use Rattle.vt_location.specs.Numbers.{counted}
 use Rattle.vt_location.specs.declared.numbers.MountId.{MountId}
 use Rattle.vt_propagate.specs.Through.{going_then_if_there}
 use Rattle.vt_propagate.proofs.Found.{counts}
+use Rattle.vt_propagate.proofs.falling.GoneSets.{known_none}
 use Rattle.vt_propagate.proofs.lazily.LazySteps.{IsTaken, taken_first, taken_last, taken_step}
 use Rattle.vt_propagate.proofs.lazily.all_gone.Goals as goal
 
@@ -11,7 +12,7 @@ none = record { count = 0 }
 
 pub loop-id-init : goal.loop-id-init
 loop-id-init c = (
-  λ id. cc c.in_ok-ids.ensures.items,
+  known_none c.new-set.result.keys c.in_ok-ids.ids.items c.new-set.ensures.empty c.in_ok-ids.ensures.items,
   λ world number kept seen are. subst (λ ids. IsTaken world kept number (counts ids) (counts c.args.events.now))
       (sym c.in_ok-ids.ensures.items) (taken_first world kept number c.args.events.now are),
 )
