@@ -135,6 +135,19 @@ impl Mounts {
         in_order(self.alloc(), self.indexes.by_inode.get(&inode))
     }
 
+    /// Whether a mount stands on an inode, through whatever mount it is seen, beside this one.
+    pub fn has_others_on(&self, inode: NodeRef, mount: MountId) -> bool
+        ensures others { result ≡ list_any (λ other. stands_over (number_of inode) other
+            && not (nat_eq (mount_number mount) other.number)) (mounts_in self.now) }
+        ensures order { are_ascending (mounts_in self.now) ≡ true }
+    {
+        self.indexes
+            .by_inode
+            .get(&inode)
+            .iter()
+            .any(|one| mount != one.mount)
+    }
+
     /// Whether an inode is a mount point in this namespace, through whatever mount it is seen: EBUSY of rmdir(2).
     pub fn is_mount_point_in(&self, namespace: NamespaceId, inode: NodeRef) -> bool
         ensures { result

@@ -185,10 +185,10 @@ module _ {world : World ℕ} {kept : List MountEntry} {grouping : Grouping} (see
 
   -- one that stands on a shared mount goes with those at the receivers that are free
   pub going-everywhere : (number : ℕ) (found : Location ℕ × ℕ) → shared_point (mounts_in kept) number ≡ Some found
-      → (ids : List MountId) → counts ids ≡ numbers_of (receivers nat_eq world found.1)
-      → numbers_of (free_on (mounts_in kept) found.0.node (counts ids))
+      → (numbers : List ℕ) → numbers ≡ numbers_of (receivers nat_eq world found.1)
+      → numbers_of (free_on (mounts_in kept) found.0.node numbers)
       ≡ going nat_eq world (mount_numbered nat_eq world number)
-  going-everywhere number found is ids told = (λ i. numbers_of (free_on (seen.mounts i) found.0.node (told i)))
+  going-everywhere number found is numbers told = (λ i. numbers_of (free_on (seen.mounts i) found.0.node (told i)))
       ∙ ap numbers_of (filter_map-numbers
       (λ receiver. free_at world.mounts (record { mount = receiver; node = found.0.node }))
       (receivers nat_eq world found.1)) ∙ by (numbered (mounts_in kept) number) refl is

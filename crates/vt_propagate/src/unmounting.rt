@@ -62,6 +62,10 @@ pub fn going(
     let Some((point, group)) = shared_point(mounts, id) else {
         return alone(alloc, id);
     };
+    // Then no receiver but the parent itself has a mount there.
+    if !mounts.has_others_on(point.node, id) {
+        return free_on(alloc, mounts, point.node, &[point.mount]);
+    }
     let receivers = groups.receivers(group)?;
     free_on(alloc, mounts, point.node, &receivers)
 }

@@ -1,0 +1,2 @@
+-- What the proofs of src/unmounting.rt use.
+pub mod Here
