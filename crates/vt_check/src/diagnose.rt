@@ -120,8 +120,8 @@ fn tell_words(found: &mut Diagnosis, text: &str) {
         words: words.as_slice(),
     };
     let fault = first_fault(found, line);
-    found.column = fault.part.column;
-    found.width = fault.part.text.len();
+    found.column = fault.word.column;
+    found.width = fault.word.text.len();
     fault.write(found);
     write_help(found, line, fault);
     drop(words);

@@ -116,13 +116,15 @@ impl Draft {
 
     /// Appends a form, with the parts in the places of its `{}`, one after the other.
     pub fn fill(&mut self, form: &str, parts: &[&str]) {
-        for (place, text) in form.split("{}").enumerate() {
-            if place > 0 {
-                let part = parts.get(place.saturating_sub(1)).copied();
-                self.push(part.unwrap_or_default());
+        let mut rest = form;
+        for part in parts {
+            if let Some((text, after)) = rest.split_once("{}") {
+                self.push(text);
+                self.push(part);
+                rest = after;
             }
-            self.push(text);
         }
+        self.push(rest);
     }
 
     /// Appends what a line without a number begins with: a space for each digit of the number of the line above, and a

@@ -1,6 +1,6 @@
 //! What is wrong with the words of a refused line: the first of them that no line could have there.
 use crate::finding::Diagnosis;
-use crate::grammar::{Argument, CallWords, Kind, MOUNT_OVERLAY, PEERS, call_named};
+use crate::grammar::{CallWords, Kind, MOUNT_OVERLAY, PEERS, call_named};
 use crate::unmodelled::unmodelled_in;
 use crate::words::{Given, Word, parts_of};
 use vt_line::version::Version;
@@ -18,7 +18,7 @@ pub enum Wrong {
     NoDirective,
     /// The line ends behind its task, or behind `!`.
     LacksCall,
-    /// A word of a later version, of which this version has none.
+    /// A word of a later version, and the form of the message that this version has none of this name.
     Later(&'static str),
     /// A word of version 2 of the language, where version 1 is read, and what it is there.
     OfSecond(&'static str),
@@ -26,12 +26,12 @@ pub enum Wrong {
     Unmodelled(&'static str),
     /// A word that begins as an option, where calls have none.
     NoOption(&'static CallWords),
-    /// A word that is not of its kind.
-    Bad(Argument),
+    /// A word that is not of its kind, or has a part that is not, and what this is to be.
+    Bad(Kind, &'static str),
     /// A word more than the call takes.
     Further(&'static CallWords),
-    /// The line ends before a word that the call takes.
-    Lacks(&'static CallWords, Argument),
+    /// The line ends before a word of this kind that the call takes.
+    Lacks(&'static CallWords, Kind),
     /// None of these.
     Other,
 }
@@ -42,10 +42,9 @@ pub struct Fault<'a> {
     pub wrong: Wrong,
     /// The place among the line's words of the one at fault, or behind the last where one is missing.
     pub place: usize,
-    /// That word, or the place behind the last, as a word of one column.
+    /// What is at fault: that word, or one of the texts between its commas, or the place behind the last, as a word of
+    /// one column.
     pub word: Word<'a>,
-    /// What of the word is at fault: all of it, or one of the texts between its commas.
-    pub part: Word<'a>,
 }
 
 impl<'a> Fault<'a> {
@@ -58,41 +57,26 @@ impl<'a> Fault<'a> {
                 text: " ",
             },
         };
-        Fault {
-            wrong,
-            place,
-            word,
-            part: word,
-        }
-    }
-
-    // What a bad word is to be: one of several between commas, where one of these is at fault.
-    fn meant(self, version: Version, argument: Argument) -> &'static str {
-        if self.part.text.len() < self.word.text.len() {
-            argument.kind.words(version).part
-        } else {
-            argument.name
-        }
+        Fault { wrong, place, word }
     }
 
     /// Writes it in one sentence as the message, and what else is to be known of it.
     pub fn write(self, found: &mut Diagnosis) {
-        let word = self.part.text;
+        let word = self.word.text;
         // Of both parts a form takes as many as it has places.
         let (form, first, second) = match self.wrong {
             Wrong::NoTask => ("no task `{}`", word, word),
             Wrong::NoCall => ("no call `{}`", word, word),
             Wrong::NoDirective => ("no directive `{}`", word, word),
             Wrong::LacksCall => ("the line ends before its call", word, word),
-            Wrong::Later(what) => {
+            Wrong::Later(form) => {
                 found.note = "not in this version";
-                ("{} `{}`", what, word)
+                (form, word, word)
             }
             Wrong::OfSecond(what) => ("`{}` is a {} of script version 2", word, what),
             Wrong::Unmodelled(_) => ("`{}` is not modelled", word, word),
             Wrong::NoOption(call) => ("`{}` has no option `{}`", call.name, word),
-            Wrong::Bad(argument) => {
-                let meant = self.meant(found.version, argument);
+            Wrong::Bad(_, meant) => {
                 if meant.starts_with('`') {
                     ("`{}` is not {}", word, meant)
                 } else {
@@ -100,8 +84,9 @@ impl<'a> Fault<'a> {
                 }
             }
             Wrong::Further(call) => ("`{}` is a word too many for {}", word, call.usage),
-            Wrong::Lacks(call, argument) => {
-                ("the line ends before {} of {}", argument.name, call.usage)
+            Wrong::Lacks(call, kind) => {
+                let name = call.name_at(self.place, kind);
+                ("the line ends before {} of {}", name, call.usage)
             }
             Wrong::Other => ("not a line of the grammar", word, word),
         };
@@ -135,110 +120,100 @@ fn is_option(kind: Kind, text: &str) -> bool {
         && text.starts_with('-')
 }
 
-// The part of a bad word that is at fault: the word itself, or the first between commas that is bad alone.
-fn bad_part<'a>(found: &mut Diagnosis, kind: Kind, word: Word<'a>) -> Word<'a> {
-    if kind.words(found.version).part.is_empty() {
-        return word;
-    }
+// What is wrong with a bad word at this place of a call's line: a flag that only version 2 knows, the first text between
+// its commas that is bad alone, or the word itself.
+fn of_word<'a>(
+    found: &mut Diagnosis,
+    call: &CallWords,
+    place: usize,
+    kind: Kind,
+    word: Word<'a>,
+) -> Fault<'a> {
+    let is_first = matches!(found.version, Version::One);
+    let name = kind.words(found.version).part;
     let parts = parts_of(found, word, [',', ',']);
+    let has_parts = parts.len() > 1 && !name.is_empty();
     for part in &parts {
-        if !fits(found, kind, part.text) {
-            return *part;
-        }
+        let wrong = if is_first && matches!((kind, part.text), (Kind::Flags, "nosymfollow")) {
+            Wrong::OfSecond("flag")
+        } else if has_parts && !fits(found, kind, part.text) {
+            Wrong::Bad(kind, name)
+        } else {
+            continue;
+        };
+        return Fault {
+            wrong,
+            place,
+            word: *part,
+        };
     }
-    word
+    Fault {
+        wrong: Wrong::Bad(kind, call.name_at(place, kind)),
+        place,
+        word,
+    }
 }
 
 // What is wrong with the words of a call.
 fn of_call<'a>(found: &mut Diagnosis, line: Given<'a>, call: &'static CallWords) -> Fault<'a> {
     let mut place: usize = 2;
-    for (before, argument) in call.words.iter().enumerate() {
+    for kind in call.words {
         let Some(word) = line.words.get(place) else {
-            let is_whole = before == call.needed;
-            let wrong = if is_whole {
+            let wrong = if place == call.needed.saturating_add(2) {
                 Wrong::Other
             } else {
-                Wrong::Lacks(call, *argument)
+                Wrong::Lacks(call, *kind)
             };
             return Fault::at(line, place, wrong);
         };
-        if is_option(argument.kind, word.text) {
+        if is_option(*kind, word.text) {
             return Fault::at(line, place, Wrong::NoOption(call));
         }
-        if !fits(found, argument.kind, word.text) {
-            return Fault {
-                wrong: Wrong::Bad(*argument),
-                place,
-                word: *word,
-                part: bad_part(found, argument.kind, *word),
-            };
+        if !fits(found, *kind, word.text) {
+            return of_word(found, call, place, *kind, *word);
         }
         place = place.saturating_add(1);
     }
-    let is_whole = line.words.len() <= place;
-    Fault::at(
-        line,
-        place,
-        if is_whole {
-            Wrong::Other
-        } else {
-            Wrong::Further(call)
-        },
-    )
+    let wrong = if line.words.len() > place {
+        Wrong::Further(call)
+    } else {
+        Wrong::Other
+    };
+    Fault::at(line, place, wrong)
 }
 
 // The call of this name, in a version of the language, as its first word says which it is.
 fn call_of(line: Given<'_>, name: &str) -> Option<&'static CallWords> {
-    let call = call_named(line.version, name)?;
-    match (name, line.words.get(2)) {
-        ("mount", Some(word)) if matches!(word.text, "overlay") => Some(&MOUNT_OVERLAY),
-        _ => Some(call),
+    match line.words.get(2) {
+        Some(word) if name == "mount" && word.text == "overlay" => Some(&MOUNT_OVERLAY),
+        _ => call_named(line.version, name),
     }
-}
-
-// The flag among the flags of a line of version 1 that only version 2 knows.
-fn second_flag_of<'a>(found: &mut Diagnosis, fault: Fault<'a>) -> Option<Word<'a>> {
-    let Wrong::Bad(argument) = fault.wrong else {
-        return None;
-    };
-    if !matches!(argument.kind, Kind::Flags) || matches!(found.version, Version::Two) {
-        return None;
-    }
-    let parts = parts_of(found, fault.word, [',', ',']);
-    for part in &parts {
-        if matches!(part.text, "nosymfollow") {
-            return Some(*part);
-        }
-    }
-    None
 }
 
 // What is wrong with a task's line that has a call.
 fn of_task<'a>(found: &mut Diagnosis, line: Given<'a>, name: &str) -> Fault<'a> {
-    let fault = match call_of(line, name) {
+    let mut fault = match call_of(line, name) {
         Some(call) => of_call(found, line, call),
-        None if call_named(Version::Two, name).is_some() => {
-            return Fault::at(line, 1, Wrong::OfSecond("call"));
+        None => {
+            let wrong = match call_named(Version::Two, name) {
+                Some(_) => Wrong::OfSecond("call"),
+                None if name == SEALED => Wrong::Later("no call `{}`"),
+                None => Wrong::NoCall,
+            };
+            Fault::at(line, 1, wrong)
         }
-        None => Fault::at(line, 1, Wrong::NoCall),
     };
-    let (wrong, word) = if let Some(flag) = second_flag_of(found, fault) {
-        (Wrong::OfSecond("flag"), flag)
-    } else if let Some(word) = unmodelled_in(found, line.arguments()) {
-        let said = match fault.wrong {
-            Wrong::Bad(argument) => argument.kind.words(line.version).said,
-            _ => "",
-        };
-        (Wrong::Unmodelled(said), word)
-    } else {
+    if matches!(fault.wrong, Wrong::OfSecond(_) | Wrong::Later(_)) {
         return fault;
-    };
-    Fault {
-        wrong,
-        place: fault.place,
-        word,
-        part: word,
     }
+    if let Some(word) = unmodelled_in(found, line.arguments()) {
+        fault.wrong = Wrong::Unmodelled(match fault.wrong {
+            Wrong::Bad(kind, _) => kind.words(line.version).said,
+            _ => "",
+        });
+        fault.word = word;
+    }
+    fault
 }
 
 /// The first fault of a refused line whose bytes are all good. An allocation that fails is noted with the diagnosis.
@@ -253,18 +228,10 @@ pub fn first_fault<'a>(found: &mut Diagnosis, line: Given<'a>) -> Fault<'a> {
     let Some(name) = line.words.get(1) else {
         return Fault::at(line, 1, Wrong::LacksCall);
     };
-    if name.text == SEALED {
-        let what = if is_directive {
-            "no directive"
-        } else {
-            "no call"
-        };
-        Fault::at(line, 1, Wrong::Later(what))
-    } else if !is_directive {
-        of_task(found, line, name.text)
-    } else if name.text == PEERS.name {
-        of_call(found, line, &PEERS)
-    } else {
-        Fault::at(line, 1, Wrong::NoDirective)
+    match name.text {
+        name if !is_directive => of_task(found, line, name),
+        "peers" => of_call(found, line, &PEERS),
+        SEALED => Fault::at(line, 1, Wrong::Later("no directive `{}`")),
+        _ => Fault::at(line, 1, Wrong::NoDirective),
     }
 }

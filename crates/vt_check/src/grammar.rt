@@ -45,21 +45,31 @@ pub struct KindWords {
     pub synonyms: &'static [(&'static str, &'static str)],
 }
 
-/// A word that a call takes, by the name that its usage gives it.
-#[derive(Clone, Copy)]
-pub struct Argument {
-    pub name: &'static str,
-    pub kind: Kind,
-}
-
 /// A call and its words. Those that may be left out stand behind those that it needs, and are given all or none.
 #[derive(Clone, Copy)]
 pub struct CallWords {
     pub name: &'static str,
     pub usage: &'static str,
-    pub words: &'static [Argument],
+    pub words: &'static [Kind],
     /// How many of the words it needs.
     pub needed: usize,
+}
+
+impl CallWords {
+    /// What the word at a place of a line, which is of this kind, is called: as in the usage, or by the words that stand
+    /// there to choose from.
+    pub fn name_at(&self, place: usize, kind: Kind) -> &'static str {
+        match kind {
+            Kind::Access => "`r`, `w` or `rw`",
+            Kind::Creation => "`create` or `excl`",
+            Kind::Filesystem => "`plain` or `overlay`",
+            Kind::YesOrNo => "`yes` or `no`",
+            _ => {
+                let word = self.usage.split(' ').nth(place.saturating_sub(1));
+                word.unwrap_or_default().trim_matches(['[', ']', '`'])
+            }
+        }
+    }
 }
 
 /// The capabilities that are modelled.
@@ -74,295 +84,170 @@ pub static CAPABILITIES: [&str; 8] = [
     "CAP_SYS_ADMIN",
 ];
 
-const ACCESS: Argument = Argument {
-    name: "`r`, `w` or `rw`",
-    kind: Kind::Access,
-};
-
-const BYTES: Argument = Argument {
-    name: "BYTES",
-    kind: Kind::Bytes,
-};
-
-const CAPS: Argument = Argument {
-    name: "CAPS",
-    kind: Kind::Capabilities,
-};
-
-const CREATION: Argument = Argument {
-    name: "`create` or `excl`",
-    kind: Kind::Creation,
-};
-
-const FD: Argument = Argument {
-    name: "FD",
-    kind: Kind::Descriptor,
-};
-
-const PLAIN: Argument = Argument {
-    name: "`plain` or `overlay`",
-    kind: Kind::Filesystem,
-};
-
-const OVERLAY: Argument = Argument {
-    name: "`overlay`",
-    kind: Kind::Filesystem,
-};
-
-const OPTIONS: Argument = Argument {
-    name: "OPTIONS",
-    kind: Kind::Options,
-};
-
-const FLAGS: Argument = Argument {
-    name: "FLAGS",
-    kind: Kind::Flags,
-};
-
-const GROUPS: Argument = Argument {
-    name: "GROUPS",
-    kind: Kind::Groups,
-};
-
-const UID: Argument = Argument {
-    name: "UID",
-    kind: Kind::Identity,
-};
-
-const GID: Argument = Argument {
-    name: "GID",
-    kind: Kind::Identity,
-};
-
-const NEW_UID: Argument = Argument {
-    name: "UID",
-    kind: Kind::KeptIdentity,
-};
-
-const NEW_GID: Argument = Argument {
-    name: "GID",
-    kind: Kind::KeptIdentity,
-};
-
-const MODE: Argument = Argument {
-    name: "MODE",
-    kind: Kind::Mode,
-};
-
-const OFFSET: Argument = Argument {
-    name: "OFFSET",
-    kind: Kind::Offset,
-};
-
-const SIZE: Argument = Argument {
-    name: "SIZE",
-    kind: Kind::Offset,
-};
-
-const PATH: Argument = Argument {
-    name: "PATH",
-    kind: Kind::Path,
-};
-
-const SOURCE: Argument = Argument {
-    name: "SOURCE",
-    kind: Kind::Path,
-};
-
-const OLD: Argument = Argument {
-    name: "OLD",
-    kind: Kind::Path,
-};
-
-const NEW: Argument = Argument {
-    name: "NEW",
-    kind: Kind::Path,
-};
-
-const PUT: Argument = Argument {
-    name: "PUT",
-    kind: Kind::Path,
-};
-
-const TEXT: Argument = Argument {
-    name: "TEXT",
-    kind: Kind::Path,
-};
-
-const TYPE: Argument = Argument {
-    name: "TYPE",
-    kind: Kind::Propagation,
-};
-
-const TASK: Argument = Argument {
-    name: "TASK",
-    kind: Kind::Task,
-};
-
-const YES_OR_NO: Argument = Argument {
-    name: "`yes` or `no`",
-    kind: Kind::YesOrNo,
-};
-
 // The calls, those that version 2 alone has last.
 static CALLS: [CallWords; 40] = [
     // Calls about one object.
     CallWords {
         name: "ls",
         usage: "`ls PATH`",
-        words: &[PATH],
+        words: &[Kind::Path],
         needed: 1,
     },
     CallWords {
         name: "stat",
         usage: "`stat PATH`",
-        words: &[PATH],
+        words: &[Kind::Path],
         needed: 1,
     },
     CallWords {
         name: "lstat",
         usage: "`lstat PATH`",
-        words: &[PATH],
+        words: &[Kind::Path],
         needed: 1,
     },
     CallWords {
         name: "readlink",
         usage: "`readlink PATH`",
-        words: &[PATH],
+        words: &[Kind::Path],
         needed: 1,
     },
     CallWords {
         name: "read",
         usage: "`read PATH`",
-        words: &[PATH],
+        words: &[Kind::Path],
         needed: 1,
     },
     CallWords {
         name: "write",
         usage: "`write PATH BYTES`",
-        words: &[PATH, BYTES],
+        words: &[Kind::Path, Kind::Bytes],
         needed: 2,
     },
     CallWords {
         name: "exec",
         usage: "`exec PATH`",
-        words: &[PATH],
+        words: &[Kind::Path],
         needed: 1,
     },
     // Calls that make, move or remove objects, or change what is kept of them.
     CallWords {
         name: "mkdir",
         usage: "`mkdir PATH [MODE]`",
-        words: &[PATH, MODE],
+        words: &[Kind::Path, Kind::Mode],
         needed: 1,
     },
     CallWords {
         name: "symlink",
         usage: "`symlink TEXT PATH`",
-        words: &[TEXT, PATH],
+        words: &[Kind::Path, Kind::Path],
         needed: 2,
     },
     CallWords {
         name: "whiteout",
         usage: "`whiteout PATH`",
-        words: &[PATH],
+        words: &[Kind::Path],
         needed: 1,
     },
     CallWords {
         name: "link",
         usage: "`link OLD NEW`",
-        words: &[OLD, NEW],
+        words: &[Kind::Path, Kind::Path],
         needed: 2,
     },
     CallWords {
         name: "unlink",
         usage: "`unlink PATH`",
-        words: &[PATH],
+        words: &[Kind::Path],
         needed: 1,
     },
     CallWords {
         name: "rmdir",
         usage: "`rmdir PATH`",
-        words: &[PATH],
+        words: &[Kind::Path],
         needed: 1,
     },
     CallWords {
         name: "rename",
         usage: "`rename OLD NEW`",
-        words: &[OLD, NEW],
+        words: &[Kind::Path, Kind::Path],
         needed: 2,
     },
     CallWords {
         name: "chmod",
         usage: "`chmod PATH MODE`",
-        words: &[PATH, MODE],
+        words: &[Kind::Path, Kind::Mode],
         needed: 2,
     },
     CallWords {
         name: "chown",
         usage: "`chown PATH UID GID`",
-        words: &[PATH, NEW_UID, NEW_GID],
+        words: &[Kind::Path, Kind::KeptIdentity, Kind::KeptIdentity],
         needed: 3,
     },
     CallWords {
         name: "opaque",
         usage: "`opaque PATH yes|no`",
-        words: &[PATH, YES_OR_NO],
+        words: &[Kind::Path, Kind::YesOrNo],
         needed: 2,
     },
     // Calls about descriptors, and about a task itself.
     CallWords {
         name: "open",
         usage: "`open PATH r|w|rw [create MODE | excl MODE]`",
-        words: &[PATH, ACCESS, CREATION, MODE],
+        words: &[Kind::Path, Kind::Access, Kind::Creation, Kind::Mode],
         needed: 2,
     },
     CallWords {
         name: "pread",
         usage: "`pread FD OFFSET SIZE`",
-        words: &[FD, OFFSET, SIZE],
+        words: &[Kind::Descriptor, Kind::Offset, Kind::Offset],
         needed: 3,
     },
     CallWords {
         name: "pwrite",
         usage: "`pwrite FD OFFSET BYTES`",
-        words: &[FD, OFFSET, BYTES],
+        words: &[Kind::Descriptor, Kind::Offset, Kind::Bytes],
         needed: 3,
     },
     CallWords {
         name: "close",
         usage: "`close FD`",
-        words: &[FD],
+        words: &[Kind::Descriptor],
         needed: 1,
     },
     CallWords {
         name: "chdir",
         usage: "`chdir PATH`",
-        words: &[PATH],
+        words: &[Kind::Path],
         needed: 1,
     },
     CallWords {
         name: "chroot",
         usage: "`chroot PATH`",
-        words: &[PATH],
+        words: &[Kind::Path],
         needed: 1,
     },
     CallWords {
         name: "umask",
         usage: "`umask MODE`",
-        words: &[MODE],
+        words: &[Kind::Mode],
         needed: 1,
     },
     CallWords {
         name: "drop",
         usage: "`drop CAPS`",
-        words: &[CAPS],
+        words: &[Kind::Capabilities],
         needed: 1,
     },
     CallWords {
         name: "fork",
         usage: "`fork [UID GID GROUPS CAPS]`",
-        words: &[UID, GID, GROUPS, CAPS],
+        words: &[
+            Kind::Identity,
+            Kind::Identity,
+            Kind::Groups,
+            Kind::Capabilities,
+        ],
         needed: 0,
     },
     CallWords {
@@ -380,62 +265,62 @@ static CALLS: [CallWords; 40] = [
     CallWords {
         name: "setns",
         usage: "`setns TASK`",
-        words: &[TASK],
+        words: &[Kind::Task],
         needed: 1,
     },
     // Calls about mounts.
     CallWords {
         name: "mount",
         usage: "`mount plain PATH [FLAGS]`",
-        words: &[PLAIN, PATH, FLAGS],
+        words: &[Kind::Filesystem, Kind::Path, Kind::Flags],
         needed: 2,
     },
     CallWords {
         name: "bind",
         usage: "`bind SOURCE PATH`",
-        words: &[SOURCE, PATH],
+        words: &[Kind::Path, Kind::Path],
         needed: 2,
     },
     CallWords {
         name: "rbind",
         usage: "`rbind SOURCE PATH`",
-        words: &[SOURCE, PATH],
+        words: &[Kind::Path, Kind::Path],
         needed: 2,
     },
     CallWords {
         name: "move",
         usage: "`move SOURCE PATH`",
-        words: &[SOURCE, PATH],
+        words: &[Kind::Path, Kind::Path],
         needed: 2,
     },
     CallWords {
         name: "umount",
         usage: "`umount PATH`",
-        words: &[PATH],
+        words: &[Kind::Path],
         needed: 1,
     },
     CallWords {
         name: "lazy",
         usage: "`lazy PATH`",
-        words: &[PATH],
+        words: &[Kind::Path],
         needed: 1,
     },
     CallWords {
         name: "remount",
         usage: "`remount PATH FLAGS`",
-        words: &[PATH, FLAGS],
+        words: &[Kind::Path, Kind::Flags],
         needed: 2,
     },
     CallWords {
         name: "type",
         usage: "`type PATH TYPE`",
-        words: &[PATH, TYPE],
+        words: &[Kind::Path, Kind::Propagation],
         needed: 2,
     },
     CallWords {
         name: "rtype",
         usage: "`rtype PATH TYPE`",
-        words: &[PATH, TYPE],
+        words: &[Kind::Path, Kind::Propagation],
         needed: 2,
     },
     CallWords {
@@ -448,7 +333,7 @@ static CALLS: [CallWords; 40] = [
     CallWords {
         name: "pivot_root",
         usage: "`pivot_root NEW PUT`",
-        words: &[NEW, PUT],
+        words: &[Kind::Path, Kind::Path],
         needed: 2,
     },
 ];
@@ -460,7 +345,7 @@ const OF_FIRST: usize = 39;
 pub static MOUNT_OVERLAY: CallWords = CallWords {
     name: "mount",
     usage: "`mount overlay PATH OPTIONS [FLAGS]`",
-    words: &[OVERLAY, PATH, OPTIONS, FLAGS],
+    words: &[Kind::Filesystem, Kind::Path, Kind::Options, Kind::Flags],
     needed: 3,
 };
 
@@ -735,9 +620,10 @@ pub static PEERS: CallWords = CallWords {
 
 /// The calls of a version of the language.
 pub fn calls(version: Version) -> &'static [CallWords] {
+    let all: &'static [CallWords] = &CALLS;
     match version {
-        Version::One => CALLS.get(..OF_FIRST).unwrap_or_default(),
-        Version::Two => &CALLS,
+        Version::One => all.get(..OF_FIRST).unwrap_or_default(),
+        Version::Two => all,
     }
 }
 

@@ -116,6 +116,14 @@ fn write_owner(text: &str, words: &mut Draft) -> bool {
     true
 }
 
+// Writes groups, with commas for other marks between them.
+fn write_groups(text: &str, groups: &mut Draft) -> bool {
+    for part in text.split([';', ':', '.', '+']) {
+        groups.push_after(",", part);
+    }
+    true
+}
+
 /// Writes the word of a kind that a text means, and says whether one is clear.
 pub fn write_corrected(found: &mut Diagnosis, kind: Kind, text: &str, word: &mut Draft) -> bool {
     let words = kind.words(found.version);
@@ -130,12 +138,7 @@ pub fn write_corrected(found: &mut Diagnosis, kind: Kind, text: &str, word: &mut
         Kind::Mode => write_mode(text, word),
         Kind::Task => write_task(text, word),
         Kind::KeptIdentity => write_owner(text, word),
-        Kind::Groups => {
-            for part in text.split([';', ':', '.', '+']) {
-                word.push_after(",", part);
-            }
-            true
-        }
+        Kind::Groups => write_groups(text, word),
         _ => match nearest(found, text, words.choices) {
             Some(nearest) => {
                 word.push(nearest);

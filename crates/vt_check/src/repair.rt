@@ -41,14 +41,17 @@ fn propose_text(found: &mut Diagnosis, before: &str, text: &str) -> bool {
     found.propose(line)
 }
 
-// Proposes the line with what a word of this kind means in the place of the one at fault.
-fn mend(found: &mut Diagnosis, line: Given<'_>, kind: Kind, fault: Fault<'_>) -> bool {
+// Proposes the line with what the word at this place means, as one of this kind.
+fn mend(found: &mut Diagnosis, line: Given<'_>, kind: Kind, place: usize) -> bool {
+    let Some(word) = line.words.get(place) else {
+        return false;
+    };
     let mut text = found.draft();
-    let is_clear = write_corrected(found, kind, fault.word.text, &mut text);
+    let is_clear = write_corrected(found, kind, word.text, &mut text);
     let Some(text) = found.ended(text) else {
         return false;
     };
-    let (place, next) = (fault.place, fault.place.saturating_add(1));
+    let next = place.saturating_add(1);
     is_clear && propose_between(found, line.words, place, text.as_str(), next)
 }
 
@@ -75,8 +78,8 @@ fn complete(found: &mut Diagnosis, line: Given<'_>, call: &CallWords) -> bool {
     } else {
         call.words.len()
     };
-    for argument in call.words.get(given..end).unwrap_or_default() {
-        let plain = argument.kind.words(line.version).plain;
+    for kind in call.words.get(given..end).unwrap_or_default() {
+        let plain = kind.words(line.version).plain;
         if plain.is_empty() {
             return false;
         }
@@ -86,8 +89,7 @@ fn complete(found: &mut Diagnosis, line: Given<'_>, call: &CallWords) -> bool {
 }
 
 // Help where a word is no task: a comment, the task that is missing before a call, or the task that is meant.
-fn help_task(found: &mut Diagnosis, line: Given<'_>, fault: Fault<'_>) {
-    let who = fault.word.text;
+fn help_task(found: &mut Diagnosis, line: Given<'_>, who: &str) {
     let mut words = LINE;
     let is_helped = if who.starts_with("//") || who.starts_with(';') || who.starts_with("--") {
         let text = line.text.trim_start_matches([' ', '/', ';', '-']);
@@ -96,7 +98,7 @@ fn help_task(found: &mut Diagnosis, line: Given<'_>, fault: Fault<'_>) {
         propose_between(found, line.words, 0, "t", 0)
     } else {
         words = Kind::Task.words(line.version).said;
-        mend(found, line, Kind::Task, fault)
+        mend(found, line, Kind::Task, 0)
     };
     if !is_helped {
         found.words = words;
@@ -127,9 +129,9 @@ fn help_further(found: &mut Diagnosis, line: Given<'_>, call: &CallWords) {
         }
     }
     match call.words.last() {
-        Some(argument) if matches!(argument.kind, Kind::Bytes) => {
+        Some(Kind::Bytes) => {
             if !join_words(found, line, call.words.len().saturating_add(1)) {
-                found.words = argument.kind.words(line.version).said;
+                found.words = Kind::Bytes.words(line.version).said;
             }
         }
         None if matches!(call.name, "peers") => {
@@ -186,36 +188,30 @@ fn has_set_id(text: &str) -> bool {
 // Help for a fault, where no row of the rewritten calls fits.
 fn help_fault(found: &mut Diagnosis, line: Given<'_>, fault: Fault<'_>) {
     let word = fault.word.text;
-    match fault.wrong {
-        Wrong::NoTask => help_task(found, line, fault),
-        Wrong::NoCall => help_call(found, line, word),
+    found.words = match fault.wrong {
+        Wrong::NoTask => return help_task(found, line, word),
+        Wrong::NoCall => return help_call(found, line, word),
         Wrong::NoDirective if call_named(line.version, word).is_some() => {
             propose_between(found, line.words, 0, "t", 1);
+            return;
         }
         Wrong::NoDirective => {
             propose_text(found, "! peers", "");
+            return;
         }
-        Wrong::Bad(argument) => match argument.kind {
-            Kind::Mode if has_set_id(word) => found.words = SET_ID,
-            Kind::Propagation => {
-                if !mend(found, line, argument.kind, fault) {
-                    found.words = argument.kind.words(line.version).said;
-                }
-            }
-            kind => found.words = kind.words(line.version).said,
-        },
-        Wrong::Further(call) => help_further(found, line, call),
-        Wrong::NoOption(call) => found.words = call.usage,
-        Wrong::Lacks(call, argument) => {
-            if !complete(found, line, call) {
-                found.words = argument.kind.words(line.version).said;
-            }
+        Wrong::Bad(Kind::Mode, _) if has_set_id(word) => SET_ID,
+        Wrong::Bad(Kind::Propagation, _) if mend(found, line, Kind::Propagation, fault.place) => {
+            return;
         }
-        Wrong::Unmodelled(said) => found.words = said,
-        Wrong::Later(_) => {}
-        Wrong::OfSecond(_) => found.words = SECOND,
-        Wrong::LacksCall | Wrong::Other => found.words = LINE,
-    }
+        Wrong::Lacks(call, _) if complete(found, line, call) => return,
+        Wrong::Bad(kind, _) | Wrong::Lacks(_, kind) => kind.words(line.version).said,
+        Wrong::Further(call) => return help_further(found, line, call),
+        Wrong::NoOption(call) => call.usage,
+        Wrong::Unmodelled(said) => said,
+        Wrong::Later(_) => return,
+        Wrong::OfSecond(_) => SECOND,
+        Wrong::LacksCall | Wrong::Other => LINE,
+    };
 }
 
 /// Writes what to write in the place of a line with this fault. A bad word is mended alone, if it can be, but for a
@@ -226,9 +222,9 @@ pub fn write_help(found: &mut Diagnosis, line: Given<'_>, fault: Fault<'_>) {
         return;
     }
     let is_helped = match fault.wrong {
-        Wrong::Bad(argument) => {
-            let is_type = matches!(argument.kind, Kind::Propagation);
-            (!is_type && mend(found, line, argument.kind, fault)) || rewrite(found, line)
+        Wrong::Bad(kind, _) => {
+            let is_type = matches!(kind, Kind::Propagation);
+            (!is_type && mend(found, line, kind, fault.place)) || rewrite(found, line)
         }
         Wrong::Later(_) | Wrong::Unmodelled(_) | Wrong::OfSecond(_) => false,
         Wrong::NoOption(call) if matches!((call.name, fault.word.text), ("mkdir", "-p")) => {

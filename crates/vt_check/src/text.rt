@@ -120,25 +120,32 @@ fn push_count(text: &mut Draft, count: u64, one: &str, several: &str) {
     text.push(if count == 1 { one } else { several });
 }
 
+// Appends a note about a number of lines or findings, if there are any: what is said of one or of several.
+fn push_note(text: &mut Draft, count: u64, [one, several]: [&str; 2], what: &str) {
+    if count > 0 {
+        text.push("note: ");
+        push_count(text, count, one, several);
+        text.push(what);
+        text.push_char('\n');
+    }
+}
+
 /// Appends what is said behind the findings of the file of this name; nothing where nothing was found.
 pub fn push_summary(text: &mut Draft, name: &str, report: &Report<'_>) {
     let found = report.errors.saturating_add(report.warnings);
     let mut hidden = found.saturating_sub(report.findings.len() as u64);
-    for (told, what) in report.told.iter().zip(&TOLD) {
+    for (kind, what) in TOLD.iter().enumerate() {
+        let told = report.told.get(kind).copied().unwrap_or_default();
         let further = told.saturating_sub(1);
         hidden = hidden.saturating_sub(further);
-        if further > 0 {
-            text.push("note: ");
-            push_count(text, further, " more line has ", " more lines have ");
-            text.push(what);
-            text.push_char('\n');
-        }
+        push_note(
+            text,
+            further,
+            [" more line has ", " more lines have "],
+            what,
+        );
     }
-    if hidden > 0 {
-        text.push("note: ");
-        text.push_number(hidden);
-        text.push(" more are not shown\n");
-    }
+    push_note(text, hidden, [" more are not shown"; 2], "");
     if found > 0 {
         text.push(name);
         text.push(": ");

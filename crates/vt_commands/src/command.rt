@@ -13,7 +13,7 @@ use std::rt::Env;
 use std::{env, io};
 use vt_check::check;
 use vt_check::draft::Draft;
-use vt_run::fault::{Fault, out_of_memory};
+use vt_run::fault::Fault;
 use vt_script::{RunFault, Version};
 use vt_show::show;
 use vt_test::test;
@@ -27,6 +27,35 @@ const NO_INPUT: &str = "`--write` takes files, and not the standard input";
 const NOT_UTF_8: &str =
     "a word is not UTF-8; a script with such a name is given as `vtree run - < FILE`";
 
+// The commands. Their names are told apart in one place, where nothing else is at hand.
+#[derive(Clone, Copy)]
+enum CommandName {
+    Run,
+    Check,
+    Test,
+    Show,
+    Explain,
+    New,
+    Rules,
+}
+
+/// What the words ask for, read before a file is opened: what obeys it sees no words, and has no fault of theirs.
+#[derive(Clone, Copy)]
+pub enum Order<'a, 'm> {
+    /// The script in this file is answered.
+    Run(Version, &'a str),
+    /// Something is done with each of these files.
+    Work(&'m [&'a str], Job),
+    /// A world of this file is shown.
+    Show(&'a str, WorldAsked<'a>),
+    /// A line of this file is explained.
+    Explain(&'a str, LineAsked),
+    /// The example of this name is written, or all are listed.
+    New(Option<&'a str>),
+    /// The rules of this word are told, or all, or all as a page.
+    Rules { word: Option<&'a str>, page: bool },
+}
+
 /// The words that the program was started with, its own name first.
 ///
 /// `Words`: one of them is not UTF-8. `Run` with `Memory`: an allocation failed.
@@ -35,8 +64,13 @@ pub fn words<R: Env + AllocGlobal>(rt: &R) -> Result<Vec<String>, Fault>
 {
     let alloc = rt.alloc();
     match env::args(rt) {
-        Ok(words) => words.collect(alloc).map_err(out_of_memory),
-        Err(error) if error.kind() == io::ErrorKind::OutOfMemory => Err(out_of_memory(error)),
+        Ok(words) => match words.collect(alloc) {
+            Ok(words) => Ok(words),
+            Err(_) => Err(Fault::Run(RunFault::Memory)),
+        },
+        Err(error) if error.kind() == io::ErrorKind::OutOfMemory => {
+            Err(Fault::Run(RunFault::Memory))
+        }
         Err(_) => Err(refusal(alloc, NOT_UTF_8)),
     }
 }
@@ -47,7 +81,7 @@ fn refusal(alloc: Global, why: &str) -> Fault
 {
     match String::from_str(alloc, why) {
         Ok(why) => Fault::Words(why),
-        Err(error) => out_of_memory(error),
+        Err(_) => Fault::Run(RunFault::Memory),
     }
 }
 
@@ -81,7 +115,7 @@ fn clap_refusal(alloc: Global, text: &str) -> Fault
 {
     match in_one_line(alloc, text.strip_prefix("error: ").unwrap_or(text)) {
         Ok(why) => Fault::Words(why),
-        Err(error) => out_of_memory(error),
+        Err(_) => Fault::Run(RunFault::Memory),
     }
 }
 
@@ -101,18 +135,18 @@ fn refused(alloc: Global, error: &Error) -> Fault
     }
 }
 
-/// The file that a command is given.
-pub fn file_of<'a>(given: &ArgMatches<'a>) -> &'a str {
+// The file that a command is given.
+fn file_of<'a>(given: &ArgMatches<'a>) -> &'a str {
     given.get_str("FILE").unwrap_or_default()
 }
 
-/// The files that a command is given.
-pub fn files_of<'a, 'm>(given: &'m ArgMatches<'a>) -> &'m [&'a str] {
+// The files that a command is given.
+fn files_of<'a, 'm>(given: &'m ArgMatches<'a>) -> &'m [&'a str] {
     given.get_strs("FILE").unwrap_or_default()
 }
 
-/// The version of the scripts' language that is asked for.
-pub fn version_asked(given: &ArgMatches<'_>) -> Version {
+// The version of the scripts' language that is asked for.
+fn version_asked(given: &ArgMatches<'_>) -> Version {
     match given.get_str("script") {
         Some("2") => Version::Two,
         _ => Version::One,
@@ -127,75 +161,89 @@ fn form_asked(given: &ArgMatches<'_>) -> check::Format {
     }
 }
 
-/// What a command of this name, `check` or `test`, does with its files.
-pub fn job_asked(alloc: Global, name: &str, given: &ArgMatches<'_>) -> Result<Job, Fault>
-    ensures { IfErr result IsOfWords }
-{
-    let version = version_asked(given);
-    if name == "check" {
-        return Ok(Job::Check(check::Options {
-            version,
-            format: form_asked(given),
-            strict: given.get_flag("warnings"),
-        }));
-    }
-    if !given.get_flag("write") {
-        let format = match given.get_str("format") {
-            Some("json") => test::Format::Json,
-            Some("junit") => test::Format::Junit,
-            _ => test::Format::Text,
-        };
-        return Ok(Job::Test(version, format));
-    }
-    if files_of(given).contains(&"-") {
-        return Err(refusal(alloc, NO_INPUT));
-    }
-    Ok(Job::Write(version))
-}
-
-// The number of a line, or why the word is none.
-fn number_of(alloc: Global, word: &str, why: &str) -> Result<u64, Fault>
-    ensures { IfErr result IsOfWords }
-{
-    match word.parse::<u64>() {
-        Ok(line) if line > 0 => Ok(line),
-        _ => Err(refusal(alloc, why)),
-    }
-}
-
-/// The line that `vtree explain` explains.
-pub fn line_asked(alloc: Global, given: &ArgMatches<'_>) -> Result<LineAsked, Fault>
-    ensures { IfErr result IsOfWords }
-{
-    let word = given.get_str("LINE").unwrap_or_default();
-    Ok(LineAsked {
+// What `vtree check` is asked for.
+fn check_order<'a, 'm>(given: &'m ArgMatches<'a>) -> Order<'a, 'm> {
+    let options = check::Options {
         version: version_asked(given),
-        line: number_of(alloc, word, NO_NUMBER)?,
         format: form_asked(given),
-    })
+        strict: given.get_flag("warnings"),
+    };
+    Order::Work(files_of(given), Job::Check(options))
 }
 
-/// The world that `vtree show` shows.
-pub fn world_asked<'a>(alloc: Global, given: &ArgMatches<'a>) -> Result<WorldAsked<'a>, Fault>
+// What `vtree test` is asked for.
+fn test_order<'a, 'm>(alloc: Global, given: &'m ArgMatches<'a>) -> Result<Order<'a, 'm>, Fault>
+    ensures { IfErr result IsOfWords }
+{
+    let (version, files) = (version_asked(given), files_of(given));
+    if given.get_flag("write") {
+        if files.contains(&"-") {
+            return Err(refusal(alloc, NO_INPUT));
+        }
+        return Ok(Order::Work(files, Job::Write(version)));
+    }
+    let format = match given.get_str("format") {
+        Some("json") => test::Format::Json,
+        Some("junit") => test::Format::Junit,
+        _ => test::Format::Text,
+    };
+    Ok(Order::Work(files, Job::Test(version, format)))
+}
+
+// The number of a line, if the word is one.
+fn line_number(word: &str) -> Option<u64> {
+    match word.parse::<u64>() {
+        Ok(line) if line > 0 => Some(line),
+        _ => None,
+    }
+}
+
+// What `vtree explain` is asked for.
+fn explain_order<'a, 'm>(alloc: Global, given: &ArgMatches<'a>) -> Result<Order<'a, 'm>, Fault>
+    ensures { IfErr result IsOfWords }
+{
+    let Some(line) = line_number(given.get_str("LINE").unwrap_or_default()) else {
+        return Err(refusal(alloc, NO_NUMBER));
+    };
+    let asked = LineAsked {
+        version: version_asked(given),
+        line,
+        format: form_asked(given),
+    };
+    Ok(Order::Explain(file_of(given), asked))
+}
+
+// What `vtree show` is asked for.
+fn show_order<'a, 'm>(alloc: Global, given: &ArgMatches<'a>) -> Result<Order<'a, 'm>, Fault>
     ensures { IfErr result IsOfWords }
 {
     let line = match given.get_str("at") {
-        Some(word) => number_of(alloc, word, NO_LINE)?,
-        None => u64::MAX,
+        Some(word) => line_number(word),
+        None => Some(u64::MAX),
     };
-    Ok(WorldAsked {
+    let Some(line) = line else {
+        return Err(refusal(alloc, NO_LINE));
+    };
+    let format = match given.get_str("format") {
+        Some("json") => show::Format::Json,
+        Some("dot") => show::Format::Dot,
+        _ => show::Format::Text,
+    };
+    let asked = WorldAsked {
         version: version_asked(given),
         line,
         options: show::Options {
-            format: match given.get_str("format") {
-                Some("json") => show::Format::Json,
-                Some("dot") => show::Format::Dot,
-                _ => show::Format::Text,
-            },
+            format,
             files: given.get_flag("files"),
             task: given.get_str("task"),
         },
-    })
+    };
+    Ok(Order::Show(file_of(given), asked))
+}
+
+// The words, read by clap as those of a command.
+fn parsed<'a>(alloc: Global, words: &'a [String]) -> Result<ArgMatches<'a>, Error> {
+    command_line(alloc)?.try_get_matches_from(words)
 }
 
 /// The words, read as those of a command.
@@ -205,9 +253,46 @@ pub fn world_asked<'a>(alloc: Global, given: &ArgMatches<'a>) -> Result<WorldAsk
 pub fn matches_of<'a>(alloc: Global, words: &'a [String]) -> Result<ArgMatches<'a>, Fault>
     ensures { IfErr result IsOfWords }
 {
-    let command = command_line(alloc).map_err(out_of_memory)?;
-    match command.try_get_matches_from(words) {
+    match parsed(alloc, words) {
         Ok(matches) => Ok(matches),
         Err(error) => Err(refused(alloc, &error)),
+    }
+}
+
+// The command of this name.
+fn command_named(name: &str) -> Option<CommandName> {
+    match name {
+        "run" => Some(CommandName::Run),
+        "check" => Some(CommandName::Check),
+        "test" => Some(CommandName::Test),
+        "show" => Some(CommandName::Show),
+        "explain" => Some(CommandName::Explain),
+        "new" => Some(CommandName::New),
+        "rules" => Some(CommandName::Rules),
+        _ => None,
+    }
+}
+
+/// What the words ask for.
+///
+/// `Words`: they are not those of a command. `Run` with `Memory`: an allocation failed.
+pub fn order_of<'a, 'm>(alloc: Global, matches: &'m ArgMatches<'a>) -> Result<Order<'a, 'm>, Fault>
+    ensures { IfErr result IsOfWords }
+{
+    let Some((name, given)) = matches.subcommand() else {
+        return Err(Fault::Words(String::new(alloc)));
+    };
+    match command_named(name) {
+        Some(CommandName::Run) => Ok(Order::Run(version_asked(given), file_of(given))),
+        Some(CommandName::Check) => Ok(check_order(given)),
+        Some(CommandName::Test) => test_order(alloc, given),
+        Some(CommandName::Show) => show_order(alloc, given),
+        Some(CommandName::Explain) => explain_order(alloc, given),
+        Some(CommandName::New) => Ok(Order::New(given.get_str("NAME"))),
+        Some(CommandName::Rules) => Ok(Order::Rules {
+            word: given.get_str("WORD"),
+            page: given.get_flag("markdown"),
+        }),
+        None => Err(Fault::Words(String::new(alloc))),
     }
 }

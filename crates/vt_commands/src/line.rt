@@ -183,49 +183,64 @@ static COMMANDS: [Taking; 7] = [
     },
 ];
 
+// An argument as clap has it, by its name and its help alone. Each form begins by it: an `Arg` that is there before the
+// forms are told apart costs the proof of each.
+fn named<'a>(alloc: Global, argument: &Argument) -> Arg<'a> {
+    Arg::new(alloc, argument.name).help(argument.help)
+}
+
 // An argument, as clap has it.
 fn argument_of<'a>(alloc: Global, argument: &Argument) -> Arg<'a> {
     let name = argument.name;
-    let written = Arg::new(alloc, name).help(argument.help);
     match argument.form {
-        Form::Letter(letter) => written.short(letter).action(ArgAction::SetTrue),
-        Form::Flag => written.long(name).action(ArgAction::SetTrue),
-        Form::Word(word) => written.long(name).value_name(word),
-        Form::OneOf(word, words) => one_of(written.long(name).value_name(word), words),
-        Form::Optional => written,
-        Form::Required => written.required(true),
-        Form::Several => written.required(true).num_args(1..),
+        Form::Letter(letter) => named(alloc, argument)
+            .short(letter)
+            .action(ArgAction::SetTrue),
+        Form::Flag => named(alloc, argument).long(name).action(ArgAction::SetTrue),
+        Form::Word(word) => named(alloc, argument).long(name).value_name(word),
+        Form::OneOf(word, words) => {
+            let first = words.first().copied().unwrap_or_default();
+            named(alloc, argument)
+                .long(name)
+                .value_name(word)
+                .value_parser(words)
+                .default_value(first)
+        }
+        Form::Optional => named(alloc, argument),
+        Form::Required => named(alloc, argument).required(true),
+        Form::Several => named(alloc, argument).required(true).num_args(1..),
     }
-}
-
-// An argument that is one of these words, and the first where it is left out.
-fn one_of<'a>(argument: Arg<'a>, words: &'a [&'a str]) -> Arg<'a> {
-    let first = words.first().copied().unwrap_or_default();
-    argument.value_parser(words).default_value(first)
 }
 
 // A command, as clap has it.
 fn command_of<'a>(alloc: Global, taking: &Taking) -> Result<Command<'a>, AllocError> {
-    let mut arguments = Vec::new(alloc);
+    let mut command = Command::new(alloc, taking.name).about(taking.about);
     for argument in taking.arguments {
-        arguments.push(argument_of(alloc, argument))?;
+        command = command.arg(argument_of(alloc, argument))?;
     }
-    Command::new(alloc, taking.name)
-        .about(taking.about)
-        .args(arguments)
+    Ok(command)
 }
 
-/// The command line.
-pub fn command_line<'a>(alloc: Global) -> Result<Command<'a>, AllocError> {
-    let mut commands = Vec::new(alloc);
-    for taking in &COMMANDS {
-        commands.push(command_of(alloc, taking)?)?;
-    }
+// The commands, in the order in which help has them. The table is named here alone: each name of it costs its whole proof.
+fn all_commands() -> &'static [Taking] {
+    &COMMANDS
+}
+
+// The program as clap has it, without its commands.
+fn program<'a>(alloc: Global) -> Command<'a> {
     Command::new(alloc, "vtree")
         .version(VERSION)
         .about(ABOUT)
         .after_help(STATUSES)
         .subcommand_required(true)
         .arg_required_else_help(true)
-        .subcommands(commands)
+}
+
+/// The command line.
+pub fn command_line<'a>(alloc: Global) -> Result<Command<'a>, AllocError> {
+    let mut commands = Vec::new(alloc);
+    for taking in all_commands() {
+        commands.push(command_of(alloc, taking)?)?;
+    }
+    program(alloc).subcommands(commands)
 }

@@ -2,14 +2,14 @@
 ghost use Rattle.std.specs.Prelude.{◌≡◌, false, IfErr};
 ghost use Rattle.vt_run.specs.Status.{comes_before_output};
 
-use std::alloc::AllocError;
+use std::alloc::{AllocError, Global};
 use std::fs::{self, File};
 use std::io::{self, Read, Write};
 use std::rt::Files;
 use vt_calls::Kernel;
 use vt_check::check::{Options, check as check_script};
 use vt_run::fault::{Fault, out_of_memory};
-use vt_script::Version;
+use vt_script::{RunFault, Version};
 use vt_test::test::{Format, Totals, begin, end, test_file};
 use vt_test::with_given_answers;
 
@@ -92,24 +92,36 @@ fn fill<R: Files + AllocGlobal>(
     fs::rename(rt, beside, name)
 }
 
-// Puts the given answers into a file, and says how many lines have others.
+// Says on the error output what keeps a file from being written, if there was memory for that.
+fn refuse_writing<R: Eprint + AllocGlobal>(
+    rt: &R,
+    name: &str,
+    why: Result<String, AllocError>,
+) -> Option<usize> {
+    let why = why.unwrap_or(String::new(rt.alloc()));
+    let _ = eprintln!(rt; "vtree: cannot write {name}: {why}; it is as it was");
+    None
+}
+
+// Puts the given answers into a file, and returns how many lines have others; nothing where it cannot be written, which is
+// said on the error output.
 fn write_file<R: Files + Input + Eprint + AllocGlobal>(
     rt: &R,
     version: Version,
     name: &str,
     content: &[u8],
-) -> Result<usize, String> {
+) -> Option<usize> {
     let alloc = rt.alloc();
     let new = match with_given_answers::<Kernel>(version, alloc, content) {
         Ok(new) => new,
-        Err(fault) => return Err(format!(in alloc; "{fault}").unwrap_or(String::new(alloc))),
+        Err(fault) => return refuse_writing(rt, name, format!(in alloc; "{fault}")),
     };
     if new.changes == 0 {
-        return Ok(0);
+        return Some(0);
     }
     match replace(rt, name, new.text.as_slice()) {
-        Ok(()) => Ok(new.changes),
-        Err(cause) => Err(format!(in alloc; "{cause}").unwrap_or(String::new(alloc))),
+        Ok(()) => Some(new.changes),
+        Err(cause) => refuse_writing(rt, name, format!(in alloc; "{cause}")),
     }
 }
 
@@ -133,34 +145,67 @@ fn work_on<R: Files + Input + Eprint + AllocGlobal>(
     totals: &mut Totals,
     text: &mut Vec<u8>,
 ) -> io::Result<bool> {
-    let alloc = rt.alloc();
+    let (alloc, file) = (rt.alloc(), told(name));
     match job {
-        Job::Check(options) => check_script(alloc, told(name), content, options, text),
+        Job::Check(options) => check_script(alloc, file, content, options, text),
         Job::Test(version, format) => {
-            let of_file = test_file::<Kernel, _>(
-                version,
-                alloc,
-                told(name),
-                content,
-                format,
-                text,
-            )?;
+            let of_file = test_file::<Kernel, _>(version, alloc, file, content, format, text)?;
             totals.passed = totals.passed.saturating_add(of_file.passed);
             totals.failed = totals.failed.saturating_add(of_file.failed);
             Ok(of_file.failed > 0)
         }
-        Job::Write(version) => match write_file(rt, version, name, content) {
-            Ok(changes) => {
-                let said = format!(in alloc; "{name}: {changes} answers written\n")?;
-                text.extend_from_slice(said.as_bytes())?;
-                Ok(false)
-            }
-            Err(said) => {
-                let _ = eprintln!(rt; "vtree: cannot write {name}: {said}; it is as it was");
-                Ok(true)
-            }
-        },
+        Job::Write(version) => {
+            let Some(changes) = write_file(rt, version, name, content) else {
+                return Ok(true);
+            };
+            writeln!(text, "{name}: {changes} answers written")?;
+            Ok(false)
+        }
     }
+}
+
+// Checks, tests or rewrites a file, hands on what is to be said of it, and returns whether something was found.
+fn work_on_named<R: Files + Input + Eprint + AllocGlobal, W: Write>(
+    rt: &R,
+    name: &str,
+    job: Job,
+    totals: &mut Totals,
+    text: &mut Vec<u8>,
+    output: &mut W,
+) -> Result<bool, Fault>
+    ensures { IfErr result (λ fault. comes_before_output fault ≡ false) }
+{
+    let Some(content) = readable(rt, name) else {
+        return Ok(true);
+    };
+    let outcome = work_on(rt, name, content.as_slice(), job, totals, text);
+    drop(content);
+    let Ok(is_bad) = outcome else {
+        return Err(Fault::Run(RunFault::Memory));
+    };
+    hand_on(output, text.as_slice())?;
+    text.clear();
+    Ok(is_bad)
+}
+
+// Hands on what is to be said of all files, and tells whether something was found.
+fn finish<W: Write>(
+    alloc: Global,
+    job: Job,
+    totals: Totals,
+    found: bool,
+    text: &mut Vec<u8>,
+    output: &mut W,
+) -> Result<(), Fault>
+    ensures { IfErr result (λ fault. comes_before_output fault ≡ false) }
+{
+    if let Job::Test(_, format) = job {
+        if end(alloc, format, totals, text).is_err() {
+            return Err(Fault::Run(RunFault::Memory));
+        }
+        hand_on(output, text.as_slice())?;
+    }
+    if found { Err(Fault::Found) } else { Ok(()) }
 }
 
 // Checks, tests or rewrites these files, with one text for what is to be said of each.
@@ -175,25 +220,15 @@ fn work_through<R: Files + Input + Eprint + AllocGlobal, W: Write>(
 {
     let mut totals = Totals::new();
     let mut found = false;
-    if let Job::Test(_, format) = job {
-        begin(format, text).map_err(out_of_memory)?;
+    if let Job::Test(_, format) = job
+        && begin(format, text).is_err()
+    {
+        return Err(Fault::Run(RunFault::Memory));
     }
     for name in files {
-        let Some(content) = readable(rt, name) else {
-            found = true;
-            continue;
-        };
-        let is_bad = work_on(rt, name, content.as_slice(), job, &mut totals, text);
-        drop(content);
-        found |= is_bad.map_err(out_of_memory)?;
-        hand_on(output, text.as_slice())?;
-        text.clear();
+        found |= work_on_named(rt, name, job, &mut totals, text, output)?;
     }
-    if let Job::Test(_, format) = job {
-        end(rt.alloc(), format, totals, text).map_err(out_of_memory)?;
-        hand_on(output, text.as_slice())?;
-    }
-    if found { Err(Fault::Found) } else { Ok(()) }
+    finish(rt.alloc(), job, totals, found, text, output)
 }
 
 /// Checks, tests or rewrites these files, and tells what it finds.

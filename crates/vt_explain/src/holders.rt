@@ -72,7 +72,8 @@ pub fn uses_in(world: &World) -> Result<Vec<Use<'_>>, AllocError> {
 
 /// Ends a row by what a task has, of an open file its number, its access, and the line that opened it.
 pub fn add_use(look: &Look<'_, '_>, table: &mut Table, one: &Use<'_>) {
-    table.add(&Cell::Task(&one.task.name));
+    names::push_task(&mut table.text, &one.task.name);
+    table.end_word();
     let text = &mut table.text;
     match one.held {
         Held::Root => text.push("root"),
@@ -89,7 +90,8 @@ pub fn add_use(look: &Look<'_, '_>, table: &mut Table, one: &Use<'_>) {
         }
     }
     table.end_word();
-    table.add_row(&[Cell::Place(look.world, one.at)]);
+    table.add_place(look.world, one.at);
+    table.end_row();
 }
 
 /// Ends a row by a mount.

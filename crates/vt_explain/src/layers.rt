@@ -35,7 +35,10 @@ fn add_layers<'a>(view: View<'_>, table: &mut Table, options: &'a [u8]) -> Optio
         table.text.push_bytes(path);
         table.end_word();
         match reached(view, path) {
-            Ok(at) => table.add_row(&[Cell::Place(view.world, at)]),
+            Ok(at) => {
+                table.add_place(view.world, at);
+                table.end_row();
+            }
             Err(deny) => {
                 table.text.push("stopped by ");
                 table.add_row(&[Cell::Text(deny.rule.name())]);

@@ -4,8 +4,8 @@ use crate::holders::{Look, add_mount, add_use};
 use crate::report::{Heads, Section};
 use vt_check::draft::Draft;
 use vt_location::{Location, Mount, NodeRef};
-use vt_show::cells::Cell;
 use vt_show::columns::Table;
+use vt_show::names;
 use vt_show::overlays::push_layer;
 use vt_show::places::place_of;
 use vt_show::tree_walk::push_path_to;
@@ -41,10 +41,9 @@ fn add_lock(look: &Look<'_, '_>, table: &mut Table, at: Location, mount: &Mount)
         place = place.saturating_add(1);
         let directory = layer.directory.node_ref();
         if lies_under(look, table, at, directory) {
-            table.add_words(&[
-                Cell::Place(look.world, at),
-                Cell::Filesystem(true, look.picture.number_of(id)),
-            ]);
+            table.add_place(look.world, at);
+            names::push_filesystem(&mut table.text, true, look.picture.number_of(id));
+            table.end_word();
             table.text.push_number(place);
             table.text.push_char(' ');
             push_layer(&mut table.text, look.world, look.picture, mount, directory);

@@ -45,7 +45,8 @@ pub fn add_mounter(look: &Look<'_, '_>, section: &mut Section, at: Option<Locati
     table.end_word();
     push_cells(&mut table.text, &ids_of(cred));
     table.end_word();
-    table.add_words(&[Cell::Capabilities(cred.caps()), Cell::Place(look.world, at)]);
+    table.add(&Cell::Capabilities(cred.caps()));
+    table.add_place(look.world, at);
     if let Some(node) = look.world.store().object(at.node) {
         push_rights(&mut table.text, cred, &node.attr(), node.kind());
         table.end_word();

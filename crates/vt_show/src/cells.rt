@@ -1,14 +1,11 @@
 //! What is told of a thing, in parts: each as it stands in a text, and as a value of JSON.
 use crate::names;
-use crate::places::push_place;
 use serde_json::Value;
 use std::alloc::{AllocError, Global};
 use vt_check::draft::Draft;
 use vt_check::object::{List, Object};
 use vt_cred::{Caps, MountFlags};
-use vt_location::Location;
 use vt_node::{Kind, Mode};
-use vt_ns::World;
 use vt_request::{MountPlace, TaskName, TypeLine};
 
 /// A part of what is told.
@@ -20,7 +17,6 @@ pub enum Cell<'a> {
     /// The part of a text that was written, from one byte to another.
     Part(&'a Draft, usize, usize),
     Number(u64),
-    Count(usize),
     /// Numbers of groups, between commas.
     Ids(&'a [u32]),
     /// A number in octal digits, of which there are at least so many.
@@ -28,8 +24,6 @@ pub enum Cell<'a> {
     Task(&'a TaskName),
     Mount(MountPlace),
     Mounts(&'a [MountPlace]),
-    /// Where an object is.
-    Place(&'a World, Location),
     /// A filesystem: whether it is an overlay, and its number; its type alone where it has none.
     Filesystem(bool, Option<usize>),
     /// Where in its filesystem a tree begins, or nothing where it is reached no longer. In a text it stands between
@@ -41,10 +35,22 @@ pub enum Cell<'a> {
     Mode(Kind, Mode),
 }
 
+impl<'a> Cell<'a> {
+    /// How many there are, or which one it is in a list.
+    pub fn count(number: usize) -> Self {
+        Cell::Number(number as u64)
+    }
+
+    /// The whole of a text that was written.
+    pub fn whole(text: &'a Draft) -> Self {
+        Cell::Part(text, 0, text.len())
+    }
+}
+
 /// A number that may be missing.
 pub fn count_or_nothing<'a>(number: Option<usize>) -> Cell<'a> {
     match number {
-        Some(number) => Cell::Count(number),
+        Some(number) => Cell::count(number),
         None => Cell::Nothing,
     }
 }
@@ -56,13 +62,11 @@ pub fn push_cell(text: &mut Draft, cell: &Cell<'_>) {
         Cell::Text(part) => text.push(*part),
         Cell::Part(part, begin, end) => text.push_part(*part, *begin, *end),
         Cell::Number(number) => text.push_number(*number),
-        Cell::Count(number) => text.push_number(*number as u64),
         Cell::Ids(ids) => names::push_ids(text, *ids),
         Cell::Octal(number, digits) => text.push_octal(*number, *digits),
         Cell::Task(name) => names::push_task(text, *name),
         Cell::Mount(place) => names::push_mount(text, *place),
         Cell::Mounts(places) => names::push_mounts(text, *places),
-        Cell::Place(world, at) => push_place(*world, *at, text),
         Cell::Filesystem(is_overlay, number) => names::push_filesystem(text, *is_overlay, *number),
         Cell::Root(root) => names::push_root(text, *root),
         Cell::Flags(flags) => names::push_flags(text, *flags),
@@ -136,7 +140,6 @@ fn value_of(alloc: Global, cell: &Cell<'_>) -> Result<Value, AllocError> {
         Cell::Nothing => Ok(Value::Null),
         Cell::Root(root) => root_value(alloc, *root),
         Cell::Number(number) => Ok(Value::from(*number)),
-        Cell::Count(number) => Ok(Value::from(*number as u64)),
         Cell::Ids(ids) => ids_value(alloc, *ids),
         Cell::Mounts(places) => mounts_value(alloc, *places),
         _ => text_value(alloc, cell),

@@ -1,7 +1,10 @@
 //! Tables of text, each column as wide as its widest word.
 use crate::cells::{Cell, push_cell};
+use crate::places::push_place;
 use std::alloc::Global;
 use vt_check::draft::Draft;
+use vt_location::Location;
+use vt_ns::World;
 
 /// What stands between two columns.
 const GAP: usize = 2;
@@ -79,6 +82,12 @@ impl Table {
     /// Adds a word, or the end of one that was begun.
     pub fn add(&mut self, word: &Cell<'_>) {
         push_cell(&mut self.text, word);
+        self.end_word();
+    }
+
+    /// Adds where an object is.
+    pub fn add_place(&mut self, world: &World, at: Location) {
+        push_place(world, at, &mut self.text);
         self.end_word();
     }
 

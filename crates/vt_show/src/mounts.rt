@@ -3,10 +3,10 @@ use crate::cells::{Cell, count_or_nothing, push_cell, push_line};
 use crate::columns::Table;
 use crate::names::filesystem_type;
 use crate::picture::MountShown;
-use crate::places::place_of;
 use std::alloc::Global;
 use vt_check::draft::Draft;
 use vt_location::MountId;
+use vt_mount::Mounts;
 use vt_ns::World;
 use vt_request::TypeLine;
 
@@ -45,7 +45,7 @@ struct Waiting {
 // The mounts of a namespace one after the other: each before its children, which are in the order of their numbers.
 #[derive(Drop)]
 struct MountWalk<'a> {
-    world: &'a World,
+    mounts: &'a Mounts,
     waiting: Vec<Waiting>,
     // Whether the last mount is the last child of its parent, behind the same of each that it stands on.
     path: Vec<bool>,
@@ -54,14 +54,14 @@ struct MountWalk<'a> {
 
 impl<'a> MountWalk<'a> {
     // Before the root mount of these.
-    fn new(world: &'a World, mounts: &[MountShown]) -> Self {
+    fn new(alloc: Global, mounts: &'a Mounts, all: &[MountShown]) -> Self {
         let mut walk = MountWalk {
-            world,
-            waiting: Vec::new(world.alloc()),
-            path: Vec::new(world.alloc()),
+            mounts,
+            waiting: Vec::new(alloc),
+            path: Vec::new(alloc),
             failed: false,
         };
-        for shown in mounts.iter().rev() {
+        for shown in all.iter().rev() {
             if shown.parent.is_none() {
                 walk.push(shown.mount.number, 0, true);
             }
@@ -84,7 +84,7 @@ impl<'a> MountWalk<'a> {
         }
         let depth = next.depth.saturating_add(1);
         let mut is_last = true;
-        for child in self.world.all_mounts().children(next.id).iter().rev() {
+        for child in self.mounts.children(next.id).iter().rev() {
             self.push(*child, depth, is_last);
             is_last = false;
         }
@@ -112,17 +112,22 @@ fn add_mount(table: &mut Table, path: &[bool], shown: &MountShown) {
     ]);
 }
 
+// A mount as it is shown, among those of its namespace.
+fn shown_of(mounts: &[MountShown], id: MountId) -> Option<&MountShown> {
+    match mounts.binary_search_by_key(&id.count, |shown| shown.mount.number.count) {
+        Ok(index) => mounts.get(index),
+        Err(_) => None,
+    }
+}
+
 // Adds the mounts of a namespace.
-fn add_mounts(world: &World, table: &mut Table, mounts: &[MountShown]) {
-    let mut walk = MountWalk::new(world, mounts);
+fn add_mounts(table: &mut Table, walk: &mut MountWalk<'_>, mounts: &[MountShown]) {
     for _ in mounts {
         let Some(id) = walk.next() else {
             break;
         };
-        if let Some(place) = place_of(world, id) {
-            if let Some(shown) = mounts.get(place.place.saturating_sub(1)) {
-                add_mount(table, &walk.path, shown);
-            }
+        if let Some(shown) = shown_of(mounts, id) {
+            add_mount(table, &walk.path, shown);
         }
     }
     if walk.failed {
@@ -136,7 +141,8 @@ pub fn push_namespace(world: &World, text: &mut Draft, mounts: &[MountShown]) {
         text.push("\nNAMESPACE ");
         text.push_number(first.place.namespace as u64);
         let mut table = Table::new(world.alloc(), &HEADS);
-        add_mounts(world, &mut table, mounts);
+        let mut walk = MountWalk::new(world.alloc(), world.all_mounts(), mounts);
+        add_mounts(&mut table, &mut walk, mounts);
         table.write(text);
     }
 }
@@ -150,7 +156,7 @@ pub fn push_mount_object(alloc: Global, text: &mut Draft, shown: &MountShown) {
         TypeLine::Unbindable => ("unbindable", None, None),
     };
     let cells = [
-        Cell::Count(shown.filesystem),
+        Cell::count(shown.filesystem),
         count_or_nothing(group),
         count_or_nothing(master),
         Cell::Mount(shown.place),

@@ -57,7 +57,7 @@ fn push_overlay(
         let mut told = Draft::new(world.alloc());
         let directory = layer.directory.node_ref();
         push_layer(&mut told, world, picture, &shown.mount, directory);
-        let words = [Cell::Part(&told, 0, told.len())];
+        let words = [Cell::whole(&told)];
         push_told(text, "layer", Some(place), &words);
     }
 }

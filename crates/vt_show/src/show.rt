@@ -77,7 +77,7 @@ fn push_groups(alloc: Global, text: &mut Draft, picture: &Picture) {
     let mut table = Table::new(alloc, &["GROUP", "MASTER", "MEMBERS", "SLAVES"]);
     for line in &picture.groups {
         table.add_row(&[
-            Cell::Count(line.group),
+            Cell::count(line.group),
             count_or_nothing(line.master),
             Cell::Mounts(&line.members),
             Cell::Mounts(&line.slaves),
@@ -115,7 +115,7 @@ fn push_objects(text: &mut Draft, world: &World, tasks: &[&Task], picture: &Pict
         let cells = [
             count_or_nothing(line.master),
             Cell::Mounts(&line.members),
-            Cell::Count(line.group),
+            Cell::count(line.group),
             Cell::Mounts(&line.slaves),
         ];
         let members = ["master", "members", "peers", "slaves"];

@@ -1,7 +1,7 @@
 //! Tasks, and whose credentials they have.
 use crate::cells::{Cell, object_of, push_cells};
 use crate::names;
-use crate::places::{namespace_number, push_path};
+use crate::places::{namespace_number, push_path, push_place};
 use serde_json::Value;
 use std::alloc::AllocError;
 use vt_check::draft::Draft;
@@ -68,14 +68,25 @@ fn push_umask(text: &mut Draft, task: &Task) {
 fn push_descriptors(world: &World, text: &mut Draft, task: &Task) {
     for number in 0..=u8::MAX {
         if let Some(file) = task.descriptors.get(number) {
-            let words = [
-                Cell::Text(names::access(file.access)),
-                Cell::Text(" "),
-                Cell::Place(world, file.location),
-            ];
-            push_told(text, "open", Some(u64::from(number)), &words);
+            let mut words = Draft::new(world.alloc());
+            words.push(names::access(file.access));
+            words.push_char(' ');
+            push_place(world, file.location, &mut words);
+            push_told(
+                text,
+                "open",
+                Some(u64::from(number)),
+                &[Cell::whole(&words)],
+            );
         }
     }
+}
+
+// Appends where the root or the working directory of a task is.
+fn push_of_task(world: &World, text: &mut Draft, what: &str, at: Location) {
+    let mut place = Draft::new(world.alloc());
+    push_place(world, at, &mut place);
+    push_told(text, what, None, &[Cell::whole(&place)]);
 }
 
 /// Appends a task.
@@ -87,10 +98,8 @@ pub fn push_task(world: &World, text: &mut Draft, task: &Task) {
     text.push_char('\n');
     push_credentials(text, "ids", &task.cred);
     push_umask(text, task);
-    let place = [Cell::Place(world, task.root)];
-    push_told(text, "root", None, &place);
-    let place = [Cell::Place(world, task.directory)];
-    push_told(text, "directory", None, &place);
+    push_of_task(world, text, "root", task.root);
+    push_of_task(world, text, "directory", task.directory);
     push_descriptors(world, text, task);
 }
 
@@ -100,7 +109,7 @@ fn place_value(world: &World, at: Location) -> Result<Value, AllocError> {
     let mut path = Draft::new(alloc);
     match push_path(world, at, &mut path) {
         Some(mount) => {
-            let cells = [Cell::Mount(mount), Cell::Part(&path, 0, path.len())];
+            let cells = [Cell::Mount(mount), Cell::whole(&path)];
             object_of(alloc, &["mount", "path"], &cells).end()
         }
         None => {
@@ -133,7 +142,7 @@ pub fn push_task_object(world: &World, text: &mut Draft, task: &Task) {
         Cell::Capabilities(cred.caps()),
         Cell::Number(u64::from(cred.gid())),
         Cell::Ids(cred.groups()),
-        Cell::Count(namespace_number(world, task.namespace)),
+        Cell::count(namespace_number(world, task.namespace)),
         Cell::Task(&task.name),
         Cell::Number(u64::from(cred.uid())),
         Cell::Octal(task.umask.bits(), 3),

@@ -22,7 +22,7 @@ fn add_object(table: &mut Table, found: &Found, node: &Node, is_overlay: bool) {
         Cell::Mode(node.kind(), attr.mode),
         Cell::Number(u64::from(attr.uid)),
         Cell::Number(u64::from(attr.gid)),
-        Cell::Count(node.bytes().len()),
+        Cell::count(node.bytes().len()),
     ]);
     table.text.push_times(' ', found.depth.saturating_mul(2));
     let name = found.path.as_str().get(found.name..).unwrap_or_default();
@@ -40,12 +40,12 @@ fn add_object(table: &mut Table, found: &Found, node: &Node, is_overlay: bool) {
 fn push_object(alloc: Global, text: &mut Draft, filesystem: usize, found: &Found, node: &Node) {
     let attr = node.attr();
     let cells = [
-        Cell::Count(filesystem),
+        Cell::count(filesystem),
         Cell::Number(u64::from(attr.gid)),
         Cell::Text(kind(node.kind())),
         Cell::Octal(attr.mode.bits(), 4),
         Cell::Text(or_root(found.path.as_str())),
-        Cell::Count(node.bytes().len()),
+        Cell::count(node.bytes().len()),
         Cell::Number(u64::from(attr.uid)),
     ];
     push_line(alloc, text, &MEMBERS, &cells);
