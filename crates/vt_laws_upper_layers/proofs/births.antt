@@ -1,0 +1,4 @@
+-- What the proofs of src/births.rt use.
+pub mod Changing
+pub mod Copying
+pub mod Found

@@ -1,0 +1,4 @@
+-- What the proofs of src/lowered.rt use.
+pub mod Alike
+pub mod Counted
+pub mod Swept
