@@ -1,0 +1,4 @@
+-- What the proofs of src/overlaps.rt use.
+pub mod Kept
+pub mod Nested
+pub mod Found
