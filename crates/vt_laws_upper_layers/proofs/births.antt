@@ -2,3 +2,6 @@
 pub mod Changing
 pub mod Copying
 pub mod Found
+pub mod Kept
+pub mod Named
+pub mod Swept

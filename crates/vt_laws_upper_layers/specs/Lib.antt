@@ -1,2 +1,6 @@
 pub mod Lowered
 pub mod Births
+pub mod Rows
+pub mod Naming
+pub mod RowsAbove
+pub mod SeenAfter

@@ -5,3 +5,5 @@
 
 pub mod births;
 pub mod lowered;
+pub mod rows;
+pub mod seen;

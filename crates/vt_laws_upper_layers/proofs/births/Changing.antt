@@ -21,7 +21,7 @@ absent_one merge object copy number (Some node) false is gone none = by (nat_eq 
         (sym is ∙ ap merge.files.tree.node (sym (eqb-true number object t)) ∙ gone)))
     by false t = real_by merge.real object copy number false t ∙ none
 
-files_of_one : (merge : Merge ℕ) (object copy : ℕ) (o : Option (Node ℕ)) (b : Bool)
+pub files_of_one : (merge : Merge ℕ) (object copy : ℕ) (o : Option (Node ℕ)) (b : Bool)
     → (copy_of nat_eq merge object copy o b).files ≡ merge.files
 files_of_one merge object copy None b = refl
 files_of_one merge object copy (Some node) true = refl

@@ -24,7 +24,7 @@ module _ (pins : Pins) (world : World ℕ) where
       && is_mounted nat_eq world first.number)
       || layers_same number rest (All-tail (PinsInLayers pins) first rest fit) i
 
-  lives_same : All (PinsInLayers pins) world.filesystems → (filesystem : Filesystem ℕ)
+  pub lives_same : All (PinsInLayers pins) world.filesystems → (filesystem : Filesystem ℕ)
       → filesystem_lives nat_eq (lowered pins world) (lowered_filesystem pins filesystem)
       ≡ filesystem_lives nat_eq world filesystem
   lives_same fit filesystem =

@@ -1,0 +1,2 @@
+-- What the proofs of src/seen.rt use.
+pub mod AfterCalls
