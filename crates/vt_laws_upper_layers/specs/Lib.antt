@@ -4,3 +4,4 @@ pub mod Rows
 pub mod Naming
 pub mod RowsAbove
 pub mod SeenAfter
+pub mod UnnamedPins

@@ -4,6 +4,7 @@
 //! Upper objects are pinned (`ArePinned`) if each, unless something else uses it, is a pin, and each pin is one of
 //! them. So counts beside upper layers are counts beside read-only overlays.
 ghost use Rattle.vt_laws_upper_layers.specs.Lowered.{FilesystemsGoAlike, FilesystemsUseTheSame, InodesGoAlike, InodesUseTheSame, LoweredHaveNoUpper, MountsGoAlike, PinsAreExchanged, PinsAreUses, ReadOnlyWorldsStay, SweptAlike};
+ghost use Rattle.vt_laws_upper_layers.specs.UnnamedPins.{LoweredAreInUse, UnnamedAreSweptAlike, UnnamedArePinned};
 
 /// A lowered world has no upper layer (`none`). In any world, its overlays have layers in the same `filesystems` if
 /// they pin only where they have layers. If upper objects are pinned, the same `inodes` are in use.
@@ -31,4 +32,16 @@ pub fn pins_are_uses()
     ensures one { PinsAreUses }
     ensures exchanged { PinsAreExchanged }
     ensures read_only { ReadOnlyWorldsStay }
+{}
+
+/// In a world with all invariants, upper objects are pinned if overlays pin those of their inodes without a name
+/// (`unnamed`), and these pin only where they have layers. If upper objects are pinned and all is in use, all is in use
+/// in the lowered world (`in_use`).
+///
+/// A world under way that has the invariants of overlays, and pins what has no name after the sweep, is swept to the
+/// lowered world of what the sweep leaves (`swept`).
+pub fn what_has_no_name_is_pinned()
+    ensures unnamed { UnnamedArePinned }
+    ensures in_use { LoweredAreInUse }
+    ensures swept { UnnamedAreSweptAlike }
 {}

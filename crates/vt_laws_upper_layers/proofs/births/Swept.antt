@@ -15,7 +15,7 @@ use Rattle.vt_laws_worlds.proofs.seen.used.Unnamed.{unnamed_are_used_where_locat
 use Rattle.vt_laws_upper_layers.specs.Naming.{AreKept, KeptAreLocated}
 
 -- a filesystem is found among the changed ones as it is changed
-numbered-map : (change : Filesystem ℕ → Filesystem ℕ) → ((f : Filesystem ℕ) → (change f).number ≡ f.number)
+pub numbered-map : (change : Filesystem ℕ → Filesystem ℕ) → ((f : Filesystem ℕ) → (change f).number ≡ f.number)
     → (number : ℕ) → change (no_filesystem number) ≡ no_filesystem number → (all : List (Filesystem ℕ))
     → unwrap_or (find (λ (f : Filesystem ℕ). nat_eq number f.number) (map change all)) (no_filesystem number)
     ≡ change (unwrap_or (find (λ (f : Filesystem ℕ). nat_eq number f.number) all) (no_filesystem number))
@@ -44,7 +44,7 @@ is_overlay-only_used_by false used f = by f.overlay
     by None = refl
     by (Some overlay) = refl
 
-is_overlay-only_used : (world : World ℕ) (chosen : Bool) (f : Filesystem ℕ)
+pub is_overlay-only_used : (world : World ℕ) (chosen : Bool) (f : Filesystem ℕ)
     → is_overlay (only_used nat_eq world chosen f) ≡ is_overlay f
 is_overlay-only_used world true f =
     is_overlay-only_used_by (list_all (λ n. is_among nat_eq n (used_in nat_eq world f)) f.files.numbers)
