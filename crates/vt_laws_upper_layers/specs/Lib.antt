@@ -5,3 +5,4 @@ pub mod Naming
 pub mod RowsAbove
 pub mod SeenAfter
 pub mod UnnamedPins
+pub mod CountedAbove

@@ -4,6 +4,7 @@
 #![tactic(auto)]
 
 pub mod births;
+pub mod counted;
 pub mod lowered;
 pub mod rows;
 pub mod seen;

@@ -8,7 +8,7 @@ use Rattle.vt_laws_mounts.specs.Mounts.MountPoints.{OneMountAMountPoint}
 use Rattle.vt_laws_mounts.proofs.attached.Attaching.{on_mounts}
 use Rattle.vt_laws_mounts.proofs.attached.Covers.{topmost_free}
 use Rattle.vt_laws_mounts.proofs.mounts.MountsFound.{found_there, unfound}
-use Rattle.vt_laws_mounts.proofs.mounts.MountsNumbered.{is_one_of, number_in_use, pair-append, pair-flat_map, parts_apart, same_number}
+use Rattle.vt_laws_mounts.proofs.mounts.MountsNumbered.{is_one_of, number_in_use, pair-append, pair-flat_map, same_number}
 use Rattle.vt_laws_mounts.proofs.mounts.MountsPlaces.{place_of_both, one_place_of_two, one_stander, stands_at_its_place}
 use Rattle.vt_laws_mounts.proofs.mounts.MountsReplaced.{found_itself, one_number_by_numbers}
 use Rattle.vt_laws_mounts.proofs.attached.Grafted.{CopyPlace, Grafts, PushCase, after, before, before_pushes, copied, copies, copies_after, copy, copy_place, grafted_stand, mounts_after, one_after, place_at, place_upon, push, push_case, top_at, top_copy}

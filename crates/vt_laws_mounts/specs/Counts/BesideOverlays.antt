@@ -15,7 +15,7 @@ use Rattle.vt_spec.specs.Machine.SameWorlds.{SameWorlds}
 use Rattle.vt_spec.specs.Machine.Settled.{has_layer_on, settled}
 use Rattle.vt_spec.specs.Machine.World.{Filesystem, World, all_locations, filesystem_at, filesystem_numbered, is_overlay, new_plain}
 use Rattle.vt_laws_mounts.specs.LettingGo.Counts.{mounts_showing}
-use Rattle.vt_laws_mounts.specs.LettingGo.InUse.{HasTrees, InodesInUse, has_upper_in}
+use Rattle.vt_laws_mounts.specs.LettingGo.InUse.{AllInUse, HasTrees, InodesInUse, has_upper_in}
 use Rattle.vt_laws_mounts.specs.LettingGo.OneByOne.{Inode, let_go_inodes}
 use Rattle.vt_laws_mounts.specs.LettingGo.Overlays.{used_by_filesystem}
 use Rattle.vt_laws_mounts.specs.LettingGo.TreeChanges.{with_tree}
@@ -111,7 +111,19 @@ NewTreeIsCountedBesideOverlays =
 
 -- Changes
 
--- a change of a plain filesystem at a location of a world, overlays beside it or not, and its counted inodes before it
+-- a change of a plain filesystem at a location of a world in which all is in use, overlays beside it or not, and its
+-- counted inodes before it; filesystems are trees, with numbers of their own
+pub record IsChangeInUse (world : World ℕ) (location : Location ℕ) (inodes : Inodes ℕ) (change : Change ℕ)
+    : Type 0 where
+  pub in_use : AllInUse world
+  pub trees : HasTrees world
+  pub one_filesystem : any_pair (λ (a b : Filesystem ℕ). nat_eq a.number b.number) world.filesystems ≡ false
+  pub plain : is_overlay (filesystem_at nat_eq world location) ≡ false
+  pub counted : IsCounted world (filesystem_at nat_eq world location) inodes
+  pub fits : Fits inodes change
+  pub links : LinksWhatIsThere inodes change
+
+-- such a change of a world with all invariants
 pub record IsChangeOfPlain (world : World ℕ) (location : Location ℕ) (inodes : Inodes ℕ) (change : Change ℕ)
     : Type 0 where
   pub in_world : IsWorld nat_eq world
@@ -120,46 +132,65 @@ pub record IsChangeOfPlain (world : World ℕ) (location : Location ℕ) (inodes
   pub fits : Fits inodes change
   pub links : LinksWhatIsThere inodes change
 
--- The world differs in the files of that filesystem alone.
-abbrev pub OnlyFilesChangeBesideOverlays : Type 0
-OnlyFilesChangeBesideOverlays =
+abbrev pub WorldsAreInUse : Type 0
+WorldsAreInUse =
+    (world : World ℕ) (location : Location ℕ) (inodes : Inodes ℕ) (change : Change ℕ)
+    → IsChangeOfPlain world location inodes change → IsChangeInUse world location inodes change
+
+-- what is said of a change of either kind
+abbrev pub OfChanges : (World ℕ → Location ℕ → Inodes ℕ → Change ℕ → Type 0)
+    → (Fresh ℕ → World ℕ → Location ℕ → Inodes ℕ → Change ℕ → Type 0) → Type 0
+OfChanges Is Said =
     (fresh : Fresh ℕ) (world : World ℕ) (location : Location ℕ) (inodes : Inodes ℕ) (change : Change ℕ)
-    → IsChangeOfPlain world location inodes change
-    → after_change fresh world location change
+    → Is world location inodes change → Said fresh world location inodes change
+
+-- The world differs in the files of that filesystem alone.
+abbrev pub OnlyFilesChangeOf : (World ℕ → Location ℕ → Inodes ℕ → Change ℕ → Type 0) → Type 0
+OnlyFilesChangeOf Is = OfChanges Is (λ fresh world location inodes change.
+    after_change fresh world location change
     ≡ with_tree world (filesystem_of world location)
-    (filesystem_at nat_eq (after_change fresh world location change) location).files
+    (filesystem_at nat_eq (after_change fresh world location change) location).files)
 
 -- The changed inodes are those of the filesystem then, with the counts of their uses.
-abbrev pub CountsFollowChangesBesideOverlays : Type 0
-CountsFollowChangesBesideOverlays =
-    (fresh : Fresh ℕ) (world : World ℕ) (location : Location ℕ) (inodes : Inodes ℕ) (change : Change ℕ)
-    → IsChangeOfPlain world location inodes change
-    → IsCounted (after_change fresh world location change)
-    (filesystem_at nat_eq (after_change fresh world location change) location) (changed nat_eq inodes change)
+abbrev pub CountsFollowChangesOf : (World ℕ → Location ℕ → Inodes ℕ → Change ℕ → Type 0) → Type 0
+CountsFollowChangesOf Is = OfChanges Is (λ fresh world location inodes change.
+    IsCounted (after_change fresh world location change)
+    (filesystem_at nat_eq (after_change fresh world location change) location) (changed nat_eq inodes change))
 
 -- Those of each other filesystem stay as they are.
-abbrev pub OtherCountsStayBesideOverlays : Type 0
-OtherCountsStayBesideOverlays =
-    (fresh : Fresh ℕ) (world : World ℕ) (location : Location ℕ) (inodes : Inodes ℕ) (change : Change ℕ)
-    → IsChangeOfPlain world location inodes change
-    → (other : ℕ) (others : Inodes ℕ) → other ≢ filesystem_of world location
+abbrev pub OtherCountsStayOf : (World ℕ → Location ℕ → Inodes ℕ → Change ℕ → Type 0) → Type 0
+OtherCountsStayOf Is = OfChanges Is (λ fresh world location inodes change.
+    (other : ℕ) (others : Inodes ℕ) → other ≢ filesystem_of world location
     → IsCounted world (filesystem_numbered nat_eq world other) others
     → IsCounted (after_change fresh world location change)
-    (filesystem_numbered nat_eq (after_change fresh world location change) other) others
+    (filesystem_numbered nat_eq (after_change fresh world location change) other) others)
 
 -- So the world with the changed inodes in that filesystem, their numbers in whatever order, is the world after the
 -- change.
-abbrev pub CountedChangesAreSweptBesideOverlays : Type 0
-CountedChangesAreSweptBesideOverlays =
-    (fresh : Fresh ℕ) (world : World ℕ) (location : Location ℕ) (inodes : Inodes ℕ) (change : Change ℕ)
-    → IsChangeOfPlain world location inodes change
-    → (files : FileTree ℕ) → files.tree ≡ tree_of (changed nat_eq inodes change)
+abbrev pub CountedChangesAreSweptOf : (World ℕ → Location ℕ → Inodes ℕ → Change ℕ → Type 0) → Type 0
+CountedChangesAreSweptOf Is = OfChanges Is (λ fresh world location inodes change.
+    (files : FileTree ℕ) → files.tree ≡ tree_of (changed nat_eq inodes change)
     → any_pair nat_eq files.numbers ≡ false → ListsNumbers nat_eq files
-    → SameWorlds (with_tree world (filesystem_of world location) files) (after_change fresh world location change)
+    → SameWorlds (with_tree world (filesystem_of world location) files) (after_change fresh world location change))
 
 -- Where no name goes, nothing goes.
+abbrev pub NamesKeepAllOf : (World ℕ → Location ℕ → Inodes ℕ → Change ℕ → Type 0) → Type 0
+NamesKeepAllOf Is = OfChanges Is (λ fresh world location inodes change.
+    TakesNoName change
+    → after_change fresh world location change ≡ with_change nat_eq fresh world location change)
+
+-- All of it in worlds with all invariants.
+abbrev pub OnlyFilesChangeBesideOverlays : Type 0
+OnlyFilesChangeBesideOverlays = OnlyFilesChangeOf IsChangeOfPlain
+
+abbrev pub CountsFollowChangesBesideOverlays : Type 0
+CountsFollowChangesBesideOverlays = CountsFollowChangesOf IsChangeOfPlain
+
+abbrev pub OtherCountsStayBesideOverlays : Type 0
+OtherCountsStayBesideOverlays = OtherCountsStayOf IsChangeOfPlain
+
+abbrev pub CountedChangesAreSweptBesideOverlays : Type 0
+CountedChangesAreSweptBesideOverlays = CountedChangesAreSweptOf IsChangeOfPlain
+
 abbrev pub NamesKeepAllBesideOverlays : Type 0
-NamesKeepAllBesideOverlays =
-    (fresh : Fresh ℕ) (world : World ℕ) (location : Location ℕ) (inodes : Inodes ℕ) (change : Change ℕ)
-    → IsChangeOfPlain world location inodes change → TakesNoName change
-    → after_change fresh world location change ≡ with_change nat_eq fresh world location change
+NamesKeepAllBesideOverlays = NamesKeepAllOf IsChangeOfPlain

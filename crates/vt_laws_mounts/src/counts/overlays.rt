@@ -1,4 +1,5 @@
 //! Counts in worlds with overlays.
+ghost use Rattle.vt_laws_mounts.specs.Counts.BesideOverlays.{CountedChangesAreSweptOf, CountsFollowChangesOf, IsChangeInUse, NamesKeepAllOf, OnlyFilesChangeOf, OtherCountsStayOf, WorldsAreInUse};
 ghost use Rattle.vt_laws_mounts.specs.Counts.BesideOverlays.{AnySameWorldsCountAlike, CountedChangesAreSweptBesideOverlays, CountsFollowChangesBesideOverlays, NamesKeepAllBesideOverlays, NewTreeIsCountedBesideOverlays, NoUpperIsInAny, OnlyFilesChangeBesideOverlays, OtherCountsStayBesideOverlays, OverlaysAreUses, OverlaysTakeTheirUses, PlainOnesUseNothing, UsesAreExchangedBesideOverlays, UsesAreSweptBesideOverlays};
 ghost use Rattle.vt_laws_mounts.specs.Counts.OverlaysStay.{AllLayersAreMounted, FilesystemGoesAtZeroBesideOverlays, LayersLeftAreMounted, LivesWhileCounted, LivesWhileMounted, NamedOverlayStays, NamedOverlaysStay, OverlaysAreMounted, OverlaysAreNoLayers, OverlaysUseFilesystems};
 
@@ -29,8 +30,19 @@ pub fn overlays_count_as_layers()
 {}
 
 /// `changes_are_counted` (`only`, `counts`, `others`, `named`) and `counted_inodes_are_the_world` (`world`) hold of a
-/// plain filesystem in any world with all invariants (`IsChangeOfPlain`).
+/// plain filesystem in any world in which all is in use, and filesystems are trees with numbers of their own
+/// (`IsChangeInUse`).
+pub fn changes_in_use_are_counted()
+    ensures only { OnlyFilesChangeOf IsChangeInUse }
+    ensures counts { CountsFollowChangesOf IsChangeInUse }
+    ensures others { OtherCountsStayOf IsChangeInUse }
+    ensures named { NamesKeepAllOf IsChangeInUse }
+    ensures world { CountedChangesAreSweptOf IsChangeInUse }
+{}
+
+/// So they hold in any world with all invariants (`IsChangeOfPlain`), which is one of those (`in_use`).
 pub fn changes_beside_overlays_are_counted()
+    ensures in_use { WorldsAreInUse }
     ensures only { OnlyFilesChangeBesideOverlays }
     ensures counts { CountsFollowChangesBesideOverlays }
     ensures others { OtherCountsStayBesideOverlays }

@@ -11,7 +11,7 @@ use Rattle.vt_laws_mounts.proofs.counts.counting.Counts.{other_if}
 use Rattle.vt_laws_mounts.proofs.counts.counting.Entries.{one_if}
 use Rattle.vt_laws_mounts.proofs.counts.counting.Times.{times_in}
 use Rattle.vt_laws_mounts.specs.Counts.Changing.{CountsFollowChanges, IsChange, LinksWhatIsThere, OnlyFilesChange, OtherCountsStay, after_change, filesystem_of}
-use Rattle.vt_laws_mounts.specs.Counts.BesideOverlays.{CountsFollowChangesBesideOverlays, IsChangeOfPlain, OnlyFilesChangeBesideOverlays, OtherCountsStayBesideOverlays}
+use Rattle.vt_laws_mounts.specs.Counts.BesideOverlays.{CountsFollowChangesBesideOverlays, CountsFollowChangesOf, IsChangeInUse, IsChangeOfPlain, OnlyFilesChangeBesideOverlays, OnlyFilesChangeOf, OtherCountsStayBesideOverlays, OtherCountsStayOf, WorldsAreInUse}
 use Rattle.vt_laws_mounts.specs.Counts.Counted.{IsCounted}
 use Rattle.vt_laws_mounts.proofs.counts.changing.NameCounts as Names
 use Rattle.vt_laws_mounts.proofs.counts.using.Swept
@@ -103,7 +103,7 @@ module _ (base : ℕ → ℕ) (files : FileTree ℕ) (inodes : Inodes ℕ) (root
 -- The world
 
 module _ (fresh : Fresh ℕ) (world : World ℕ) (location : Location ℕ) (inodes : Inodes ℕ) (change : Change ℕ)
-    (is : IsChangeOfPlain world location inodes change) where
+    (is : IsChangeInUse world location inodes change) where
   abbrev pub number : ℕ
   number = filesystem_of world location
 
@@ -114,10 +114,10 @@ module _ (fresh : Fresh ℕ) (world : World ℕ) (location : Location ℕ) (inod
   files = Changes.changed nat_eq old.files change
 
   pub in_use : AllInUse world
-  in_use = all_in_use world is.in_world
+  in_use = is.in_use
 
   pub one : any_pair (λ (a b : Filesystem ℕ). nat_eq a.number b.number) world.filesystems ≡ false
-  one = is.in_world.files.one_filesystem
+  one = is.one_filesystem
 
   pub filesystem_there : is_among nat_eq number (map (λ f. f.number) world.filesystems) ≡ true
   filesystem_there = there_if_counted world number inodes is.counted
@@ -126,8 +126,7 @@ module _ (fresh : Fresh ℕ) (world : World ℕ) (location : Location ℕ) (inod
   old_there = found_is _ number filesystem_there
 
   tree : IsListedTree old.files
-  tree = among_from_all (λ f. IsListedTree f.files) world.filesystems
-      (worlds_have_trees world is.in_world) old old_there
+  tree = among_from_all (λ f. IsListedTree f.files) world.filesystems is.trees old old_there
 
   pub start : IsStart (base_of world old) old.files.tree.node old.files.numbers inodes
   start = counted_start world old inodes tree (among_from_all (λ f. list_all (is_inode_used world f) f.files.numbers
@@ -186,16 +185,41 @@ module _ (fresh : Fresh ℕ) (world : World ℕ) (location : Location ℕ) (inod
       subst (λ w. IsCounted w (filesystem_numbered nat_eq w other) counts) (sym after_is)
       (Swept.others_stay world number files in_use one is.plain filesystem_there other counts apart counted)
 
+pub only_files_change_in_use : OnlyFilesChangeOf IsChangeInUse
+only_files_change_in_use fresh world location inodes change is = only_files fresh world location inodes change is
+
+pub counts_follow_changes_in_use : CountsFollowChangesOf IsChangeInUse
+counts_follow_changes_in_use fresh world location inodes change is =
+    counts_follow fresh world location inodes change is
+
+pub other_counts_stay_in_use : OtherCountsStayOf IsChangeInUse
+other_counts_stay_in_use fresh world location inodes change is other counts apart counted =
+    others fresh world location inodes change is other counts apart counted
+
+-- In a world with all invariants all is in use.
+pub worlds_are_in_use : WorldsAreInUse
+worlds_are_in_use world location inodes change is = record {
+  in_use = all_in_use world is.in_world;
+  trees = worlds_have_trees world is.in_world;
+  one_filesystem = is.in_world.files.one_filesystem;
+  plain = is.plain;
+  counted = is.counted;
+  fits = is.fits;
+  links = is.links;
+}
+
 pub only_files_change_beside_overlays : OnlyFilesChangeBesideOverlays
-only_files_change_beside_overlays fresh world location inodes change is = only_files fresh world _ inodes change is
+only_files_change_beside_overlays fresh world location inodes change is =
+    only_files fresh world location inodes change (worlds_are_in_use world location inodes change is)
 
 pub counts_follow_changes_beside_overlays : CountsFollowChangesBesideOverlays
 counts_follow_changes_beside_overlays fresh world location inodes change is =
-    counts_follow fresh world _ inodes change is
+    counts_follow fresh world location inodes change (worlds_are_in_use world location inodes change is)
 
 pub other_counts_stay_beside_overlays : OtherCountsStayBesideOverlays
 other_counts_stay_beside_overlays fresh world location inodes change is other counts apart counted =
-    others fresh world _ inodes change is other counts apart counted
+    others fresh world location inodes change (worlds_are_in_use world location inodes change is) other counts apart
+    counted
 
 -- In a world of plain filesystems each location is in a plain one.
 pub is_change_of_plain : (world : World ℕ) (location : Location ℕ) (inodes : Inodes ℕ) (change : Change ℕ)
@@ -212,13 +236,15 @@ is_change_of_plain world location inodes change is = record {
 
 pub only_files_change : OnlyFilesChange
 only_files_change fresh world location inodes change is =
-    only_files fresh world location inodes change (is_change_of_plain world location inodes change is)
+    only_files_change_beside_overlays fresh world location inodes change
+    (is_change_of_plain world location inodes change is)
 
 pub counts_follow_changes : CountsFollowChanges
 counts_follow_changes fresh world location inodes change is =
-    counts_follow fresh world location inodes change (is_change_of_plain world location inodes change is)
+    counts_follow_changes_beside_overlays fresh world location inodes change
+    (is_change_of_plain world location inodes change is)
 
 pub other_counts_stay : OtherCountsStay
 other_counts_stay fresh world location inodes change is other counts apart counted =
-    others fresh world location inodes change (is_change_of_plain world location inodes change is) other counts apart
-    counted
+    other_counts_stay_beside_overlays fresh world location inodes change
+    (is_change_of_plain world location inodes change is) other counts apart counted

@@ -6,7 +6,7 @@ use Rattle.vt_spec.specs.Inodes.{changed}
 use Rattle.vt_laws_mounts.specs.LettingGo.TreeChanges.{with_tree}
 use Rattle.vt_laws_mounts.proofs.letting_go.Lists.{is_among_numbers, list_all_from_among}
 use Rattle.vt_laws_mounts.proofs.counts.counting.Times.{among_times, times_in}
-use Rattle.vt_laws_mounts.specs.Counts.BesideOverlays.{NamesKeepAllBesideOverlays}
+use Rattle.vt_laws_mounts.specs.Counts.BesideOverlays.{IsChangeInUse, NamesKeepAllBesideOverlays, NamesKeepAllOf}
 use Rattle.vt_laws_mounts.specs.Counts.Changing.{NamesKeepAll, TakesNoName}
 use Rattle.vt_laws_mounts.proofs.counts.changing.Changes as After
 use Rattle.vt_laws_mounts.proofs.counts.using.Swept
@@ -25,8 +25,8 @@ module _ (base : ℕ → ℕ) (files : FileTree ℕ) (inodes : Inodes ℕ)
       → node_in ((changed nat_eq inodes change).inode n) ≡ (Changes.changed nat_eq files change).tree.node n
   nodes_same change fits none n = grind (arith, common_steps, changed_same, pinned_same)
 
-pub names_keep_all_beside_overlays : NamesKeepAllBesideOverlays
-names_keep_all_beside_overlays fresh world location inodes change is keeps =
+pub names_keep_all_in_use : NamesKeepAllOf IsChangeInUse
+names_keep_all_in_use fresh world location inodes change is keeps =
     After.after_is fresh world location inodes change is ∙ ap (with_tree world number)
     (sym (Swept.all_kept world number files in_use one is.plain there tallied_once all_used))
     ∙ sym (After.raw_is fresh world location inodes change is)
@@ -41,7 +41,7 @@ names_keep_all_beside_overlays fresh world location inodes change is keeps =
     in_use = After.in_use fresh world location inodes change is
 
     one : any_pair (λ (a b : Filesystem ℕ). nat_eq a.number b.number) world.filesystems ≡ false
-    one = is.in_world.files.one_filesystem
+    one = is.one_filesystem
 
     there : is_among nat_eq number (Rattle.std.specs.Prelude.map (λ f. f.number) world.filesystems) ≡ true
     there = After.filesystem_there fresh world location inodes change is
@@ -74,6 +74,11 @@ names_keep_all_beside_overlays fresh world location inodes change is keeps =
         stands : (n : ℕ) (b : Bool) → times_in n files.numbers ≡ cond b 1 0 → 1 ≤ times_in n files.numbers → b ≡ true
         stands n true e some = refl
         stands n false e some = absurd (omega arith)
+
+pub names_keep_all_beside_overlays : NamesKeepAllBesideOverlays
+names_keep_all_beside_overlays fresh world location inodes change is keeps =
+    names_keep_all_in_use fresh world location inodes change
+    (After.worlds_are_in_use world location inodes change is) keeps
 
 pub names_keep_all : NamesKeepAll
 names_keep_all fresh world location inodes change is keeps =

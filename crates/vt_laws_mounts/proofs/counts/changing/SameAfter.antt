@@ -2,7 +2,7 @@
 use Rattle.std.proofs.Common.{arith, ◌≡◌, refl, sym, ap, subst, ◌∙◌, ℕ, nat_eq, List, [], ◌∷◌, map, is_some}
 use Rattle.vt_spec.proofs.Common.{FileTree, Filesystem, SameFilesystem, SameFilesystems, SameWorlds, common_steps, filesystem_numbered, node_in, replaced_if_numbered}
 use Rattle.vt_laws_mounts.specs.LettingGo.TreeChanges.{with_tree}
-use Rattle.vt_laws_mounts.specs.Counts.BesideOverlays.{CountedChangesAreSweptBesideOverlays}
+use Rattle.vt_laws_mounts.specs.Counts.BesideOverlays.{CountedChangesAreSweptBesideOverlays, CountedChangesAreSweptOf, IsChangeInUse}
 use Rattle.vt_laws_mounts.specs.Counts.Changing.{CountedChangesAreSwept, filesystem_of}
 use Rattle.vt_laws_mounts.proofs.counts.changing.Changes
 use Rattle.vt_laws_mounts.proofs.counts.Listed.{among_by_times, same_numbers_are_permuted}
@@ -16,8 +16,8 @@ same_filesystems one other number same [] = tt
 same_filesystems one other number same (first ∷ rest) =
     grind (arith, common_steps, same_filesystem_itself, same_filesystems one other number same rest)
 
-pub counted_changes_are_swept_beside_overlays : CountedChangesAreSweptBesideOverlays
-counted_changes_are_swept_beside_overlays fresh world location inodes change is files tree once lists =
+pub counted_changes_are_swept_in_use : CountedChangesAreSweptOf IsChangeInUse
+counted_changes_are_swept_in_use fresh world location inodes change is files tree once lists =
     subst (SameWorlds (with_tree world (filesystem_of world location) files))
     (sym (Changes.after_is fresh world location inodes change is)) (record {
       mounts = refl;
@@ -53,6 +53,11 @@ counted_changes_are_swept_beside_overlays fresh world location inodes change is 
             → is_some (node_in o) ≡ is_some o
         there Rattle.std.specs.Prelude.None = refl
         there (Rattle.std.specs.Prelude.Some inode) = refl
+
+pub counted_changes_are_swept_beside_overlays : CountedChangesAreSweptBesideOverlays
+counted_changes_are_swept_beside_overlays fresh world location inodes change is files tree once lists =
+    counted_changes_are_swept_in_use fresh world location inodes change
+    (Changes.worlds_are_in_use world location inodes change is) files tree once lists
 
 pub counted_changes_are_swept : CountedChangesAreSwept
 counted_changes_are_swept fresh world location inodes change is files tree once lists =

@@ -1,0 +1,2 @@
+-- What the proofs of src/counted.rt use.
+pub mod Rows

@@ -1,0 +1,56 @@
+-- Plain changes of an upper layer's tree are counted in the lowered world: mkdir(2), write(2), chmod(2), and the copies
+-- of the kernel's overlayfs document, "upper and lower" (copy_up).
+use Rattle.std.specs.Prelude.{List, [], false, nat_eq, ℕ, ⊤, ◌∷◌, ◌≡◌}
+use Rattle.vt_spec.specs.FileTree.{FileTree}
+use Rattle.vt_spec.specs.Fits.{Fits}
+use Rattle.vt_spec.specs.Inodes as Counted
+use Rattle.vt_spec.specs.Inodes.{Inodes}
+use Rattle.vt_spec.specs.Language.Changes.{Change, changed}
+use Rattle.vt_spec.specs.Lists.{any_pair, folded}
+use Rattle.vt_spec.specs.Machine.Invariants.{IsWorld}
+use Rattle.vt_spec.specs.Machine.Mounts.{Location}
+use Rattle.vt_spec.specs.Machine.World.{Filesystem, World, filesystem_at, is_overlay}
+use Rattle.vt_laws_mounts.specs.Counts.BesideOverlays.{IsChangeInUse, OverlaysHaveNoUpper}
+use Rattle.vt_laws_mounts.specs.Counts.Changing.{LinksWhatIsThere, TakesNoName, filesystem_of}
+use Rattle.vt_laws_mounts.specs.Counts.Counted.{IsCounted}
+use Rattle.vt_laws_mounts.specs.LettingGo.InUse.{AllInUse, HasTrees}
+use Rattle.vt_laws_mounts.specs.LettingGo.TreeChanges.{with_tree}
+use Rattle.vt_laws_trees.specs.Trees.{IsProper}
+use Rattle.vt_laws_upper_layers.specs.Lowered.{lowered}
+use Rattle.vt_laws_upper_layers.specs.Rows.{after_row}
+use Rattle.vt_laws_upper_layers.specs.UnnamedPins.{unnamed_pins}
+
+-- A change that fits the counted inodes of a plain filesystem is counted in the lowered world: what
+-- `changes_in_use_are_counted` says holds of it.
+abbrev pub UpperChangesAreCounted : Type 0
+UpperChangesAreCounted =
+    (world : World ℕ) (location : Location ℕ) (inodes : Inodes ℕ) (change : Change ℕ) → IsWorld nat_eq world
+    → is_overlay (filesystem_at nat_eq world location) ≡ false
+    → IsCounted (lowered (unnamed_pins world) world) (filesystem_at nat_eq world location) inodes
+    → Fits inodes change → LinksWhatIsThere inodes change
+    → IsChangeInUse (lowered (unnamed_pins world) world) location inodes change
+
+-- a row of changes that take no name, each proper in the tree, and fit for the counted inodes, when its turn comes
+abbrev pub FitInTurn : FileTree ℕ → Inodes ℕ → List (Change ℕ) → Type 0
+FitInTurn files inodes [] = ⊤
+FitInTurn files inodes (change ∷ rest) =
+    TakesNoName change × IsProper files.tree change × Fits inodes change × LinksWhatIsThere inodes change
+    × FitInTurn (changed nat_eq files change) (Counted.changed nat_eq inodes change) rest
+
+-- a world in which all is in use, without upper layers, and the counted inodes of a plain filesystem in it
+pub record IsCountedInUse (world : World ℕ) (location : Location ℕ) (inodes : Inodes ℕ) : Type 0 where
+  pub in_use : AllInUse world
+  pub trees : HasTrees world
+  pub one_filesystem : any_pair (λ (a b : Filesystem ℕ). nat_eq a.number b.number) world.filesystems ≡ false
+  pub no_upper : OverlaysHaveNoUpper world
+  pub plain : is_overlay (filesystem_at nat_eq world location) ≡ false
+  pub counted : IsCounted world (filesystem_at nat_eq world location) inodes
+
+-- Then all is in use after the row, so the sweep frees nothing, and the changed inodes are counted.
+abbrev pub RowsAreCounted : Type 0
+RowsAreCounted =
+    (world : World ℕ) (location : Location ℕ) (inodes : Inodes ℕ) (row : List (Change ℕ))
+    → IsCountedInUse world location inodes → FitInTurn (filesystem_at nat_eq world location).files inodes row
+    → IsCountedInUse
+    (with_tree world (filesystem_of world location) (after_row (filesystem_at nat_eq world location).files row))
+    location (folded (Counted.changed nat_eq) inodes row)
