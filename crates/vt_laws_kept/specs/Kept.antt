@@ -15,7 +15,8 @@ is_unnamed files number = not (nat_eq number files.tree.root || is_among nat_eq 
 abbrev pub unnamed_in : FileTree ℕ → List ℕ
 unnamed_in files = filter (is_unnamed files) files.numbers
 
--- the objects in a filesystem that an overlay keeps: the upper objects of its unnamed inodes, if its upper layer is there
+-- the objects in a filesystem that an overlay keeps: the upper objects of its unnamed inodes, if its upper layer is
+-- there
 abbrev pub objects_kept : ℕ → Filesystem ℕ → List ℕ
 objects_kept filesystem merged =
     of_overlay [] (λ overlay.

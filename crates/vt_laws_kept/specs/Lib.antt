@@ -1,2 +1,4 @@
 pub mod Kept
 pub mod Overlaps
+pub mod Counts
+pub mod Staying

@@ -91,17 +91,21 @@ module _ (world : World ℕ) (layer : Layer ℕ) (others : List (Layer ℕ)) (in
       let same = lies_there world other.directory other.filesystem layer (or_left _ _ lies) in
       overlap_by other.directory
       (subst (λ n. lies_or_counts_under nat_eq world n other.directory layer ≡ true) same (or_left _ _ lies)) other m
-      (subst (λ n. lies_or_counts_under nat_eq world n other.directory other ≡ true) same (own other (plain_other other m))))
+      (subst (λ n. lies_or_counts_under nat_eq world n other.directory other
+      ≡ true) same (own other (plain_other other m))))
       (or_cases (lies_in_layer nat_eq world layer.filesystem layer.directory other) _ e)
 
   -- two layers' directories, one of which lies under the other, are nested
-  nested : (other : Layer ℕ) → Among other others → other.filesystem ≡ here → AreNested files layer.directory other.directory
+  nested : (other : Layer ℕ) → Among other others → other.filesystem ≡ here
+      → AreNested files layer.directory other.directory
       → are_nested world layer other ≡ true
   nested other m same one = ⊎_elim (λ below. or_right _ _ (and_from _ _ (eq-eqb other.filesystem here same)
-      (ap (λ b. cond b (is_directory_under nat_eq (filesystem_numbered nat_eq world other.filesystem).files layer.directory
+      (ap (λ b. cond b (is_directory_under nat_eq (filesystem_numbered nat_eq world other.filesystem).files
+      layer.directory
       other.directory) (is_file_under nat_eq (filesystem_numbered nat_eq world other.filesystem).files layer.directory
       other.directory)) (directory_of other (plain_other other m))
-      ∙ subst (λ n. is_directory_under nat_eq (filesystem_numbered nat_eq world n).files layer.directory other.directory
+      ∙ subst (λ n. is_directory_under nat_eq (filesystem_numbered nat_eq world n).files layer.directory
+      other.directory
       ≡ true) (sym same) below)))
       (λ above. or_left _ _ (and_from _ _ (eq-eqb here other.filesystem (sym same))
       (ap (λ b. cond b (is_directory_under nat_eq files other.directory layer.directory)

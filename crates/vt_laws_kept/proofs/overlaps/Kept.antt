@@ -32,7 +32,8 @@ module _ (files : FileTree ℕ) (tree : IsTree files.tree) where
           let reached = is_reached_in files tree from.0 entry.0 number entry.1 in
           let way = way_to files.tree reached.0 from.0 reached.1 in
           (way.0 ++ entry.0 ∷ [], led-append files.tree files.tree.root way.0 entry.0 from.0 number way.1 entry.1)
-      by false r false n = absurd (true≢false (sym (ap not (ap (λ p. p || is_among nat_eq number (named_in files)) r ∙ n)) ∙ e))
+      by false r false n = absurd (true≢false (sym (ap not (ap (λ p. p || is_among nat_eq number (named_in files)) r
+          ∙ n)) ∙ e))
 
 module _ (world : World ℕ) (conditions : IsWorld nat_eq world) (number : ℕ) (overlay : Overlay ℕ)
     (is : (filesystem_numbered nat_eq world number).overlay ≡ Some overlay) (upper : Layer ℕ)
@@ -81,7 +82,8 @@ module _ (world : World ℕ) (conditions : IsWorld nat_eq world) (number : ℕ) 
       (is_file_under nat_eq files layer.directory upper.directory)) directory)
       ∙ and_true_right (nat_eq upper.filesystem layer.filesystem) _ lies in
       and_from _ _ (and_true_left _ _ lies) (led_below files (layer_tree world conditions upper plain)
-      (numbers_listed world (are_trees world conditions.files) upper.filesystem) layer.directory upper.directory path.0
+      (numbers_listed world (are_trees world conditions.files) upper.filesystem) layer.directory upper.directory
+      path.0
       object under directory (led_above path.0 inode object path.1 real))
 
 -- an object that an overlay keeps: the parts of it
@@ -104,11 +106,13 @@ pub keeps_parts : (filesystem object : ℕ) (merged : Filesystem ℕ)
 keeps_parts filesystem object merged e = by merged.overlay refl e
   where
     there : (overlay : Overlay ℕ) → merged.overlay ≡ Some overlay → (upper : Layer ℕ) → overlay.upper ≡ Some upper
-        → (b : Bool) → nat_eq filesystem upper.filesystem ≡ b → is_among nat_eq object (cond b (kept_by merged overlay) []) ≡ true
+        → (b : Bool) → nat_eq filesystem upper.filesystem ≡ b
+        → is_among nat_eq object (cond b (kept_by merged overlay) []) ≡ true
         → Keeps filesystem object merged
     there overlay is upper has false f h = absurd (true≢false (sym h))
     there overlay is upper has true f h =
-        let found = among-from_filter_map (λ number. upper_object (overlay.real number)) (unnamed_in merged.files) object
+        let found = among-from_filter_map (λ number. upper_object (overlay.real number)) (unnamed_in merged.files)
+        object
         (among_numbers (kept_by merged overlay) object h) in
         record {
           overlay = overlay;
@@ -123,13 +127,15 @@ keeps_parts filesystem object merged e = by merged.overlay refl e
         }
 
     in_upper : (overlay : Overlay ℕ) → merged.overlay ≡ Some overlay → (o : Option (Layer ℕ)) → overlay.upper ≡ o
-        → is_among nat_eq object (cond (holds_of (λ layer. nat_eq filesystem layer.filesystem) o) (kept_by merged overlay) [])
+        → is_among nat_eq object (cond (holds_of (λ layer. nat_eq filesystem layer.filesystem) o) (kept_by merged
+        overlay) [])
         ≡ true → Keeps filesystem object merged
     in_upper overlay is None has h = absurd (true≢false (sym h))
     in_upper overlay is (Some upper) has h = there overlay is upper has (nat_eq filesystem upper.filesystem) refl h
 
     by : (o : Option (Overlay ℕ)) → merged.overlay ≡ o → is_among nat_eq object (overlay_or [] (λ overlay.
-        cond (holds_of (λ layer. nat_eq filesystem layer.filesystem) overlay.upper) (kept_by merged overlay) []) o) ≡ true
+        cond (holds_of (λ layer. nat_eq filesystem layer.filesystem) overlay.upper) (kept_by merged overlay) []) o)
+        ≡ true
         → Keeps filesystem object merged
     by None is h = absurd (true≢false (sym h))
     by (Some overlay) is h = in_upper overlay is overlay.upper refl h
@@ -257,7 +263,8 @@ module _ (world : World ℕ) (conditions : IsWorld nat_eq world) (filesystem obj
             (overlays world) found.0 found.1 (counts_where_kept found.0 found.2))) (or_cases lies some_keeps e)
 
   -- an object that an overlay keeps is locked
-  kept_is_locked : is_among nat_eq object (kept_in world filesystem) ≡ true → is_locked nat_eq world filesystem object ≡ true
+  kept_is_locked : is_among nat_eq object (kept_in world filesystem) ≡ true → is_locked nat_eq world filesystem object
+      ≡ true
   kept_is_locked e =
       let found = among-from_flat_map (objects_kept filesystem) world.filesystems object
       (among_numbers (kept_in world filesystem) object e) in
@@ -273,11 +280,13 @@ module _ (world : World ℕ) (conditions : IsWorld nat_eq world) (filesystem obj
       (keeps.inode, keeps.real)))
 
   -- what is kept in a layer is kept
-  pub kept_anywhere : (layer : Layer ℕ) → list_any (keeps_in_layer world filesystem object layer) (overlays world) ≡ true
+  pub kept_anywhere : (layer : Layer ℕ) → list_any (keeps_in_layer world filesystem object layer) (overlays world)
+      ≡ true
       → is_among nat_eq object (kept_in world filesystem) ≡ true
   kept_anywhere layer e =
       let found = any_among (keeps_in_layer world filesystem object layer) (overlays world) e in
-      is_among_numbers (kept_in world filesystem) object (among-flat_map (objects_kept filesystem) world.filesystems found.0 object
+      is_among_numbers (kept_in world filesystem) object (among-flat_map (objects_kept filesystem) world.filesystems
+      found.0 object
       (in_world found.0 found.1) (among_numbers (objects_kept filesystem found.0) object
       (and_true_right (stands_in world layer found.0) _ found.2)))
 

@@ -10,7 +10,8 @@ module _ (next : ℕ → Option ℕ) where
   starts zero top from e = ap (λ b. b || false) e
   starts (suc most) top from e = by (next from)
     where
-      by : (o : Option ℕ) → is_among nat_eq top (elim o [ None ↦ from ∷ [] | Some b ↦ from ∷ chain most next b ]) ≡ true
+      by : (o : Option ℕ) → is_among nat_eq top (elim o [ None ↦ from ∷ [] | Some b ↦ from ∷ chain most next b ])
+          ≡ true
       by None = ap (λ b. b || false) e
       by (Some b) = ap (λ c. c || is_among nat_eq top (chain most next b)) e
 
@@ -20,7 +21,8 @@ module _ (next : ℕ → Option ℕ) where
   longer zero top from h = starts 1 top from (⊎_elim (λ e. e) (λ e. absurd cc) (or_cases (nat_eq top from) _ h))
   longer (suc most) top from h = by (next from) h (λ b. longer most top b)
     where
-      by : (o : Option ℕ) → is_among nat_eq top (elim o [ None ↦ from ∷ [] | Some b ↦ from ∷ chain most next b ]) ≡ true
+      by : (o : Option ℕ) → is_among nat_eq top (elim o [ None ↦ from ∷ [] | Some b ↦ from ∷ chain most next b ])
+          ≡ true
           → ((b : ℕ) → is_among nat_eq top (chain most next b) ≡ true
           → is_among nat_eq top (chain (suc most) next b) ≡ true)
           → is_among nat_eq top (elim o [ None ↦ from ∷ [] | Some b ↦ from ∷ chain (suc most) next b ]) ≡ true
@@ -46,8 +48,10 @@ module _ (next : ℕ → Option ℕ) where
           goes (Some b) f h = (b, f, sym (ap (λ c. c || is_among nat_eq top (chain most next b)) e) ∙ h)
 
       by : (p : Bool) → nat_eq one from ≡ p → (q : Bool) → nat_eq other from ≡ q
-          → ((b : ℕ) → is_among nat_eq one (chain most next b) ≡ true → is_among nat_eq other (chain most next b) ≡ true
-          → (is_among nat_eq one (chain most next other) ≡ true) ⊎ (is_among nat_eq other (chain most next one) ≡ true))
+          → ((b : ℕ) → is_among nat_eq one (chain most next b) ≡ true → is_among nat_eq other (chain most next b)
+          ≡ true
+          → (is_among nat_eq one (chain most next other) ≡ true) ⊎ (is_among nat_eq other (chain most next one)
+          ≡ true))
           → (is_among nat_eq one (chain (suc most) next other) ≡ true)
           ⊎ (is_among nat_eq other (chain (suc most) next one) ≡ true)
       by true e q f above =

@@ -1,0 +1,3 @@
+-- What the proofs of src/counts.rt use.
+pub mod Located
+pub mod Swept
