@@ -6,7 +6,7 @@ use Rattle.vt_location.specs.declared.numbers.FilesystemId.{FilesystemId}
 use Rattle.vt_location.specs.Numbers.{exchanged}
 use Rattle.vt_fs.specs.Trees.TreeValue.{TreeValue, inodes_of}
 use Rattle.vt_fs.specs.declared.filesystems.Filesystem.{Filesystem}
-use Rattle.vt_fs.specs.FilesystemsValue.{ChangesInodes, FilesystemEntry, Filesystems, HoldsRoot, LeavesRoot, changed_if, entry_at, entry_of, held, inodes_at, mounted_once_less, seen_in, with_changed, with_tree, without, without_unmounted}
+use Rattle.vt_fs.specs.FilesystemsValue.{FilesystemEntry, Filesystems, HoldsRoot, LeavesRoot, changed_if, entry_at, entry_of, held, inodes_at, mounted_once_less, seen_in, with_changed, with_tree, without, without_unmounted}
 use Rattle.vt_fs.proofs.Entries.{absent_changed, held_apart, is_key, key_eq, mounts_of-held, tree_of-held, writes}
 use Rattle.vt_fs.proofs.Renamed.{by_numbers, pinned_by_numbers, unpinned_by_numbers, uses_by_numbers}
 use Rattle.vt_fs.proofs.Nowhere.{pinned_none, unpinned_none}

@@ -3,4 +3,4 @@ pub mod MoveLemmas
 pub mod SlotLemmas
 pub mod NameCounts
 pub mod NamesKept
-pub mod NamesCounted
+pub mod NamesListed

@@ -10,12 +10,11 @@ pub mod OverlaysGo
 pub mod Woven
 pub mod WovenLast
 pub mod Ranked
-pub mod Scanned
 pub mod Locked
 pub mod LayersTallied
 pub mod LayersAbove
 pub mod LayersKept
 pub mod LayersOver
 pub mod AnyNamed
-pub mod AloneNamed
+pub mod NamesFound
 pub mod NumbersOwned

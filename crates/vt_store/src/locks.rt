@@ -1,6 +1,7 @@
 //! What lies in layers of overlays, and is locked: the kernel's overlayfs document, "changes to underlying filesystems".
-ghost use Rattle.std.specs.Prelude.{◌≡◌};
+ghost use Rattle.std.specs.Prelude.{◌≡◌, nat_eq};
 ghost use Rattle.std.specs.List.{list_any};
+ghost use Rattle.vt_spec.specs.FileTree.{has_entry_to};
 ghost use Rattle.vt_location.specs.Locations.{inode_of};
 ghost use Rattle.vt_fs.specs.FilesystemsValue.{files_at};
 ghost use Rattle.vt_fs.specs.Laws.{ParentsAreNamed};
@@ -10,14 +11,12 @@ use crate::overlays::Overlays;
 use crate::store::Store;
 use vt_fs::Filesystems;
 use vt_location::InodeRef;
-use vt_node::NodeId;
 
 impl Store {
     /// Whether an inode of a plain tree lies in a layer of an overlay: it is the layer's directory, a directory under
     /// that, or has a name in one of these. If a layer is in its filesystem, it costs a look-up for each directory above
-    /// it, however many overlays there are; but a file of several names, or with one name left of several, is looked for
-    /// in all directories of its tree. Directories must be named in their parents, as in every tree of a world. It does
-    /// not allocate.
+    /// it, and of a file above each of its names, however many overlays and other files there are. Directories must be
+    /// named in their parents, as in every tree of a world. It does not allocate.
     pub fn is_in_layer(&self, inode: InodeRef) -> bool
         requires { ParentsAreNamed (files_at self.now.plain inode.filesystem.count).tree }
         ensures { result ≡ is_in_layer self.now inode.filesystem.count (inode_of inode) }
@@ -41,8 +40,7 @@ fn lies_in_any(plain: &Filesystems, overlays: &Overlays, inode: InodeRef) -> boo
     }
 }
 
-// Whether a directory in a layer of one of the overlays has a name for a file. Where one directory alone has a name for
-// it, the tree mostly knows which.
+// Whether a directory in a layer of one of the overlays has a name for a file.
 fn has_name_in_layer(plain: &Filesystems, overlays: &Overlays, file: InodeRef) -> bool
     requires { ParentsAreNamed (files_at plain.now file.filesystem.count).tree }
     ensures { result
@@ -52,37 +50,13 @@ fn has_name_in_layer(plain: &Filesystems, overlays: &Overlays, file: InodeRef) -
     let Some(tree) = plain.get(file.filesystem) else {
         return false;
     };
-    match tree.directory_of(file.node()) {
-        Some(directory) => {
-            let filesystem = file.filesystem;
-            let slot = directory.index();
-            overlays.have_layer_over(plain, InodeRef { filesystem, slot })
+    let directories = tree.directories_of(file.node());
+    for directory in directories {
+        let filesystem = file.filesystem;
+        let slot = directory.index();
+        if names_in_layer(plain, overlays, file, InodeRef { filesystem, slot }) {
+            return true;
         }
-        None => finds_name_in_layer(plain, overlays, file),
-    }
-}
-
-// Whether a directory in a layer of one of the overlays has a name for a file. It looks at each slot of the tree.
-fn finds_name_in_layer(plain: &Filesystems, overlays: &Overlays, file: InodeRef) -> bool
-    requires { ParentsAreNamed (files_at plain.now file.filesystem.count).tree }
-    ensures { result
-        ≡ list_any (names_in_layer plain.now overlays.now file.filesystem.count (inode_of file))
-        (files_at plain.now file.filesystem.count).numbers }
-{
-    let Some(tree) = plain.get(file.filesystem) else {
-        return false;
-    };
-    let end = tree.end();
-    let mut slot = 0;
-    while slot < end {
-        let directory = NodeId::new(slot);
-        if tree.node(directory).is_some() {
-            let inode = InodeRef::new(file.filesystem, directory);
-            if names_in_layer(plain, overlays, file, inode) {
-                return true;
-            }
-        }
-        slot += 1;
     }
     false
 }
@@ -99,10 +73,18 @@ fn names_in_layer(
     ensures { result ≡ names_in_layer plain.now overlays.now file.filesystem.count (inode_of file)
         (inode_of directory) }
 {
+    // Most files lie in no layer: only of one that does are the names of the directory looked at.
+    overlays.have_layer_over(plain, directory) && has_name(plain, directory, file)
+}
+
+// Whether a directory has a name for a file of its filesystem.
+fn has_name(plain: &Filesystems, directory: InodeRef, file: InodeRef) -> bool
+    requires { directory.filesystem ≡ file.filesystem }
+    ensures { result ≡ has_entry_to nat_eq (files_at plain.now file.filesystem.count).tree (inode_of directory)
+        (inode_of file) }
+{
     match plain.node(directory.node_ref()) {
-        Some(node) => {
-            node.name_ranked(file.node(), 0).is_some() && overlays.have_layer_over(plain, directory)
-        }
+        Some(node) => node.name_ranked(file.node(), 0).is_some(),
         None => false,
     }
 }

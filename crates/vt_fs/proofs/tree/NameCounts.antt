@@ -1,15 +1,10 @@
 -- How many names lead to an object, once a directory has changed.
-use Rattle.std.proofs.Common.{◌≡◌, ◌≢◌, refl, sym, ap, subst, ◌∙◌, ⊎_elim, ℕ, zero, suc, ◌+◌, ◌-◌, ◌≤◌, ◌<◌, nat_eq, Bool, true, false, true≢false, cond, not, ◌&&◌, ◌||◌, List, [], ◌∷◌, map, Option, Some, None, arith, find, is_some, option_map, is_eq, is_lt, bytes_eq, Ordering, Less, Equal, Greater}
-use Rattle.vt_spec.proofs.Common.{Content, Directory, Entries, Node, Regular, Symlink, Tree, Whiteout, and_parts, below_all, by_order, bytes_decides, cases_lt, entries-node_without_entry, entries_in, entries_of, entry_named, entry_named-below, entry_named-with_entry, eq_by_cmp, eqb_tells, is_among, is_sorted, name_cmp, nat_list_cmp_total, node_with_entry, node_without_entry, targets_in, texts_ties, with_entries, with_entry, without_entry}
-use Rattle.vt_node.specs.Ranks.{has_rank, rank_among}
-use Rattle.vt_fs.specs.Trees.Names.{NamesAtMost, how_often, names_at, names_below}
+use Rattle.std.proofs.Common.{◌≡◌, refl, sym, ap, subst, ℕ, ◌+◌, ◌≤◌, nat_eq, eq-eqb, Bool, true, false, true≢false, cond, not, ◌&&◌, ◌||◌, List, [], ◌∷◌, map, Option, Some, None, arith, is_eq, is_lt, bytes_eq, Ordering, Less, Equal, Greater, ◌∙◌}
+use Rattle.vt_spec.proofs.Common.{Content, Directory, Entries, Node, Regular, Symlink, Tree, Whiteout, and_parts, below_all, by_order, bytes_decides, entries-node_without_entry, entries_in, entries_of, entry_named, entry_named-below, entry_named-with_entry, eq_by_cmp, is_among, is_sorted, name_cmp, nat_list_cmp_total, node_with_entry, node_without_entry, targets_in, texts_ties, with_entries, with_entry, without_entry}
+use Rattle.vt_fs.specs.Trees.Names.{NamesAtMost, how_often, one_if}
 
 abbrev pub targets : Entries ℕ → List ℕ
 targets entries = map (λ entry. entry.1) entries
-
--- one if it is this number
-abbrev pub one_if : ℕ → ℕ → ℕ
-one_if number other = cond (nat_eq number other) 1 0
 
 abbrev pub one_if_some : ℕ → Option ℕ → ℕ
 one_if_some number None = 0
@@ -132,102 +127,28 @@ among_often number (other ∷ rest) e = by (nat_eq number other) e (among_often 
     by true e later = omega arith
     by false e later = omega (arith, later e)
 
--- Of all directories below a bound
+pub often_among : (number : ℕ) (list : List ℕ) → 1 ≤ how_often number list → is_among nat_eq number list ≡ true
+often_among number [] e = absurd (omega (arith, e))
+often_among number (other ∷ rest) e = by (nat_eq number other) e (often_among number rest)
+  where
+    by : (b : Bool) → 1 ≤ cond b 1 0 + how_often number rest
+        → (1 ≤ how_often number rest → is_among nat_eq number rest ≡ true) → (b || is_among nat_eq number rest) ≡ true
+    by true e later = refl
+    by false e later = later (omega (arith, e))
 
-below_kept : (old new : Tree ℕ) (object bound : ℕ)
-    → ((directory : ℕ) → directory < bound → names_at new object directory ≤ names_at old object directory)
-    → names_below new object bound ≤ names_below old object bound
-below_kept old new object zero fewer = omega arith
-below_kept old new object (suc bound) fewer = omega (
-  arith,
-  fewer bound (omega arith),
-  below_kept old new object bound (λ directory within. fewer directory (omega (arith, within))),
-)
-
-below_changed : (old new : Tree ℕ) (object place more less bound : ℕ) → place < bound
-    → ((directory : ℕ) → directory ≢ place → names_at new object directory ≤ names_at old object directory)
-    → names_at new object place + less ≤ names_at old object place + more
-    → names_below new object bound + less ≤ names_below old object bound + more
-below_changed old new object place more less zero within others here = absurd (omega (arith, within))
-below_changed old new object place more less (suc bound) within others here = ⊎_elim (λ t. omega (
-  arith,
-  subst (λ n. names_at new object n + less ≤ names_at old object n + more) t.1 here,
-  below_kept old new object bound
-      (λ directory smaller. others directory (λ same. absurd (omega (arith, smaller, same, t.1)))),
-)) (λ t. omega (
-  arith,
-  others bound (λ same. t.1 (sym same)),
-  below_changed old new object place more less bound (omega (arith, within, t.1)) others here,
-)) (eqb_tells place bound)
-
--- more directories have no fewer names
-below_grows : (tree : Tree ℕ) (object bound more : ℕ) → bound ≤ more
-    → names_below tree object bound ≤ names_below tree object more
-below_grows tree object bound zero smaller =
-    let none : bound ≡ 0 = omega (arith, smaller) in omega (arith, ap (names_below tree object) none)
-below_grows tree object bound (suc more) smaller = ⊎_elim (λ t. omega (arith, ap (names_below tree object) t.1))
-    (λ t. omega (arith, below_grows tree object bound more (omega (arith, smaller, t.1)))) (eqb_tells bound (suc more))
-
--- a directory has no more of them than all
-at_below : (tree : Tree ℕ) (object directory bound : ℕ) → directory < bound
-    → names_at tree object directory ≤ names_below tree object bound
-at_below tree object directory bound within =
-    omega (arith, below_grows tree object (suc directory) bound (omega (arith, within)))
+-- what a name leads to
+pub named_often : (name : List ℕ) (object : ℕ) (node : Option (Node ℕ))
+    → entry_named name (entries_in node) ≡ Some object → 1 ≤ how_often object (targets_in node)
+named_often name object node named =
+    omega (arith, taken_from_node object name node, ap (one_if_some object) named, one_itself object)
+  where
+    one_itself : (object : ℕ) → one_if object object ≡ 1
+    one_itself object = ap (λ b. cond b 1 0) (eq-eqb object object refl)
 
 -- At most so many names
 
--- one directory has more and less
-pub most_changed : (old new : Tree ℕ) (most more less : ℕ → ℕ) (place : ℕ) → NamesAtMost old most
-    → ((object directory : ℕ) → directory ≢ place → names_at new object directory ≤ names_at old object directory)
-    → ((object : ℕ) → names_at new object place + less object ≤ names_at old object place + more object)
-    → NamesAtMost new (λ object. most object + more object - less object)
-most_changed old new most more less place counted others here object bound =
-    let wide = suc place + bound in
-    omega (
-      arith,
-      below_grows new object bound wide (omega arith),
-      below_changed old new object place (more object) (less object) wide (omega arith) (others object) (here object),
-      counted object wide,
-    )
-
 -- more may be counted
-pub most_weaker : (tree : Tree ℕ) (most other : ℕ → ℕ) → NamesAtMost tree most
-    → ((object : ℕ) → most object ≤ other object) → NamesAtMost tree other
-most_weaker tree most other counted fewer object bound = omega (arith, counted object bound, fewer object)
-
--- where one name is counted, two directories do not both have one
-not_both : (tree : Tree ℕ) (most : ℕ → ℕ) (object one other : ℕ) → NamesAtMost tree most → most object ≤ 1
-    → is_among nat_eq object (targets_in (tree.node one)) ≡ true
-    → is_among nat_eq object (targets_in (tree.node other)) ≡ true → other ≤ one
-not_both tree most object one other counted single first second = ⊎_elim (λ less. absurd (omega (
-  arith,
-  single,
-  counted object (suc other),
-  at_below tree object one other less,
-  among_often object (targets_in (tree.node one)) first,
-  among_often object (targets_in (tree.node other)) second,
-))) (λ not_less. not_less) (cases_lt one other)
-
-pub alone : (tree : Tree ℕ) (most : ℕ → ℕ) (object directory other : ℕ) → NamesAtMost tree most → most object ≤ 1
-    → is_among nat_eq object (targets_in (tree.node directory)) ≡ true
-    → is_among nat_eq object (targets_in (tree.node other)) ≡ true → other ≡ directory
-alone tree most object directory other counted single first second = omega (
-  arith,
-  not_both tree most object directory other counted single first second,
-  not_both tree most object other directory counted single second first,
-)
-
--- a name of a rank is an entry
-pub ranked_among : (all : Entries ℕ) (id rank : ℕ) (entries : Entries ℕ)
-    → is_some (option_map (λ (entry : List ℕ × ℕ). entry.0) (find (has_rank all id rank) entries)) ≡ true
-    → is_among nat_eq id (targets entries) ≡ true
-ranked_among all id rank [] some = absurd (true≢false (sym some))
-ranked_among all id rank (entry ∷ rest) some =
-    by (nat_eq id entry.1) (nat_eq rank (rank_among all entry.0 id)) some (ranked_among all id rank rest)
-  where
-    by : (b c : Bool) → is_some (option_map (λ (entry : List ℕ × ℕ). entry.0)
-        (cond (b && c) (Some entry) (find (has_rank all id rank) rest))) ≡ true
-        → (is_some (option_map (λ (entry : List ℕ × ℕ). entry.0) (find (has_rank all id rank) rest)) ≡ true
-        → is_among nat_eq id (targets rest) ≡ true) → (b || is_among nat_eq id (targets rest)) ≡ true
-    by true c some later = refl
-    by false c some later = later some
+pub most_weaker : (tree : Tree ℕ) (most other : ℕ → ℕ → ℕ) → NamesAtMost tree most
+    → ((object directory : ℕ) → most object directory ≤ other object directory) → NamesAtMost tree other
+most_weaker tree most other counted fewer object directory =
+    omega (arith, counted object directory, fewer object directory)

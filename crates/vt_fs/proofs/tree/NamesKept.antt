@@ -1,14 +1,14 @@
--- Counts of names, once a tree has changed.
-use Rattle.std.proofs.Common.{◌≡◌, ◌≢◌, refl, sym, ap, subst, ◌⊎◌, inl, inr, ℕ, zero, suc, ◌+◌, ◌-◌, ◌≤◌, nat_eq, nat_le, eq-eqb, ne_eqb, eqb-true, Bool, true, false, cond, List, [], Option, Some, None, arith, Err, Ok, OnErr, OnOk, Result}
-use Rattle.vt_spec.proofs.Common.{Content, Directory, Inode, Inodes, Node, Regular, Symlink, Tree, Whiteout, entries-node_with_parent, entries_in, entries_of, entry_named, inode_with_node, is_directory, is_sorted, kind_of, name_cmp, new_directory, node_in, node_with_entry, node_with_parent, node_without_entry, pinned, targets_in, tree_of, unpinned, used_once_less, used_once_more, with_changed}
+-- What is listed for objects, once a tree has changed.
+use Rattle.std.proofs.Common.{◌≡◌, refl, sym, ap, subst, ◌⊎◌, inl, inr, ⊎_elim, ℕ, ◌+◌, ◌-◌, ◌≤◌, nat_eq, nat_le, eqb-true, Bool, true, false, cond, List, [], Option, Some, None, arith, Err, Ok, OnErr, OnOk, Result}
+use Rattle.vt_spec.proofs.Common.{Content, Directory, Inode, Inodes, Node, Regular, Symlink, Tree, Whiteout, entries-node_with_parent, entries_in, entries_of, entry_named, eqb_tells, inode_with_node, is_directory, is_sorted, kind_of, name_cmp, new_directory, node_in, node_with_entry, node_with_parent, node_without_entry, pinned, targets_in, tree_of, unpinned, used_once_less, used_once_more, with_changed}
 use Rattle.vt_spec.specs.Inodes.{with_inode, without_replaced}
-use Rattle.vt_fs.proofs.tree.NameCounts.{most_changed, most_weaker, named_in_node, one_if, one_if_some, put_in_node, taken_from_node, targets}
-use Rattle.vt_fs.specs.Trees.Names.{NamesAtMost, how_often, names_at, names_below}
+use Rattle.vt_fs.proofs.tree.NameCounts.{most_weaker, named_in_node, named_often, one_if_some, put_in_node, taken_from_node, targets}
+use Rattle.vt_fs.specs.Trees.Names.{NamesAtMost, at_place, how_often, less_at, more_at, names_at, one_if}
 use Rattle.vt_fs.specs.Trees.Slots.{Slots, inodes_in, put_at}
 
--- Counts of the same inodes
+-- What is listed for the same inodes
 
-pub counted_as : (inodes new : Inodes ℕ) (most counts : ℕ → ℕ) → new ≡ inodes → counts ≡ most
+pub counted_as : (inodes new : Inodes ℕ) (most counts : ℕ → ℕ → ℕ) → new ≡ inodes → counts ≡ most
     → NamesAtMost (tree_of inodes) most → NamesAtMost (tree_of new) counts
 counted_as inodes new most counts same counted_same counted =
     subst (λ counts. NamesAtMost (tree_of new) counts) (sym counted_same)
@@ -16,7 +16,7 @@ counted_as inodes new most counts same counted_same counted =
 
 -- slots that change, or stay with an error
 pub either_counted : {V E : Type 0} (result : Result V E) (root : ℕ) (old new : Slots) (changed : Inodes ℕ)
-    (most : ℕ → ℕ) → OnOk result (inodes_in root new ≡ changed) → OnErr result (new ≡ old)
+    (most : ℕ → ℕ → ℕ) → OnOk result (inodes_in root new ≡ changed) → OnErr result (new ≡ old)
     → NamesAtMost (tree_of changed) most → NamesAtMost (tree_of (inodes_in root old)) most
     → NamesAtMost (tree_of (inodes_in root new)) most
 either_counted (Ok value) root old new changed most ok err then_counted counted =
@@ -24,59 +24,53 @@ either_counted (Ok value) root old new changed most ok err then_counted counted 
 either_counted (Err error) root old new changed most ok err then_counted counted =
     counted_as (inodes_in root old) (inodes_in root new) most most (ap (inodes_in root) err) refl counted
 
--- What one more and one less are
-
-more_counted : (most : ℕ → ℕ) (object less other : ℕ)
-    → most other + one_if other object - less ≤ put_at most object (most object + 1) other
-more_counted most object less other = by (nat_eq other object) (eqb-true other object)
-  where
-    by : (b : Bool) → (b ≡ true → other ≡ object)
-        → most other + cond b 1 0 - less ≤ cond b (most object + 1) (most other)
-    by true same = omega (arith, ap most (same refl))
-    by false same = omega arith
-
-less_counted : (most : ℕ → ℕ) (object other : ℕ)
-    → most other - one_if other object ≤ put_at most object (most object - 1) other
-less_counted most object other = by (nat_eq other object) (eqb-true other object)
-  where
-    by : (b : Bool) → (b ≡ true → other ≡ object) → most other - cond b 1 0 ≤ cond b (most object - 1) (most other)
-    by true same = omega (arith, ap most (same refl))
-    by false same = omega arith
-
 -- One inode that changes
+
+either_way : (b : Bool) (n : ℕ) → cond b n n ≡ n
+either_way true n = refl
+either_way false n = refl
 
 module _ (inodes : Inodes ℕ) (place : ℕ) (inode : Option (Inode ℕ)) where
   abbrev with_it : Inodes ℕ
   with_it = with_inode nat_eq inodes place inode
 
-  apart : (object directory : ℕ) → directory ≢ place
-      → names_at (tree_of with_it) object directory ≤ names_at (tree_of inodes) object directory
-  apart object directory differ = omega (
-    arith,
-    ap (λ b. how_often object (targets_in (node_in (cond b inode (inodes.inode directory)))))
-        (ne_eqb directory place differ),
-  )
-
-  here : (object : ℕ) → names_at (tree_of with_it) object place ≡ how_often object (targets_in (node_in inode))
-  here object =
-      ap (λ b. how_often object (targets_in (node_in (cond b inode (inodes.inode place))))) (eq-eqb place place refl)
+  abbrev at : ℕ → ℕ → Bool → ℕ
+  at object directory b = how_often object (targets_in (node_in (cond b inode (inodes.inode directory))))
 
   -- with more names and less
-  pub inode_changes : (most more less : ℕ → ℕ) → NamesAtMost (tree_of inodes) most
+  pub inode_changes : (most : ℕ → ℕ → ℕ) (more less : ℕ → ℕ) → NamesAtMost (tree_of inodes) most
       → ((object : ℕ) → how_often object (targets_in (node_in inode)) + less object
       ≤ names_at (tree_of inodes) object place + more object)
-      → NamesAtMost (tree_of with_it) (λ object. most object + more object - less object)
-  inode_changes most more less counted changes =
-      most_changed (tree_of inodes) (tree_of with_it) most more less place counted apart
-      (λ object. omega (arith, here object, changes object))
+      → NamesAtMost (tree_of with_it)
+      (λ object directory. most object directory + at_place place more object directory
+      - at_place place less object directory)
+  inode_changes most more less counted changes object directory = ⊎_elim (λ t. omega (
+    arith,
+    ap (at object directory) t.0,
+    ap (λ b. cond b (more object) 0) t.0,
+    ap (λ b. cond b (less object) 0) t.0,
+    ap (most object) t.1,
+    changes object,
+    counted object place,
+  )) (λ t. omega (
+    arith,
+    ap (at object directory) t.0,
+    ap (λ b. cond b (more object) 0) t.0,
+    ap (λ b. cond b (less object) 0) t.0,
+    counted object directory,
+  )) (eqb_tells directory place)
 
   -- with no more names
-  pub inode_keeps : (most : ℕ → ℕ) → NamesAtMost (tree_of inodes) most
+  pub inode_keeps : (most : ℕ → ℕ → ℕ) → NamesAtMost (tree_of inodes) most
       → ((object : ℕ) → how_often object (targets_in (node_in inode)) ≤ names_at (tree_of inodes) object place)
       → NamesAtMost (tree_of with_it) most
-  inode_keeps most counted fewer = most_weaker (tree_of with_it) _ most
-      (inode_changes most (λ object. 0) (λ object. 0) counted (λ object. omega (arith, fewer object)))
-      (λ object. omega arith)
+  inode_keeps most counted fewer object directory = ⊎_elim (λ t. omega (
+    arith,
+    ap (at object directory) t.0,
+    ap (most object) t.1,
+    fewer object,
+    counted object place,
+  )) (λ t. omega (arith, ap (at object directory) t.0, counted object directory)) (eqb_tells directory place)
 
 -- Changes of a tree
 
@@ -87,7 +81,8 @@ same_entries None inode same = refl
 same_entries (Some node) None same = refl
 same_entries (Some node) (Some inode) same = same
 
-pub change_keeps : (inodes : Inodes ℕ) (place : ℕ) (change : Option (Node ℕ) → Option (Node ℕ)) (most : ℕ → ℕ)
+pub change_keeps : (inodes : Inodes ℕ) (place : ℕ) (change : Option (Node ℕ) → Option (Node ℕ))
+    (most : ℕ → ℕ → ℕ)
     → ((node : Option (Node ℕ)) → entries_in (change node) ≡ entries_in node)
     → NamesAtMost (tree_of inodes) most → NamesAtMost (tree_of (with_changed nat_eq inodes place change)) most
 change_keeps inodes place change most same counted = inode_keeps inodes place _ most counted (λ object. omega (
@@ -105,23 +100,24 @@ put_in_inode : (name : List ℕ) (object number : ℕ) (inode : Option (Inode �
 put_in_inode name object number None sorted = omega arith
 put_in_inode name object number (Some inode) sorted = put_in_node number name object (Some inode.node) sorted
 
-pub entry_more : (inodes : Inodes ℕ) (directory : ℕ) (name : List ℕ) (object : ℕ) (most : ℕ → ℕ)
+entry_more : (inodes : Inodes ℕ) (directory : ℕ) (name : List ℕ) (object : ℕ) (most : ℕ → ℕ → ℕ)
     → is_sorted name_cmp (entries_in (node_in (inodes.inode directory))) ≡ true → NamesAtMost (tree_of inodes) most
     → NamesAtMost (tree_of (with_changed nat_eq inodes directory (node_with_entry name object)))
-    (λ other. most other + one_if other object
-    - one_if_some other (entry_named name (entries_in (node_in (inodes.inode directory)))))
+    (λ other place. more_at object directory most other place
+    - at_place directory (λ other. one_if_some other
+    (entry_named name (entries_in (node_in (inodes.inode directory))))) other place)
 entry_more inodes directory name object most sorted counted =
     inode_changes inodes directory _ most (λ other. one_if other object)
     (λ other. one_if_some other (entry_named name (entries_in (node_in (inodes.inode directory))))) counted
     (λ other. put_in_inode name object other (inodes.inode directory) sorted)
 
-pub name_more : (inodes : Inodes ℕ) (directory : ℕ) (name : List ℕ) (object : ℕ) (most : ℕ → ℕ)
+pub name_more : (inodes : Inodes ℕ) (directory : ℕ) (name : List ℕ) (object : ℕ) (most : ℕ → ℕ → ℕ)
     → is_sorted name_cmp (entries_in (node_in (inodes.inode directory))) ≡ true → NamesAtMost (tree_of inodes) most
     → NamesAtMost (tree_of (with_changed nat_eq inodes directory (node_with_entry name object)))
-    (put_at most object (most object + 1))
+    (more_at object directory most)
 name_more inodes directory name object most sorted counted =
     most_weaker (tree_of (with_changed nat_eq inodes directory (node_with_entry name object))) _ _
-    (entry_more inodes directory name object most sorted counted) (λ other. more_counted most object _ other)
+    (entry_more inodes directory name object most sorted counted) (λ other place. omega arith)
 
 -- an entry less
 taken_from_inode : (name : List ℕ) (number : ℕ) (inode : Option (Inode ℕ))
@@ -131,24 +127,20 @@ taken_from_inode : (name : List ℕ) (number : ℕ) (inode : Option (Inode ℕ))
 taken_from_inode name number None = omega arith
 taken_from_inode name number (Some inode) = omega (arith, taken_from_node number name (Some inode.node))
 
-pub entry_less : (inodes : Inodes ℕ) (directory : ℕ) (name : List ℕ) (object : ℕ) (most : ℕ → ℕ)
+pub name_less : (inodes : Inodes ℕ) (directory : ℕ) (name : List ℕ) (object : ℕ) (most : ℕ → ℕ → ℕ)
     → entry_named name (entries_in (node_in (inodes.inode directory))) ≡ Some object → NamesAtMost (tree_of inodes) most
     → NamesAtMost (tree_of (with_changed nat_eq inodes directory (node_without_entry name)))
-    (λ other. most other - one_if other object)
-entry_less inodes directory name object most named counted =
+    (less_at object directory most)
+name_less inodes directory name object most named counted =
     most_weaker (tree_of (with_changed nat_eq inodes directory (node_without_entry name))) _ _
     (inode_changes inodes directory _ most (λ other. 0)
     (λ other. one_if_some other (entry_named name (entries_in (node_in (inodes.inode directory))))) counted
     (λ other. taken_from_inode name other (inodes.inode directory)))
-    (λ other. omega (arith, ap (one_if_some other) named))
-
-pub name_less : (inodes : Inodes ℕ) (directory : ℕ) (name : List ℕ) (object : ℕ) (most : ℕ → ℕ)
-    → entry_named name (entries_in (node_in (inodes.inode directory))) ≡ Some object → NamesAtMost (tree_of inodes) most
-    → NamesAtMost (tree_of (with_changed nat_eq inodes directory (node_without_entry name)))
-    (put_at most object (most object - 1))
-name_less inodes directory name object most named counted =
-    most_weaker (tree_of (with_changed nat_eq inodes directory (node_without_entry name))) _ _
-    (entry_less inodes directory name object most named counted) (λ other. less_counted most object other)
+    (λ other place. omega (
+      arith,
+      either_way (nat_eq place directory) 0,
+      ap (λ found. at_place directory (λ other. one_if_some other found) other place) named,
+    ))
 
 -- a name that an object keeps while it gets another
 named_inode : (name other : List ℕ) (object : ℕ) (inode : Option (Inode ℕ))
@@ -170,28 +162,50 @@ named_still inodes from to name other object named = by (nat_eq from to) (eqb-tr
         (subst (λ n. entry_named name (entries_in (node_in (inodes.inode n))) ≡ Some object) (same refl) named)
     by false same = named
 
+-- the directory of a name is listed for what the name leads to
+pub named_listed : (inodes : Inodes ℕ) (directory : ℕ) (name : List ℕ) (object : ℕ) (most : ℕ → ℕ → ℕ)
+    → entry_named name (entries_in (node_in (inodes.inode directory))) ≡ Some object → NamesAtMost (tree_of inodes) most
+    → 1 ≤ most object directory
+named_listed inodes directory name object most named counted =
+    omega (arith, named_often name object (node_in (inodes.inode directory)) named, counted object directory)
+
+one_listed : (most : ℕ → ℕ → ℕ) (object directory other place : ℕ) → 1 ≤ most object directory
+    → at_place directory (λ other. one_if other object) other place ≤ most other place
+one_listed most object directory other place one =
+    ⊎_elim (λ t. ⊎_elim (λ u. omega (
+      arith,
+      ap (λ b. cond b (one_if other object) 0) t.0,
+      ap {B = ℕ} (λ b. cond b 1 0) u.0,
+      ap (λ n. most n place) u.1,
+      ap (most object) t.1,
+      one,
+    )) (λ u. omega (arith, ap (λ b. cond b (one_if other object) 0) t.0, ap {B = ℕ} (λ b. cond b 1 0) u.0))
+    (eqb_tells other object)) (λ t. omega (arith, ap (λ b. cond b (one_if other object) 0) t.0))
+    (eqb_tells place directory)
+
 -- an object with another name for one that it had, where another object may lose one
-pub name_moved : (inodes : Inodes ℕ) (from to : ℕ) (name other : List ℕ) (object : ℕ) (most : ℕ → ℕ)
+pub name_moved : (inodes : Inodes ℕ) (from to : ℕ) (name other : List ℕ) (object : ℕ) (most : ℕ → ℕ → ℕ)
     → is_sorted name_cmp (entries_in (node_in (inodes.inode to))) ≡ true
     → entry_named name (entries_in (node_in (inodes.inode from))) ≡ Some object → NamesAtMost (tree_of inodes) most
     → NamesAtMost (tree_of (with_changed nat_eq
     (with_changed nat_eq (with_changed nat_eq inodes to (node_with_entry other object)) from (node_without_entry name))
     object (node_with_parent to)))
-    (λ number. most number - one_if_some number (entry_named other (entries_in (node_in (inodes.inode to)))))
+    (λ number place. more_at object to (less_at object from most) number place
+    - at_place to (λ number. one_if_some number (entry_named other (entries_in (node_in (inodes.inode to)))))
+    number place)
 name_moved inodes from to name other object most sorted named counted =
     let entered = with_changed nat_eq inodes to (node_with_entry other object) in
     let taken = with_changed nat_eq entered from (node_without_entry name) in
     change_keeps taken object (node_with_parent to) _ (entries-node_with_parent to) (most_weaker (tree_of taken) _ _
-    (entry_less entered from name object _ (named_still inodes from to name other object named)
-    (entry_more inodes to other object most sorted counted)) (λ number. omega arith))
-
--- what had the new name has one less
-pub replaced_counted : (most : ℕ → ℕ) (found : Option ℕ) (other number : ℕ) → found ≡ Some other
-    → most number - one_if_some number found ≤ put_at most other (most other - 1) number
-replaced_counted most found other number is = omega (arith, ap (one_if_some number) is, less_counted most other number)
+    (name_less entered from name object _ (named_still inodes from to name other object named)
+    (entry_more inodes to other object most sorted counted))
+    (λ number place. omega (
+      arith,
+      one_listed most object from number place (named_listed inodes from name object most named counted),
+    )))
 
 -- uses alone
-pub pin_keeps : (inodes : Inodes ℕ) (object : ℕ) (most : ℕ → ℕ)
+pub pin_keeps : (inodes : Inodes ℕ) (object : ℕ) (most : ℕ → ℕ → ℕ)
     → NamesAtMost (tree_of inodes) most → NamesAtMost (tree_of (pinned nat_eq inodes object)) most
 pin_keeps inodes object most counted = inode_keeps inodes object (used_once_more (inodes.inode object)) most counted
     (λ number. by number (inodes.inode object))
@@ -201,7 +215,7 @@ pin_keeps inodes object most counted = inode_keeps inodes object (used_once_more
     by number None = omega arith
     by number (Some inode) = omega arith
 
-pub unpin_keeps : (inodes : Inodes ℕ) (object : ℕ) (most : ℕ → ℕ)
+pub unpin_keeps : (inodes : Inodes ℕ) (object : ℕ) (most : ℕ → ℕ → ℕ)
     → NamesAtMost (tree_of inodes) most → NamesAtMost (tree_of (unpinned nat_eq inodes object)) most
 unpin_keeps inodes object most counted = inode_keeps inodes object (used_once_less (inodes.inode object)) most counted
     (λ number. by number (inodes.inode object))
@@ -217,14 +231,14 @@ unpin_keeps inodes object most counted = inode_keeps inodes object (used_once_le
     by number None = omega arith
     by number (Some inode) = goes number inode (nat_le inode.uses 1)
 
-pub replaced_keeps : (inodes : Inodes ℕ) (object : ℕ) (most : ℕ → ℕ)
+pub replaced_keeps : (inodes : Inodes ℕ) (object : ℕ) (most : ℕ → ℕ → ℕ)
     → NamesAtMost (tree_of inodes) most → NamesAtMost (tree_of (without_replaced nat_eq inodes (Some object))) most
 replaced_keeps inodes object most counted =
     unpin_keeps (with_changed nat_eq inodes object (node_with_parent object)) object most
     (change_keeps inodes object (node_with_parent object) most (entries-node_with_parent object) counted)
 
 -- a new inode without entries
-pub new_keeps : (inodes new : Inodes ℕ) (made : ℕ) (node : Node ℕ) (most : ℕ → ℕ)
+pub new_keeps : (inodes new : Inodes ℕ) (made : ℕ) (node : Node ℕ) (most : ℕ → ℕ → ℕ)
     → new.inode ≡ put_at inodes.inode made (Some (record { node = node; uses = 1 })) → entries_of node.content ≡ []
     → NamesAtMost (tree_of inodes) most → NamesAtMost (tree_of new) most
 new_keeps inodes new made node most inserted empty counted =
@@ -233,12 +247,10 @@ new_keeps inodes new made node most inserted empty counted =
     (λ object. omega (arith, ap (λ entries. how_often object (targets entries)) empty)))
 
 -- a tree without names
-pub none_named : (tree : Tree ℕ) (most : ℕ → ℕ) → ((number : ℕ) → tree.node number ≡ None) → NamesAtMost tree most
-none_named tree most none object bound = omega (arith, by bound)
-  where
-    by : (bound : ℕ) → names_below tree object bound ≤ 0
-    by zero = omega arith
-    by (suc bound) = omega (arith, by bound, ap (λ o. how_often object (targets_in o)) (none bound))
+pub none_named : (tree : Tree ℕ) (most : ℕ → ℕ → ℕ) → ((number : ℕ) → tree.node number ≡ None)
+    → NamesAtMost tree most
+none_named tree most none object directory =
+    omega (arith, ap (λ o. how_often object (targets_in o)) (none directory))
 
 -- a new node has no entries
 pub no_entries : (directory : ℕ) (content : Content ℕ)

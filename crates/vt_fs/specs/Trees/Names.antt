@@ -1,41 +1,63 @@
--- How many names lead to an object, and how many are counted.
-use Rattle.std.specs.Prelude.{List, [], if◌then◌else◌, length, nat_eq, slice_index_or, suc, true, zero, ℕ, ◌+◌, ◌<◌, ◌∷◌, ◌≡◌, ◌≤◌}
+-- Which directories have names for an object, and which are listed for it.
+use Rattle.std.specs.Prelude.{List, [], if◌then◌else◌, length, nat_eq, slice_index_or, true, ℕ, ◌+◌, ◌-◌, ◌<◌, ◌∷◌, ◌≡◌, ◌≤◌}
+use Rattle.smallvec.specs.SmallVec.{HasRoomFor, SmallVec}
 use Rattle.vt_spec.specs.FileTree.{has_entry_to, targets_in}
+use Rattle.vt_spec.specs.Lists.{is_among}
 use Rattle.vt_spec.specs.Tree.{Tree}
-use Rattle.vt_fs.specs.Trees.Slots.{most_uses}
 
--- the count of an object; of one that was never counted it is 0
-abbrev pub count_of : List ℕ → ℕ → ℕ
-count_of counts = λ object. slice_index_or counts object 0
+-- the lists of all objects, from the number 0 on
+abbrev pub Lists : Type 0
+Lists = List (SmallVec ℕ)
 
--- one more can be counted
-abbrev pub HasRoom : List ℕ → ℕ → Type 0
-HasRoom counts object = (object < length counts) × (count_of counts object < most_uses)
+-- the list of an object; one that never had a name has none
+abbrev pub list_for : Lists → ℕ → SmallVec ℕ
+list_for lists object = slice_index_or lists object (record { items = []; capacity = 0 })
 
--- how often an object stands among those that names lead to
+abbrev pub directories_for : Lists → ℕ → List ℕ
+directories_for lists object = (list_for lists object).items
+
+-- one more can be listed
+abbrev pub HasRoom : Lists → ℕ → Type 0
+HasRoom lists object = (object < length lists) × HasRoomFor (list_for lists object) 1
+
+-- one if it is this number
+abbrev pub one_if : ℕ → ℕ → ℕ
+one_if number other = if nat_eq number other then 1 else 0
+
+-- how often a number stands in a list
 abbrev pub how_often : ℕ → List ℕ → ℕ
-how_often object [] = 0
-how_often object (other ∷ rest) = (if nat_eq object other then 1 else 0) + how_often object rest
+how_often number [] = 0
+how_often number (other ∷ rest) = one_if number other + how_often number rest
+
+-- how often a directory is listed for an object
+abbrev pub listings : Lists → ℕ → ℕ → ℕ
+listings lists = λ object directory. how_often directory (directories_for lists object)
+
+-- of one directory so many for each object, and of the others none
+abbrev pub at_place : ℕ → (ℕ → ℕ) → ℕ → ℕ → ℕ
+at_place place many = λ object directory. if nat_eq directory place then many object else 0
+
+-- with one more for an object and a directory, and with one less
+abbrev pub more_at : ℕ → ℕ → (ℕ → ℕ → ℕ) → ℕ → ℕ → ℕ
+more_at object directory listed =
+    λ other place. listed other place + at_place directory (λ other. one_if other object) other place
+
+abbrev pub less_at : ℕ → ℕ → (ℕ → ℕ → ℕ) → ℕ → ℕ → ℕ
+less_at object directory listed =
+    λ other place. listed other place - at_place directory (λ other. one_if other object) other place
 
 -- how many names of a directory lead to an object
 abbrev pub names_at : Tree ℕ → ℕ → ℕ → ℕ
 names_at tree object directory = how_often object (targets_in (tree.node directory))
 
--- how many names do in all directories whose numbers are below a bound
-abbrev pub names_below : Tree ℕ → ℕ → ℕ → ℕ
-names_below tree object zero = 0
-names_below tree object (suc bound) = names_below tree object bound + names_at tree object bound
+-- no directory has more names for an object than it is listed for it
+abbrev pub NamesAtMost : Tree ℕ → (ℕ → ℕ → ℕ) → Type 0
+NamesAtMost tree most = (object directory : ℕ) → names_at tree object directory ≤ most object directory
 
--- each object has at most so many names
-abbrev pub NamesAtMost : Tree ℕ → (ℕ → ℕ) → Type 0
-NamesAtMost tree most = (object bound : ℕ) → names_below tree object bound ≤ most object
+abbrev pub AreListed : Tree ℕ → Lists → Type 0
+AreListed tree lists = NamesAtMost tree (listings lists)
 
--- no object has more names than are counted
-abbrev pub AreCounted : Tree ℕ → List ℕ → Type 0
-AreCounted tree counts = NamesAtMost tree (count_of counts)
-
--- a directory has a name for an object, and no other directory has one
-abbrev pub AloneNames : Tree ℕ → ℕ → ℕ → Type 0
-AloneNames tree object directory =
-    (has_entry_to nat_eq tree directory object ≡ true)
-    × ((other : ℕ) → has_entry_to nat_eq tree other object ≡ true → other ≡ directory)
+-- each directory that has a name for an object is among these
+abbrev pub HoldsNames : Tree ℕ → ℕ → List ℕ → Type 0
+HoldsNames tree object directories =
+    (directory : ℕ) → has_entry_to nat_eq tree directory object ≡ true → is_among nat_eq directory directories ≡ true

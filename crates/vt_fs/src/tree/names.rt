@@ -1,34 +1,31 @@
-//! How many names lead to each object, and which directory got the last of them.
-ghost use Rattle.std.specs.Prelude.{◌≡◌, ◌+◌, ◌-◌, ◌≤◌, [], IfSome, OnOk, map};
-ghost use Rattle.vt_fs.specs.Trees.Names.{HasRoom, count_of};
-ghost use Rattle.vt_fs.specs.Trees.Slots.{put_at};
+//! Which directories have names for each object.
+ghost use Rattle.std.specs.Prelude.{◌≡◌, ℕ, ◌+◌, ◌-◌, ◌<◌, [], OnOk, nat_eq};
+ghost use Rattle.std.specs.List.{position};
+ghost use Rattle.vt_fs.specs.Trees.Names.{HasRoom, directories_for, how_often, less_at, listings, more_at, one_if};
 
+use smallvec::SmallVec;
 use std::alloc::{AllocError, Global};
 use std::marker::Model;
 use vt_node::NodeId;
 
-// How many names lead to an object, and the directory that got the last of them.
-#[derive(Clone, Copy, Debug)]
-struct Named {
-    count: u64,
-    directory: NodeId,
-}
+// A directory for each name of an object. Most objects have one name, and two take no memory of their own.
+type Directories = SmallVec<NodeId, 2>;
 
-/// How many names lead to the object of each number, and which directory got the last of them.
+/// For the object of each number the directories that have its names, one for each name.
 ///
-/// A contract sees the counts alone: the directory is a hint, which whoever uses it has to test. A count may be too
-/// high, and is never too low. It stays when its object goes, since a tree does not know that no name leads there.
+/// A directory may be listed too often, and never is too rarely: what is listed stays when an object goes, since a tree
+/// does not know that no name leads to it.
 #[derive(Debug, Drop)]
 pub struct Names {
-    named: Vec<Named>,
+    lists: Vec<Directories>,
 }
 
 impl Model for Names {
-    ghost use Rattle.std.specs.Prelude.{ℕ, List, map};
+    ghost use Rattle.vt_fs.specs.Trees.Names.{Lists};
 
-    ghost Value = { List ℕ };
+    ghost Value = { Lists };
 
-    ghost view = { λ names. map (λ named. named.count) names.named.items };
+    ghost view = { λ names. names.lists.items };
 }
 
 impl Names {
@@ -37,64 +34,87 @@ impl Names {
         ensures { result ≡ [] }
     {
         Names {
-            named: Vec::new(alloc),
+            lists: Vec::new(alloc),
         }
     }
 
-    /// Makes room for one name more of an object. It fails if an allocation does, or the count is 2^64 - 1.
+    /// Makes room for one name more of an object.
     pub fn reserve(&mut self, object: NodeId) -> Result<(), AllocError>
         ensures ok { OnOk result (HasRoom self.new object) }
-        ensures counts { count_of self.new ≡ count_of self.old }
+        ensures listings { listings self.new ≡ listings self.old }
     {
-        while self.named.len() <= object.index() {
-            self.named.push(Named {
-                count: 0,
-                directory: object,
-            })?;
+        while self.lists.len() <= object.index() {
+            self.lists.push(SmallVec::new(*self.lists.allocator()))?;
         }
-        if self.named[object.index()].count == u64::MAX {
-            return Err(AllocError);
-        }
-        Ok(())
+        let list = &mut self.lists[object.index()];
+        list.reserve(1)
     }
 
-    /// Counts one name more of an object, in this directory, for a caller that has made room.
+    /// Lists a directory that has one name more of an object, for a caller that has made room.
     pub fn add(&mut self, object: NodeId, directory: NodeId)
         requires { HasRoom self.old object }
-        ensures { count_of self.new ≡ put_at (count_of self.old) object (count_of self.old object + 1) }
+        ensures { listings self.new ≡ more_at object directory (listings self.old) }
     {
-        let named = &mut self.named[object.index()];
-        named.count += 1;
-        named.directory = directory;
+        let list = &mut self.lists[object.index()];
+        list.push_reserved(directory);
     }
 
-    /// Counts one name less of an object; a count of 0 stays 0. It does not allocate.
-    pub fn take(&mut self, object: NodeId)
-        ensures { count_of self.new ≡ put_at (count_of self.old) object (count_of self.old object - 1) }
+    /// Lists a directory that has one name less of an object once less, if it is listed. It does not allocate.
+    pub fn take(&mut self, object: NodeId, directory: NodeId)
+        ensures { listings self.new ≡ less_at object directory (listings self.old) }
     {
-        if let Some(named) = self.named.get_mut(object.index()) {
-            named.count = named.count.saturating_sub(1);
+        if let Some(list) = self.lists.get_mut(object.index()) {
+            list_once_less(list, directory);
         }
     }
 
-    /// Notes that a name of an object has gone to this directory. It does not allocate.
-    pub fn move_to(&mut self, object: NodeId, directory: NodeId)
-        ensures { self.new ≡ self.old }
+    /// Lists another directory in the place of one, as a name of an object moves there. It does not allocate.
+    pub fn move_to(&mut self, object: NodeId, from: NodeId, to: NodeId)
+        requires { 0 < listings self.old object from }
+        ensures { listings self.new ≡ more_at object to (less_at object from (listings self.old)) }
     {
-        if let Some(named) = self.named.get_mut(object.index()) {
-            named.directory = directory;
+        if let Some(list) = self.lists.get_mut(object.index()) {
+            list_instead(list, from, to);
         }
     }
 
-    /// The directory that got the last name of an object that has one name at most.
-    pub fn last_of_one(&self, object: NodeId) -> Option<NodeId>
-        ensures { IfSome result (λ directory. count_of self.now object ≤ 1) }
+    /// The directories that are listed for an object.
+    pub fn directories(&self, object: NodeId) -> &[NodeId]
+        ensures { result.now ≡ directories_for self.now object }
     {
-        let named = self.named.get(object.index())?;
-        if named.count <= 1 {
-            Some(named.directory)
-        } else {
-            None
+        match self.lists.get(object.index()) {
+            Some(list) => list.as_slice(),
+            None => &[],
         }
     }
+}
+
+// Where a directory is listed first.
+fn place_of(directories: &[NodeId], directory: NodeId) -> Option<usize>
+    ensures { result ≡ position (λ other. nat_eq other directory) directories.now }
+{
+    directories.iter().position(|other| *other == directory)
+}
+
+// Lists a directory once less, if it is listed.
+fn list_once_less(list: &mut Directories, directory: NodeId)
+    ensures { (other : ℕ) → how_often other list.new.items
+        ≡ how_often other list.old.items - one_if other directory }
+{
+    let Some(place) = place_of(list.as_slice(), directory) else {
+        return;
+    };
+    list.swap_remove(place);
+}
+
+// Lists another directory in the place of one that is listed.
+fn list_instead(list: &mut Directories, from: NodeId, to: NodeId)
+    requires { 0 < how_often from list.old.items }
+    ensures { (other : ℕ) → how_often other list.new.items
+        ≡ how_often other list.old.items - one_if other from + one_if other to }
+{
+    let Some(place) = place_of(list.as_slice(), from) else {
+        return;
+    };
+    list[place] = to;
 }

@@ -1,5 +1,5 @@
 //! `Tree`, and what its calls change.
-ghost use Rattle.std.specs.Prelude.{◌≡◌, ℕ, ◌^◌, ◌≤◌, ◌+◌, ◌<◌, ◌↔◌, nat_eq, false, [], map, length, drop, take, None, Some, IfOk, IfSome, OnOk, OnErr, IsOk, IsTrue, option_copied, IsErr};
+ghost use Rattle.std.specs.Prelude.{◌≡◌, ℕ, ◌^◌, ◌≤◌, ◌+◌, ◌<◌, ◌↔◌, nat_eq, false, [], map, length, drop, take, None, Some, IfOk, OnOk, OnErr, IsOk, IsTrue, option_copied, IsErr};
 ghost use Rattle.vt_spec.specs.declared.attributes.Kind.TheVariants.{File};
 ghost use Rattle.vt_spec.specs.FileTree.{is_kind_in};
 ghost use Rattle.vt_spec.specs.Fits.{MayReplace, StaysOutside};
@@ -11,7 +11,7 @@ ghost use Rattle.vt_spec.specs.Machine.Descriptors.{overwritten};
 ghost use Rattle.vt_spec.specs.Tree.{is_directory_node, parent_in, entries_in, names_in, bytes_in};
 ghost use Rattle.vt_spec.specs.TreeInvariant.{IsDirectory, entry_at};
 ghost use Rattle.vt_fs.specs.Trees.TreeValue.{inodes_of, tree_of, next_number};
-ghost use Rattle.vt_fs.specs.Trees.Names.{AloneNames};
+ghost use Rattle.vt_fs.specs.Trees.Names.{HoldsNames};
 ghost use Rattle.vt_fs.specs.Trees.Slots.{most_uses};
 
 use crate::tree::changes::{
@@ -42,10 +42,10 @@ impl Model for Tree {
     ghost view = { λ t. record { root = t.root; slots = t.slots.slots; next = t.slots.next } };
 
     ghost use Rattle.vt_spec.specs.Inodes.{tree_of as nodes_of};
-    ghost use Rattle.vt_fs.specs.Trees.Names.{AreCounted};
+    ghost use Rattle.vt_fs.specs.Trees.Names.{AreListed};
     ghost use Rattle.vt_fs.specs.Trees.Slots.{inodes_in};
 
-    ghost invariant = { λ t. AreCounted (nodes_of (inodes_in t.root t.slots)) t.names };
+    ghost invariant = { λ t. AreListed (nodes_of (inodes_in t.root t.slots)) t.names };
 }
 
 impl Tree {
@@ -225,7 +225,7 @@ impl Tree {
             ≡ changed nat_eq (inodes_of self.old) (Remove directory name.now object) }
     {
         remove_entry(&mut self.slots, directory, name);
-        self.names.take(object);
+        self.names.take(object, directory);
         remove_object(&mut self.slots, object);
     }
 
@@ -253,9 +253,9 @@ impl Tree {
         insert_entry(&mut self.slots, to, new, object)?;
         remove_entry(&mut self.slots, from, old);
         set_parent(&mut self.slots, object, to);
-        self.names.move_to(object, to);
+        self.names.move_to(object, from, to);
         if let Some(other) = &replaced {
-            self.names.take(*other);
+            self.names.take(*other, to);
             remove_object(&mut self.slots, *other);
         }
         Ok(())
@@ -319,14 +319,12 @@ impl Tree {
         release(&mut self.slots, object);
     }
 
-    /// The directory that alone has names for an object, if the tree knows it. `None` says nothing: an object that has
-    /// several names, or has one left of several, is to be looked for in all directories.
-    pub fn directory_of(&self, object: NodeId) -> Option<NodeId>
-        ensures { IfSome result (λ directory. AloneNames (tree_of self.now) object directory) }
+    /// The directories that have names for an object, each as often as it has one, in no order. It is known that each
+    /// of these is there, and not that each one there has a name.
+    pub fn directories_of(&self, object: NodeId) -> &[NodeId]
+        ensures { HoldsNames (tree_of self.now) object result.now }
     {
-        let directory = self.names.last_of_one(object)?;
-        self.slots.get(directory)?.name_ranked(object, 0)?;
-        Some(directory)
+        self.names.directories(object)
     }
 
     // The number that a name of a directory leads to.

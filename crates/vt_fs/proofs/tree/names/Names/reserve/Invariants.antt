@@ -1,10 +1,9 @@
 use Rattle.std.proofs.Common.{length, ◌+◌, ◌-◌, ◌≡◌}
-use Rattle.vt_fs.proofs.tree.NamesCounted.{counts}
 use Rattle.vt_fs.proofs.tree.names.Names.reserve.Given as goal
-use Rattle.vt_fs.specs.Trees.Names.{count_of}
+use Rattle.vt_fs.specs.Trees.Names.{listings}
 
 abbrev pub invariant-loop-self : goal.invariant-loop-self
-invariant-loop-self l = count_of (counts l.self-inside.named.items) ≡ count_of l.fn.self
+invariant-loop-self l = listings l.self-inside.lists.items ≡ listings l.fn.self
 
 abbrev pub decreases-loop-self : goal.decreases-loop-self
-decreases-loop-self l = l.object + 1 - length l.self-inside.named.items
+decreases-loop-self l = l.object + 1 - length l.self-inside.lists.items

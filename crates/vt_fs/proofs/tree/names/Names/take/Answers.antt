@@ -1,29 +1,31 @@
-use Rattle.std.proofs.Common.{ap, arith, length, refl, sym, true≢false, ⊎_elim, ◌-◌, ◌∙◌, ◌≡◌}
-use Rattle.vt_spec.proofs.Common.{cases_lt, length-map}
-use Rattle.vt_fs.proofs.tree.NamesCounted.{count_absent, count_changed, counts}
+use Rattle.std.proofs.Common.{ap, arith, length, refl, slice_set, sym, true≢false, ⊎_elim, ℕ, ◌-◌, ◌<◌, ◌∙◌, ◌≡◌}
+use Rattle.smallvec.specs.SmallVec.{SmallVec}
+use Rattle.vt_spec.proofs.Common.{cases_lt}
+use Rattle.vt_fs.proofs.tree.NamesListed.{list_lent, listed_absent, listed_less}
 use Rattle.vt_fs.proofs.tree.names.Names.take.Goals as goal
 use Rattle.vt_fs.proofs.tree.names.Names.take.Goals.{in-Some, in_default}
-use Rattle.vt_fs.specs.Trees.Names.{count_of}
-use Rattle.vt_fs.specs.Trees.Slots.{put_at}
-use Rattle.vt_fs.specs.declared.tree.names.Named.{Named}
+use Rattle.vt_fs.specs.Trees.Names.{Lists, how_often, less_at, listings, one_if}
 
 pub returns : goal.returns
 returns c =
-    let items = c.self.inside.named.items in
-    let taken : count_of (counts c.match-get_mut.self-inside.named.items)
-    ≡ put_at (count_of (counts items)) c.args.object (count_of (counts items) c.args.object - 1) =
+    let items = c.self.inside.lists.items in
+    let taken : listings c.match-get_mut.self-inside.lists.items
+    ≡ less_at c.args.object c.args.directory (listings items) =
     elim c.match-get_mut.branch [
-      | in-Some w ↦ ap (λ inside. count_of (counts inside.named.items)) w.self-inside-is
-          ∙ count_changed items c.args.object c.index.result _ w.in-Some.named.now.directory w.in-Some.named.now
-          (λ n. n - 1) c.index.ensures
-          (omega (arith, w.in-Some.ensures.variant.0 refl, c.self.inside.named.ok.0)) w.in-Some.ensures.value
-          w.saturating_sub-named.ensures
-      | in_default w ↦
-          ap (λ inside. count_of (counts inside.named.items)) w.self-inside-is
-          ∙ count_absent (counts items) c.args.object (⊎_elim
+      | in-Some w ↦
+          let within : c.args.object < length items =
+          omega (arith, w.in-Some.ensures.variant.0 refl, c.self.inside.lists.ok.0, c.index.ensures) in
+          let lent = list_lent items c.index.result c.args.object w.in-Some.list.now c.index.ensures within
+          w.in-Some.ensures.value in
+          ap (λ inside. listings inside.lists.items) w.self-inside-is
+          ∙ ap (λ slot. listings (slice_set items slot w.list_once_less.new.list)) c.index.ensures
+          ∙ listed_less items c.args.object w.list_once_less.new.list within c.args.directory
+          (λ (place : ℕ). w.list_once_less.ensures place
+          ∙ ap (λ (list : SmallVec ℕ). how_often place list.items - one_if place c.args.directory) lent)
+      | in_default w ↦ ap (λ inside. listings inside.lists.items) w.self-inside-is
+          ∙ listed_absent items c.args.object c.args.directory (⊎_elim
           (λ less. absurd (true≢false (sym (w.in_default.ensures.variant.1
-          (omega (arith, less, c.index.ensures, c.self.inside.named.ok.0))))))
-          (λ past. let long = length-map items (λ (named : Named). named.count) in omega (arith, long, past))
-          (cases_lt c.args.object (length items)))
+          (omega (arith, less, c.index.ensures, c.self.inside.lists.ok.0))))))
+          (λ past. past) (cases_lt c.args.object (length items)))
     ] in
-    taken ∙ ap (λ all. put_at (count_of all) c.args.object (count_of all c.args.object - 1)) c.self.view_is
+    taken ∙ ap (λ (lists : Lists). less_at c.args.object c.args.directory (listings lists)) c.self.view_is

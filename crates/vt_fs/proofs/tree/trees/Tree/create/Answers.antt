@@ -5,7 +5,7 @@ use Rattle.vt_fs.specs.Trees.Slots.{inodes_in}
 use Rattle.vt_fs.specs.Trees.TreeValue.{inodes_of}
 use Rattle.vt_fs.proofs.tree.InodeLemmas.{inodes-created}
 use Rattle.vt_fs.proofs.tree.NamesKept.{counted_as, name_more, new_keeps, no_entries}
-use Rattle.vt_fs.specs.Trees.Names.{count_of}
+use Rattle.vt_fs.specs.Trees.Names.{listings}
 use Rattle.vt_fs.proofs.tree.trees.Tree.create.Goals as goal
 
 -- the entry and the inode are what the definition adds
@@ -31,12 +31,12 @@ invariant_of-self c = rw c.in_err-reserve.ensures.rest_kept c.self.invariant
 pub invariant_of-self-in_err-reserve-2 : goal.invariant_of-self-in_err-reserve-2
 invariant_of-self-in_err-reserve-2 c =
     counted_as _ _ _ _ (ap (inodes_in c.self.inside.root) c.in_ok-reserve.ensures.rest_kept)
-    c.in_err-reserve-2.ensures.counts c.self.invariant
+    c.in_err-reserve-2.ensures.listings c.self.invariant
 
 pub invariant_of-self-in_err-insert_entry : goal.invariant_of-self-in_err-insert_entry
 invariant_of-self-in_err-insert_entry c = counted_as _ _ _ _
     (ap (inodes_in c.self.inside.root) (c.in_err-insert_entry.ensures.err ∙ c.in_ok-reserve.ensures.rest_kept))
-    c.in_ok-reserve-2.ensures.counts c.self.invariant
+    c.in_ok-reserve-2.ensures.listings c.self.invariant
 
 -- a name more, and an inode without entries
 pub invariant_of-self-2 : goal.invariant_of-self-2
@@ -48,6 +48,6 @@ invariant_of-self-2 c =
     (no_entries c.args.directory c.args.node.content c.requires.node)
     (counted_as _ _ _ _ (c.in_ok-insert_entry.ensures.ok root) refl
     (name_more (inodes_in root c.reserve.new.self) c.args.directory c.args.name.items c.next-id.result
-    (count_of c.reserve-2.new.self) c.insert_entry.ensures.in_order
-    (counted_as _ _ _ _ (ap (inodes_in root) c.in_ok-reserve.ensures.rest_kept) c.in_ok-reserve-2.ensures.counts
+    (listings c.reserve-2.new.self) c.insert_entry.ensures.in_order
+    (counted_as _ _ _ _ (ap (inodes_in root) c.in_ok-reserve.ensures.rest_kept) c.in_ok-reserve-2.ensures.listings
     c.self.invariant))))

@@ -5,7 +5,7 @@ use Rattle.vt_fs.specs.Trees.Slots.{inodes_in, slot_at}
 use Rattle.vt_fs.specs.Trees.TreeValue.{inodes_of}
 use Rattle.vt_fs.proofs.tree.InodeLemmas.{inodes-acquired, uses-with_changed}
 use Rattle.vt_fs.proofs.tree.NamesKept.{counted_as, name_more, pin_keeps}
-use Rattle.vt_fs.specs.Trees.Names.{count_of}
+use Rattle.vt_fs.specs.Trees.Names.{listings}
 use Rattle.vt_fs.proofs.tree.trees.Tree.link.Goals as goal
 
 -- an entry leaves the count below its limit
@@ -28,13 +28,13 @@ returns-clause-ok c =
 -- room alone
 pub invariant_of-self : goal.invariant_of-self
 invariant_of-self c =
-    counted_as (inodes_in c.self.inside.root c.self.inside.slots) _ _ _ refl c.in_err-reserve.ensures.counts
+    counted_as (inodes_in c.self.inside.root c.self.inside.slots) _ _ _ refl c.in_err-reserve.ensures.listings
     c.self.invariant
 
 pub invariant_of-self-in_err-insert_entry : goal.invariant_of-self-in_err-insert_entry
 invariant_of-self-in_err-insert_entry c =
     counted_as _ _ _ _ (ap (inodes_in c.self.inside.root) c.in_err-insert_entry.ensures.err)
-    c.in_ok-reserve.ensures.counts c.self.invariant
+    c.in_ok-reserve.ensures.listings c.self.invariant
 
 -- a name more, and a use
 pub invariant_of-self-2 : goal.invariant_of-self-2
@@ -45,5 +45,5 @@ invariant_of-self-2 c =
     c.count_use.ensures.len) c.add.ensures (pin_keeps (inodes_in root c.insert_entry.new.slots) c.args.object _
     (counted_as _ _ _ _ (c.in_ok-insert_entry.ensures.ok root) refl
     (name_more (inodes_in root c.self.inside.slots) c.args.directory c.args.name.items c.args.object
-    (count_of c.reserve.new.self) c.insert_entry.ensures.in_order
-    (counted_as (inodes_in root c.self.inside.slots) _ _ _ refl c.in_ok-reserve.ensures.counts c.self.invariant))))
+    (listings c.reserve.new.self) c.insert_entry.ensures.in_order
+    (counted_as (inodes_in root c.self.inside.slots) _ _ _ refl c.in_ok-reserve.ensures.listings c.self.invariant))))

@@ -1,12 +1,12 @@
-use Rattle.std.proofs.Common.{◌≡◌, ℕ, Some, arith, nat_eq, ap, sym, ◌-◌, ◌∙◌, refl}
+use Rattle.std.proofs.Common.{◌≡◌, ℕ, Some, arith, nat_eq, ap, subst, sym, ◌-◌, ◌∙◌, refl}
 use Rattle.vt_spec.proofs.Common.{Inodes, entries_in, entry_at, is_sorted, name_cmp, node_with_entry, node_with_parent, node_without_entry, tree_of as nodes_of, with_changed}
 use Rattle.vt_spec.specs.Inodes.{without_replaced}
-use Rattle.vt_fs.specs.Trees.Slots.{inodes_in, put_at}
+use Rattle.vt_fs.specs.Trees.Slots.{inodes_in}
 use Rattle.vt_fs.specs.Trees.TreeValue.{inodes_of, tree_of}
 use Rattle.vt_fs.proofs.tree.MoveLemmas.{moved, replaced_other}
-use Rattle.vt_fs.proofs.tree.NamesKept.{counted_as, name_moved, replaced_counted, replaced_keeps}
+use Rattle.vt_fs.proofs.tree.NamesKept.{counted_as, name_moved, named_listed, replaced_keeps}
 use Rattle.vt_fs.proofs.tree.NameCounts.{most_weaker, one_if_some}
-use Rattle.vt_fs.specs.Trees.Names.{NamesAtMost, count_of}
+use Rattle.vt_fs.specs.Trees.Names.{NamesAtMost, at_place, less_at, listings, more_at}
 use Rattle.vt_fs.proofs.tree.trees.Tree.rename.Goals as goal
 use Rattle.vt_fs.proofs.tree.trees.Tree.rename.Goals.{After-set_parent}
 
@@ -51,10 +51,20 @@ returns-in_default-clause-ok c =
 pub invariant_of-self : goal.invariant_of-self
 invariant_of-self c = rw c.in_err-insert_entry.ensures.err c.self.invariant
 
--- the object keeps its count, and what had the new name has one less
+-- the old name is listed
+pub move_to-requires : goal.move_to-requires
+move_to-requires c =
+    let named = ap (λ value. entry_at (tree_of value) c.args.from c.args.old.now) c.self.view_is ∙ c.requires.named in
+    let listed = named_listed (inodes_in c.self.inside.root c.self.inside.slots) c.args.from c.args.old.now
+    c.args.object (listings c.self.inside.names) named c.self.invariant in
+    omega (arith, listed)
+
+-- the object has the new directory in the place of the old one, and what had the new name has one less
 counted : (c : After-set_parent) → NamesAtMost (nodes_of (inodes_in c.self.inside.root c.set_parent.new.slots))
-    (λ number. count_of c.self.inside.names number
-    - one_if_some number (entry_at (tree_of c.args.self.now) c.args.to c.args.new.items))
+    (λ number place. more_at c.args.object c.args.to
+    (less_at c.args.object c.args.from (listings c.self.inside.names)) number place
+    - at_place c.args.to
+    (λ number. one_if_some number (entry_at (tree_of c.args.self.now) c.args.to c.args.new.items)) number place)
 counted c =
     let root = c.self.inside.root in
     let before = inodes_in root c.self.inside.slots in
@@ -66,25 +76,30 @@ counted c =
     ∙ ap (λ inodes. with_changed nat_eq inodes c.args.object (node_with_parent c.args.to))
     (c.remove_entry.ensures.removed root
     ∙ ap (λ inodes. with_changed nat_eq inodes c.args.from (node_without_entry c.args.old.now))
-    (c.in_ok-insert_entry.ensures.ok root))) (ap (λ value. λ number. count_of c.self.inside.names number
-    - one_if_some number (entry_at (tree_of value) c.args.to c.args.new.items)) (sym c.self.view_is))
+    (c.in_ok-insert_entry.ensures.ok root))) (ap (λ value. λ number place. more_at c.args.object c.args.to
+    (less_at c.args.object c.args.from (listings c.self.inside.names)) number place
+    - at_place c.args.to
+    (λ number. one_if_some number (entry_at (tree_of value) c.args.to c.args.new.items)) number place)
+    (sym c.self.view_is))
     (name_moved before c.args.from c.args.to c.args.old.now c.args.new.items c.args.object
-    (count_of c.self.inside.names) c.insert_entry.ensures.in_order named c.self.invariant)
+    (listings c.self.inside.names) c.insert_entry.ensures.in_order named c.self.invariant)
 
 pub invariant_of-self-in-Some : goal.invariant_of-self-in-Some
 invariant_of-self-in-Some c =
     let path = (goal.at.invariant_of-self-in-Some c).After-set_parent in
     let root = c.self.inside.root in
+    let moved = more_at c.args.object c.args.to
+    (less_at c.args.object c.args.from (listings c.self.inside.names)) in
     counted_as _ _ _ _ (c.remove_object.ensures.removed root)
-    (c.take.ensures ∙ ap (λ counts. put_at (count_of counts) c.in-Some.other (count_of counts c.in-Some.other - 1))
-    c.move_to.ensures) (replaced_keeps (inodes_in root c.set_parent.new.slots) c.in-Some.other _
-    (most_weaker (nodes_of (inodes_in root c.set_parent.new.slots)) _ _ (counted path)
-    (λ number. replaced_counted (count_of c.self.inside.names) _ c.in-Some.other number
-    (sym (replaced path) ∙ c.in-Some.is))))
+    (c.take.ensures ∙ ap (less_at c.in-Some.other c.args.to) c.move_to.ensures)
+    (replaced_keeps (inodes_in root c.set_parent.new.slots) c.in-Some.other _
+    (subst (λ found. NamesAtMost (nodes_of (inodes_in root c.set_parent.new.slots)) (λ number place. moved number place
+    - at_place c.args.to (λ number. one_if_some number found) number place)) (sym (replaced path) ∙ c.in-Some.is)
+    (counted path)))
 
 pub invariant_of-self-in_default : goal.invariant_of-self-in_default
 invariant_of-self-in_default c =
     let path = (goal.at.invariant_of-self-in_default c).After-set_parent in
-    counted_as (inodes_in c.self.inside.root c.set_parent.new.slots) _ _ _ refl (ap count_of c.move_to.ensures)
-    (most_weaker (nodes_of (inodes_in c.self.inside.root c.set_parent.new.slots)) _ (count_of c.self.inside.names)
-    (counted path) (λ number. omega arith))
+    counted_as (inodes_in c.self.inside.root c.set_parent.new.slots) _ _ _ refl c.move_to.ensures
+    (most_weaker (nodes_of (inodes_in c.self.inside.root c.set_parent.new.slots)) _ _ (counted path)
+    (λ number place. omega arith))

@@ -1,5 +1,5 @@
--- One directory alone has a name for a file.
-use Rattle.std.proofs.Common.{Bool, List, None, Option, Some, ap, eqb-true, false, is_some, nat_eq, option_map, refl, sym, true, true≢false, ℕ, ◌<◌, ◌&&◌, ◌∙◌, ◌∷◌, ◌≡◌, [], unwrap_or, arith}
+-- The directories that have names for a file, among those that its tree lists.
+use Rattle.std.proofs.Common.{Bool, List, None, Option, Some, ap, eqb-true, false, is_some, length, nat_eq, option_map, refl, slice_index_or, sym, suc, true, true≢false, ℕ, ◌<◌, ◌&&◌, ◌||◌, ◌∙◌, ◌∷◌, ◌≡◌, [], unwrap_or, arith}
 use Rattle.vt_spec.proofs.Common.{Node, entries_in, entries_of, found_passes, has_entry_to, is_among, list_any, none_is_some, same_Some, targets_in, common_steps}
 use Rattle.vt_fs.specs.FilesystemsValue.{FilesystemEntry, Filesystems, entry_of, files_at, files_seen, no_entry, node_seen}
 use Rattle.vt_fs.proofs.Numbers.{numbers_listed}
@@ -9,29 +9,31 @@ use Rattle.vt_overlay.proofs.RanksSeen.{ranked_seen}
 use Rattle.vt_store.proofs.Ranked.{some_ranked}
 use Rattle.vt_store.specs.Locks.{directory_lies_in_overlay, names_in_layer}
 use Rattle.vt_store.specs.OverlaysValue.{OverlayEntry}
-use Rattle.vt_fs.specs.Trees.Names.{AloneNames}
+use Rattle.vt_fs.specs.Trees.Names.{HoldsNames}
 use Rattle.vt_fs.specs.Trees.TreeValue.{TreeValue, tree_of}
 
--- where one number alone may pass, some of a list passes if that one does
-none_passes : (test : ℕ → Bool) (one : ℕ) → ((other : ℕ) → test other ≡ true → other ≡ one) → test one ≡ false
-    → (list : List ℕ) → list_any test list ≡ false
-none_passes test one only fails [] = refl
-none_passes test one only fails (first ∷ rest) =
-    grind (arith, common_steps, none_passes test one only fails rest, test first)
-
+-- what passes stands in a list, or no number passes
 one_passes : (test : ℕ → Bool) (one : ℕ) → test one ≡ true → (list : List ℕ) → is_among nat_eq one list ≡ true
     → list_any test list ≡ true
 one_passes test one passes [] among = absurd (true≢false (sym among))
 one_passes test one passes (first ∷ rest) among =
     grind (arith, common_steps, one_passes test one passes rest, eqb-true)
 
-any_one : (test : ℕ → Bool) (one : ℕ) → ((other : ℕ) → test other ≡ true → other ≡ one) → (list : List ℕ)
-    → is_among nat_eq one list ≡ true → list_any test list ≡ test one
-any_one test one only list among = by (test one) refl
+none_passes : (test : ℕ → Bool) → ((number : ℕ) → test number ≡ false) → (list : List ℕ) → list_any test list ≡ false
+none_passes test fails [] = refl
+none_passes test fails (first ∷ rest) = cc (none_passes test fails rest, fails first)
+
+-- what stands in a list stands at an index
+at_index : (one : ℕ) (list : List ℕ) → is_among nat_eq one list ≡ true
+    → (k : ℕ) × (k < length list) × (slice_index_or list k 0 ≡ one)
+at_index one [] among = absurd (true≢false (sym among))
+at_index one (first ∷ rest) among = by (nat_eq one first) refl among (at_index one rest)
   where
-    by : (b : Bool) → test one ≡ b → list_any test list ≡ test one
-    by true e = one_passes test one e list among ∙ sym e
-    by false e = none_passes test one only e list ∙ sym e
+    by : (b : Bool) → nat_eq one first ≡ b → (b || is_among nat_eq one rest) ≡ true
+        → (is_among nat_eq one rest ≡ true → (k : ℕ) × (k < length rest) × (slice_index_or rest k 0 ≡ one))
+        → (k : ℕ) × (k < length (first ∷ rest)) × (slice_index_or (first ∷ rest) k 0 ≡ one)
+    by true e f later = (0, omega arith, sym (eqb-true one first e))
+    by false e f later = let found = later f in (suc found.0, omega (arith, found.1), found.2)
 
 nodes_found : (trees : Filesystems) (count : ℕ) (tree : TreeValue)
     → Some tree ≡ option_map (λ (entry : FilesystemEntry). entry.tree) (entry_of trees count) → (number : ℕ)
@@ -63,34 +65,42 @@ has_node object o e = grind (arith, common_steps)
 
 module _ (plain : Filesystems) (overlays : List OverlayEntry) (count : ℕ) (tree : TreeValue)
     (is : Some tree ≡ option_map (λ (entry : FilesystemEntry). entry.tree) (entry_of plain count))
-    (slot : ℕ) (small : slot < 18446744073709551616) (directory : ℕ)
-    (alone : AloneNames (tree_of tree) slot directory) where
+    (slot : ℕ) (small : slot < 18446744073709551616) (directories : List ℕ)
+    (holds : HoldsNames (tree_of tree) slot directories) where
   entry_seen : (number : ℕ) → has_entry_to nat_eq (files_at plain count).tree number (inode_number count slot)
       ≡ has_entry_to nat_eq (tree_of tree) (exchanged count number) slot
   entry_seen number = (λ i. is_among nat_eq (sym (exchanged_slot count slot small) i)
       (targets_in (sym (nodes_found plain count tree is number) i)))
       ∙ seen_targets count ((tree_of tree).node (exchanged count number)) slot
 
-  named : has_entry_to nat_eq (files_at plain count).tree (exchanged count directory) (inode_number count slot) ≡ true
-  named = cc (entry_seen (exchanged count directory), exchanged_back count directory, alone.0)
-
   abbrev test : ℕ → Bool
   test = names_in_layer plain overlays count (inode_number count slot)
 
-  only : (number : ℕ) → test number ≡ true → number ≡ exchanged count directory
-  only number passes = by (has_entry_to nat_eq (files_at plain count).tree number (inode_number count slot)) refl passes
+  -- a directory that passes is one of the tree
+  pub one_named : (number : ℕ) → test number ≡ true → list_any test (files_at plain count).numbers ≡ true
+  one_named number passes = one_passes test number passes (files_at plain count).numbers (listed
+      (has_entry_to nat_eq (files_at plain count).tree number (inode_number count slot)) refl passes)
     where
-      by : (b : Bool) → has_entry_to nat_eq (files_at plain count).tree number (inode_number count slot) ≡ b
+      listed : (b : Bool) → has_entry_to nat_eq (files_at plain count).tree number (inode_number count slot) ≡ b
           → (b && list_any (directory_lies_in_overlay plain count number) overlays) ≡ true
-          → number ≡ exchanged count directory
-      by true e passes = sym (exchanged_back count number)
-          ∙ ap (exchanged count) (alone.1 (exchanged count number) (sym (entry_seen number) ∙ e))
-      by false e passes = absurd (true≢false (sym passes))
+          → is_among nat_eq number (files_at plain count).numbers ≡ true
+      listed true named passes = grind (arith, common_steps, numbers_listed, has_node, named)
+      listed false named passes = absurd (true≢false (sym passes))
 
-  listed : is_among nat_eq (exchanged count directory) (files_at plain count).numbers ≡ true
-  listed = grind (arith, common_steps, numbers_listed, has_node, named)
+  -- where none of those that are listed passes, none does
+  pub none_named : ((k : ℕ) → k < length directories → test (exchanged count (slice_index_or directories k 0)) ≡ false)
+      → list_any test (files_at plain count).numbers ≡ false
+  none_named fails = none_passes test each (files_at plain count).numbers
+    where
+      by : (number : ℕ) (b : Bool)
+          → has_entry_to nat_eq (files_at plain count).tree number (inode_number count slot) ≡ b
+          → (b && list_any (directory_lies_in_overlay plain count number) overlays) ≡ false
+      by number true named =
+          let found = at_index (exchanged count number) directories
+          (holds (exchanged count number) (sym (entry_seen number) ∙ named)) in
+          sym (ap (λ b. b && list_any (directory_lies_in_overlay plain count number) overlays) named)
+          ∙ sym (ap test (ap (exchanged count) found.2 ∙ exchanged_back count number)) ∙ fails found.0 found.1
+      by number false named = refl
 
-  -- so the directory decides
-  pub alone_decides : list_any (directory_lies_in_overlay plain count (exchanged count directory)) overlays
-      ≡ list_any test (files_at plain count).numbers
-  alone_decides = cc (any_one test (exchanged count directory) only (files_at plain count).numbers listed, named)
+      each : (number : ℕ) → test number ≡ false
+      each number = by number (has_entry_to nat_eq (files_at plain count).tree number (inode_number count slot)) refl
