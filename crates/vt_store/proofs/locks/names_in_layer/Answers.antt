@@ -1,4 +1,4 @@
-use Rattle.std.proofs.Common.{ap, false, nat_eq, subst, sym, true, ◌&&◌, ◌∙◌}
+use Rattle.std.proofs.Common.{ap, nat_eq, subst, sym, ◌&&◌, ◌∙◌}
 use Rattle.vt_spec.proofs.Common.{and-false, and-true, has_entry_to, list_any}
 use Rattle.vt_fs.specs.FilesystemsValue.{files_at}
 use Rattle.vt_fs.specs.Laws.{ParentsAreNamed}
