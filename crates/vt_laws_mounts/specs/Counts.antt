@@ -6,4 +6,5 @@ pub mod Going
 pub mod Sweeping
 pub mod Looking
 pub mod BesideOverlays
+pub mod Rows
 pub mod OverlaysStay

@@ -2,5 +2,6 @@
 pub mod Changes
 pub mod KeptAll
 pub mod NameCounts
+pub mod Rows
 pub mod SameAfter
 pub mod TreeCounts

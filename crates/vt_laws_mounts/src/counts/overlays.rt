@@ -1,6 +1,7 @@
 //! Counts in worlds with overlays.
 ghost use Rattle.vt_laws_mounts.specs.Counts.BesideOverlays.{CountedChangesAreSweptOf, CountsFollowChangesOf, IsChangeInUse, NamesKeepAllOf, OnlyFilesChangeOf, OtherCountsStayOf, WorldsAreInUse};
 ghost use Rattle.vt_laws_mounts.specs.Counts.BesideOverlays.{AnySameWorldsCountAlike, CountedChangesAreSweptBesideOverlays, CountsFollowChangesBesideOverlays, NamesKeepAllBesideOverlays, NewTreeIsCountedBesideOverlays, NoUpperIsInAny, OnlyFilesChangeBesideOverlays, OtherCountsStayBesideOverlays, OverlaysAreUses, OverlaysTakeTheirUses, PlainOnesUseNothing, UsesAreExchangedBesideOverlays, UsesAreSweptBesideOverlays};
+ghost use Rattle.vt_laws_mounts.specs.Counts.Rows.{CountedRowsAreSwept, CountsFollowRows, OnlyFilesChangeInRows, OtherCountsStayInRows};
 ghost use Rattle.vt_laws_mounts.specs.Counts.OverlaysStay.{AllLayersAreMounted, FilesystemGoesAtZeroBesideOverlays, LayersLeftAreMounted, LivesWhileCounted, LivesWhileMounted, NamedOverlayStays, NamedOverlaysStay, OverlaysAreMounted, OverlaysAreNoLayers, OverlaysUseFilesystems};
 
 /// `uses_are_exchanged` (`one_by_one`, `swept`) holds with overlays, none of which has its upper layer in the
@@ -48,6 +49,16 @@ pub fn changes_beside_overlays_are_counted()
     ensures others { OtherCountsStayBesideOverlays }
     ensures named { NamesKeepAllBesideOverlays }
     ensures world { CountedChangesAreSweptBesideOverlays }
+{}
+
+/// `changes_in_use_are_counted` holds of a row of changes that is swept once, after the last of them (`only`, `counts`,
+/// `others`, `world`). Each fits the counted inodes in its turn, and a new inode's number is new in the tree, in which
+/// what lost its last name still is.
+pub fn rows_are_counted()
+    ensures only { OnlyFilesChangeInRows }
+    ensures counts { CountsFollowRows }
+    ensures others { OtherCountsStayInRows }
+    ensures world { CountedRowsAreSwept }
 {}
 
 /// `same_worlds_count_alike` holds with overlays.

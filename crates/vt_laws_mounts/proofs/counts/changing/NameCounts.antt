@@ -1,19 +1,26 @@
 -- The counts of a tree's inodes where names come, go and move, before anything is swept.
 use Rattle.std.proofs.Common.{◌≡◌, ◌≢◌, refl, sym, ap, subst, ◌∙◌, ⊎_elim, ◌⊎◌, ℕ, ◌+◌, ◌≤◌, nat_eq, eq-eqb, ne_eqb, Bool, true, false, true≢false, cond, List, [], ◌∷◌, ◌++◌, Option, Some, None, is_some, arith, bytes_eq}
-use Rattle.vt_spec.proofs.Common.{Inodes, IsNewIn, Node, bytes_decides, common_steps, directory_from_entry, entries-node_with_entry, entries-node_with_parent, entries-node_without_entry, entries_in, entry_named, eqb_tells, is_directory-node_without_entry, is_directory_node, is_some-node_with_entry, is_some-node_with_parent, is_some-node_without_entry, is_sorted, name_cmp, node_in, node_with_entry, node_with_parent, node_without_entry, targets_in, with_changed, with_entry, without_entry}
+use Rattle.vt_spec.proofs.Common.{Inodes, IsNewIn, Node, bytes_decides, common_steps, directory_from_entry, entries-node_with_entry, entries-node_with_parent, entries-node_without_entry, entries_in, entry_named, eqb_tells, is_directory-node_without_entry, is_directory_node, is_some-node_with_entry, is_some-node_with_parent, is_some-node_without_entry, is_sorted, name_cmp, node_with_entry, node_with_parent, node_without_entry, targets_in, with_changed, with_entry, without_entry}
 use Rattle.vt_spec.specs.Inodes.{with_new, without_name, without_replaced}
 use Rattle.vt_laws_mounts.proofs.counts.counting.Counts
 use Rattle.vt_laws_mounts.proofs.counts.counting.Counts.{apart_one, counted_new, one_if-itself}
 use Rattle.vt_laws_mounts.proofs.counts.counting.Entries.{at_other, at_place, changed_at, commute, find_without, found_target, named_apart, named_by, named_changed, new_entries, one_if, one_if_some, part_at, sorted_at, sorted_without, targets, times_put, times_without}
 use Rattle.vt_laws_mounts.proofs.counts.counting.Times.{times_append, times_in}
-use Rattle.vt_laws_mounts.proofs.counts.changing.TreeCounts.{IsStart, IsTallied, added_targets, changed_counts, changed_same, once_directory, other_uses, there_directory, unpinned_counts, uses_of}
+use Rattle.vt_laws_mounts.proofs.counts.changing.TreeCounts.{IsGoing, IsTallied, added_targets, changed_counts, is_some-with_changed, once_directory, other_uses, there_directory, unpinned_counts, uses_of}
 use Rattle.vt_spec.proofs.Truths.{zero_or_some}
+
+-- what has a name in it is there
+full_alive : {uses : ℕ → ℕ} {node : ℕ → Option (Node ℕ)} {inodes : Inodes ℕ} → Counts.IsCounted uses node inodes
+    → (n k : ℕ) → 1 ≤ times_in k (targets_in (node n)) → is_some (inodes.inode n) ≡ false → ⊥
+full_alive {node = node} counted n k full gone =
+    let none : times_in k (targets_in (node n)) ≡ 0 = ap (times_in k) (counted.emptied n gone) in omega arith
 
 -- A new inode
 module _ (base : ℕ → ℕ) (node : ℕ → Option (Node ℕ)) (numbers : List ℕ) (inodes : Inodes ℕ)
-    (start : IsStart base node numbers inodes)
+    (going : IsGoing base node numbers inodes)
     (directory : ℕ) (name : List ℕ) (number : ℕ) (new : Node ℕ) (is : is_directory_node (node directory) ≡ true)
-    (free : entry_named name (entries_in (node directory)) ≡ None) (vacant : inodes.inode number ≡ None)
+    (alive : is_some (inodes.inode directory) ≡ true) (free : entry_named name (entries_in (node directory)) ≡ None)
+    (vacant : inodes.inode number ≡ None) (no_node : node number ≡ None)
     (fits : IsNewIn directory new) where
   abbrev made_uses : ℕ → ℕ
   made_uses = uses_of base node numbers
@@ -30,11 +37,8 @@ module _ (base : ℕ → ℕ) (node : ℕ → Option (Node ℕ)) (numbers : List
   abbrev pub node_made_there : ℕ → Option (Node ℕ)
   node_made_there = at_place (changed_at node number (Some new)) directory (node_with_entry name number)
 
-  no_node : node number ≡ None
-  no_node = sym (start.same number) ∙ ap node_in vacant
-
   apart : number ≢ directory
-  apart e = true≢false (sym (there_directory base node _ inodes start _ is)
+  apart e = true≢false (sym (there_directory base node _ inodes going _ is)
       ∙ ap (λ n. is_some (node n)) (sym e) ∙ ap is_some no_node)
 
   pub either_way : (n : ℕ) → node_made n ≡ node_made_there n
@@ -44,11 +48,11 @@ module _ (base : ℕ → ℕ) (node : ℕ → Option (Node ℕ)) (numbers : List
   made_new = ap (λ b. cond b (Some new) (node_on number)) (eq-eqb number number refl)
 
   no_number : times_in number numbers ≡ 0
-  no_number = cc (start.tallied.once number, no_node)
+  no_number = cc (going.tallied.once number, no_node)
 
   counted_on : Counts.IsCounted made_uses node_on inodes_on
-  counted_on = changed_counts made_uses node inodes directory (node_with_entry name number) start.tallied.counted
-      (start.same directory) refl (λ some. (_, refl))
+  counted_on = changed_counts made_uses node inodes directory (node_with_entry name number) going.tallied.counted
+      (λ gone. absurd (true≢false (sym alive ∙ gone))) (λ some. (_, refl))
 
   vacant_on : inodes_on.inode number ≡ None
   vacant_on = cc (ne_eqb number directory apart, vacant)
@@ -56,8 +60,8 @@ module _ (base : ℕ → ℕ) (node : ℕ → Option (Node ℕ)) (numbers : List
   more : (n : ℕ) → one_if n number + made_uses n ≡ uses_of base node_made (number ∷ numbers) n
   more n =
       let names = named_changed n node directory (node_with_entry name number (node directory)) numbers
-      (once_directory base node numbers inodes start directory is) in
-      let put = added_targets base node numbers inodes start directory name number is free n in
+      (once_directory base node numbers inodes going directory is) in
+      let put = added_targets base node numbers inodes going directory name number is free n in
       let all : times_in n (named_by node_made (number ∷ numbers))
       ≡ times_in n (targets_in (node_made number)) + times_in n
       (named_by node_made numbers) = times_append n (targets_in (node_made number)) (named_by node_made numbers) in
@@ -79,7 +83,7 @@ module _ (base : ℕ → ℕ) (node : ℕ → Option (Node ℕ)) (numbers : List
 
 -- A name less
 module _ {base : ℕ → ℕ} {node : ℕ → Option (Node ℕ)} {numbers : List ℕ} {inodes : Inodes ℕ}
-    (start : IsStart base node numbers inodes) (directory : ℕ) (name : List ℕ) (object : ℕ)
+    (going : IsGoing base node numbers inodes) (directory : ℕ) (name : List ℕ) (object : ℕ)
     (leads : entry_named name (entries_in (node directory)) ≡ Some object) where
   abbrev uses : ℕ → ℕ
   uses = uses_of base node numbers
@@ -95,7 +99,7 @@ module _ {base : ℕ → ℕ} {node : ℕ → Option (Node ℕ)} {numbers : List
   off_targets n =
       let less : times_in n (targets (without_entry name (entries_in (node directory)))) + one_if_some n
       (entry_named name (entries_in (node directory))) ≡ times_in n (targets (entries_in (node directory)))
-      = times_without n name _ (start.in_order directory) in
+      = times_without n name _ (going.in_order directory) in
       let own : one_if_some n (entry_named name (entries_in (node directory))) ≡ one_if n object =
       ap (one_if_some n) leads in
       let same : times_in n (targets_in (node_without_entry name (node directory)))
@@ -107,13 +111,13 @@ module _ {base : ℕ → ℕ} {node : ℕ → Option (Node ℕ)} {numbers : List
   is_target = let off = off_targets object in let one = one_if-itself object in omega arith
 
 module _ {base : ℕ → ℕ} {node : ℕ → Option (Node ℕ)} {numbers : List ℕ} {inodes : Inodes ℕ}
-    (start : IsStart base node numbers inodes) (directory : ℕ) (name : List ℕ) (object : ℕ)
+    (going : IsGoing base node numbers inodes) (directory : ℕ) (name : List ℕ) (object : ℕ)
     (leads : entry_named name (entries_in (node directory)) ≡ Some object) (empty : entries_in (node object) ≡ []) where
   abbrev uses_r : ℕ → ℕ
   uses_r = uses_of base node numbers
 
   abbrev node_less : ℕ → Option (Node ℕ)
-  node_less = node_off start _ name object leads
+  node_less = node_off going _ name object leads
 
   abbrev node_removed : ℕ → Option (Node ℕ)
   node_removed = at_place node_less object (node_with_parent object)
@@ -125,7 +129,7 @@ module _ {base : ℕ → ℕ} {node : ℕ → Option (Node ℕ)} {numbers : List
   apart_r e =
       let none : times_in object (targets_in (node directory)) ≡ 0 =
       ap (λ n. times_in object (targets_in (node n))) (sym e) ∙ ap (λ l. times_in object (targets l)) empty in
-      let some = is_target start _ name object leads in absurd (omega arith)
+      let some = is_target going _ name object leads in absurd (omega arith)
 
   removed_entries : (n : ℕ) → entries_in (node_removed n) ≡ entries_in (node_less n)
   removed_entries = part_at entries_in node_less object (node_with_parent object)
@@ -138,25 +142,26 @@ module _ {base : ℕ → ℕ} {node : ℕ → Option (Node ℕ)} {numbers : List
   one_less : (n : ℕ) → one_if n object + uses_of base node_removed numbers n ≡ uses_r n
   one_less n =
       let names = named_changed n node directory (node_without_entry name (node directory)) numbers
-      (once_directory base node numbers inodes start directory (is_directory_off start directory name object leads)) in
+      (once_directory base node numbers inodes going directory (is_directory_off going directory name object leads)) in
       let same : times_in n (named_by node_removed numbers) ≡ times_in n (named_by node_less numbers) = ap (times_in n)
       (named_same numbers) in
-      let off = off_targets start directory name object leads n in
+      let off = off_targets going directory name object leads n in
       omega arith
 
   pub removed_name : IsTallied base node_removed numbers (without_name nat_eq inodes directory name object)
   removed_name = record {
     counted =
-        let first = changed_counts uses_r node inodes directory (node_without_entry name) start.tallied.counted
-        (start.same directory) refl (λ some. (_, refl)) in
+        let first = changed_counts uses_r node inodes directory (node_without_entry name) going.tallied.counted
+        (λ gone. absurd (full_alive going.tallied.counted directory object (is_target going directory name object leads)
+        gone)) (λ some. (_, refl)) in
         let second = changed_counts uses_r node_less inodes_less object (node_with_parent object) first
-        (changed_same node inodes directory (node_without_entry name) start.same refl (λ some. (_, refl)) object) refl
+        (λ gone. ap targets (entries-node_with_parent object (node_less object)) ∙ first.emptied object gone)
         (λ some. (_, refl)) in
         unpinned_counts uses_r (uses_of base node_removed numbers) node_removed
         (with_changed nat_eq inodes_less object (node_with_parent object)) object second one_less
         (λ none. ap targets (removed_entries object
         ∙ ap entries_in (at_other node directory (node_without_entry name) object apart_r) ∙ empty));
-    once = λ n. start.tallied.once n ∙ ap (λ b. cond b 1 0) (sym
+    once = λ n. going.tallied.once n ∙ ap (λ b. cond b 1 0) (sym
         (part_at is_some node_less object (node_with_parent object)
         (is_some-node_with_parent object (node_less object)) n
         ∙ part_at is_some node directory (node_without_entry name)
@@ -166,17 +171,17 @@ module _ {base : ℕ → ℕ} {node : ℕ → Option (Node ℕ)} {numbers : List
 -- A name that is moved
 
 module _ (base : ℕ → ℕ) (node : ℕ → Option (Node ℕ)) (numbers : List ℕ) (inodes : Inodes ℕ)
-    (start : IsStart base node numbers inodes)
+    (going : IsGoing base node numbers inodes)
     (from : ℕ) (old : List ℕ) (to : ℕ) (new : List ℕ) (object : ℕ) (replaced : Option ℕ)
     (leads : entry_named old (entries_in (node from)) ≡ Some object)
-    (to_is : is_directory_node (node to) ≡ true) (finds : entry_named new (entries_in (node to)) ≡ replaced)
+    (to_is : is_directory_node (node to) ≡ true) (to_alive : is_some (inodes.inode to) ≡ true) (finds : entry_named new (entries_in (node to)) ≡ replaced)
     (other : one_if_some object replaced ≡ 0)
     (empty : (n : ℕ) → 1 ≤ one_if_some n replaced → entries_in (node n) ≡ []) where
   abbrev uses_m : ℕ → ℕ
   uses_m = uses_of base node numbers
 
   abbrev node_from : ℕ → Option (Node ℕ)
-  node_from = node_off start from old object leads
+  node_from = node_off going from old object leads
 
   abbrev node_to : ℕ → Option (Node ℕ)
   node_to = at_place node_from to (node_with_entry new object)
@@ -198,14 +203,14 @@ module _ (base : ℕ → ℕ) (node : ℕ → Option (Node ℕ)) (numbers : List
   inodes_under = with_changed nat_eq inodes_to object (node_with_parent to)
 
   from_is : is_directory_node (node from) ≡ true
-  from_is = is_directory_off start from old object leads
+  from_is = is_directory_off going from old object leads
 
   off : (n : ℕ) → times_in n (targets_in (node_without_entry old (node from))) + one_if n object
       ≡ times_in n (targets_in (node from))
-  off = off_targets start from old object leads
+  off = off_targets going from old object leads
 
   object_target : 1 ≤ times_in object (targets_in (node from))
-  object_target = is_target start from old object leads
+  object_target = is_target going from old object leads
 
   to_from : is_directory_node (node_from to) ≡ true
   to_from =
@@ -213,9 +218,9 @@ module _ (base : ℕ → ℕ) (node : ℕ → Option (Node ℕ)) (numbers : List
       ∙ to_is
 
   order_from : (n : ℕ) → is_sorted name_cmp (entries_in (node_from n)) ≡ true
-  order_from = sorted_at node from (node_without_entry old) start.in_order
+  order_from = sorted_at node from (node_without_entry old) going.in_order
       (ap (is_sorted name_cmp) (entries-node_without_entry old (node from))
-      ∙ sorted_without old (entries_in (node from)) (start.in_order from))
+      ∙ sorted_without old (entries_in (node from)) (going.in_order from))
 
   -- the new name still leads where it led
   finds_from : entry_named new (entries_in (node_from to)) ≡ replaced
@@ -279,29 +284,28 @@ module _ (base : ℕ → ℕ) (node : ℕ → Option (Node ℕ)) (numbers : List
   less : (n : ℕ) → one_if_some n replaced + uses_of base (node_moved replaced) numbers n ≡ uses_m n
   less n =
       let one = named_changed n node from (node_without_entry old (node from)) numbers
-      (once_directory base node numbers inodes start from from_is) in
+      (once_directory base node numbers inodes going from from_is) in
       let two = named_changed n node_from to (node_with_entry new object (node_from to)) numbers
-      (once_directory base node numbers inodes start to to_is) in
+      (once_directory base node numbers inodes going to to_is) in
       let same : times_in n (named_by (node_moved replaced) numbers) ≡ times_in n (named_by node_to numbers) =
       ap (times_in n) (named_moved numbers) in
       let a = off n in
       let b = on_targets n in
       omega arith
 
-  same_from : (n : ℕ) → node_in (inodes_from.inode n) ≡ node_from n
-  same_from = changed_same node inodes from (node_without_entry old) start.same refl (λ some. (_, refl))
+  counted_from : Counts.IsCounted uses_m node_from inodes_from
+  counted_from = changed_counts uses_m node inodes from (node_without_entry old) going.tallied.counted
+      (λ gone. absurd (full_alive going.tallied.counted from object object_target gone)) (λ some. (_, refl))
 
-  same_to : (n : ℕ) → node_in (inodes_to.inode n) ≡ node_to n
-  same_to = changed_same node_from inodes_from to (node_with_entry new object) same_from refl (λ some. (_, refl))
-
-  same_under : (n : ℕ) → node_in (inodes_under.inode n) ≡ node_under n
-  same_under = changed_same node_to inodes_to object (node_with_parent to) same_to refl (λ some. (_, refl))
+  counted_to : Counts.IsCounted uses_m node_to inodes_to
+  counted_to = changed_counts uses_m node_from inodes_from to (node_with_entry new object) counted_from
+      (λ gone. absurd (true≢false (sym to_alive ∙ sym (is_some-with_changed inodes from (node_without_entry old) to)
+      ∙ gone))) (λ some. (_, refl))
 
   counted_under : Counts.IsCounted uses_m node_under inodes_under
-  counted_under = changed_counts uses_m node_to inodes_to object (node_with_parent to)
-      (changed_counts uses_m node_from inodes_from to (node_with_entry new object)
-      (changed_counts uses_m node inodes from (node_without_entry old) start.tallied.counted (start.same from) refl
-      (λ some. (_, refl))) (same_from to) refl (λ some. (_, refl))) (same_to object) refl (λ some. (_, refl))
+  counted_under = changed_counts uses_m node_to inodes_to object (node_with_parent to) counted_to
+      (λ gone. ap targets (entries-node_with_parent to (node_to object)) ∙ counted_to.emptied object gone)
+      (λ some. (_, refl))
 
   -- a replaced object has no entries, and is neither of the directories
   none_or_one : (n : ℕ) → (one_if_some n replaced ≡ 0) ⊎ (1 ≤ one_if_some n replaced)
@@ -332,7 +336,8 @@ module _ (base : ℕ → ℕ) (node : ℕ → Option (Node ℕ)) (numbers : List
       by (Some gone) e =
           let one : one_if_some gone replaced ≡ 1 = ap (one_if_some gone) e ∙ one_if-itself gone in
           let second = changed_counts uses_m node_under inodes_under gone (node_with_parent gone) counted_under
-          (same_under gone) refl (λ some. (_, refl)) in
+          (λ no. ap targets (entries-node_with_parent gone (node_under gone)) ∙ counted_under.emptied gone no)
+          (λ some. (_, refl)) in
           unpinned_counts uses_m (uses_of base (node_moved replaced) numbers) (node_moved (Some gone))
           (with_changed nat_eq inodes_under gone (node_with_parent gone)) gone second
           (λ n. ap (λ o. one_if_some n o + uses_of base (node_moved replaced) numbers n) (sym e) ∙ less n)
@@ -366,5 +371,5 @@ module _ (base : ℕ → ℕ) (node : ℕ → Option (Node ℕ)) (numbers : List
   moved = subst (λ f. IsTallied base f numbers (without_replaced nat_eq inodes_under replaced))
       (sym (same_there _ from_stays to_stays other)) (record {
         counted = counted_moved;
-        once = λ n. start.tallied.once n ∙ ap (λ b. cond b 1 0) (sym (some_moved n));
+        once = λ n. going.tallied.once n ∙ ap (λ b. cond b 1 0) (sym (some_moved n));
       })

@@ -1,5 +1,5 @@
 -- The counts of a tree's inodes after each change of the tree, before anything is swept.
-use Rattle.std.proofs.Common.{◌≡◌, ◌≢◌, refl, sym, ap, subst, ◌∙◌, ⊎_elim, ℕ, suc, ◌+◌, ◌-◌, ◌≤◌, nat_eq, Bool, true, false, cond, List, [], ◌∷◌, ◌++◌, length, Option, Some, None, is_some, arith}
+use Rattle.std.proofs.Common.{◌≡◌, ◌≢◌, refl, sym, ap, subst, ◌∙◌, ⊎_elim, ℕ, suc, ◌+◌, ◌-◌, ◌≤◌, nat_eq, Bool, true, false, true≢false, cond, List, [], ◌∷◌, ◌++◌, length, Option, Some, None, is_some, arith}
 use Rattle.vt_spec.proofs.Common.{Inode, Inodes, Node, common_steps, count_after, directory_is_there, entries-node_with_entry, entries_in, entry_named, eqb_tells, inode_with_node, is_directory_node, is_some-node_with_entry, is_sorted, name_cmp, node_in, node_with_entry, some_from_is_some, targets_in, unpinned, used_once_less, uses_in, with_changed, with_entry}
 use Rattle.std.proofs.lemmas.Bool.Decides.{leb_tells}
 use Rattle.vt_spec.specs.Inodes.{with_inode, with_name}
@@ -16,7 +16,12 @@ pub record IsTallied (base : ℕ → ℕ) (node : ℕ → Option (Node ℕ)) (nu
   pub counted : Counts.IsCounted (uses_of base node numbers) node inodes
   pub once : (n : ℕ) → times_in n numbers ≡ cond (is_some (node n)) 1 0
 
--- before a change the nodes are the inodes', and names stand in order
+-- between changes names stand in order
+pub record IsGoing (base : ℕ → ℕ) (node : ℕ → Option (Node ℕ)) (numbers : List ℕ) (inodes : Inodes ℕ) : Type 0 where
+  pub tallied : IsTallied base node numbers inodes
+  pub in_order : (n : ℕ) → is_sorted name_cmp (entries_in (node n)) ≡ true
+
+-- before a change the nodes are the inodes', too
 pub record IsStart (base : ℕ → ℕ) (node : ℕ → Option (Node ℕ)) (numbers : List ℕ) (inodes : Inodes ℕ) : Type 0 where
   pub tallied : IsTallied base node numbers inodes
   pub same : (n : ℕ) → node_in (inodes.inode n) ≡ node n
@@ -27,23 +32,32 @@ pub other_uses : (uses now : ℕ → ℕ) (node : ℕ → Option (Node ℕ)) (in
     → Counts.IsCounted uses node inodes → Counts.IsCounted now node inodes
 other_uses uses now node inodes same counted = subst (λ u. Counts.IsCounted u node inodes) (λ i. λ n. same n i) counted
 
--- A node that is changed where it is, if it is there
+-- A node that is changed where it is. If its inode is gone, it has no names in it.
 pub changed_counts : (uses : ℕ → ℕ) (node : ℕ → Option (Node ℕ)) (inodes : Inodes ℕ) (place : ℕ)
     (change : Option (Node ℕ) → Option (Node ℕ)) → Counts.IsCounted uses node inodes
-    → node_in (inodes.inode place) ≡ node place → change None ≡ None
+    → (is_some (inodes.inode place) ≡ false → targets_in (change (node place)) ≡ [])
     → ((some : Node ℕ) → (new : Node ℕ) × (change (Some some) ≡ Some new))
     → Counts.IsCounted uses (at_place node place change) (with_changed nat_eq inodes place change)
-changed_counts uses node inodes place change counted same none some = by _ refl
+changed_counts uses node inodes place change counted bare some = by _ refl
   where
     by : (o : Option (Inode ℕ)) → inodes.inode place ≡ o
         → Counts.IsCounted uses (at_place node place change) (with_changed nat_eq inodes place change)
     by None is =
-        subst (λ f. Counts.IsCounted uses f (with_changed nat_eq inodes place change)) (λ i. λ n. node_kept n i)
-        (subst (λ k. Counts.IsCounted uses node (record inodes { inode = k })) (λ i. λ n. inode_kept n i) counted)
+        subst (λ k. Counts.IsCounted uses (at_place node place change) (record inodes { inode = k }))
+        (λ i. λ n. inode_kept n i) (record {
+          uses_are = counted.uses_are;
+          in_use = counted.in_use;
+          kept = λ n e. ⊎_elim (λ t. absurd (true≢false (sym e ∙ ap (λ k. is_some (inodes.inode k)) t.1 ∙ ap is_some is)))
+              (λ t. ap (λ b. cond b (change (node place)) (node n)) t.0 ∙ counted.kept n e) (eqb_tells n place);
+          emptied = λ n e. ⊎_elim
+              (λ t. ap (λ b. targets_in (cond b (change (node place)) (node n))) t.0 ∙ bare (ap is_some is))
+              (λ t. ap (λ b. targets_in (cond b (change (node place)) (node n))) t.0 ∙ counted.emptied n e)
+              (eqb_tells n place);
+          list = counted.list;
+          listed = counted.listed;
+          as_many = counted.as_many;
+        })
       where
-        no_node : node place ≡ None
-        no_node = sym same ∙ ap node_in is
-
         still_none : (o : Option (Node ℕ)) → inode_with_node o None ≡ None
         still_none None = refl
         still_none (Some x) = refl
@@ -51,12 +65,22 @@ changed_counts uses node inodes place change counted same none some = by _ refl
         inode_kept : (n : ℕ) → inodes.inode n ≡ cond (nat_eq n place)
             (inode_with_node (change (node_in (inodes.inode place))) (inodes.inode place)) (inodes.inode n)
         inode_kept n = grind (arith, common_steps, still_none, eqb_tells)
-
-        node_kept : (n : ℕ) → node n ≡ at_place node place change n
-        node_kept n = ⊎_elim (λ t. ap node t.1 ∙ no_node ∙ sym (ap change no_node ∙ none)
-            ∙ sym (ap (λ b. cond b (change (node place)) (node n)) t.0))
-            (λ t. sym (ap (λ b. cond b (change (node place)) (node n)) t.0)) (eqb_tells n place)
     by (Some inode) is = counted_changed counted place is change (some inode.node).0 (some inode.node).1
+
+-- inodes that are changed are there as before
+pub is_some-with_changed : (inodes : Inodes ℕ) (place : ℕ) (change : Option (Node ℕ) → Option (Node ℕ)) (n : ℕ)
+    → is_some ((with_changed nat_eq inodes place change).inode n) ≡ is_some (inodes.inode n)
+is_some-with_changed inodes place change n =
+    ⊎_elim (λ t. ap (λ b. is_some (cond b (inode_with_node (change (node_in (inodes.inode place)))
+    (inodes.inode place)) (inodes.inode n))) t.0 ∙ by (change (node_in (inodes.inode place))) (inodes.inode place)
+    ∙ ap (λ k. is_some (inodes.inode k)) (sym t.1))
+    (λ t. ap (λ b. is_some (cond b (inode_with_node (change (node_in (inodes.inode place)))
+    (inodes.inode place)) (inodes.inode n))) t.0) (eqb_tells n place)
+  where
+    by : (o : Option (Node ℕ)) (inode : Option (Inode ℕ)) → is_some (inode_with_node o inode) ≡ is_some inode
+    by None inode = refl
+    by (Some node) None = refl
+    by (Some node) (Some inode) = refl
 
 -- the nodes of inodes that are changed
 pub changed_same : (node : ℕ → Option (Node ℕ)) (inodes : Inodes ℕ) (place : ℕ)
@@ -152,15 +176,15 @@ unpinned_counts uses left node inodes place counted less empty =
 
 -- Changes that keep entries
 module _ (base : ℕ → ℕ) (node : ℕ → Option (Node ℕ)) (numbers : List ℕ) (inodes : Inodes ℕ)
-    (start : IsStart base node numbers inodes) where
+    (going : IsGoing base node numbers inodes) where
   abbrev uses : ℕ → ℕ
   uses = uses_of base node numbers
 
   counted : Counts.IsCounted uses node inodes
-  counted = start.tallied.counted
+  counted = going.tallied.counted
 
   once : (n : ℕ) → times_in n numbers ≡ cond (is_some (node n)) 1 0
-  once = start.tallied.once
+  once = going.tallied.once
 
   pub rewritten : (place : ℕ) (change : Option (Node ℕ) → Option (Node ℕ))
       → ((o : Option (Node ℕ)) → entries_in (change o) ≡ entries_in o)
@@ -169,7 +193,8 @@ module _ (base : ℕ → ℕ) (node : ℕ → Option (Node ℕ)) (numbers : List
   rewritten place change entries none some = record {
     counted = other_uses uses (uses_of base (at_place node place change) numbers) (at_place node place change)
         (with_changed nat_eq inodes place change) (λ n. ap (λ l. base n + times_in n l) (sym (names numbers)))
-        (changed_counts uses node inodes place change counted (start.same place) none some);
+        (changed_counts uses node inodes place change counted
+        (λ gone. ap targets (entries (node place)) ∙ counted.emptied place gone) some);
     once = λ n. once n ∙ ap (λ b. cond b 1 0) (sym (part_at is_some node place change (there (node place)) n));
   }
     where
@@ -196,7 +221,7 @@ module _ (base : ℕ → ℕ) (node : ℕ → Option (Node ℕ)) (numbers : List
   added_targets directory name object is free n =
       let put : times_in n (targets (with_entry name object (entries_in (node directory)))) + one_if_some n
       (entry_named name (entries_in (node directory))) ≡ times_in n (targets (entries_in (node directory))) + one_if n
-      object = times_put n name object _ (start.in_order directory) in
+      object = times_put n name object _ (going.in_order directory) in
       let none : one_if_some n (entry_named name (entries_in (node directory))) ≡ 0 = ap (one_if_some n) free in
       let same : times_in n (targets_in (node_with_entry name object (node directory)))
       ≡ times_in n (targets (with_entry name object (entries_in (node directory)))) = ap (λ e. times_in n (targets e))
@@ -205,10 +230,11 @@ module _ (base : ℕ → ℕ) (node : ℕ → Option (Node ℕ)) (numbers : List
 
   -- Another name
   pub linked : (directory : ℕ) (name : List ℕ) (object : ℕ) → is_directory_node (node directory) ≡ true
-      → entry_named name (entries_in (node directory)) ≡ None → is_some (inodes.inode object) ≡ true
+      → is_some (inodes.inode directory) ≡ true → entry_named name (entries_in (node directory)) ≡ None
+      → is_some (inodes.inode object) ≡ true
       → IsTallied base (at_place node directory (node_with_entry name object)) numbers
       (with_name nat_eq inodes directory name object)
-  linked directory name object is free there = record {
+  linked directory name object is alive free there = record {
     counted =
         let inode = some_from_is_some (inodes_on.inode object)
         (counted_some uses node_on inodes_on counted_on object object_used) in
@@ -226,7 +252,7 @@ module _ (base : ℕ → ℕ) (node : ℕ → Option (Node ℕ)) (numbers : List
 
       counted_on : Counts.IsCounted uses node_on inodes_on
       counted_on = changed_counts uses node inodes directory (node_with_entry name object) counted
-          (start.same directory) refl (λ some. (_, refl))
+          (λ gone. absurd (true≢false (sym alive ∙ gone))) (λ some. (_, refl))
 
       object_used : 1 ≤ uses object
       object_used = let some = counted.in_use object there in let e = counted.uses_are object in omega arith
