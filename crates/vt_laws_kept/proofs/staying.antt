@@ -2,3 +2,4 @@
 pub mod Applied
 pub mod Paths
 pub mod Named
+pub mod Listed

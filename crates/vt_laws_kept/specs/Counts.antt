@@ -34,11 +34,11 @@ UnnamedExistWhileLocated =
     is_some ((filesystem_numbered nat_eq world number).files.tree.node inode)
     ≡ nat_lt 0 (locations_on world number inode))
 
--- Where filesystems stay, an exchange of uses of inodes is one of locations, with names or without.
+-- Uses that mounts and tasks exchange are locations, whatever becomes of filesystems.
 abbrev pub LocationsAreExchanged : Type 0
 LocationsAreExchanged =
-    (world after : World ℕ) (gained lost : List Inode) (number inode : ℕ) → after.filesystems ≡ world.filesystems
-    → Exchanges gained lost number world after
+    (world after : World ℕ) (gained lost : List Inode) (number inode : ℕ)
+    → Exchanges gained lost number world (record after { filesystems = world.filesystems })
     → locations_on world number inode + times (is_inode number inode) gained
     ≡ locations_on after number inode + times (is_inode number inode) lost
 

@@ -1,18 +1,19 @@
 -- What a permit leaves of an overlay through which it changes nothing: the kernel's overlayfs document, "upper and
 -- lower" and "changes to underlying filesystems".
-use Rattle.std.specs.Prelude.{None, Option, Some, List, if◌then◌else◌, nat_eq, nat_lt, true, ℕ, ◌≡◌, ◌≢◌}
+use Rattle.std.specs.Prelude.{List, None, Option, Some, filter, map, if◌then◌else◌, nat_eq, nat_lt, true, ℕ, ◌≡◌, ◌≢◌}
 use Rattle.vt_spec.specs.Language.Changes.{Change}
 use Rattle.vt_spec.specs.Lists.{Fresh}
 use Rattle.vt_spec.specs.Machine.Invariants.{IsWorld, number_at_path}
 use Rattle.vt_spec.specs.Machine.Mounts.{Location}
 use Rattle.vt_spec.specs.Machine.Permits.{Permit}
+use Rattle.vt_spec.specs.Machine.Settled.{is_mounted}
 use Rattle.vt_spec.specs.Machine.World.{Overlay, Real, Task, World, filesystem_numbered, is_overlay, mount_at}
 use Rattle.vt_laws_trees.specs.Overlays.MergedTrees.{IsNamedBy}
 use Rattle.vt_laws_trees.specs.Overlays.TreesSeen.{AreNoLarger, real_seen, tree_seen}
 use Rattle.vt_laws_worlds.specs.Given.LeftWorlds.{IsGivenToTask}
 use Rattle.vt_laws_worlds.specs.OverlayPermits.Asked.{change_asked}
 use Rattle.vt_laws_worlds.specs.OverlayPermits.Through.{LayersStay}
-use Rattle.vt_laws_worlds.specs.Permits.Left.{left_by}
+use Rattle.vt_laws_worlds.specs.Permits.Left.{IsGiven, left_by}
 use Rattle.vt_laws_kept.specs.Counts.{locations_on, only_staying, real_staying, stays_in}
 
 -- a permit asks for no change of the filesystem of this number
@@ -76,3 +77,18 @@ LeftAreSeen =
     ≡ tree_seen number_of (held_on left number held) longest left overlay)
     × ((real_staying (stays_in left (filesystem_numbered nat_eq world number)) overlay).real
     ≡ real_seen number_of (held_on left number held) longest left overlay))
+
+-- Order
+
+-- the numbers of the overlays of a world, in their order
+abbrev pub numbers_of_overlays : World ℕ → List ℕ
+numbers_of_overlays world = map (λ merged. merged.number) (filter is_overlay world.filesystems)
+
+-- What any permit leaves of overlays, but for that to mount one, are the mounted ones, in their order.
+abbrev pub OverlaysStayInOrder : Type 0
+OverlaysStayInOrder =
+    (world : World ℕ) (fresh : Fresh ℕ) (task : Task ℕ) (permit : Permit ℕ) → IsWorld nat_eq world
+    → IsGiven fresh world task permit
+    → filter is_overlay (left_by fresh world task permit).filesystems
+    ≡ map (filesystem_numbered nat_eq (left_by fresh world task permit))
+    (filter (is_mounted nat_eq (left_by fresh world task permit)) (numbers_of_overlays world))

@@ -3,7 +3,7 @@
 ghost use Rattle.vt_laws_kept.specs.Counts.{LocationsAreExchanged, UnnamedExistWhileLocated, UnnamedGoWithTheirLastLocation, UnnamedUsesAreLocations};
 
 /// The `uses` of an unnamed inode of an overlay are the locations on it, and it `exists` just while there are any. In
-/// any world, if filesystems stay, exchanged uses of inodes are exchanged locations (`exchanged`).
+/// any world, uses that mounts and tasks exchange are locations, whatever filesystems become (`exchanged`).
 pub fn unnamed_inodes_are_used_by_locations()
     ensures uses { UnnamedUsesAreLocations }
     ensures exists { UnnamedExistWhileLocated }

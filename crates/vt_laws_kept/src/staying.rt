@@ -1,6 +1,6 @@
-//! Overlays through which a permit changes nothing (`LeavesAlone`), and that exist after it and the sweep. They may
-//! have an upper layer, and the permit may be for `mount overlay`.
-ghost use Rattle.vt_laws_kept.specs.Staying.{LayersAreLeft, LeftAreSeen, NamesAreLeft, ShownIsLeft, TreesAreLeft};
+//! Overlays after a given permit and the sweep, with an upper layer or without. But for the last law, the permit
+//! changes nothing through the overlay (`LeavesAlone`), which is left, and may be for `mount overlay`.
+ghost use Rattle.vt_laws_kept.specs.Staying.{LayersAreLeft, LeftAreSeen, NamesAreLeft, OverlaysStayInOrder, ShownIsLeft, TreesAreLeft};
 
 /// Such an overlay keeps its `layers`, and shows at each path what it showed (`shown`). It is as it was without the
 /// unnamed inodes that no location is on any more (`tree`).
@@ -17,4 +17,10 @@ pub fn overlays_stay_with_their_layers()
 pub fn overlays_stay_named()
     ensures named { NamesAreLeft }
     ensures seen { LeftAreSeen }
+{}
+
+/// After any permit but one for `mount overlay`, and the sweep, the overlays are those that are mounted then, in their
+/// order.
+pub fn overlays_stay_in_order()
+    ensures { OverlaysStayInOrder }
 {}

@@ -3,9 +3,10 @@ use Rattle.std.proofs.Common.{arith, ◌≡◌, refl, sym, ap, subst, ◌∙◌,
 use Rattle.vt_spec.proofs.Found.{found_among}
 use Rattle.vt_spec.proofs.Lists.{among_numbers}
 use Rattle.vt_spec.proofs.Common.{Among, FileTree, Filesystem, IsWorld, Layer, Location, Mount, Overlay, OverlayInvariants, World, all_locations, among-append, among-from_filter, among-from_filter_map, among-from_flat_map, among-from_map, among_from_all, among_from_list_all, and_true_left, and_true_right, any_pair, common_steps, directory_used, filesystem_numbered, has_its_root, holds_of, is_among, is_directory_at, is_directory_node, is_located_well, is_overlay, is_plain_layer, is_there, layers_in, layers_of, list_all, list_any, list_any-append, located_in, mount_at, mount_numbered, named_in, not-true, objects_of_overlay, of_overlay, or_false_left, or_false_right, overlay_or, root_of, same_truth, upper_object, used_in}
-use Rattle.vt_laws_mounts.specs.Counts.Using.{is_inode}
+use Rattle.vt_laws_mounts.specs.Counts.Using.{Exchanges, is_inode}
 use Rattle.vt_laws_mounts.specs.LettingGo.Counts.{inode_uses, times}
 use Rattle.vt_laws_mounts.specs.LettingGo.InUse.{is_inode_used}
+use Rattle.vt_laws_mounts.specs.LettingGo.OneByOne.{Inode}
 use Rattle.vt_laws_mounts.proofs.letting_go.Lists.{any_counted, flat_map_none, nothing_passes}
 use Rattle.vt_laws_mounts.proofs.letting_go.sweeps.OfWorlds.{all_in_use, found_filesystem}
 use Rattle.vt_laws_mounts.proofs.letting_go.sweeps.UpperUses.{times_append}
@@ -41,7 +42,7 @@ module _ (world : World ℕ)
   whole = filesystem_numbered nat_eq world number
 
   -- a layer of another overlay is elsewhere
-  elsewhere : (merged : Filesystem ℕ) → Among merged world.filesystems → (other : Overlay ℕ)
+  pub elsewhere : (merged : Filesystem ℕ) → Among merged world.filesystems → (other : Overlay ℕ)
       → merged.overlay ≡ Some other → (layer : Layer ℕ) → Among layer (layers_of other)
       → nat_eq number layer.filesystem ≡ false
   elsewhere merged m other e layer in_layers = by (nat_eq number layer.filesystem) refl
@@ -232,8 +233,11 @@ taken_off : (root named layers objects here there gained lost before after : ℕ
     → after ≡ root + (named + there + layers + objects) → here + gained ≡ there + lost
 taken_off root named layers objects here there gained lost before after e f g = omega arith
 
-pub locations_are_exchanged : LocationsAreExchanged
-locations_are_exchanged world after gained lost number inode same exchanges =
+exchanged_by : (world after : World ℕ) (gained lost : List Inode) (number inode : ℕ)
+    → after.filesystems ≡ world.filesystems → Exchanges gained lost number world after
+    → locations_on world number inode + times (is_inode number inode) gained
+    ≡ locations_on after number inode + times (is_inode number inode) lost
+exchanged_by world after gained lost number inode same exchanges =
     let f = filesystem_numbered nat_eq world number in
     let others : List (Filesystem ℕ) → ℕ = λ filesystems.
     times (nat_eq inode) (layers_in nat_eq (record world { filesystems = filesystems }) f.number) in
@@ -254,3 +258,7 @@ locations_are_exchanged world after gained lost number inode same exchanges =
     (inode_uses world f inode) (inode_uses after (filesystem_numbered nat_eq after number) inode)
     (exchanges.uses inode) (uses_in_parts world f inode) then
     ∙ ap (λ n. locations_on after n inode + times (is_inode number inode) lost) (number_of_filesystem world number)
+
+pub locations_are_exchanged : LocationsAreExchanged
+locations_are_exchanged world after gained lost number inode exchanges =
+    exchanged_by world (record after { filesystems = world.filesystems }) gained lost number inode refl exchanges
