@@ -2,3 +2,4 @@
 pub mod Kept
 pub mod Nested
 pub mod Found
+pub mod Live

@@ -73,3 +73,20 @@ OverlapsAreFound =
     → overlaps_one_of nat_eq world others layer
     ≡ (list_any (are_nested world layer) others
     || list_any (is_in_both world others layer) (inodes ++ kept_in world layer.filesystem))
+
+-- an inode lies in a layer, and in one of others
+abbrev pub lies_in_both : World ℕ → List (Layer ℕ) → Layer ℕ → ℕ → Bool
+lies_in_both world others layer inode =
+    lies_in_layer nat_eq world layer.filesystem inode layer
+    && list_any (lies_in_layer nat_eq world layer.filesystem inode) others
+
+-- So a layer overlaps one of the layers of live overlays, or one of those that changes write to, just if it is nested
+-- with one, or one of those inodes lies in both, or a kept one lies in it.
+abbrev pub OverlapsWithLiveAreFound : (World ℕ → List (Layer ℕ)) → Type 0
+OverlapsWithLiveAreFound live =
+    (world : World ℕ) (layer : Layer ℕ) (inodes : List ℕ) → IsWorld nat_eq world
+    → is_plain_layer nat_eq world layer ≡ true
+    → ListsLinked (filesystem_numbered nat_eq world layer.filesystem).files inodes
+    → overlaps_one_of nat_eq world (live world) layer
+    ≡ (list_any (are_nested world layer) (live world) || list_any (lies_in_both world (live world) layer) inodes
+    || list_any (λ inode. lies_in_layer nat_eq world layer.filesystem inode layer) (kept_in world layer.filesystem))

@@ -168,11 +168,12 @@ module _ (world : World ℕ) (conditions : IsWorld nat_eq world) (filesystem obj
       → filesystem_numbered nat_eq world merged.number ≡ merged
   own = own_number world conditions.files.one_filesystem
 
-  in_world : (merged : Filesystem ℕ) → Among merged (overlays world) → Among merged world.filesystems
+  pub in_world : (merged : Filesystem ℕ) → Among merged (overlays world) → Among merged world.filesystems
   in_world merged m = (among-from_filter is_overlay world.filesystems merged m).0
 
   module _ (layer : Layer ℕ) where
-    stands_where : (merged : Filesystem ℕ) (overlay : Overlay ℕ) → merged.overlay ≡ Some overlay → (upper : Layer ℕ)
+    pub stands_where : (merged : Filesystem ℕ) (overlay : Overlay ℕ) → merged.overlay ≡ Some overlay
+        → (upper : Layer ℕ)
         → overlay.upper ≡ Some upper
         → stands_in world layer merged ≡ lies_in_layer nat_eq world upper.filesystem upper.directory layer
     stands_where merged overlay is upper has =
