@@ -1,7 +1,7 @@
 -- The layers of all overlays, as overlays come, change and go.
 use Rattle.std.proofs.Common.{Option, ◌≡◌, ◌<◌, ◌^◌, arith, is_some, lt-ltb, ne_eqb, refl, sym, ap, ◌∙◌, ℕ, Bool, true, false, cond, not, nat_eq, List, [], ◌∷◌, ◌++◌, append_assoc, None, Some, option_map, T, subst, IsPermutation, count_by, min, nat_lt, eqb-true, ltb-true}
 use Rattle.vt_spec.proofs.Common.{AllByRecursion, IsPermutation-append_left, IsPermutation-append_right, IsPermutation-trans, T_and_left, T_and_right, keys_of, list_all, list_any, list_any-append, lookup, same_Some, sum_by-IsPermutation, common_steps}
-use Rattle.std.proofs.lemmas.List.Sorted.{All-permutation, IsPermutation-append_comm}
+use Rattle.std.proofs.lemmas.List.Sorted.{All-permutation, IsPermutation-append_comm, length_permutation}
 use Rattle.indexmap.specs.IndexMap.{IndexMap, WritesThrough, get_by}
 use Rattle.vt_location.proofs.OrderLemmas.{apart-below, rises, rises-in_order, same_by}
 use Rattle.vt_location.specs.declared.numbers.FilesystemId.{FilesystemId}
@@ -92,6 +92,7 @@ counted_in_any_order old new counts same is = record {
   filesystems = λ q. is.filesystems q ∙ sym (counts_same (stands_in q.count));
   directories = λ q. is.directories q ∙ sym (counts_same (stands_at q));
   small = All-permutation (λ (layer : LayerRef). layer.directory.slot < 2 ^ 64) old new same is.small;
+  total = is.total ∙ sym (length_permutation old new same);
 }
   where
     counts_same : (test : LayerRef → Bool) → count_by test new ≡ count_by test old
@@ -134,7 +135,8 @@ kept_removed f es new x before after oldest is there goes counts = record {
 }
   where
     nothing : (b : Bool) (o : Option KeptOverlay) → o ≡ None → cond b None o ≡ None
-    nothing b o e = grind (arith, common_steps)
+    nothing true o e = refl
+    nothing false o e = e
 
 -- and where the mounts of one change
 pub kept_written : {S : Type 0} (f : ℕ) (change : ℕ → ℕ) (m n : IndexMap FilesystemId KeptOverlay S)

@@ -1,5 +1,5 @@
 -- How many layers are in each filesystem, and at each directory.
-use Rattle.std.specs.Prelude.{All, Bool, List, count_by, nat_lt, ℕ, ◌+◌, ◌<◌, ◌^◌, ◌≡◌, ◌≤◌}
+use Rattle.std.specs.Prelude.{All, Bool, List, count_by, length, nat_lt, ℕ, ◌+◌, ◌<◌, ◌^◌, ◌≡◌, ◌≤◌}
 use Rattle.vt_location.specs.declared.locations.InodeRef.{InodeRef}
 use Rattle.vt_location.specs.declared.numbers.FilesystemId.{FilesystemId}
 use Rattle.vt_overlay.specs.declared.merge.layers.LayerRef.{LayerRef}
@@ -14,12 +14,17 @@ pub record AreCounted (layers : List LayerRef) (counts : LayerCounts) : Type 0 w
   pub directories : (directory : InodeRef)
       → times same_inode directory counts.at_directory ≡ count_by (stands_at directory) layers
   pub small : All (λ layer. layer.directory.slot < 2 ^ 64) layers
+  pub total : counts.total ≡ length layers
+
+-- some layers are
+abbrev pub AreOfLayers : LayerCounts → Type 0
+AreOfLayers counts = (layers : List LayerRef) × AreCounted layers counts
 
 -- so many layers more can be counted
 pub record HasRoomForLayers (more : ℕ) (counts : LayerCounts) : Type 0 where
   pub filesystems : more ≤ room counts.in_filesystem
   pub directories : more ≤ room counts.at_directory
-  pub few : counts.ever + more < 2 ^ 64
+  pub few : counts.total + more < 2 ^ 64
 
 -- a layer is in a filesystem, and at a directory
 abbrev pub has_layer_in : LayerCounts → FilesystemId → Bool

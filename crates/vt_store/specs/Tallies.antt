@@ -1,5 +1,5 @@
 -- How often keys were counted.
-use Rattle.std.specs.Prelude.{Bool, unwrap_or, ℕ, ◌≤◌}
+use Rattle.std.specs.Prelude.{Bool, unwrap_or, ℕ}
 use Rattle.std.specs.Map.{lookup}
 use Rattle.indexmap.specs.IndexMap.{spare}
 use Rattle.vt_store.specs.declared.tally.Tally.{Tally}
@@ -11,7 +11,3 @@ times eq key tally = unwrap_or (lookup (eq key) tally.counts.entries) 0
 -- how many keys more can be counted without an allocation
 abbrev pub room : {K : Type 0} → Tally K → ℕ
 room tally = spare tally.counts
-
--- no key was counted more often
-abbrev pub HasFew : {K : Type 0} → (K → K → Bool) → ℕ → Tally K → Type 0
-HasFew {K} eq most tally = (key : K) → times eq key tally ≤ most

@@ -4,8 +4,7 @@ ghost use Rattle.std.specs.List.{list_any};
 ghost use Rattle.vt_spec.specs.Inodes.{ancestors};
 ghost use Rattle.vt_fs.specs.Trees.TreeValue.{inodes_of};
 ghost use Rattle.vt_overlay.specs.declared.merge.layers.LayerRef.{LayerRef};
-ghost use Rattle.vt_store.specs.LayerTests.{layer_at, same_filesystem, same_inode};
-ghost use Rattle.vt_store.specs.Tallies.{HasFew};
+ghost use Rattle.vt_store.specs.LayerTests.{layer_at};
 
 use crate::tally::Tally;
 use std::alloc::{AllocError, Global};
@@ -18,23 +17,21 @@ use vt_overlay::LayerRef;
 /// however many there are.
 #[derive(Debug, Drop)]
 pub(crate) struct LayerCounts {
-    // How many were ever counted: no count is above it.
-    ever: u64,
+    // How many layers there are: no count is above it.
+    total: u64,
     in_filesystem: Tally<FilesystemId>,
     at_directory: Tally<InodeRef>,
-    ghost few_in: { HasFew same_filesystem ever in_filesystem },
-    ghost few_at: { HasFew same_inode ever at_directory },
 }
 
 impl LayerCounts {
-    ghost use Rattle.vt_store.specs.LayersAt.{AreCounted, HasRoomForLayers, has_layer_at, has_layer_in};
+    ghost use Rattle.vt_store.specs.LayersAt.{AreCounted, AreOfLayers, HasRoomForLayers, has_layer_at, has_layer_in};
 
     /// No layers. It does not allocate.
     pub(crate) fn new(alloc: Global) -> Self
         ensures { AreCounted [] result }
     {
         LayerCounts {
-            ever: 0,
+            total: 0,
             in_filesystem: Tally::new(alloc),
             at_directory: Tally::new(alloc),
         }
@@ -76,12 +73,12 @@ impl LayerCounts {
         self.has_at(filesystem, here)
     }
 
-    /// Makes room for so many layers more. It fails if an allocation does, or 2^64 - 1 layers would ever be counted.
+    /// Makes room for so many layers more. It fails if an allocation does, or there would be 2^64 layers.
     pub(crate) fn reserve(&mut self, more: usize) -> Result<(), AllocError>
         ensures same { (layers : List LayerRef) → AreCounted layers self.old → AreCounted layers self.new }
         ensures ok { OnOk result (HasRoomForLayers more self.new) }
     {
-        if u64::MAX - self.ever < more as u64 {
+        if u64::MAX - self.total < more as u64 {
             return Err(AllocError);
         }
         self.in_filesystem.reserve(more)?;
@@ -90,7 +87,8 @@ impl LayerCounts {
 
     /// Counts layers more, for a caller that has made room. It does not allocate.
     pub(crate) fn add(&mut self, layers: &[LayerRef])
-        requires { HasRoomForLayers (length layers.now) self.old }
+        requires known { AreOfLayers self.old }
+        requires room { HasRoomForLayers (length layers.now) self.old }
         ensures { (before : List LayerRef) → AreCounted before self.old → AreCounted (before ++ layers.now) self.new }
     {
         for layer in layers {
@@ -100,12 +98,13 @@ impl LayerCounts {
 
     // Counts one layer more, whose directory is this one.
     fn add_one(&mut self, filesystem: FilesystemId, directory: NodeId)
-        requires { HasRoomForLayers 1 self.old }
+        requires known { AreOfLayers self.old }
+        requires room { HasRoomForLayers 1 self.old }
         ensures counted { (before : List LayerRef)
             → AreCounted before self.old → AreCounted (before ++ layer_at filesystem directory ∷ []) self.new }
         ensures room { (more : ℕ) → HasRoomForLayers (more + 1) self.old → HasRoomForLayers more self.new }
     {
-        self.ever += 1;
+        self.total += 1;
         self.in_filesystem.add(filesystem);
         self.at_directory.add(InodeRef::new(filesystem, directory));
     }
@@ -119,10 +118,11 @@ impl LayerCounts {
         }
     }
 
-    // Takes back one.
+    // Takes back one; a count of 0 stays 0.
     fn take_one(&mut self, layer: LayerRef)
         ensures { (left : List LayerRef) → AreCounted (layer ∷ left) self.old → AreCounted left self.new }
     {
+        self.total = self.total.saturating_sub(1);
         self.in_filesystem.take(&layer.directory.filesystem);
         self.at_directory.take(&layer.directory);
     }

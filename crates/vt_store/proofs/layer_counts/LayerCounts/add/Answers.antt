@@ -1,18 +1,25 @@
 use Rattle.std.proofs.Common.{ap, arith, length, subst, sym, take, ◌+◌, ◌++◌, ◌-◌, ◌∙◌, ◌∷◌, ◌≡◌, [], append-nil, append_assoc, get_or, take_all}
-use Rattle.vt_spec.proofs.Common.{take_more, common_steps}
+use Rattle.vt_spec.proofs.Common.{take_more}
 use Rattle.vt_store.specs.LayersAt.{AreCounted, HasRoomForLayers}
 use Rattle.vt_store.specs.LayerTests.{layer_at}
 use Rattle.vt_store.proofs.LayersTallied.{room_for_fewer}
 use Rattle.vt_store.proofs.layer_counts.LayerCounts.add.Goals as goal
 
 pub add_one-requires : goal.add_one-requires
-add_one-requires c = grind (arith, common_steps)
+add_one-requires c = record {
+  known = (
+    c.requires.known.0 ++ take c.loop-layer.layer-index c.args.layers.now,
+    c.loop-layer.invariant.counted c.requires.known.0 c.requires.known.1,
+  );
+  room = room_for_fewer 1 (length c.args.layers.now - c.loop-layer.layer-index) c.loop-layer.self (omega arith)
+      c.loop-layer.invariant.room;
+}
 
 pub loop-layer-init : goal.loop-layer-init
 loop-layer-init c = record {
   counted = λ before is. subst (λ layers. AreCounted layers c.args.self.now) (sym (append-nil before)) is;
   room = room_for_fewer (length c.args.layers.now - 0) (length c.args.layers.now) c.args.self.now (omega arith)
-      c.requires;
+      c.requires.room;
 }
 
 pub loop-layer-preserved : goal.loop-layer-preserved

@@ -6,4 +6,5 @@ returns-clause-same c = λ layers is. record {
   filesystems = λ q. c.reserve.ensures.same q ∙ is.filesystems q;
   directories = λ q. c.reserve-2.ensures.same q ∙ is.directories q;
   small = is.small;
+  total = is.total;
 }

@@ -5,12 +5,6 @@ use Rattle.vt_store.specs.LayerTests.{same_filesystem, same_inode, stands_at, st
 use Rattle.vt_store.proofs.LayersTallied.{counted_less}
 use Rattle.vt_store.proofs.layer_counts.LayerCounts.take_one.Goals as goal
 
-pub invariant_of-self : goal.invariant_of-self
-invariant_of-self c = record {
-  few_in = λ q. grind (arith, nat_tests, c.take.ensures q, c.args.self.now.few_in q);
-  few_at = λ q. grind (arith, nat_tests, c.take-2.ensures q, c.args.self.now.few_at q);
-}
-
 pub returns : goal.returns
 returns c = λ left is. record {
   filesystems = λ q. c.take.ensures q
@@ -20,4 +14,5 @@ returns c = λ left is. record {
       c.take-2.ensures q ∙ ap (λ n. cond (same_inode q c.args.layer.directory) (n - 1) n) (is.directories q)
       ∙ counted_less (stands_at q) c.args.layer left;
   small = All-tail (λ (layer : LayerRef). layer.directory.slot < 2 ^ 64) c.args.layer left is.small;
+  total = omega (arith, is.total, c.saturating_sub-self.ensures);
 }

@@ -28,6 +28,9 @@ invariant_of-self-in_err-reserve-2 c =
 where_ok : {T E P : Type 0} (r : Result T E) → IsOk r → OnOk r P → P
 where_ok r is p = grind (arith, common_steps)
 
+pub add-requires-clause-known : goal.add-requires-clause-known
+add-requires-clause-known c = (_, c.reserve.ensures.same _ c.self.invariant.layers)
+
 pub invariant_of-self-2 : goal.invariant_of-self-2
 invariant_of-self-2 c =
     let room : 0 < spare c.reserve-2.new.self = omega (arith, c.in_ok-reserve-2.ensures.ok) in
