@@ -1,5 +1,5 @@
 //! The names of one group.
-ghost use Rattle.std.specs.Prelude.{◌≡◌, ◌++◌, ◌∷◌, ◌+◌, ◌<◌, ◌≤◌, ◌^◌, [], IfOk, IsOk, if◌then◌else◌, is_ok, length, true};
+ghost use Rattle.std.specs.Prelude.{◌≡◌, ◌++◌, ◌∷◌, ◌+◌, ◌<◌, ◌^◌, [], IfOk, IsOk, if◌then◌else◌, is_ok, length, true};
 ghost use Rattle.std.specs.List.{list_any};
 ghost use Rattle.vt_location.specs.declared.numbers.GroupId.{GroupId as GroupNumber};
 ghost use Rattle.vt_location.specs.declared.numbers.MountId.{MountId as MountNumber};
@@ -69,14 +69,16 @@ impl NameList {
         true
     }
 
-    /// Drops the names under which nothing is kept. It does not allocate.
-    pub(crate) fn keep_used(&mut self, mounts: &Sets<MountId>, lowers: &Sets<GroupId>)
+    /// Drops the names under which nothing is kept, and tells how many. It does not allocate.
+    pub(crate) fn keep_used(&mut self, mounts: &Sets<MountId>, lowers: &Sets<GroupId>) -> usize
         ensures mounts { (mount : MountNumber) → list_any (λ name. has same_id name mount mounts.now) self.old ≡ true
             → list_any (λ name. has same_id name mount mounts.now) self.new ≡ true }
         ensures lowers { (lower : GroupNumber) → list_any (λ name. has same_group name lower lowers.now) self.old ≡ true
             → list_any (λ name. has same_group name lower lowers.now) self.new ≡ true }
-        ensures fewer { length self.new ≤ length self.old }
+        ensures dropped { length self.new + result ≡ length self.old }
     {
+        let before = self.names.len();
         drop_unused(&mut self.names, mounts, lowers);
+        before - self.names.len()
     }
 }

@@ -32,12 +32,12 @@ pub(crate) struct Names {
     lists: IndexMap<GroupId, NameList>,
     // The names of a group that has none.
     none: LinkedList<GroupId>,
-    // How many names were made, so that two lists are known to fit into one.
-    made: usize,
+    // How many names there are, so that two lists are known to fit into one.
+    count: usize,
 }
 
 impl Model for Names {
-    ghost use Rattle.std.specs.Prelude.{◌≡◌, ◌<◌, ◌≤◌, ◌^◌, [], List};
+    ghost use Rattle.std.specs.Prelude.{◌≡◌, ◌<◌, ◌^◌, [], List};
     ghost use Rattle.vt_location.specs.declared.numbers.GroupId.{GroupId};
     ghost use Rattle.vt_group.specs.Names.{count_names};
 
@@ -45,7 +45,7 @@ impl Model for Names {
 
     ghost view = { λ n. n.lists.entries };
 
-    ghost invariant = { λ n. (n.none ≡ []) × (count_names n.lists.entries ≤ n.made) × (n.made < 2 ^ 63) };
+    ghost invariant = { λ n. (n.none ≡ []) × (count_names n.lists.entries ≡ n.count) × (n.count < 2 ^ 63) };
 }
 
 impl Names {
@@ -54,7 +54,7 @@ impl Names {
         Names {
             lists: IndexMap::new(alloc),
             none: LinkedList::new(alloc),
-            made: 0,
+            count: 0,
         }
     }
 
@@ -103,12 +103,12 @@ impl Names {
             → list_any test (names_of self.new group) ≡ true) }
         ensures kept { KeepsNames self.old self.new }
     {
-        if self.made == MOST_NAMES {
+        if self.count == MOST_NAMES {
             return Err(AllocError);
         }
         let list = NameList::new(self.allocator(), group)?;
         self.lists.insert(group, list)?;
-        self.made += 1;
+        self.count += 1;
         Ok(group)
     }
 
@@ -164,7 +164,7 @@ impl Names {
         let Some(list) = self.lists.get_mut(&group) else {
             return;
         };
-        list.keep_used(mounts, lowers);
+        self.count -= list.keep_used(mounts, lowers);
         if list.names().is_empty() {
             self.forget(group);
         }
@@ -183,8 +183,10 @@ impl Names {
             return;
         };
         if let Some(own) = self.lists.get_mut(&heir) {
-            // It cannot fail: so few names were made.
+            // It cannot fail: so few names there are.
             let _ = own.append(&mut list);
+        } else {
+            self.count -= list.names().len();
         }
     }
 
@@ -193,7 +195,10 @@ impl Names {
         ensures kept { (at : GroupNumber) (test : GroupNumber → Bool) → same_group lost at ≡ false
             → list_any test (names_of self.old at) ≡ true → list_any test (names_of self.new at) ≡ true }
     {
-        self.lists.swap_remove(&lost);
+        let Some(list) = self.lists.swap_remove(&lost) else {
+            return;
+        };
+        self.count -= list.names().len();
     }
 }
 

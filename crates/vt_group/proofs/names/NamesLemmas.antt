@@ -11,15 +11,18 @@ use Rattle.vt_group.proofs.SetsLemmas.{same_number}
 
 -- how many names there are
 
--- an entry adds no more names than its list has
+-- an entry has as many names as its list, in the place of those that the group had
 pub count_inserted : (names : Named) (group : GroupId) (list : List GroupId)
-    → count_names (insert_entry same_group names group list) ≤ count_names names + length list
+    → count_names (insert_entry same_group names group list) + length (names_of names group)
+    ≡ count_names names + length list
 count_inserted [] group list = omega arith
 count_inserted (entry ∷ names) group list = by (same_group group entry.0) (count_inserted names group list)
   where
-    by : (b : Bool) → count_names (insert_entry same_group names group list) ≤ count_names names + length list
+    by : (b : Bool) → count_names (insert_entry same_group names group list) + length (names_of names group)
+        ≡ count_names names + length list
         → count_names (if b then (entry.0, list) ∷ names else entry ∷ insert_entry same_group names group list)
-        ≤ length entry.1 + count_names names + length list
+        + length (unwrap_or (cond b (Some entry.1) (lookup (same_group group) names)) [])
+        ≡ length entry.1 + count_names names + length list
     by true rest = omega arith
     by false rest = omega (arith, rest)
 
@@ -69,6 +72,11 @@ count_written test (entry ∷ names) list now is = by (test entry.0) (count_writ
         ≡ length entry.1 + count_names names + length now
     by true later is = omega (arith, ap length (same_Some entry.1 list is))
     by false later is = omega (arith, later is)
+
+-- a group has no more names than there are
+pub names_within : (test : GroupId → Bool) (names : Named) (list : List GroupId) → lookup test names ≡ Some list
+    → length list ≤ count_names names
+names_within test names list is = let written = count_written test names list [] is in omega (arith, written)
 
 -- which names a group has
 
@@ -140,13 +148,7 @@ module _ (old mid : Named) (group : GroupId) (was now : List GroupId) (found : S
 
 -- a list that was appended to another, if that did not fail
 
--- names are no more than those of both lists
-pub no_more : {T E : Type 0} (own list now : List GroupId) (r : Result T E) → now ≡ (if is_ok r then own ++ list else own)
-    → length now ≤ length own + length list
-no_more own list now (Ok t) is = omega (arith, ap length is, length-append own list)
-no_more own list now (Err e) is = omega (arith, ap length is)
-
--- and are those of both where the step succeeds
+-- names are those of both lists where the step succeeds
 pub all_of_both : {T E : Type 0} (own list now : List GroupId) (r : Result T E)
     → now ≡ (if is_ok r then own ++ list else own) → IsOk r → now ≡ own ++ list
 all_of_both own list now (Ok t) is ok = is

@@ -11,5 +11,5 @@ pub returns-clause-lowers : goal.returns-clause-lowers
 returns-clause-lowers c lower any = c.drop_unused.ensures.lowers lower
     (ap (list_any (λ name. has same_group name lower c.args.lowers.now)) c.self.view_is ∙ any)
 
-pub returns-clause-fewer : goal.returns-clause-fewer
-returns-clause-fewer c = omega (arith, c.drop_unused.ensures.fewer, ap length c.self.view_is)
+pub returns-clause-dropped : goal.returns-clause-dropped
+returns-clause-dropped c = omega (arith, c.drop_unused.ensures.fewer, ap length c.self.view_is)

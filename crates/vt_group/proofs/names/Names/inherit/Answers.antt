@@ -1,8 +1,8 @@
-use Rattle.std.proofs.Common.{◌≡◌, ◌+◌, ◌≤◌, ◌++◌, ◌∙◌, ap, arith, false, is_some, sym, true, Some, [], unwrap_or}
+use Rattle.std.proofs.Common.{◌≡◌, ◌+◌, ◌≤◌, ◌++◌, ◌∙◌, ap, arith, length, length-append, false, is_some, sym, true, Some, [], unwrap_or}
 use Rattle.vt_spec.proofs.Common.{list_any, option_copied_mut}
 use Rattle.vt_group.specs.Names.{count_names, names_of}
 use Rattle.vt_group.specs.Sets.{same_group}
-use Rattle.vt_group.proofs.names.NamesLemmas.{all_of_both, any_of_first, any_of_second, count_taken, count_written, no_more, one_has, one_keeps, others_keep}
+use Rattle.vt_group.proofs.names.NamesLemmas.{all_of_both, any_of_first, any_of_second, count_taken, count_written, one_has, one_keeps, others_keep}
 use Rattle.vt_group.proofs.names.Names.inherit.Goals as goal
 
 pub invariant_of-self-in-Some-get_mut : goal.invariant_of-self-in-Some-get_mut
@@ -12,14 +12,17 @@ invariant_of-self-in-Some-get_mut c =
     (sym c.in-Some.is ∙ c.swap_remove.ensures.value) in
     let found = sym c.get_mut.ensures.value ∙ ap option_copied_mut c.in-Some-get_mut.is in
     let written = count_written (same_group c.args.heir) c.swap_remove.new.self.entries own c.append.new.self found in
-    let more = no_more own c.in-Some.list c.append.new.self c.append.result c.append.ensures.items in (
+    let appended = all_of_both own c.in-Some.list c.append.new.self c.append.result c.append.ensures.items
+    (c.append.ensures.succeeds
+    (omega (arith, ap count_names c.swap_remove.ensures.entries, taken, count_written (same_group c.args.heir) c.swap_remove.new.self.entries own [] found, c.self.invariant.1, c.self.invariant.2))) in (
       c.self.invariant.0,
       omega (
         arith,
         ap count_names c.swap_remove.ensures.entries,
         taken,
         written,
-        more,
+        ap length appended,
+        length-append own c.in-Some.list,
         c.self.invariant.1,
         ap count_names (c.get_mut.follows.holds c.append.new.self).0,
       ),
@@ -57,10 +60,25 @@ returns-in-Some-get_mut-clause-kept c at test apart any =
     (others_keep c.self.inside.lists.entries mid c.args.lost Rattle.std.proofs.Common.None c.swap_remove.ensures.updates.0 at test apart
     (ap (λ old. list_any test (names_of old at)) c.self.view_is ∙ any))
 
-pub invariant_of-self-2 : goal.invariant_of-self-2
-invariant_of-self-2 c =
-    let taken = count_taken (same_group c.args.lost) c.self.inside.lists.entries _ c.swap_remove.ensures.value in (
+pub overflow_sub-self : goal.overflow_sub-self
+overflow_sub-self c =
+    let taken = count_taken (same_group c.args.lost) c.self.inside.lists.entries (Some c.in-Some.list)
+    (sym c.in-Some.is ∙ c.swap_remove.ensures.value) in
+    omega (arith, taken, c.self.invariant.1, ap length c.names.ensures, c.len.ensures.value)
+
+pub invariant_of-self-in_default-get_mut : goal.invariant_of-self-in_default-get_mut
+invariant_of-self-in_default-get_mut c =
+    let taken = count_taken (same_group c.args.lost) c.self.inside.lists.entries (Some c.in-Some.list)
+    (sym c.in-Some.is ∙ c.swap_remove.ensures.value) in (
       c.self.invariant.0,
-      omega (arith, ap (λ m. count_names m.entries) c.get_mut.follows.holds-at-none, ap count_names c.swap_remove.ensures.entries, taken, c.self.invariant.1),
-      c.self.invariant.2,
+      omega (
+        arith,
+        ap (λ m. count_names m.entries) c.get_mut.follows.holds-at-none,
+        ap count_names c.swap_remove.ensures.entries,
+        taken,
+        c.self.invariant.1,
+        ap length c.names.ensures,
+        c.len.ensures.value,
+      ),
+      omega (arith, c.self.invariant.2),
     )

@@ -1,4 +1,4 @@
-use Rattle.std.proofs.Common.{Some, ap, arith, sym, ◌∙◌}
+use Rattle.std.proofs.Common.{Some, ap, sym, ◌∙◌}
 use Rattle.vt_spec.proofs.Common.{option_copied_mut}
 use Rattle.std.proofs.lemmas.Map.Steps.{set_value_same}
 use Rattle.vt_group.specs.Names.{count_names}
@@ -11,7 +11,7 @@ invariant_of-self-2 c =
     ∙ set_value_same (same_group c.args.group) c.self.inside.lists.entries c.note_unused.new.self
     (sym c.get_mut.ensures.value ∙ ap option_copied_mut c.in-Some-get_mut.is ∙ ap Some (sym c.note_unused.ensures)) in (
       c.self.invariant.0,
-      omega (arith, ap count_names same, c.self.invariant.1),
+      ap count_names same ∙ c.self.invariant.1,
       c.self.invariant.2,
     )
 

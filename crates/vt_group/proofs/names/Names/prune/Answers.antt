@@ -2,37 +2,47 @@ use Rattle.std.proofs.Common.{ap, arith, is_some, length, sym, ◌==◌, ◌∙�
 use Rattle.vt_spec.proofs.Common.{option_copied_mut}
 use Rattle.vt_group.specs.Names.{count_names}
 use Rattle.vt_group.specs.Sets.{has, same_group, same_id}
-use Rattle.vt_group.proofs.names.NamesLemmas.{count_written, empty_keeps, nil_from_none, shorter_keeps}
+use Rattle.vt_group.proofs.names.NamesLemmas.{count_written, empty_keeps, names_within, nil_from_none, shorter_keeps}
 use Rattle.vt_group.proofs.names.Names.prune.Goals as goal
+
+pub overflow_sub-self : goal.overflow_sub-self
+overflow_sub-self c =
+    let found = sym c.get_mut.ensures.value ∙ ap option_copied_mut c.in-Some.is in
+    let within = names_within (same_group c.args.group) c.self.inside.lists.entries c.in-Some.list.now found in
+    omega (arith, within, c.keep_used.ensures.dropped, c.self.invariant.1)
 
 pub invariant_of-self-then-is_empty : goal.invariant_of-self-then-is_empty
 invariant_of-self-then-is_empty c =
     let found = sym c.get_mut.ensures.value ∙ ap option_copied_mut c.in-Some.is in
-    let written = count_written (same_group c.args.group) c.self.inside.lists.entries c.in-Some.list.now c.keep_used.new.self found in (
+    let written = count_written (same_group c.args.group) c.self.inside.lists.entries c.in-Some.list.now c.keep_used.new.self found in
+    let within = names_within (same_group c.args.group) c.self.inside.lists.entries c.in-Some.list.now found in (
       c.self.invariant.0,
       omega (
         arith,
         written,
-        c.keep_used.ensures.fewer,
+        within,
+        c.keep_used.ensures.dropped,
         c.self.invariant.1,
         ap count_names (c.get_mut.follows.holds c.keep_used.new.self).0,
       ),
-      c.self.invariant.2,
+      omega (arith, c.self.invariant.2),
     )
 
 pub invariant_of-self-else-is_empty : goal.invariant_of-self-else-is_empty
 invariant_of-self-else-is_empty c =
     let found = sym c.get_mut.ensures.value ∙ ap option_copied_mut c.in-Some.is in
-    let written = count_written (same_group c.args.group) c.self.inside.lists.entries c.in-Some.list.now c.keep_used.new.self found in (
+    let written = count_written (same_group c.args.group) c.self.inside.lists.entries c.in-Some.list.now c.keep_used.new.self found in
+    let within = names_within (same_group c.args.group) c.self.inside.lists.entries c.in-Some.list.now found in (
       c.self.invariant.0,
       omega (
         arith,
         written,
-        c.keep_used.ensures.fewer,
+        within,
+        c.keep_used.ensures.dropped,
         c.self.invariant.1,
         ap count_names (c.get_mut.follows.holds c.keep_used.new.self).0,
       ),
-      c.self.invariant.2,
+      omega (arith, c.self.invariant.2),
     )
 
 pub returns-then-is_empty-clause-mounts : goal.returns-then-is_empty-clause-mounts

@@ -11,7 +11,15 @@ invariant_of-self-2 c =
     let more = count_inserted names c.args.group c.in_ok-list.list in
     let one = ap length c.in_ok-list.ensures in (
       c.self.invariant.0,
-      omega (arith, ap count_names c.in_ok-insert.ensures.entries, more, one, c.self.invariant.1),
+      omega (
+        arith,
+        ap count_names c.in_ok-insert.ensures.entries,
+        more,
+        one,
+        ap (λ all. length (names_of all c.args.group)) c.self.view_is,
+        ap length c.requires,
+        c.self.invariant.1,
+      ),
       omega (arith, c.self.invariant.2, c.if-self-eq-MOST_NAMES.false),
     )
 

@@ -1,5 +1,5 @@
 use Rattle.std.proofs.Common.{ap, arith, length-append, cond, count_by, sym, [], ◌+◌, ◌<◌, ◌^◌, ◌∙◌, ◌∷◌}
-use Rattle.vt_spec.proofs.Common.{All-append, All-cons, All-nil, nat_tests}
+use Rattle.vt_spec.proofs.Common.{All-append, All-cons, All-nil}
 use Rattle.std.proofs.lemmas.List.Sums.{count_by-le-length}
 use Rattle.vt_overlay.specs.declared.merge.layers.LayerRef.{LayerRef}
 use Rattle.vt_store.specs.LayerTests.{layer_at, same_filesystem, same_inode, stands_at, stands_in}

@@ -1,5 +1,5 @@
 use Rattle.std.proofs.Common.{ap, arith, cond, ◌-◌, ◌<◌, ◌^◌, ◌∙◌}
-use Rattle.vt_spec.proofs.Common.{All-tail, nat_tests}
+use Rattle.vt_spec.proofs.Common.{All-tail}
 use Rattle.vt_overlay.specs.declared.merge.layers.LayerRef.{LayerRef}
 use Rattle.vt_store.specs.LayerTests.{same_filesystem, same_inode, stands_at, stands_in}
 use Rattle.vt_store.proofs.LayersTallied.{counted_less}
