@@ -1,5 +1,5 @@
 -- Calls as their words are read, and what becomes of a line that asks for one.
-use Rattle.std.specs.Prelude.{List, None, Option, Some, length, true, ℕ, ◌<◌, ◌≡◌, ◌⊎◌, ⊤, IsSomeAnd, Result, Ok, Err}
+use Rattle.std.specs.Prelude.{List, None, Option, Some, length, true, ℕ, ◌<◌, ◌≡◌, ◌⊎◌, IsSomeAnd, Result, Ok, Err}
 use Rattle.vt_spec.specs.Language.Calls as spec
 use Rattle.vt_spec.specs.Language.Calls.Call.{Fork, Pwrite, Setns, Write}
 use Rattle.vt_spec.specs.Language.Script.{Request, Version, call_read, call_words, mount_words, names_no_upper, no_more, path_word, word_then}
@@ -20,11 +20,11 @@ use Rattle.vt_line.specs.declared.calls.ReadError.{ReadError}
 use Rattle.vt_line.specs.declared.calls.ReadError.TheVariants.{Grammar, Memory}
 
 -- A call takes memory for the bytes that it writes, for a list of groups, and for a task's name of many numbers. The
--- others take none: their paths and texts are lent.
+-- others take none: their paths and texts are lent. No bytes and no groups take none.
 abbrev pub KeepsWords : spec.Call → Type 0
-KeepsWords (Write path bytes) = ⊤
-KeepsWords (Pwrite descriptor offset bytes) = ⊤
-KeepsWords (Fork (Some words)) = ⊤
+KeepsWords (Write path bytes) = 0 < length bytes
+KeepsWords (Pwrite descriptor offset bytes) = 0 < length bytes
+KeepsWords (Fork (Some words)) = 0 < length words.groups
 KeepsWords (Setns task) = INLINE_NUMBERS < length task
 KeepsWords call = ⊥
 

@@ -1,3 +1,4 @@
+pub mod RefusedLemmas
 pub mod ReplyLemmas
 pub mod RunLemmas
 pub mod SessionLemmas

@@ -20,8 +20,9 @@ use Rattle.vt_line.specs.Calls as words
 use Rattle.vt_line.specs.Lines.{IsSilent, IsSpoken}
 use Rattle.vt_permits.specs.Allocating as calls
 use Rattle.vt_answers.specs.Ends.{Ends, HasNumbers, Meets}
-use Rattle.vt_script.specs.Refused.{TakesMemory}
-use Rattle.vt_script.specs.Session.{IsHanded, IsLeftBy, Replied, Replies, step_of}
+use Rattle.vt_script.specs.Handed.{IsHanded, step_of}
+use Rattle.vt_script.specs.Refused.{MayFail}
+use Rattle.vt_script.specs.Session.{IsLeftBy, Replied, Replies}
 
 -- a line that is not too long is kept whole
 pub kept_whole : (line : List ℕ) (kept : LineSoFar) → Holds line kept → kept.overlong ≡ false → kept.bytes ≡ line
@@ -45,13 +46,13 @@ module _ (version : Version) where
       ap (λ b. line_step_by nat_eq b (is_silent line) (overlays version) world line handed) (not_long line silent.0)
       ∙ ap (λ b. line_step_by nat_eq false b (overlays version) world line handed) silent.1
 
-  step_refused : (world : World ℕ) (line : List ℕ) → IsSpoken line
+  pub step_refused : (world : World ℕ) (line : List ℕ) → IsSpoken line
       → line_step nat_eq (overlays version) world line None ≡ Answered (denied world (denial S5))
   step_refused world line spoken =
       ap (λ b. line_step_by nat_eq b (is_silent line) (overlays version) world line None) (not_long line spoken.0)
       ∙ ap (λ b. line_step_by nat_eq false b (overlays version) world line None) spoken.1
 
-  step_spoken : (world : World ℕ) (line : List ℕ) (fresh : Fresh ℕ) (request : Option Request) → IsSpoken line
+  pub step_spoken : (world : World ℕ) (line : List ℕ) (fresh : Fresh ℕ) (request : Option Request) → IsSpoken line
       → request_of (overlays version) line ≡ request
       → line_step nat_eq (overlays version) world line (Some fresh) ≡ Answered (requested nat_eq world request fresh)
   step_spoken world line fresh request spoken asks =
@@ -59,11 +60,12 @@ module _ (version : Version) where
       ∙ ap (λ b. line_step_by nat_eq false b (overlays version) world line (Some fresh)) spoken.1
       ∙ ap (λ r. Answered (requested nat_eq world r fresh)) asks
 
--- what is kept of a line's words is something of it
-words_take : (asked : Option Request) → IsSomeAnd asked words.TakesMemory → IsSomeAnd asked TakesMemory
-words_take None takes = absurd takes
-words_take (Some (Calling task call)) takes = inl takes
-words_take (Some (Asking directive)) takes = tt
+-- what is kept of a line's words may fail
+words_may_fail : (world : World ℕ) (fresh : Fresh ℕ) (asked : Option Request) → IsSomeAnd asked words.TakesMemory
+    → IsSomeAnd asked (MayFail world fresh)
+words_may_fail world fresh None takes = absurd takes
+words_may_fail world fresh (Some (Calling task call)) takes = inl takes
+words_may_fail world fresh (Some (Asking directive)) takes = tt
 
 -- a call takes memory or takes none
 is_or_not : (b : Bool) → (b ≡ true) ⊎ (¬ (b ≡ true))
@@ -149,7 +151,8 @@ module _ {W : Type 0} (version : Version) (sink : Ghosts W) where
           (step_spoken version world line some.0.new None none.0 none.1
           ∙ ap (λ d. Answered (denied world d)) (sym is)) wrote
     ]
-    | inr is ↦ replies_denied r world line number None deny x y some (words_take (request_of (overlays version) line) (memory is).1)
+    | inr is ↦ replies_denied r world line number None deny x y some
+        (some.0, some.1, ((memory is).0, words_may_fail world some.0.new (request_of (overlays version) line) (memory is).1))
         (step_refused version world line (memory is).0 ∙ ap (λ d. Answered (denied world d)) (sym is)) wrote
   ]
 
@@ -174,8 +177,15 @@ module _ {W : Type 0} (version : Version) (sink : Ghosts W) where
             | inl is ↦ by_rule is
             | inr memory ↦
                 let step = step_refused version (seen old) line spoken in
-                replies_step r (seen old) (seen new) line _ number None x y
-                (subst (λ asked. IsSomeAnd asked TakesMemory) (sym asks) (inr takes))
+                replies_step r (seen old) (seen new) line _ number None x y (
+                  allotment,
+                  serves,
+                  (
+                    spoken,
+                    subst
+                        (λ asked. IsSomeAnd asked (MayFail (seen old) allotment.new)) (sym asks) (inr (takes, memory.1)),
+                  ),
+                )
                 (ap (λ d. reply_line number (Err d)) memory.0 ∙ ap (step_text number) (sym step))
                 (same_worlds (step_world (seen old) (step_of version (seen old) line None)) (seen new)
                 (ap (step_world (seen old)) step ∙ ap seen (sym meets.1))) some wrote
@@ -217,7 +227,8 @@ module _ {W : Type 0} (version : Version) (sink : Ghosts W) where
       (ap (reply_line number) (sym told) ∙ ap (step_text number) (sym step))
       (same_worlds (step_world world (step_of version world line (Some some.0))) world left) some wrote
   replies_direct r world line number directive (Err deny) x y some spoken asks told memory wrote =
-      replies_denied r world line number None deny x y some (subst (λ asked. IsSomeAnd asked TakesMemory) (sym asks) tt)
+      replies_denied r world line number None deny x y some
+      (some.0, some.1, (spoken, subst (λ asked. IsSomeAnd asked (MayFail world some.0.new)) (sym asks) tt))
       (step_refused version world line spoken ∙ ap (λ d. Answered (denied world d)) (sym memory)) wrote
 
 -- The world that a line leaves, whatever is told of it

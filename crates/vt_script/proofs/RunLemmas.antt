@@ -1,13 +1,10 @@
 -- Moments of a run, one after another.
-use Rattle.std.proofs.Common.{◌≡◌, ◌≢◌, ◌<◌, ◌-◌, ℕ, suc, ◌+◌, ◌==◌, arith, drop, get_or, length, length-take, map, take, Bool, true, false, List, [], ◌∷◌, ◌++◌, Some, None, refl, sym, ap, ◌∙◌, subst, append_assoc, nat_eq, append-nil, get_or-take, take-append-drop}
-use Rattle.vt_spec.proofs.Common.{SameWorlds, Version, World, drop_more, handed, later, line_step, lines_of, nat_tests, numbers_for, step_text, step_world, take_rest, text_from}
-use Rattle.vt_spec.specs.Language.Script.{overlays, with_line_byte}
+use Rattle.std.proofs.Common.{◌≡◌, ◌≢◌, ◌<◌, ◌-◌, ℕ, suc, ◌+◌, ◌==◌, arith, drop, get_or, length, length-take, take, Bool, true, false, List, [], ◌∷◌, ◌++◌, Option, is_none, refl, sym, ap, ◌∙◌, subst, append_assoc, append-nil, get_or-take, take-append-drop}
+use Rattle.vt_spec.proofs.Common.{SameWorlds, World, drop_more, lines_of, nat_tests, step_text, step_world, take_rest}
+use Rattle.vt_spec.specs.Language.Script.{with_line_byte}
 use Rattle.vt_laws_rules.specs.Numbers.{Allotment}
-use Rattle.vt_laws_trees.specs.Runs.Handed.{may_be_given}
-use Rattle.vt_laws_trees.specs.Runs.Runs.{ServesInHand, TellsAlike}
+use Rattle.vt_script.specs.Handed.{IsHanded, TellsHanded, step_of}
 use Rattle.vt_script.specs.Progress.{Moment, Runs, HasNoNewline, after_line, whole_lines, whole_with}
-use Rattle.vt_script.specs.Refused.{LineTakesMemory, MayBeRefusedIn}
-use Rattle.vt_script.specs.Session.{step_of}
 
 -- a line ends at its newline
 pub lines_of-newline : (line more : List ℕ) → HasNoNewline line → lines_of (line ++ 10 ∷ more) ≡ line ∷ lines_of more
@@ -125,35 +122,9 @@ lines_of-whole (byte ∷ ended) more whole =
     ∙ with_line_byte-append (byte == 10) byte (lines_of ended) (lines_of more)
     (goes_on_whole (byte == 10) byte ended (ap (whole_with (byte == 10) byte) (sym rest) ∙ whole))
 
-module _ (version : Version) where
-  -- each line of some lines and of others may be refused
-  pub MayBeRefused-append : (lines more : List (List ℕ)) (refused others : List Bool) → MayBeRefusedIn version lines refused
-      → MayBeRefusedIn version more others → MayBeRefusedIn version (lines ++ more) (refused ++ others)
-  MayBeRefused-append [] more [] others may also = also
-  MayBeRefused-append [] more (one ∷ refused) others may also = absurd may
-  MayBeRefused-append (line ∷ lines) more [] others may also = absurd may
-  MayBeRefused-append (line ∷ lines) more (true ∷ refused) others may also =
-      (may.0, MayBeRefused-append lines more refused others may.1 also)
-  MayBeRefused-append (line ∷ lines) more (false ∷ refused) others may also =
-      MayBeRefused-append lines more refused others may also
-
-  -- no line has to be refused
-  pub MayBeRefused-none : (lines : List (List ℕ)) → MayBeRefusedIn version lines (map (λ line. false) lines)
-  MayBeRefused-none [] = tt
-  MayBeRefused-none (line ∷ lines) = MayBeRefused-none lines
-
-  -- a truth value for each line
-  pub MayBeRefused-length : (lines : List (List ℕ)) (refused : List Bool) → MayBeRefusedIn version lines refused
-      → length refused ≡ length lines
-  MayBeRefused-length [] [] may = refl
-  MayBeRefused-length [] (one ∷ refused) may = absurd may
-  MayBeRefused-length (line ∷ lines) [] may = absurd may
-  MayBeRefused-length (line ∷ lines) (true ∷ refused) may = ap suc (MayBeRefused-length lines refused may.1)
-  MayBeRefused-length (line ∷ lines) (false ∷ refused) may = ap suc (MayBeRefused-length lines refused may)
-
 -- nothing read, nothing written
 pub stays : (moment : Moment) → Runs moment [] [] moment
-stays moment = record { version = refl; ended = []; split = append-nil moment.line; whole = refl; refused = []; may_be = tt; goes_on = λ more later rest told. told }
+stays moment = record { version = refl; ended = []; split = append-nil moment.line; whole = refl; refused = []; goes_on = λ more later rest told. told }
 
 -- what is read one after another is written one after another
 pub runs_then : (a b c : Moment) (read more_read text more_text : List ℕ) → Runs a read text b
@@ -166,9 +137,6 @@ runs_then a b c read more_read text more_text first second = record {
       ∙ sym (append_assoc first.ended second.ended c.line);
   whole = whole_lines-append first.ended second.ended first.whole second.whole;
   refused = first.refused ++ second.refused;
-  may_be = rw (lines_of-whole first.ended second.ended first.whole)
-      (MayBeRefused-append a.version (lines_of first.ended) (lines_of second.ended) first.refused second.refused first.may_be
-      (subst (λ version. MayBeRefusedIn version (lines_of second.ended) second.refused) first.version second.may_be));
   goes_on = λ more later rest told.
       rw (append_assoc first.ended second.ended more, append_assoc first.refused second.refused later, append_assoc text more_text rest)
       (first.goes_on (second.ended ++ more) (second.refused ++ later) (more_text ++ rest)
@@ -178,78 +146,33 @@ runs_then a b c read more_read text more_text first second = record {
 -- bytes that are read belong to the line
 pub runs_bytes : (moment : Moment) (bytes : List ℕ)
     → Runs moment bytes [] (record moment { line = moment.line ++ bytes })
-runs_bytes moment bytes = record { version = refl; ended = []; split = refl; whole = refl; refused = []; may_be = tt; goes_on = λ more later rest told. told }
+runs_bytes moment bytes = record { version = refl; ended = []; split = refl; whole = refl; refused = []; goes_on = λ more later rest told. told }
 
 line_then : (line more : List ℕ) → HasNoNewline line → lines_of ((line ++ 10 ∷ []) ++ more) ≡ line ∷ lines_of more
 line_then line more none = ap lines_of (append_assoc line (10 ∷ []) more) ∙ lines_of-newline line more none
 
--- a newline answers the line, which was refused memory
-pub runs_refused : (moment : Moment) (world : World ℕ) → HasNoNewline moment.line → LineTakesMemory moment.version moment.line →
-    let step = step_of moment.version moment.world moment.line None in
+-- a newline answers the line, which is handed numbers, or none
+pub runs_line : (moment : Moment) (handed : Option Allotment) (world : World ℕ) → HasNoNewline moment.line
+    → IsHanded moment.version moment.world moment.line handed →
+    let step = step_of moment.version moment.world moment.line handed in
     SameWorlds (step_world moment.world step) world →
     Runs moment (10 ∷ []) (step_text (moment.answered + 1) step) (after_line moment world)
-runs_refused moment world none takes same = record {
+runs_line moment handed world none serves same = record {
   version = refl;
   ended = moment.line ++ 10 ∷ [];
   split = sym (append-nil (moment.line ++ 10 ∷ []));
   whole = whole_lines-newline moment.line;
-  refused = true ∷ [];
-  may_be = subst (λ lines. MayBeRefusedIn moment.version lines (true ∷ [])) (sym (lines_of-newline moment.line [] none)) (takes, tt);
+  refused = is_none handed ∷ [];
   goes_on = λ more later rest told.
-      subst (λ lines. TellsAlike (overlays moment.version) may_be_given moment.world (moment.answered + 1) lines (true ∷ later)
-      (step_text (moment.answered + 1) (step_of moment.version moment.world moment.line None) ++ rest))
-      (sym (line_then moment.line more none)) (world, same, rest, refl, told);
-}
-
--- a newline answers the line, to which numbers were handed that serve the world
-pub runs_spoken : (moment : Moment) (allotment : Allotment) (world : World ℕ)
-    → ServesInHand may_be_given moment.world allotment → HasNoNewline moment.line →
-    let step = step_of moment.version moment.world moment.line (Some allotment) in
-    SameWorlds (step_world moment.world step) world →
-    Runs moment (10 ∷ []) (step_text (moment.answered + 1) step) (after_line moment world)
-runs_spoken moment allotment world serves none same = record {
-  version = refl;
-  ended = moment.line ++ 10 ∷ [];
-  split = sym (append-nil (moment.line ++ 10 ∷ []));
-  whole = whole_lines-newline moment.line;
-  refused = false ∷ [];
-  may_be = subst (λ lines. MayBeRefusedIn moment.version lines (false ∷ [])) (sym (lines_of-newline moment.line [] none)) tt;
-  goes_on = λ more later rest told.
-      subst (λ lines. TellsAlike (overlays moment.version) may_be_given moment.world (moment.answered + 1) lines (false ∷ later)
-      (step_text (moment.answered + 1) (step_of moment.version moment.world moment.line (Some allotment)) ++ rest))
-      (sym (line_then moment.line more none)) (allotment, serves, world, same, rest, refl, told);
+      subst (λ lines. TellsHanded moment.version moment.world (moment.answered + 1) lines (is_none handed ∷ later)
+      (step_text (moment.answered + 1) (step_of moment.version moment.world moment.line handed) ++ rest))
+      (sym (line_then moment.line more none)) (handed, refl, serves, world, same, rest, refl, told);
 }
 
 -- the text of the lines that ended
 pub told_whole : (old : Moment) (bytes text : List ℕ) (new : Moment) (runs : Runs old bytes text new)
-    → TellsAlike (overlays old.version) may_be_given old.world (old.answered + 1) (lines_of runs.ended) runs.refused text
+    → TellsHanded old.version old.world (old.answered + 1) (lines_of runs.ended) runs.refused text
 told_whole old bytes text new runs =
-    let told : TellsAlike (overlays old.version) may_be_given old.world (old.answered + 1) (lines_of (runs.ended ++ []))
-    (runs.refused ++ []) (text ++ []) = runs.goes_on [] [] [] refl in
+    let told : TellsHanded old.version old.world (old.answered + 1) (lines_of (runs.ended ++ [])) (runs.refused ++ [])
+    (text ++ []) = runs.goes_on [] [] [] refl in
     rw (append-nil runs.ended, append-nil runs.refused, append-nil text) at told
-
-module _ (version : Version) where
-  -- the text of lines that are not all is a beginning of the text of all
-  pub text_from-front : (world : World ℕ) (number : ℕ) (front back : List (List ℕ)) (refused : List Bool) →
-      (more : List ℕ) × (text_from (overlays version) world number (front ++ back) refused
-      ≡ text_from (overlays version) world number front refused ++ more)
-  text_from-front world number [] back refused = (text_from (overlays version) world number back refused, refl)
-  text_from-front world number (line ∷ front) back refused =
-      let step = line_step nat_eq (overlays version) world line (handed number refused) in
-      let rest = text_from-front (step_world world step) (number + 1) front back (later refused) in
-      (rest.0, ap (λ xs. step_text number step ++ xs) rest.1 ∙ sym (append_assoc (step_text number step) _ rest.0))
-
-  -- what is said of lines that are not there changes no text
-  pub text_from-padded : (world : World ℕ) (number : ℕ) (lines : List (List ℕ)) (refused pad : List Bool)
-      → length refused ≡ length lines →
-      text_from (overlays version) world number lines (refused ++ pad) ≡ text_from (overlays version) world number lines refused
-  text_from-padded world number [] refused pad e = refl
-  text_from-padded world number (line ∷ lines) [] pad e = absurd (omega (arith, e))
-  text_from-padded world number (line ∷ lines) (true ∷ refused) pad e =
-      let step = line_step nat_eq (overlays version) world line None in
-      ap (λ rest. step_text number step ++ rest)
-      (text_from-padded (step_world world step) (number + 1) lines refused pad (omega (arith, e)))
-  text_from-padded world number (line ∷ lines) (false ∷ refused) pad e =
-      let step = line_step nat_eq (overlays version) world line (Some (numbers_for number)) in
-      ap (λ rest. step_text number step ++ rest)
-      (text_from-padded (step_world world step) (number + 1) lines refused pad (omega (arith, e)))

@@ -1,20 +1,17 @@
 -- How the steps of a session follow one another.
-use Rattle.std.proofs.Common.{◌≡◌, ◌≢◌, ℕ, ◌+◌, true, false, List, [], ◌∷◌, ◌++◌, length, take, Option, Some, None, Result, Ok, Err, refl, sym, ap, ◌∙◌, subst, append_assoc, arith, nat_lt, length-append, length-take, ◌≤◌, append-nil}
-use Rattle.vt_spec.proofs.Common.{SameWorlds, World, lines_of, step_text, step_world}
+use Rattle.std.proofs.Common.{◌≡◌, ◌≢◌, ℕ, ◌+◌, List, [], ◌∷◌, ◌++◌, length, take, Option, is_none, Result, Ok, Err, refl, sym, ap, ◌∙◌, subst, append_assoc, arith, nat_lt, length-append, length-take, ◌≤◌, append-nil}
+use Rattle.vt_spec.proofs.Common.{World, lines_of, step_text, step_world}
 use Rattle.vt_io.specs.declared.output.Sink.{Ghosts}
 use Rattle.vt_io.specs.LineBuffer.{Holds}
 use Rattle.vt_io.specs.declared.line.TheConstants.{LONGEST_LINE}
 use Rattle.vt_io.proofs.Printing.{Wrote-nothing, Wrote-append, WroteFront-append}
-use Rattle.vt_spec.specs.Language.Script.{overlays}
 use Rattle.vt_laws_rules.specs.Numbers.{Allotment}
-use Rattle.vt_laws_trees.specs.Runs.Handed.{may_be_given}
-use Rattle.vt_laws_trees.specs.Runs.Runs.{TellsAlike}
 use Rattle.vt_laws_trees.proofs.runs.answered.AlikeWorlds.{sameness_is_an_equivalence}
 use Rattle.vt_answers.specs.Ends.{HasNumbers}
 use Rattle.vt_script.specs.Progress.{Moment, Runs, HasNoNewline, after_line}
-use Rattle.vt_script.specs.Refused.{MayBeRefusedIn}
-use Rattle.vt_script.specs.Session.{State, moment, IsReading, IsHanded, Fed, Feeds, Broke, begun, lines_begun, IsLast, Closed, BrokeLast, Closes, Replied, BrokeReply, Replies, step_of}
-use Rattle.vt_script.proofs.RunLemmas.{stays, runs_then, runs_bytes, runs_refused, runs_spoken, lines_of-last, HasNoNewline-append}
+use Rattle.vt_script.specs.Handed.{IsHanded, TellsHanded, step_of}
+use Rattle.vt_script.specs.Session.{State, moment, IsReading, Fed, Feeds, Broke, begun, lines_begun, IsLast, Closed, BrokeLast, Closes, Replied, BrokeReply, Replies}
+use Rattle.vt_script.proofs.RunLemmas.{stays, runs_then, runs_bytes, runs_line, lines_of-last, HasNoNewline-append}
 
 same_moment : {a b : Moment} → a.version ≡ b.version → a.world ≡ b.world → a.answered ≡ b.answered → a.line ≡ b.line
     → a ≡ b
@@ -96,16 +93,6 @@ module _ {W : Type 0} (sink : Ghosts W) where
         wrote = Wrote-nothing sink x;
       }
 
-  -- the run goes through the newline of a line that is answered
-  runs_line : (state : State) (line : List ℕ) (handed : Option Allotment) (world : World ℕ) → HasNoNewline line
-      → IsHanded state.version state.world line handed →
-      let step = step_of state.version state.world line handed in
-      SameWorlds (step_world state.world step) world →
-      Runs (moment state line) (10 ∷ []) (step_text (state.answered + 1) step) (after_line (moment state line) world)
-  runs_line state line None world whole handed same = runs_refused (moment state line) world whole handed same
-  runs_line state line (Some allotment) world whole handed same = runs_spoken
-      (moment state line) allotment world handed whole same
-
   -- a line that was answered at its newline
   pub fed_line : (old new : State) (line : List ℕ) (x y : W) → IsReading old line
       → Replied sink old.version old.world line (old.answered + 1) new.world x y → new.version ≡ old.version
@@ -118,7 +105,7 @@ module _ {W : Type 0} (sink : Ghosts W) where
         text = step_text (old.answered + 1) step;
         reading = record { held = held; whole = tt; numbers = replied.numbers };
         runs = subst (λ m. Runs (moment old line) (10 ∷ []) (step_text (old.answered + 1) step) m) (sym same)
-            (runs_line old line replied.handed new.world reading.whole replied.serves replied.world);
+            (runs_line (moment old line) replied.handed new.world reading.whole replied.serves replied.world);
         wrote = replied.wrote;
       }
 
@@ -134,7 +121,7 @@ module _ {W : Type 0} (sink : Ghosts W) where
         text = step_text (old.answered + 1) step;
         new = after_line (moment old line) left;
         split = refl;
-        runs = runs_line old line broke.handed left reading.whole broke.serves (sameness_is_an_equivalence.itself left);
+        runs = runs_line (moment old line) broke.handed left reading.whole broke.serves (sameness_is_an_equivalence.itself left);
         wrote = broke.wrote;
       }
 
@@ -180,26 +167,14 @@ module _ {W : Type 0} (sink : Ghosts W) where
 told_last : (moment : Moment) (handed : Option Allotment) (byte : ℕ) (bytes : List ℕ) → moment.line ≡ byte ∷ bytes
     → HasNoNewline moment.line → IsHanded moment.version moment.world moment.line handed →
     IsLast moment (step_text (moment.answered + 1) (step_of moment.version moment.world moment.line handed))
-told_last moment None byte bytes some whole handed =
-    let left = step_world moment.world (step_of moment.version moment.world moment.line None) in
+told_last moment handed byte bytes some whole serves =
+    let step = step_of moment.version moment.world moment.line handed in
+    let left = step_world moment.world step in
     record {
-      refused = true ∷ [];
-      may_be = subst (λ lines. MayBeRefusedIn moment.version lines (true ∷ [])) (sym (last_line moment.line byte bytes some whole))
-          (handed, tt);
-      tells = subst (λ lines. TellsAlike (overlays moment.version) may_be_given moment.world (moment.answered + 1) lines (true ∷ [])
-          (step_text (moment.answered + 1) (step_of moment.version moment.world moment.line None)))
-          (sym (last_line moment.line byte bytes some whole))
-          (left, sameness_is_an_equivalence.itself left, [], sym (append-nil _), refl);
-    }
-told_last moment (Some allotment) byte bytes some whole handed =
-    let left = step_world moment.world (step_of moment.version moment.world moment.line (Some allotment)) in
-    record {
-      refused = false ∷ [];
-      may_be = subst (λ lines. MayBeRefusedIn moment.version lines (false ∷ [])) (sym (last_line moment.line byte bytes some whole)) tt;
-      tells = subst (λ lines. TellsAlike (overlays moment.version) may_be_given moment.world (moment.answered + 1) lines (false ∷ [])
-          (step_text (moment.answered + 1) (step_of moment.version moment.world moment.line (Some allotment))))
-          (sym (last_line moment.line byte bytes some whole))
-          (allotment, handed, left, sameness_is_an_equivalence.itself left, [], sym (append-nil _), refl);
+      refused = is_none handed ∷ [];
+      tells = subst (λ lines. TellsHanded moment.version moment.world (moment.answered + 1) lines (is_none handed ∷ [])
+          (step_text (moment.answered + 1) step)) (sym (last_line moment.line byte bytes some whole))
+          (handed, refl, serves, left, sameness_is_an_equivalence.itself left, [], sym (append-nil _), refl);
     }
 
 module _ {W : Type 0} (sink : Ghosts W) where
@@ -209,10 +184,7 @@ module _ {W : Type 0} (sink : Ghosts W) where
     text = [];
     told = record {
       refused = [];
-      may_be = subst (λ l. MayBeRefusedIn state.version (lines_of l) []) (sym none) tt;
-      tells = subst
-          (λ l. TellsAlike (overlays state.version) may_be_given state.world (state.answered + 1) (lines_of l) [] [])
-          (sym none) refl;
+      tells = subst (λ l. TellsHanded state.version state.world (state.answered + 1) (lines_of l) [] []) (sym none) refl;
     };
     wrote = Wrote-nothing sink x;
   }

@@ -5,16 +5,15 @@ use Rattle.std.proofs.Math.Seq.{take-append-add}
 use Rattle.std.specs.Io.{StartsWith}
 use Rattle.vt_spec.specs.Language.Script.{overlays}
 use Rattle.vt_spec.specs.Machine.Run.{script_text_as}
-use Rattle.vt_laws_trees.specs.Runs.Handed.{may_be_given}
-use Rattle.vt_laws_trees.specs.Runs.Runs.{TellsAlike}
-use Rattle.vt_laws_worlds.proofs.one_text.runs.RunsTold.{every_program_has_one_text}
 use Rattle.vt_io.specs.declared.output.Sink.{Ghosts}
 use Rattle.vt_io.specs.Sink.{WroteFront}
 use Rattle.vt_io.proofs.Printing.{Wrote-append, WroteFront-append}
 use Rattle.vt_script.specs.Session.{State, moment, Fed, Broke, Closed, BrokeLast, Closes, AnswersScriptIn, BeginsToAnswerIn}
 use Rattle.vt_script.specs.Progress.{Moment, Runs, HasNoNewline, IsOpening, whole_lines}
 use Rattle.vt_script.specs.Refused.{MayBeRefusedIn}
-use Rattle.vt_script.proofs.RunLemmas.{MayBeRefused-append, MayBeRefused-length, MayBeRefused-none, whole_lines-rest, told_whole, text_from-front, text_from-padded, lines_of-whole}
+use Rattle.vt_script.specs.Handed.{TellsHanded}
+use Rattle.vt_script.proofs.RefusedLemmas.{may_be_refused-length, may_be_refused-padded, text_from-front, text_from-padded, told_as_policy}
+use Rattle.vt_script.proofs.RunLemmas.{whole_lines-rest, told_whole, lines_of-whole}
 
 -- what a sink took of a text, where it holds a beginning of all
 pub rest_after_held : (held text new : List ℕ) → length held ≤ length new → StartsWith (held ++ text) new
@@ -29,20 +28,13 @@ rest_after_held held text new longer starts =
 
 -- from an opening moment on
 module _ {version : Version} {first : Moment} (opens : IsOpening version first) where
-  -- what may be refused from the opening on may be so in the script
-  may_be_in : (lines : List (List ℕ)) (refused : List Bool) → MayBeRefusedIn first.version lines refused
-      → MayBeRefusedIn version lines refused
-  may_be_in lines refused may =
-      subst (λ spoken. MayBeRefusedIn spoken lines refused) (ap (λ (moment : Moment). moment.version) opens.2) may
-
-  -- what a run tells from the opening on is the text of its script
-  one_text : (script : List ℕ) (refused : List Bool) (text : List ℕ) →
-      TellsAlike (overlays first.version) may_be_given first.world (first.answered + 1) (lines_of script) refused text
-      → text ≡ script_text_as version refused script
-  unfolding script_text_as
-  one_text script refused text told = every_program_has_one_text (overlays version) refused script text opens.0 opens.1
-      (subst (λ (moment : Moment). TellsAlike (overlays moment.version) may_be_given moment.world (moment.answered + 1)
-      (lines_of script) refused text) opens.2 told)
+  -- what a run tells from the opening on is the text of its script, where only lines that may fail are refused
+  as_policy : (script : List ℕ) (refused : List Bool) (text : List ℕ)
+      → TellsHanded first.version first.world (first.answered + 1) (lines_of script) refused text
+      → MayBeRefusedIn version (lines_of script) refused × (text ≡ script_text_as version refused script)
+  as_policy script refused text told = told_as_policy version opens.0 opens.1 script refused text
+      (subst (λ (moment : Moment). TellsHanded moment.version moment.world (moment.answered + 1) (lines_of script) refused text)
+      opens.2 told)
 
   -- what was read is what ended, and what follows it
   parts : (read text : List ℕ) (new : Moment) (runs : Runs first read text new) → read ≡ runs.ended ++ new.line
@@ -58,30 +50,25 @@ module _ {version : Version} {first : Moment} (opens : IsOpening version first) 
   pub whole_told : (read text : List ℕ) (new : Moment) (runs : Runs first read text new) → HasNoNewline new.line
       → (refused : List Bool) × MayBeRefusedIn version (lines_of (whole_lines read)) refused
       × (text ≡ script_text_as version refused (whole_lines read))
-  whole_told read text new runs none = (
-    runs.refused,
-    subst (λ ended. MayBeRefusedIn version (lines_of ended) runs.refused) (sym (whole_read read text new runs none))
-        (may_be_in (lines_of runs.ended) runs.refused runs.may_be),
-    one_text runs.ended runs.refused text (told_whole first read text new runs)
-        ∙ ap (script_text_as version runs.refused) (sym (whole_read read text new runs none)),
-  )
+  whole_told read text new runs none =
+      let told = as_policy runs.ended runs.refused text (told_whole first read text new runs) in
+      let whole = sym (whole_read read text new runs none) in (
+        runs.refused,
+        subst (λ ended. MayBeRefusedIn version (lines_of ended) runs.refused) whole told.0,
+        told.1 ∙ ap (script_text_as version runs.refused) whole,
+      )
 
   -- the text of all lines is the policy's text
   pub all_told : (script text : List ℕ) (new : Moment) (runs : Runs first script text new) (refused : List Bool)
-      (last : List ℕ) →
-      TellsAlike (overlays new.version) may_be_given new.world (new.answered + 1) (lines_of new.line) refused last
-      → MayBeRefusedIn new.version (lines_of new.line) refused →
+      (last : List ℕ) → TellsHanded new.version new.world (new.answered + 1) (lines_of new.line) refused last →
       (all : List Bool) × MayBeRefusedIn version (lines_of script) all × (text ++ last ≡ script_text_as version all script)
-  all_told script text new runs refused last told may_be =
-      let lines = ap lines_of (parts script text new runs) ∙ lines_of-whole runs.ended new.line runs.whole in
-      let all : TellsAlike (overlays first.version) may_be_given first.world (first.answered + 1) (lines_of (runs.ended ++ new.line))
-      (runs.refused ++ refused) (text ++ last) = runs.goes_on new.line refused last told in (
+  all_told script text new runs refused last told =
+      let whole = sym (parts script text new runs) in
+      let all = as_policy (runs.ended ++ new.line) (runs.refused ++ refused) (text ++ last)
+      (runs.goes_on new.line refused last told) in (
         runs.refused ++ refused,
-        rw lines (MayBeRefused-append version (lines_of runs.ended) (lines_of new.line) runs.refused refused
-            (may_be_in (lines_of runs.ended) runs.refused runs.may_be) (may_be_in (lines_of new.line) refused
-            (subst (λ spoken. MayBeRefusedIn spoken (lines_of new.line) refused) runs.version may_be))),
-        one_text (runs.ended ++ new.line) (runs.refused ++ refused) (text ++ last) all
-            ∙ ap (script_text_as version (runs.refused ++ refused)) (sym (parts script text new runs)),
+        subst (λ read. MayBeRefusedIn version (lines_of read) (runs.refused ++ refused)) whole all.0,
+        all.1 ∙ ap (script_text_as version (runs.refused ++ refused)) whole,
       )
 
   -- the text of the lines that ended is a beginning of the policy's text, whatever follows what was read
@@ -96,16 +83,15 @@ module _ {version : Version} {first : Moment} (opens : IsOpening version first) 
       ∙ lines_of-whole runs.ended (new.line ++ unread) runs.whole in
       let others = lines_of (new.line ++ unread) in
       let pad : List Bool = map (λ line. false) others in
+      let told = as_policy runs.ended runs.refused text (told_whole first read text new runs) in
       let front = text_from-front version first_world 1 (lines_of runs.ended) others (runs.refused ++ pad) in (
         runs.refused ++ pad,
-        rw lines (MayBeRefused-append version (lines_of runs.ended) others runs.refused pad
-            (may_be_in (lines_of runs.ended) runs.refused runs.may_be) (MayBeRefused-none version others)),
+        rw lines (may_be_refused-padded version first_world 1 (lines_of runs.ended) others runs.refused told.0),
         front.0,
         ap (λ xs. text_from (overlays version) first_world 1 xs (runs.refused ++ pad)) lines ∙ front.1
-            ∙ ap (λ xs. xs ++ front.0) (text_from-padded version first_world 1
-            (lines_of runs.ended) runs.refused pad (MayBeRefused-length version (lines_of runs.ended) runs.refused
-            (may_be_in (lines_of runs.ended) runs.refused runs.may_be))) ∙ ap (λ xs. xs ++ front.0) (sym
-            (one_text runs.ended runs.refused text (told_whole first read text new runs))),
+            ∙ ap (λ xs. xs ++ front.0) (text_from-padded version first_world 1 (lines_of runs.ended) runs.refused pad
+            (may_be_refused-length version first_world 1 (lines_of runs.ended) runs.refused told.0))
+            ∙ ap (λ xs. xs ++ front.0) (sym told.1),
       )
 
   module _ {W : Type 0} (sink : Ghosts W) where
@@ -148,7 +134,7 @@ module _ {version : Version} {first : Moment} (opens : IsOpening version first) 
         let taken = rest_after_held (sink.written x) (fed.text ++ broke.text) (sink.written z) (wrote.no_shorter tells)
         (wrote.front tells) in
         let told = all_told read fed.text
-        (moment state fed.line) fed.runs broke.told.refused broke.text broke.told.tells broke.told.may_be in
+        (moment state fed.line) fed.runs broke.told.refused broke.text broke.told.tells in
         (told.0, told.1, taken.0, taken.1, taken.2, sym told.2 ∙ taken.3)
 
     -- all was answered
@@ -156,7 +142,7 @@ module _ {version : Version} {first : Moment} (opens : IsOpening version first) 
         → Closed sink (moment state fed.line) y z → sink.tells x → AnswersScriptIn sink version read x z
     closed_held read state x y z fed closed tells =
         let told = all_told read fed.text
-        (moment state fed.line) fed.runs closed.told.refused closed.text closed.told.tells closed.told.may_be in (
+        (moment state fed.line) fed.runs closed.told.refused closed.text closed.told.tells in (
           told.0,
           told.1,
           (Wrote-append sink fed.wrote closed.wrote).appended tells ∙ ap (λ text. sink.written x ++ text) told.2,

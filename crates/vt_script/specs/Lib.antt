@@ -1,3 +1,4 @@
+pub mod Handed
 pub mod Progress
 pub mod Reached
 pub mod Refused

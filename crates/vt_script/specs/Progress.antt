@@ -1,11 +1,11 @@
 -- How far a run has come: what was read and written between two moments of it.
 use Rattle.std.specs.Prelude.{◌≡◌, ℕ, ◌+◌, ◌==◌, nat_eq, Bool, true, false, List, [], ◌∷◌, ◌++◌}
-use Rattle.vt_spec.specs.Language.Script.{Version, lines_of, overlays}
+use Rattle.vt_spec.specs.Language.Script.{Version, lines_of}
 use Rattle.vt_spec.specs.Lists.{Fresh}
 use Rattle.vt_spec.specs.Machine.World.{World, opening}
 use Rattle.vt_laws_trees.specs.Runs.Handed.{may_be_given}
-use Rattle.vt_laws_trees.specs.Runs.Runs.{OpensInHand, TellsAlike}
-use Rattle.vt_script.specs.Refused.{MayBeRefusedIn}
+use Rattle.vt_laws_trees.specs.Runs.Runs.{OpensInHand}
+use Rattle.vt_script.specs.Handed.{TellsHanded}
 
 -- a text up to its last newline
 abbrev pub whole_with : Bool → ℕ → List ℕ → List ℕ
@@ -42,11 +42,9 @@ pub record Runs (old : Moment) (bytes text : List ℕ) (new : Moment) : Type 0 w
   pub split : old.line ++ bytes ≡ ended ++ new.line
   pub whole : whole_lines ended ≡ ended
   pub refused : List Bool
-  pub may_be : MayBeRefusedIn old.version (lines_of ended) refused
-  pub goes_on : (more : List ℕ) (later : List Bool) (rest : List ℕ) →
-      TellsAlike (overlays new.version) may_be_given new.world (new.answered + 1) (lines_of more) later rest →
-      TellsAlike (overlays old.version) may_be_given old.world (old.answered + 1) (lines_of (ended ++ more)) (refused ++ later)
-      (text ++ rest)
+  pub goes_on : (more : List ℕ) (later : List Bool) (rest : List ℕ)
+      → TellsHanded new.version new.world (new.answered + 1) (lines_of more) later rest →
+      TellsHanded old.version old.world (old.answered + 1) (lines_of (ended ++ more)) (refused ++ later) (text ++ rest)
 
 -- no byte of the line is a newline
 abbrev pub HasNoNewline : List ℕ → Type 0

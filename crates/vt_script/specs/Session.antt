@@ -1,19 +1,18 @@
 -- What a session does between two bytes of a script, and what a run leaves in a sink.
-use Rattle.std.specs.Prelude.{◌≡◌, ℕ, ◌+◌, nat_eq, Bool, List, [], ◌∷◌, ◌++◌, Option, Some, None, Result, Ok, Err, option_map}
+use Rattle.std.specs.Prelude.{◌≡◌, ℕ, ◌+◌, Bool, List, [], ◌∷◌, ◌++◌, Option, Result, Ok, Err}
 use Rattle.vt_io.specs.declared.output.Sink.{Ghosts}
 use Rattle.vt_io.specs.Sink.{Wrote, WroteFront}
 use Rattle.vt_io.specs.LineBuffer.{LineSoFar, Holds}
-use Rattle.vt_spec.specs.Language.Script.{Version, lines_of, overlays}
+use Rattle.vt_spec.specs.Language.Script.{Version, lines_of}
 use Rattle.vt_spec.specs.Language.Script.Version.{One}
-use Rattle.vt_spec.specs.Machine.Run.{Step, line_step, script_text_as, step_text, step_world}
+use Rattle.vt_spec.specs.Machine.Run.{script_text_as, step_text, step_world}
 use Rattle.vt_spec.specs.Machine.SameWorlds.{SameWorlds}
 use Rattle.vt_spec.specs.Machine.World.{World}
 use Rattle.vt_laws_rules.specs.Numbers.{Allotment}
-use Rattle.vt_laws_trees.specs.Runs.Handed.{may_be_given}
-use Rattle.vt_laws_trees.specs.Runs.Runs.{ServesInHand, TellsAlike}
 use Rattle.vt_answers.specs.Ends.{HasNumbers}
+use Rattle.vt_script.specs.Handed.{IsHanded, TellsHanded, step_of}
 use Rattle.vt_script.specs.Progress.{Moment, Runs, HasNoNewline, whole_lines}
-use Rattle.vt_script.specs.Refused.{LineTakesMemory, MayBeRefusedIn}
+use Rattle.vt_script.specs.Refused.{MayBeRefusedIn}
 
 -- a session: the version of its script's language, the world, how many lines are answered, and what is kept of the
 -- next line
@@ -43,16 +42,6 @@ begun (byte ∷ bytes) = 1
 abbrev pub lines_begun : State → ℕ
 lines_begun state = state.answered + begun state.kept.bytes
 
--- a line is handed numbers that serve the world, or none where memory was refused that it takes
-abbrev pub IsHanded : Version → World ℕ → List ℕ → Option Allotment → Type 0
-IsHanded version world line None = LineTakesMemory version line
-IsHanded version world line (Some allotment) = ServesInHand may_be_given world allotment
-
--- the step of a line to which these numbers are handed
-abbrev pub step_of : Version → World ℕ → List ℕ → Option Allotment → Step ℕ
-step_of version world line handed =
-    line_step nat_eq (overlays version) world line (option_map (λ allotment. allotment.new) handed)
-
 -- the step of a line leaves this world, but for change numbers and the order of numbers beside trees
 abbrev pub IsLeftBy : Version → World ℕ → List ℕ → World ℕ → Type 0
 IsLeftBy version old line new =
@@ -62,8 +51,7 @@ IsLeftBy version old line new =
 -- what may be told of the last line
 pub record IsLast (old : Moment) (text : List ℕ) : Type 0 where
   pub refused : List Bool
-  pub may_be : MayBeRefusedIn old.version (lines_of old.line) refused
-  pub tells : TellsAlike (overlays old.version) may_be_given old.world (old.answered + 1) (lines_of old.line) refused text
+  pub tells : TellsHanded old.version old.world (old.answered + 1) (lines_of old.line) refused text
 
 module _ {W : Type 0} (sink : Ghosts W) where
   -- bytes were read, and the lines that ended were answered
@@ -124,7 +112,7 @@ module _ {W : Type 0} (sink : Ghosts W) where
   Replies version old line number (Err fault) new before after = BrokeReply version old line number before after
 
   -- the sink was given the policy's answers to the script, in a version of its language, where allocations may have
-  -- failed in lines that take memory
+  -- failed in lines that may fail
   abbrev pub AnswersScriptIn : Version → List ℕ → W → W → Type 0
   AnswersScriptIn version script before after =
       (refused : List Bool) × MayBeRefusedIn version (lines_of script) refused

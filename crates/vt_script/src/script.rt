@@ -63,7 +63,8 @@ fn answer_all<C: Calls, R: Source, W: Sink>(
 ///
 /// For every script, what the sink is handed is the text of the policy's answers to the script's calls in their order,
 /// each denial with the error number and the rule that the policy names first. All that is open is in which lines an
-/// allocation failed; only a line that takes memory can be one of them (`MayBeRefused`).
+/// allocation failed. Only a line that may fail in the world before it can be one of them (`MayBeRefused`): its words are
+/// kept, or the policy grants its call, or refuses it by a rule that is checked after receivers are gathered.
 ///
 /// Each line is answered before the next is looked at. A line in which an allocation failed answers
 /// `deny 12 ENOMEM S5` and counts as no call. `Read` and `Write` come where that device failed, and

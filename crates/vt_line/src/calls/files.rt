@@ -1,5 +1,5 @@
 //! The calls on files that are given more than paths. Both versions of the language read them alike.
-ghost use Rattle.std.specs.Prelude.{◌≡◌, option_map};
+ghost use Rattle.std.specs.Prelude.{◌≡◌, ◌<◌, IfOk, OnErr, length, option_map};
 ghost use Rattle.vt_spec.specs.Language.Calls.Call.{Chmod, Chown, Mkdir, Opaque, OpenFile, Pwrite, Write};
 ghost use Rattle.vt_spec.specs.Language.Script.{creation_words};
 ghost use Rattle.vt_spec.specs.Language.Script.Version.{One};
@@ -10,9 +10,21 @@ use crate::calls::ReadError;
 use crate::names::CallName;
 use crate::number::{descriptor_word, mode_word, offset_word};
 use crate::words::{Words, access_word, kept_or_identity, path_word, yes_or_no_word};
-use std::alloc::Global;
+use std::alloc::{AllocError, Global};
 use vt_request::{Access, Call, Creation, DescriptorCall, LookCall, MakeCall, WriteCall};
 use vt_spec::attributes::Mode;
+
+/// A copy of the bytes that a call keeps. It does not allocate where there are none.
+#[inline(always)]
+fn kept_bytes(alloc: Global, bytes: &[u8]) -> Result<Vec<u8>, AllocError>
+    ensures ok { IfOk result (λ kept. kept.items ≡ bytes.now) }
+    ensures err { OnErr result (0 < length bytes.now) }
+{
+    if bytes.is_empty() {
+        return Ok(Vec::new(alloc));
+    }
+    bytes.to_vec(alloc)
+}
 
 /// The words of `write PATH BYTES`.
 #[inline(always)]
@@ -146,7 +158,7 @@ pub fn write<'a>(alloc: Global, words: &mut Words<'a>) -> Result<Call<'a>, ReadE
     let Some((path, bytes)) = write_words(words) else {
         return Err(ReadError::Grammar);
     };
-    let bytes = bytes.to_vec(alloc)?;
+    let bytes = kept_bytes(alloc, bytes)?;
     Ok(Call::Write(WriteCall::Write { path, bytes }))
 }
 
@@ -217,7 +229,7 @@ pub fn pwrite<'a>(alloc: Global, words: &mut Words<'a>) -> Result<Call<'a>, Read
     let Some((descriptor, offset, bytes)) = pwrite_words(words) else {
         return Err(ReadError::Grammar);
     };
-    let bytes = bytes.to_vec(alloc)?;
+    let bytes = kept_bytes(alloc, bytes)?;
     Ok(Call::Write(WriteCall::Pwrite {
         descriptor,
         offset,

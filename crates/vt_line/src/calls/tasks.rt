@@ -1,5 +1,5 @@
 //! The calls of a task on itself that are given more than a path. Both versions of the language read them alike.
-ghost use Rattle.std.specs.Prelude.{◌≡◌, option_map, is_some, true, IfSome};
+ghost use Rattle.std.specs.Prelude.{◌≡◌, ◌<◌, length, option_map, is_some, true, IfOk, IfSome, OnErr};
 ghost use Rattle.vt_spec.specs.Language.Calls.Call.{Fork, Setns};
 ghost use Rattle.vt_spec.specs.Language.Script.{fork_words, task_word};
 ghost use Rattle.vt_spec.specs.Language.Script.Version.{One};
@@ -11,7 +11,7 @@ use crate::calls::ReadError;
 use crate::names::CallName;
 use crate::number::{identity_word, mode_word};
 use crate::words::{Groups, Words, capabilities_word, groups_word, is_task, task_name};
-use std::alloc::Global;
+use std::alloc::{AllocError, Global};
 use vt_request::{Call, CapsWord, ForkWords, TaskCall};
 
 /// The credentials that a child is given, before they are kept.
@@ -21,6 +21,17 @@ pub struct Child {
     gid: u32,
     groups: Groups,
     caps: CapsWord,
+}
+
+/// A copy of the groups that a child is given. It does not allocate where there are none.
+fn kept_groups(alloc: Global, groups: &Groups) -> Result<Vec<u32>, AllocError>
+    ensures ok { IfOk result (λ kept. kept.items ≡ groups.now.items) }
+    ensures err { OnErr result (0 < length groups.now.items) }
+{
+    if groups.is_empty() {
+        return Ok(Vec::new(alloc));
+    }
+    groups.as_slice().to_vec(alloc)
 }
 
 /// The words of `fork [UID GID GROUPS CAPS]`.
@@ -83,7 +94,7 @@ pub fn fork<'a>(alloc: Global, words: &mut Words<'a>) -> Result<Call<'a>, ReadEr
     let Some(child) = child else {
         return Ok(Call::Task(TaskCall::Fork { words: None }));
     };
-    let groups = child.groups.as_slice().to_vec(alloc)?;
+    let groups = kept_groups(alloc, &child.groups)?;
     let words = Some(ForkWords {
         uid: child.uid,
         gid: child.gid,
