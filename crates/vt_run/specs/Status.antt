@@ -42,3 +42,13 @@ comes_before_output (Read name cause) = false
 comes_before_output (Write cause) = false
 comes_before_output Found = false
 comes_before_output (Run fault) = false
+
+-- a fault of a run: a file cannot be opened, a device failed, or an allocation did
+abbrev pub is_of_run : Fault → Bool
+is_of_run (Words text) = false
+is_of_run (Help text) = false
+is_of_run (Open name cause) = true
+is_of_run (Read name cause) = true
+is_of_run (Write cause) = true
+is_of_run Found = false
+is_of_run (Run fault) = true

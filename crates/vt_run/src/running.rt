@@ -4,7 +4,7 @@ ghost use Rattle.std.specs.Io.{ReadsAtMost};
 ghost use Rattle.std.specs.Io.KnownBytes.{ReadConsumes};
 ghost use Rattle.vt_line.specs.Versions.{version_of};
 ghost use Rattle.vt_run.specs.Answered.{AnswersKnown, IsFresh};
-ghost use Rattle.vt_run.specs.Status.{comes_before_output};
+ghost use Rattle.vt_run.specs.Status.{comes_before_output, is_of_run};
 
 use crate::fault::{Fault, out_of_memory};
 use std::alloc::Global;
@@ -113,6 +113,7 @@ fn answer_named<C: Calls, R: Read + Drop, W: Write + Drop>(
     ensures answers { IfOk result (λ writer. AnswersKnown (version_of version) (R.remaining script) (W.contents output)
         (W.contents writer)) }
     ensures fault { IfErr result (λ fault. comes_before_output fault ≡ false) }
+    ensures of_run { IfErr result (λ fault. is_of_run fault ≡ true) }
 {
     let buffered = BufWriter::with_capacity(alloc, pace.capacity(), output);
     let mut sink = WriteSink::new(buffered.map_err(out_of_memory)?);
@@ -142,7 +143,8 @@ fn answer_named<C: Calls, R: Read + Drop, W: Write + Drop>(
 
 // A read failed, and this the system said of it.
 fn read_fault(alloc: Global, name: &str, cause: Option<io::Error>) -> Fault
-    ensures { comes_before_output result ≡ false }
+    ensures after_output { comes_before_output result ≡ false }
+    ensures of_run { is_of_run result ≡ true }
 {
     let Some(cause) = cause else {
         return Fault::Run(RunFault::Read);
@@ -156,8 +158,8 @@ fn read_fault(alloc: Global, name: &str, cause: Option<io::Error>) -> Fault
 /// Answers the script in the file of this name, or on the standard input where it is `-`. It is the last that a program
 /// does: the world is not freed.
 ///
-/// What was answered is handed on to the output, also before a fault. No clause says so: this one speaks of faults before
-/// the first output alone, and `answer_named` of what an `Ok` has written. That the file is what is read, tests show.
+/// What was answered is handed on to the output, also before a fault. No clause says so: these speak of the kind of a fault
+/// alone, and `answer_named` of what an `Ok` has written. That the file is what is read, tests show.
 pub fn run_named<C: Calls, R: Files + Input + AllocGlobal, W: Write>(
     rt: &R,
     version: Version,
@@ -165,7 +167,8 @@ pub fn run_named<C: Calls, R: Files + Input + AllocGlobal, W: Write>(
     pace: Pace,
     output: &mut W,
 ) -> Result<(), Fault>
-    ensures { IfErr result (λ fault. comes_before_output fault ≡ true → output.new ≡ output.old) }
+    ensures unwritten { IfErr result (λ fault. comes_before_output fault ≡ true → output.new ≡ output.old) }
+    ensures of_run { IfErr result (λ fault. is_of_run fault ≡ true) }
 {
     let alloc = rt.alloc();
     if name == "-" {
