@@ -1,6 +1,6 @@
 -- Plain changes of an upper layer's tree are counted in the lowered world: mkdir(2), write(2), chmod(2), and the copies
 -- of the kernel's overlayfs document, "upper and lower" (copy_up).
-use Rattle.std.specs.Prelude.{List, [], false, nat_eq, ℕ, ⊤, ◌∷◌, ◌≡◌}
+use Rattle.std.specs.Prelude.{All, List, [], false, nat_eq, ℕ, ⊤, ◌∷◌, ◌≡◌}
 use Rattle.vt_spec.specs.FileTree.{FileTree}
 use Rattle.vt_spec.specs.Fits.{Fits}
 use Rattle.vt_spec.specs.Inodes as Counted
@@ -9,14 +9,15 @@ use Rattle.vt_spec.specs.Language.Changes.{Change, changed}
 use Rattle.vt_spec.specs.Lists.{any_pair, folded}
 use Rattle.vt_spec.specs.Machine.Invariants.{IsWorld}
 use Rattle.vt_spec.specs.Machine.Mounts.{Location}
-use Rattle.vt_spec.specs.Machine.World.{Filesystem, World, filesystem_at, is_overlay}
+use Rattle.vt_spec.specs.Machine.World.{Filesystem, World, filesystem_at, filesystem_numbered, is_overlay}
 use Rattle.vt_laws_mounts.specs.Counts.BesideOverlays.{IsChangeInUse, OverlaysHaveNoUpper}
 use Rattle.vt_laws_mounts.specs.Counts.Changing.{LinksWhatIsThere, TakesNoName, filesystem_of}
 use Rattle.vt_laws_mounts.specs.Counts.Counted.{IsCounted}
+use Rattle.vt_laws_mounts.specs.Counts.Rows as Swept
 use Rattle.vt_laws_mounts.specs.LettingGo.InUse.{AllInUse, HasTrees}
 use Rattle.vt_laws_mounts.specs.LettingGo.TreeChanges.{with_tree}
 use Rattle.vt_laws_trees.specs.Trees.{IsProper}
-use Rattle.vt_laws_upper_layers.specs.Lowered.{lowered}
+use Rattle.vt_laws_upper_layers.specs.Lowered.{ArePinned, Pins, PinsInLayers, lowered}
 use Rattle.vt_laws_upper_layers.specs.Rows.{after_row}
 use Rattle.vt_laws_upper_layers.specs.UnnamedPins.{unnamed_pins}
 
@@ -29,6 +30,17 @@ UpperChangesAreCounted =
     → IsCounted (lowered (unnamed_pins world) world) (filesystem_at nat_eq world location) inodes
     → Fits inodes change → LinksWhatIsThere inodes change
     → IsChangeInUse (lowered (unnamed_pins world) world) location inodes change
+
+-- So is a row of changes that fit, each in its turn, whatever else of their upper objects overlays pin: what
+-- `rows_are_counted` says holds of it. What loses its last name in the row, and is in use, is pinned before it.
+abbrev pub UpperRowsAreCounted : Type 0
+UpperRowsAreCounted =
+    (pins : Pins) (world : World ℕ) (number : ℕ) (inodes : Inodes ℕ) (row : List (Change ℕ)) → IsWorld nat_eq world
+    → All (ArePinned pins world) world.filesystems → All (PinsInLayers pins) world.filesystems
+    → is_overlay (filesystem_numbered nat_eq world number) ≡ false
+    → IsCounted (lowered pins world) (filesystem_numbered nat_eq world number) inodes
+    → Swept.FitInTurn (filesystem_numbered nat_eq world number).files inodes row
+    → Swept.IsRowInUse (lowered pins world) number inodes row
 
 -- a row of changes that take no name, each proper in the tree, and fit for the counted inodes, when its turn comes
 abbrev pub FitInTurn : FileTree ℕ → Inodes ℕ → List (Change ℕ) → Type 0

@@ -1,5 +1,5 @@
--- What a change of an overlay makes of its upper layer's tree is a row of plain changes, which layers tell: the kernel's
--- overlayfs document, "upper and lower" (copy_up) and "whiteouts and opaque directories".
+-- What a change of an overlay makes of its upper layer's tree is a row of plain changes, which layers tell: the
+-- kernel's overlayfs document, "upper and lower" (copy_up) and "whiteouts and opaque directories".
 use Rattle.std.specs.Prelude.{List, [], is_some, ℕ, ◌++◌, ◌∷◌, ◌≡◌}
 use Rattle.vt_spec.specs.FileTree.{FileTree}
 use Rattle.vt_spec.specs.Language.Changes.{Change, content_with_parent}

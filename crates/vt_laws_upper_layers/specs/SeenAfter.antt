@@ -39,8 +39,8 @@ abbrev pub births_then : Fresh ℕ → World ℕ → Permit ℕ → Location ℕ
     → Overlay ℕ → Births
 births_then fresh world permit location change overlay upper births later =
     births_left later.real
-    (births_after (numbers_left fresh permit) (merge_of nat_eq world (filesystem_at nat_eq world location) overlay upper)
-    births change)
+    (births_after (numbers_left fresh permit) (merge_of nat_eq world (filesystem_at nat_eq world location) overlay
+    upper) births change)
 
 -- what was kept and what lost its name, if something is on it
 abbrev pub kept_then : World ℕ → World ℕ → Location ℕ → Change ℕ → (ℕ → Bool) → ℕ → Bool

@@ -1,13 +1,17 @@
 //! Plain changes of an upper layer's tree, counted in the lowered world.
-ghost use Rattle.vt_laws_upper_layers.specs.CountedAbove.{RowsAreCounted, UpperChangesAreCounted};
+ghost use Rattle.vt_laws_upper_layers.specs.CountedAbove.{RowsAreCounted, UpperChangesAreCounted, UpperRowsAreCounted};
 
 /// In a world with all invariants, `changes_in_use_are_counted` holds in the lowered world, in which overlays pin what
 /// has no name, of each change that fits the counted inodes of a plain filesystem (`change`).
+///
+/// So does `rows_are_counted` of a row of changes that fit, each in its turn (`swept`). What loses its last name in the
+/// row, and stays in use, is pinned before it: overlays may pin any of their upper objects.
 ///
 /// In a world without upper layers in which all is in use, after a row of changes that take no name the changed inodes
 /// are counted, and all is in use still (`rows`). Each is proper in the tree, and fits the counted inodes, when its turn
 /// comes: copies, new objects, bytes, owner and mode, marks.
 pub fn changes_above_are_counted()
     ensures change { UpperChangesAreCounted }
+    ensures swept { UpperRowsAreCounted }
     ensures rows { RowsAreCounted }
 {}

@@ -1,7 +1,7 @@
 -- Rows of plain changes that take no name are counted, and nothing goes.
 use Rattle.std.proofs.Common.{◌≡◌, refl, sym, ap, subst, ◌∙◌, inl, inr, true≢false, ℕ, nat_eq, eqb-true, Bool, true, false, cond, List, [], ◌∷◌, map, is_some}
 use Rattle.std.specs.Prelude.{All}
-use Rattle.vt_spec.proofs.Common.{All-map, Among, Change, FileTree, Filesystem, Fresh, Inodes, Location, Overlay, World, all_from_among, among_from_all, any_pair, filesystem_at, filesystem_numbered, folded, is_directory_node, is_overlay, map_twice, nat_eq_itself, of_overlay, pair-map, settled, with_change, with_files}
+use Rattle.vt_spec.proofs.Common.{All-map, Among, Change, FileTree, Filesystem, Fresh, Inodes, IsWorld, Location, Overlay, World, all_from_among, among_from_all, any_pair, filesystem_at, filesystem_numbered, folded, is_directory_node, is_overlay, map_twice, nat_eq_itself, of_overlay, pair-map, settled, with_change, with_files}
 use Rattle.vt_spec.proofs.Worlds.{number-replaced_if_numbered}
 use Rattle.vt_spec.specs.Inodes as Counted
 use Rattle.vt_spec.specs.Language.Changes.{changed}
@@ -9,6 +9,7 @@ use Rattle.vt_spec.specs.Machine.World.{replaced_if_numbered}
 use Rattle.vt_laws_mounts.specs.Counts.BesideOverlays.{IsChangeInUse, OverlaysHaveNoUpper}
 use Rattle.vt_laws_mounts.specs.Counts.Changing.{LinksWhatIsThere, TakesNoName, after_change, filesystem_of}
 use Rattle.vt_laws_mounts.specs.Counts.Counted.{IsCounted}
+use Rattle.vt_laws_mounts.specs.Counts.Rows as Swept
 use Rattle.vt_laws_mounts.specs.LettingGo.InUse.{AllInUse, HasTrees, IsListedTree, UppersArePlain, has_upper_in}
 use Rattle.vt_laws_mounts.specs.LettingGo.TreeChanges.{with_tree}
 use Rattle.vt_laws_mounts.proofs.counts.changing.Changes.{counts_follow_changes_in_use, raw_is}
@@ -20,8 +21,8 @@ use Rattle.vt_laws_mounts.proofs.letting_go.sweeps.OfWorlds.{all_in_use, found_f
 use Rattle.vt_laws_trees.specs.Trees.{IsProper}
 use Rattle.vt_laws_trees.proofs.layers.layers.LowersWorld.{filesystem_there, number_of_filesystem}
 use Rattle.vt_laws_trees.proofs.trees.ChangesKeepTrees.{changes_keep_numbers, changes_keep_trees}
-use Rattle.vt_laws_upper_layers.specs.CountedAbove.{FitInTurn, IsCountedInUse, RowsAreCounted, UpperChangesAreCounted}
-use Rattle.vt_laws_upper_layers.specs.Lowered.{lowered, lowered_filesystem}
+use Rattle.vt_laws_upper_layers.specs.CountedAbove.{FitInTurn, IsCountedInUse, RowsAreCounted, UpperChangesAreCounted, UpperRowsAreCounted}
+use Rattle.vt_laws_upper_layers.specs.Lowered.{ArePinned, Pins, PinsInLayers, lowered, lowered_filesystem}
 use Rattle.vt_laws_upper_layers.specs.Rows.{after_row}
 use Rattle.vt_laws_upper_layers.specs.UnnamedPins.{unnamed_pins}
 use Rattle.vt_laws_upper_layers.proofs.lowered.Counted.{lowered-plain, numbered-lowered}
@@ -216,21 +217,49 @@ rows_are_counted world location inodes (change ∷ rest) is fit =
     found = found_next world location inodes change is fit.0 fit.1 fit.2 fit.3
 
 -- In the lowered world
+module _ (pins : Pins) (world : World ℕ) (is : IsWorld nat_eq world)
+    (are : All (ArePinned pins world) world.filesystems) (fit : All (PinsInLayers pins) world.filesystems) where
+  lowered_in_use : AllInUse (lowered pins world)
+  lowered_in_use = lowered_are_in_use pins world (all_in_use world is) are fit
+
+  lowered_trees : HasTrees (lowered pins world)
+  lowered_trees = All-map (λ (f : Filesystem ℕ). IsListedTree f.files) (lowered_filesystem pins) world.filesystems
+      (worlds_have_trees world is)
+
+  lowered_one : any_pair (λ (a b : Filesystem ℕ). nat_eq a.number b.number) (lowered pins world).filesystems ≡ false
+  lowered_one = pair-map (λ (a b : Filesystem ℕ). nat_eq a.number b.number)
+      (λ (a b : Filesystem ℕ). nat_eq a.number b.number) (lowered_filesystem pins) world.filesystems (λ a b m n e. e)
+      is.files.one_filesystem
+
+-- a plain filesystem is there as it was
+same_there : (pins : Pins) (world : World ℕ) (number : ℕ) → is_overlay (filesystem_numbered nat_eq world number) ≡ false
+    → filesystem_numbered nat_eq (lowered pins world) number ≡ filesystem_numbered nat_eq world number
+same_there pins world number plain =
+    numbered-lowered pins world number ∙ lowered-plain pins (filesystem_numbered nat_eq world number) plain
+
 pub upper_changes_are_counted : UpperChangesAreCounted
 upper_changes_are_counted world location inodes change is plain counted fits links =
     let pins = unnamed_pins world in
     let pinned = unnamed_are_pinned world is in
-    let there = numbered-lowered pins world (filesystem_of world location)
-    ∙ lowered-plain pins (filesystem_at nat_eq world location) plain in
+    let there = same_there pins world (filesystem_of world location) plain in
     record {
-      in_use = lowered_are_in_use pins world (all_in_use world is) pinned.0 pinned.1;
-      trees = All-map (λ (f : Filesystem ℕ). IsListedTree f.files) (lowered_filesystem pins) world.filesystems
-          (worlds_have_trees world is);
-      one_filesystem = pair-map (λ (a b : Filesystem ℕ). nat_eq a.number b.number)
-          (λ (a b : Filesystem ℕ). nat_eq a.number b.number) (lowered_filesystem pins) world.filesystems
-          (λ a b m n e. e) is.files.one_filesystem;
+      in_use = lowered_in_use pins world is pinned.0 pinned.1;
+      trees = lowered_trees pins world is pinned.0 pinned.1;
+      one_filesystem = lowered_one pins world is pinned.0 pinned.1;
       plain = ap is_overlay there ∙ plain;
       counted = subst (λ f. IsCounted (lowered pins world) f inodes) (sym there) counted;
       fits = fits;
       links = links;
+    }
+
+pub upper_rows_are_counted : UpperRowsAreCounted
+upper_rows_are_counted pins world number inodes row is are in_layers plain counted fit =
+    let there = same_there pins world number plain in
+    record {
+      in_use = lowered_in_use pins world is are in_layers;
+      trees = lowered_trees pins world is are in_layers;
+      one_filesystem = lowered_one pins world is are in_layers;
+      plain = ap is_overlay there ∙ plain;
+      counted = subst (λ f. IsCounted (lowered pins world) f inodes) (sym there) counted;
+      fit = subst (λ (f : Filesystem ℕ). Swept.FitInTurn f.files inodes row) (sym there) fit;
     }

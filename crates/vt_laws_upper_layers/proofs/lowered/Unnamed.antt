@@ -251,7 +251,7 @@ module _ (world : World ℕ) (is : IsWorld nat_eq world) where
       any_from_among (λ (l : Layer ℕ). nat_eq number l.filesystem) (layers_of overlay) one.0
       (among-append_left (option_to_list overlay.upper ++ option_to_list overlay.work) overlay.lowers one.0
       (among-append_left (option_to_list overlay.upper) (option_to_list overlay.work) one.0 one.1))
-      (ap (λ (l : Layer ℕ). nat_eq number l.filesystem) {x = pin_of one.0 from.0} (sym same) ∙ layer.2)
+      (subst (λ (l : Layer ℕ). nat_eq number l.filesystem ≡ true) same layer.2)
 
 pub unnamed_are_pinned : UnnamedArePinned
 unnamed_are_pinned world is = (
