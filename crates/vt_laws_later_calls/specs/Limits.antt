@@ -1,2 +1,3 @@
 pub mod FullNamespaces
 pub mod Room
+pub mod Made

@@ -1,4 +1,5 @@
 //! Room for the mounts that a call attaches. Numbers handed in are any, and a `bind` is in any world.
+ghost use Rattle.vt_laws_later_calls.specs.Limits.Made.{GrantedCallsMakeFew, NamespacesHaveTasks};
 ghost use Rattle.vt_laws_later_calls.specs.Limits.Room.{BindNeedsRoom, BindsAskForRoom, MoveNeedsRoom, MovesAskForRoom, NewMountNeedsRoom, NewMountsAskForRoom, OverlaysAskForRoom};
 
 /// M9 fails for a `new_mount`, `overlay` or `bind`, or a move of an existing mount (`moves`), just if some namespace is
@@ -21,4 +22,13 @@ pub fn a_full_namespace_refuses_attachments()
     ensures new_mount { NewMountNeedsRoom }
     ensures bind { BindNeedsRoom }
     ensures moves { MoveNeedsRoom }
+{}
+
+/// What a granted call makes, moves, gives a type or copies is at most 4,096 mounts for each namespace (`granted`). There
+/// are no more namespaces than tasks (`namespaces`).
+///
+/// So a script makes mounts no faster than by the square of its lines.
+pub fn granted_calls_make_few_mounts()
+    ensures granted { GrantedCallsMakeFew }
+    ensures namespaces { NamespacesHaveTasks }
 {}
