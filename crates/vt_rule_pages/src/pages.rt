@@ -376,7 +376,7 @@ static L1: RulePage = RulePage {
 };
 
 static P1: RulePage = RulePage {
-    meaning: "a last word that names no entry, or an entry at which a mount stands",
+    meaning: "a mount stands on the directory; or `rename` from or to `.`, `..` or `/`, or `rmdir` of `/`",
     calls: &["rmdir", "rename"],
     manual: "rmdir(2), EBUSY",
     script: "t mkdir /d\nt mount plain /d\nt rmdir /d => deny 16 EBUSY P1\n",
@@ -538,7 +538,7 @@ static M9: RulePage = RulePage {
 };
 
 static M10: RulePage = RulePage {
-    meaning: "the root mount of a namespace",
+    meaning: "the mount is the root mount of its namespace",
     calls: &["move", "umount", "lazy"],
     manual: "a choice of this machine",
     script: "t lazy / => deny 22 EINVAL M10\n",
