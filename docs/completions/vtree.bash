@@ -13,12 +13,9 @@ _vtree() {
         show:--format) COMPREPLY=($(compgen -W 'text json dot' -- "$word")); return ;;
         explain:--script) COMPREPLY=($(compgen -W '1 2' -- "$word")); return ;;
         explain:--format) COMPREPLY=($(compgen -W 'text json' -- "$word")); return ;;
-        turns:--most) COMPREPLY=($(compgen -W '' -- "$word")); return ;;
-        turns:--script) COMPREPLY=($(compgen -W '1 2' -- "$word")); return ;;
-        turns:--format) COMPREPLY=($(compgen -W 'text json' -- "$word")); return ;;
     esac
     if [ "$COMP_CWORD" -eq 1 ]; then
-        COMPREPLY=($(compgen -W 'run check test show explain turns rules new --help --version' -- "$word"))
+        COMPREPLY=($(compgen -W 'run check test show explain rules new --help --version' -- "$word"))
         return
     fi
     case ${COMP_WORDS[1]}:$word in
@@ -27,7 +24,6 @@ _vtree() {
         test:-*) words='--write --script --format --help' ;;
         show:-*) words='--at --task --files --script --format --help' ;;
         explain:-*) words='--script --format --help' ;;
-        turns:-*) words='--all --most --unborn --script --format --help' ;;
         rules:-*) words='--markdown --help' ;;
         new:-*) words='--help' ;;
         rules:*) words=$(vtree rules 2>/dev/null | cut -d' ' -f1) ;;

@@ -23,13 +23,6 @@ complete -c vtree -n __fish_use_subcommand -f -a explain -d 'Explains why a line
 complete -c vtree -n '__fish_seen_subcommand_from explain' -l script -d 'The version of the scripts\' language; 2 has pivot_root and nosymfollow too' -x -a '1 2'
 complete -c vtree -n '__fish_seen_subcommand_from explain' -l format -d 'The form of what is written; json is one object a line' -x -a 'text json'
 complete -c vtree -n '__fish_seen_subcommand_from explain' -l help -d 'Print help'
-complete -c vtree -n __fish_use_subcommand -f -a turns -d 'Runs the calls of a script in every order that keeps each task\'s own'
-complete -c vtree -n '__fish_seen_subcommand_from turns' -l all -d 'Every order, and which answers come of it'
-complete -c vtree -n '__fish_seen_subcommand_from turns' -l most -d 'Runs nothing where there are more orders than this; 100000 where it is left out' -x
-complete -c vtree -n '__fish_seen_subcommand_from turns' -l unborn -d 'Lines of a task before its fork too'
-complete -c vtree -n '__fish_seen_subcommand_from turns' -l script -d 'The version of the scripts\' language; 2 has pivot_root and nosymfollow too' -x -a '1 2'
-complete -c vtree -n '__fish_seen_subcommand_from turns' -l format -d 'The form of what is written; json is one object a line' -x -a 'text json'
-complete -c vtree -n '__fish_seen_subcommand_from turns' -l help -d 'Print help'
 complete -c vtree -n __fish_use_subcommand -f -a rules -d 'Tells of the rules that refuse calls'
 complete -c vtree -n '__fish_seen_subcommand_from rules' -l markdown -d 'All rules as a page of the documentation'
 complete -c vtree -n '__fish_seen_subcommand_from rules' -l help -d 'Print help'
