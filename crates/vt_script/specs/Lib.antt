@@ -4,3 +4,4 @@ pub mod Reached
 pub mod Refused
 pub mod Session
 pub mod SessionValue
+pub mod Examples

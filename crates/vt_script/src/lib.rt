@@ -1,6 +1,7 @@
 //! Scripts run: `run` reads a script line by line, and answers each by the written policy.
 #![tactic(auto)]
 
+pub mod examples;
 mod script;
 mod session;
 mod world;
