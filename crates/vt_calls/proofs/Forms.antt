@@ -1,9 +1,9 @@
 -- Which permits a call may be given: of a call that does not allocate one whose change does not.
 use Rattle.std.proofs.Common.{nat_eq, not, refl, Bool, List, Ok, false, true, ℕ, ◌||◌, ◌≡◌}
 use Rattle.vt_spec.proofs.Common.{Allowed, Call, Change, Looks, Permit, SetAttr, SetMark, SetType, Task, ToChange, ToClose, ToExit, ToPrivate, ToSetCredentials, ToSetFlags, ToSetType, ToSetUmask, ToShared, ToSlave, ToStat, ToUnbindable, TypeWord, judge}
-use Rattle.vt_laws_rules.proofs.given.Inversion.{calls_are_granted}
-use Rattle.vt_laws_rules.specs.Granted.{IsGranted}
-use Rattle.vt_laws_rules.specs.Granted.IsGranted.{changes_flags, changes_mark, changes_mode, changes_owner, changes_type, changes_umask, closes, drops_capabilities, exits, may_execute, shows_object, shows_symlink}
+use Rattle.vt_laws_rules.proofs.given.Ways.{calls_are_granted}
+use Rattle.vt_laws_rules.proofs.given.Ways.{IsGranted}
+use Rattle.vt_laws_rules.proofs.given.Ways.IsGranted.{changes_flags, changes_mark, changes_mode, changes_owner, changes_type, changes_umask, closes, drops_capabilities, exits, may_execute, shows_object, shows_symlink}
 use Rattle.vt_laws_worlds.specs.Permits.Steps.{makes_shared}
 use Rattle.vt_permits.specs.Allocating.{TakesMemory}
 

@@ -24,7 +24,7 @@ pub use Rattle.vt_laws_mounts.proofs.letting_go.Lists.{filter-map, filter_less, 
 pub use Rattle.vt_laws_mounts.proofs.letting_go.sweeps.OfWorlds.{all_in_use, found_filesystem}
 pub use Rattle.vt_laws_mounts.proofs.mounts.MountsReplaced.{found_itself}
 pub use Rattle.vt_laws_rules.proofs.given.GivenPermits.{permits_are_for_their_calls}
-pub use Rattle.vt_laws_rules.proofs.given.Inversion.{calls_are_granted}
+pub use Rattle.vt_laws_rules.proofs.given.Ways.{calls_are_granted}
 pub use Rattle.vt_laws_rules.proofs.numbers.Supports.{calls_keep_to_numbers, lines_keep_to_numbers, opening_keeps_to_four, used_numbers_are_named}
 pub use Rattle.vt_laws_rules.specs.Numbers.{IsSuppliedFrom, KeepsTo, LeavesOutTwo, first_four}
 pub use Rattle.vt_laws_sealed.proofs.outsiders.EveryPermit.{outsiders_leave_a_sealed_set}

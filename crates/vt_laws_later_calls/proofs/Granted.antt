@@ -2,7 +2,7 @@
 use Rattle.std.proofs.Common.{arith, ◌≡◌, refl, sym, ap, ◌∙◌, ℕ, nat_eq, true, false, not, List, [], ◌∷◌, ◌||◌, Option, Some, None, Result, Ok, Err, find, is_ok, map, ok_or, option_map}
 use Rattle.vt_spec.proofs.Common.{Answer, Call, Fresh, IsWorld, Judgement, Outcome, Permit, Serves, Task, TaskName, World, after, answer-finished_by, apply, common_steps, denial, filesystems_changed, filesystems_changed_by, finished, judge_in, looks_of, numbers_raised, only_looks, overfills, policy, raised_task, same_name, settled, task_called}
 use Rattle.vt_laws_later_calls.proofs.Common.{Deny, IsGranted, IsPlain, S2, mounts_overlay, names_few_groups, policy_judges_then_applies}
-use Rattle.vt_laws_rules.proofs.given.Inversion.{calls_are_granted}
+use Rattle.vt_laws_rules.proofs.given.Ways.{calls_are_granted}
 
 -- what a call that was granted, and does not only look, was permitted, and what it left
 pub record IsPermitted (world : World ℕ) (fresh : Fresh ℕ) (name : TaskName) (call : Call)

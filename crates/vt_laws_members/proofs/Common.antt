@@ -36,9 +36,9 @@ pub use Rattle.vt_laws_mounts.specs.Mounts.Invariants.{OneNumberEach}
 pub use Rattle.vt_laws_mounts.specs.Mounts.Namespaces.{CanPivot, IsIn}
 pub use Rattle.vt_laws_mounts.specs.Mounts.Receivers.{AllGroupsLive}
 pub use Rattle.vt_laws_mounts.specs.Mounts.Standing.{AllStand}
-pub use Rattle.vt_laws_rules.proofs.given.Inversion.{calls_are_granted}
-pub use Rattle.vt_laws_rules.specs.Granted.{IsGranted}
-pub use Rattle.vt_laws_rules.specs.Granted.IsGranted.{changes_mark, changes_mode, changes_owner, creates, creates_exclusively, makes_directory, makes_hard_link, makes_symlink, makes_whiteout, mounts_overlayfs, opens, opens_existing, overwrites_file, removes_directory, renames, unlinks, unmounts_lazily, writes_new_file, writes_part}
+pub use Rattle.vt_laws_rules.proofs.given.Ways.{calls_are_granted}
+pub use Rattle.vt_laws_rules.proofs.given.Ways.{IsGranted}
+pub use Rattle.vt_laws_rules.proofs.given.Ways.IsGranted.{changes_mark, changes_mode, changes_owner, creates, creates_exclusively, makes_directory, makes_hard_link, makes_symlink, makes_whiteout, mounts_overlayfs, opens, opens_existing, overwrites_file, removes_directory, renames, unlinks, unmounts_lazily, writes_new_file, writes_part}
 pub use Rattle.vt_laws_later_calls.proofs.Options.{cases_Option}
 pub use Rattle.vt_laws_sealed.proofs.outsiders.FilesystemsSwept.{filesystems_swept, filter_map_filtered}
 pub use Rattle.vt_laws_sealed.proofs.outsiders.OtherMounts.{located_there, namespace_outside, number_not_new}

@@ -2,3 +2,5 @@
 pub mod CallsGranted
 pub mod GivenPermits
 pub mod Inversion
+pub mod Runs
+pub mod Ways

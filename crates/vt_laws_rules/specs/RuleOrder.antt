@@ -1,6 +1,7 @@
 -- Which rules a call is refused by, and by which of several that fail.
 use Rattle.std.specs.Prelude.{Bool, Err, IfOk, IsErrAnd, List, None, Ok, Option, Some, [], false, if◌then◌else◌, map, nat_eq, true, ℕ, ◌++◌, ◌∷◌, ◌≡◌, ◌≢◌}
-use Rattle.vt_laws_rules.specs.Asked.{IsAnsweredByLeast, IsLeastOf, asked_first, asked_last, exclusive_last_words, failing, last_word_rules}
+use Rattle.vt_laws_rules.specs.Asked.{IsAnsweredByLeast, IsLeastOf, asked_first, asked_last, failing, last_word_rules}
+use Rattle.vt_laws_rules.specs.Judging.{exclusive_last_words}
 use Rattle.vt_laws_rules.specs.RuleRanks.{IsInOrder, IsInOrderAfterWalk, is_among}
 use Rattle.vt_spec.specs.declared.errors.Deny.{Deny}
 use Rattle.vt_spec.specs.declared.errors.Rule.{Rule}

@@ -1,6 +1,6 @@
 //! Which calls a permit is given to.
 ghost use Rattle.vt_laws_rules.specs.Given.{PermitsAreForTheirCalls};
-ghost use Rattle.vt_laws_rules.specs.Granted.{CallsAreGranted, GrantsAreJudged};
+ghost use Rattle.vt_laws_rules.specs.Judging.{CallsAreGranted, GrantsAreJudged, JudgeIsTheRun};
 
 /// Each of the 31 permits is granted to its own calls alone, and holds what the call asked for. Of where paths,
 /// descriptors and task names lead, and of what a new object holds, this says nothing.
@@ -12,8 +12,14 @@ pub fn permits_are_for_their_calls()
     ensures { PermitsAreForTheirCalls }
 {}
 
-/// For any given answers to M9, `judge` grants a permit just in one of 44 ways (`IsGranted`; `granted`, `judged`). A
-/// way says where the walks end, that no rule fails, and which permit is granted.
+/// For any given answers to M9, `judge` is the run of what a call asks (`judging`): its walks and its tables of rules,
+/// in their order, and then its permit.
+pub fn judge_is_the_run_of_its_judging()
+    ensures { JudgeIsTheRun }
+{}
+
+/// For any given answers to M9, `judge` grants a permit just if what the call asks leads to it (`IsGrantedBy`;
+/// `granted`, `judged`): each walk ends, no rule fails, and the permit is that of the places where the walks end.
 pub fn calls_are_granted_in_these_ways()
     ensures granted { CallsAreGranted }
     ensures judged { GrantsAreJudged }

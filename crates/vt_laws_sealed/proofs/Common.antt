@@ -11,10 +11,10 @@ pub use Rattle.vt_laws_mounts.proofs.mounts.Receivers.{along_chain}
 pub use Rattle.vt_laws_mounts.proofs.namespaces.Unsharing.{placed_inside, unshare_keeps_mounts}
 pub use Rattle.vt_laws_mounts.specs.Mounts.Invariants.{OneNumberEach}
 pub use Rattle.vt_laws_rules.proofs.given.GivenPermits.{permits_are_for_their_calls}
-pub use Rattle.vt_laws_rules.proofs.given.Inversion.{calls_are_granted}
+pub use Rattle.vt_laws_rules.proofs.given.Ways.{calls_are_granted}
 pub use Rattle.vt_laws_rules.proofs.judged.CallsJudged.{call_is_judged_then_applied}
-pub use Rattle.vt_laws_rules.specs.Granted.{IsGranted}
-pub use Rattle.vt_laws_rules.specs.Granted.IsGranted.{changes_directory, changes_mark, changes_mode, changes_owner, changes_root, creates, creates_exclusively, enters_namespace, makes_directory, makes_hard_link, makes_symlink, makes_whiteout, mounts_overlayfs, opens, opens_existing, overwrites_file, removes_directory, renames, unlinks, writes_new_file, writes_part}
+pub use Rattle.vt_laws_rules.proofs.given.Ways.{IsGranted}
+pub use Rattle.vt_laws_rules.proofs.given.Ways.IsGranted.{changes_directory, changes_mark, changes_mode, changes_owner, changes_root, creates, creates_exclusively, enters_namespace, makes_directory, makes_hard_link, makes_symlink, makes_whiteout, mounts_overlayfs, opens, opens_existing, overwrites_file, removes_directory, renames, unlinks, writes_new_file, writes_part}
 pub use Rattle.vt_laws_trees.proofs.calls.ways.WaysEnds.{directory_ways_are_searched, object_ways_are_searched, source_ways_are_searched}
 pub use Rattle.vt_laws_trees.proofs.calls.ways.WaysNamed.{IsFront, new_leaf_ways_are_searched, new_name_ways_are_searched, old_leaf_ways_are_searched, old_name_ways_are_searched, prefix_searched}
 pub use Rattle.vt_laws_trees.proofs.layers.layers.LowersWorld.{filesystem_elsewhere, number_of_filesystem, the_rest_stays}

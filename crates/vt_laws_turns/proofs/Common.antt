@@ -8,10 +8,10 @@ pub use Rattle.vt_laws_mounts.proofs.mounts.MountsPlaces.{stands_at_its_place, s
 pub use Rattle.vt_laws_mounts.proofs.mounts.MountsReplaced.{found-append, found_itself}
 pub use Rattle.vt_laws_mounts.proofs.mounts.MountsRetyped.{flags_are_of_one, type_is_all_that_changes, types_are_of_mounts}
 pub use Rattle.vt_laws_mounts.specs.Mounts.Attaching.{is_mount, numbers_of}
-pub use Rattle.vt_laws_rules.proofs.given.Inversion.{calls_are_granted}
+pub use Rattle.vt_laws_rules.proofs.given.Ways.{calls_are_granted}
 pub use Rattle.vt_laws_rules.proofs.judged.CallsJudged.{call_is_judged_then_applied}
-pub use Rattle.vt_laws_rules.specs.Granted.{IsGranted}
-pub use Rattle.vt_laws_rules.specs.Granted.IsGranted.{mounts_overlayfs}
+pub use Rattle.vt_laws_rules.proofs.given.Ways.{IsGranted}
+pub use Rattle.vt_laws_rules.proofs.given.Ways.IsGranted.{mounts_overlayfs}
 pub use Rattle.vt_laws_trees.proofs.calls.tasks.TasksLaws.{other_tasks_stay}
 pub use Rattle.vt_laws_trees.proofs.trees.Lists.{length-filter_le, nth_among}
 pub use Rattle.vt_laws_trees.specs.Trees.Calls.{mounts_overlay}

@@ -5,8 +5,8 @@ use Rattle.vt_laws_mounts.specs.Mounts.Receivers.{GroupsLive}
 use Rattle.vt_laws_mounts.specs.Mounts.Unmounting.{Goes, UmountUnmounts, WhatGoesIsNamed}
 use Rattle.vt_laws_mounts.specs.Mounts.Unmounting.Goes.{alone, at_receiver, from_nowhere}
 use Rattle.vt_laws_mounts.proofs.mounts.Receivers.{receivers_receive}
-use Rattle.vt_laws_rules.specs.Granted.{IsGranted}
-use Rattle.vt_laws_rules.specs.Granted.IsGranted.{unmounts}
+use Rattle.vt_laws_rules.proofs.given.Ways.{IsGranted}
+use Rattle.vt_laws_rules.proofs.given.Ways.IsGranted.{unmounts}
 use Rattle.vt_laws_mounts.proofs.mounts.MountsGranted.{leaves_mounts, one_end}
 
 -- one number alone

@@ -5,7 +5,7 @@ use Rattle.vt_spec.specs.declared.errors.Rule.TheVariants.{S2}
 use Rattle.vt_laws_mounts.specs.Mounts.FileCalls.{HasLiving}
 use Rattle.std.proofs.lemmas.List.Elements.{filter_agree}
 use Rattle.vt_laws_rules.proofs.given.CallsGranted.{answered_holds}
-use Rattle.vt_laws_rules.specs.Granted.{IsGranted}
+use Rattle.vt_laws_rules.proofs.given.Ways.{IsGranted}
 
 -- a walk ends at one place
 pub one_end : {A : Type 0} (walk : Result A (Stop ℕ)) (a b : A) → walk ≡ Ok a → walk_end walk ≡ Ok b → a ≡ b

@@ -4,8 +4,9 @@ use Rattle.vt_spec.proofs.Common.{Bind, Call, Change, Exit, Fresh, Lazy, Locatio
 use Rattle.vt_laws_mounts.specs.Mounts.FileCalls.{FileCallsLeaveMounts, is_of_no_mount}
 use Rattle.vt_laws_mounts.proofs.mounts.MountsGranted.{policy_leaves}
 use Rattle.vt_laws_rules.proofs.given.CallsGranted.{call_holds}
-use Rattle.vt_laws_rules.specs.Granted.{IsGranted, directory_made, symlink_made, whiteout_made}
-use Rattle.vt_laws_rules.specs.Granted.IsGranted.{changes_mark, changes_mode, changes_owner, creates, creates_exclusively, makes_directory, makes_hard_link, makes_symlink, makes_whiteout, opens, opens_existing, overwrites_file, unlinks, writes_new_file, writes_part}
+use Rattle.vt_laws_rules.proofs.given.Ways.{IsGranted}
+use Rattle.vt_laws_rules.specs.Judging.{directory_made, symlink_made, whiteout_made}
+use Rattle.vt_laws_rules.proofs.given.Ways.IsGranted.{changes_mark, changes_mode, changes_owner, creates, creates_exclusively, makes_directory, makes_hard_link, makes_symlink, makes_whiteout, opens, opens_existing, overwrites_file, unlinks, writes_new_file, writes_part}
 
 module _ (world : World ℕ) where
   pub mounts-with_change : (fresh : Fresh ℕ) (location : Location ℕ) (change : Change ℕ)

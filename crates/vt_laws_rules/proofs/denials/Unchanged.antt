@@ -6,8 +6,8 @@ use Rattle.vt_laws_rules.proofs.rules.OwnRules.{policy_refuses_own}
 use Rattle.vt_laws_rules.specs.Denials.{DeniedLineChangesNothing, DirectiveChangesNothing, LookChangesNothing, RefusedMemoryChangesNothing}
 use Rattle.vt_spec.specs.declared.errors.Rule.TheVariants.{S2}
 use Rattle.vt_laws_rules.proofs.given.CallsGranted.{call_holds}
-use Rattle.vt_laws_rules.specs.Granted.{IsGranted}
-use Rattle.vt_laws_rules.specs.Granted.IsGranted.{lists_directory, lists_mounts, may_execute, reads_file, reads_part, reads_symlink, shows_object, shows_symlink}
+use Rattle.vt_laws_rules.proofs.given.Ways.{IsGranted}
+use Rattle.vt_laws_rules.proofs.given.Ways.IsGranted.{lists_directory, lists_mounts, may_execute, reads_file, reads_part, reads_symlink, shows_object, shows_symlink}
 
 pub directive_changes_nothing : DirectiveChangesNothing
 directive_changes_nothing world directive = grind (arith, common_steps)

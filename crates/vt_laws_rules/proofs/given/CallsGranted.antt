@@ -1,8 +1,8 @@
 -- What a granted call leaves: what its permit leaves.
 use Rattle.std.proofs.Common.{arith, nat_eq, true≢false, Ok, ℕ, ◌≡◌}
 use Rattle.vt_spec.proofs.Common.{Answer, Call, Fresh, Permit, Task, World, apply, call_outcome, common_steps, looks_of, overfills}
-use Rattle.vt_laws_rules.proofs.given.Inversion.{calls_are_granted}
-use Rattle.vt_laws_rules.specs.Granted.{IsGranted}
+use Rattle.vt_laws_rules.proofs.given.Ways.{calls_are_granted}
+use Rattle.vt_laws_rules.proofs.given.Ways.{IsGranted}
 
 -- what holds of a world, and of what each permit leaves by which a call may be granted, holds after the call
 pub call_holds : (P : World ℕ → Type 0) (fresh : Fresh ℕ) (world : World ℕ) (task : Task ℕ) (call : Call) → P world

@@ -1,10 +1,10 @@
 -- Which calls a permit is given to.
 use Rattle.std.proofs.Common.{inl, inr, refl, Bool, Some, nat_eq, ℕ}
 use Rattle.vt_spec.proofs.Common.{Call, Exclusive, Looks, NoCreation, OrCreate, Permit, Task, looks_of, overfills}
-use Rattle.vt_laws_rules.proofs.given.Inversion.{calls_are_granted}
+use Rattle.vt_laws_rules.proofs.given.Ways.{calls_are_granted}
 use Rattle.vt_laws_rules.specs.Given.{IsFor, PermitsAreForTheirCalls}
-use Rattle.vt_laws_rules.specs.Granted.{IsGranted}
-use Rattle.vt_laws_rules.specs.Granted.IsGranted.{binds, closes, creates, creates_exclusively, drops_capabilities, enters_namespace, exits, forks, keeps_names, lists_directory, lists_mounts, makes_directory, makes_hard_link, makes_symlink, makes_whiteout, may_execute, mounts_overlayfs, mounts_tmpfs, moves_mount, opens, opens_existing, overwrites_file, pivots_root, reads_file, reads_part, reads_symlink, removes_directory, renames, changes_directory, changes_flags, changes_mode, changes_mark, changes_owner, changes_root, changes_type, changes_umask, shows_object, shows_symlink, unlinks, unmounts, unmounts_lazily, unshares, writes_new_file, writes_part}
+use Rattle.vt_laws_rules.proofs.given.Ways.{IsGranted}
+use Rattle.vt_laws_rules.proofs.given.Ways.IsGranted.{binds, closes, creates, creates_exclusively, drops_capabilities, enters_namespace, exits, forks, keeps_names, lists_directory, lists_mounts, makes_directory, makes_hard_link, makes_symlink, makes_whiteout, may_execute, mounts_overlayfs, mounts_tmpfs, moves_mount, opens, opens_existing, overwrites_file, pivots_root, reads_file, reads_part, reads_symlink, removes_directory, renames, changes_directory, changes_flags, changes_mode, changes_mark, changes_owner, changes_root, changes_type, changes_umask, shows_object, shows_symlink, unlinks, unmounts, unmounts_lazily, unshares, writes_new_file, writes_part}
 
 -- by the ways in which calls are granted
 is_for : (looks : Looks ℕ) (too_many : Permit ℕ → Bool) (task : Task ℕ) (call : Call) (permit : Permit ℕ)

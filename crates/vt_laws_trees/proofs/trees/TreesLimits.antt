@@ -7,8 +7,8 @@ use Rattle.vt_laws_trees.proofs.trees.TreesTasks.{all_appended, all_mapped, chil
 use Rattle.vt_laws_trees.proofs.trees.TreesWalked.{after_holds, ok_same}
 use Rattle.vt_spec.proofs.Worlds.{tasks-regrouped}
 use Rattle.vt_laws_rules.proofs.given.CallsGranted.{call_holds}
-use Rattle.vt_laws_rules.specs.Granted.{IsGranted}
-use Rattle.vt_laws_rules.specs.Granted.IsGranted.{changes_directory, changes_mark, changes_mode, changes_owner, changes_root, changes_type, changes_umask, closes, creates, creates_exclusively, drops_capabilities, enters_namespace, exits, forks, makes_directory, makes_hard_link, makes_symlink, makes_whiteout, opens, opens_existing, overwrites_file, pivots_root, removes_directory, renames, unlinks, unmounts, unmounts_lazily, unshares, writes_new_file, writes_part}
+use Rattle.vt_laws_rules.proofs.given.Ways.{IsGranted}
+use Rattle.vt_laws_rules.proofs.given.Ways.IsGranted.{changes_directory, changes_mark, changes_mode, changes_owner, changes_root, changes_type, changes_umask, closes, creates, creates_exclusively, drops_capabilities, enters_namespace, exits, forks, makes_directory, makes_hard_link, makes_symlink, makes_whiteout, opens, opens_existing, overwrites_file, pivots_root, removes_directory, renames, unlinks, unmounts, unmounts_lazily, unshares, writes_new_file, writes_part}
 
 -- Worlds with the same tasks
 pub same_tasks : (a b : World ℕ) → a.tasks ≡ b.tasks → HasSmallTasks b → HasSmallTasks a

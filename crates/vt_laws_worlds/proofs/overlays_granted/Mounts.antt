@@ -3,9 +3,9 @@ use Rattle.std.proofs.Common.{Some, nat_eq, refl, ℕ, ◌≡◌}
 use Rattle.vt_spec.proofs.Common.{Call, Fresh, IsWorld, Permit, Task, ToMountOverlay, World, looks_of, overfills, task_called, ⊤}
 use Rattle.vt_laws_trees.proofs.layers.mounting.Walked.{all_plain, are_walked, fit_layers, has_layers, shown_plain}
 use Rattle.vt_laws_worlds.specs.OverlaysGranted.Granted.{GivenOverlaysMayBeMounted, MayBeMounted}
-use Rattle.vt_laws_rules.proofs.given.Inversion.{calls_are_granted}
-use Rattle.vt_laws_rules.specs.Granted.{IsGranted}
-use Rattle.vt_laws_rules.specs.Granted.IsGranted.{mounts_overlayfs}
+use Rattle.vt_laws_rules.proofs.given.Ways.{calls_are_granted}
+use Rattle.vt_laws_rules.proofs.given.Ways.{IsGranted}
+use Rattle.vt_laws_rules.proofs.given.Ways.IsGranted.{mounts_overlayfs}
 use Rattle.vt_laws_trees.proofs.trees.TreesWalked.{at_end}
 use Rattle.vt_laws_worlds.proofs.worlds.FitPermits.{destination}
 use Rattle.vt_laws_worlds.proofs.worlds.ReachedPlaces.{IsTopmost, destination_walk_end}

@@ -14,10 +14,10 @@ use Rattle.vt_laws_worlds.specs.OverlayPermits.Changed.{numbers_left}
 use Rattle.vt_laws_worlds.proofs.overlays_read.Swept.{all_write_alike, lacks_upper, sweeps_keep_writers, writers_alike, writes, writes_still}
 use Rattle.vt_laws_worlds.specs.OverlaysRead.Writers.{EveryCallKeepsWriters, PermitsKeepWriters, WritersHaveLayers, writes_to_a_layer}
 use Rattle.vt_laws_trees.proofs.layers.layers.LowersCalls.{same_filesystem}
-use Rattle.vt_laws_rules.proofs.given.Inversion.{calls_are_granted}
+use Rattle.vt_laws_rules.proofs.given.Ways.{calls_are_granted}
 use Rattle.vt_laws_rules.proofs.judged.CallsJudged.{call_is_judged_then_applied}
-use Rattle.vt_laws_rules.specs.Granted.{IsGranted}
-use Rattle.vt_laws_rules.specs.Granted.IsGranted.{creates, creates_exclusively, mounts_overlayfs, opens, opens_existing}
+use Rattle.vt_laws_rules.proofs.given.Ways.{IsGranted}
+use Rattle.vt_laws_rules.proofs.given.Ways.IsGranted.{creates, creates_exclusively, mounts_overlayfs, opens, opens_existing}
 use Rattle.vt_laws_trees.proofs.calls.tasks.TasksOwn.{among-inserted}
 use Rattle.vt_laws_trees.proofs.trees.TreesTasks.{called_there}
 use Rattle.vt_laws_trees.specs.Trees.Settling.{inode_in}

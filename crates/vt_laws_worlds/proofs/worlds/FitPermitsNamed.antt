@@ -1,10 +1,10 @@
 -- Whatever is permitted in a world that has the invariants fits it.
 use Rattle.std.proofs.Common.{arith, Bool, Ok, not, option_map, refl, true≢false, ◌∙◌, List, Some, false, is_some, nat_eq, true, ℕ, ◌≡◌}
 use Rattle.vt_spec.proofs.Common.{Call, Descriptor, Fresh, Here, IsWorld, Location, Looks, Permit, Place, Serves, Task, World, among_from_list_all, common_steps, denial, destination_walk, directory_walk, file_walk, has_regular_files_open, is_directory_at, is_directory_there, is_elsewhere, is_kind_in, is_no_root, is_on_descendant, is_shared, is_special, lies_under_location, looks_of, mount_at, new_leaf_walk, new_walk, node_at, object_there, object_walk, old_leaf_walk, old_walk, or_false_left, or_parts, overfills, rename_new_walk, source_walk, special_word, task_called}
-use Rattle.vt_laws_rules.proofs.given.Inversion.{calls_are_granted}
+use Rattle.vt_laws_rules.proofs.given.Ways.{calls_are_granted}
 use Rattle.vt_laws_rules.proofs.same.SameMany.{attaches}
-use Rattle.vt_laws_rules.specs.Granted.{IsGranted}
-use Rattle.vt_laws_rules.specs.Granted.IsGranted.{binds, changes_directory, changes_flags, changes_mark, changes_mode, changes_owner, changes_root, changes_type, creates, creates_exclusively, enters_namespace, makes_directory, makes_hard_link, makes_symlink, makes_whiteout, mounts_overlayfs, mounts_tmpfs, moves_mount, opens, opens_existing, overwrites_file, pivots_root, removes_directory, renames, unlinks, unmounts, unmounts_lazily, writes_new_file, writes_part}
+use Rattle.vt_laws_rules.proofs.given.Ways.{IsGranted}
+use Rattle.vt_laws_rules.proofs.given.Ways.IsGranted.{binds, changes_directory, changes_flags, changes_mark, changes_mode, changes_owner, changes_root, changes_type, creates, creates_exclusively, enters_namespace, makes_directory, makes_hard_link, makes_symlink, makes_whiteout, mounts_overlayfs, mounts_tmpfs, moves_mount, opens, opens_existing, overwrites_file, pivots_root, removes_directory, renames, unlinks, unmounts, unmounts_lazily, writes_new_file, writes_part}
 use Rattle.vt_spec.specs.declared.attributes.Kind.TheVariants.{File, White}
 use Rattle.vt_spec.specs.declared.errors.Rule.TheVariants.{S2}
 use Rattle.vt_laws_trees.proofs.trees.TreesTasks.{called_there}

@@ -2,9 +2,9 @@
 use Rattle.std.proofs.Common.{Option, is_some, nat_eq, true, ℕ, ◌≡◌, arith}
 use Rattle.vt_spec.proofs.Common.{Call, Fresh, Node, Permit, Task, TaskName, ToRead, World, looks_of, node_at, overfills, common_steps}
 use Rattle.vt_spec.specs.Machine.Mounts as meant
-use Rattle.vt_laws_rules.proofs.given.Inversion.{calls_are_granted}
-use Rattle.vt_laws_rules.specs.Granted.{IsGranted}
-use Rattle.vt_laws_rules.specs.Granted.IsGranted.{reads_file, reads_symlink}
+use Rattle.vt_laws_rules.proofs.given.Ways.{calls_are_granted}
+use Rattle.vt_laws_rules.proofs.given.Ways.{IsGranted}
+use Rattle.vt_laws_rules.proofs.given.Ways.IsGranted.{reads_file, reads_symlink}
 use Rattle.vt_ns.proofs.Common.{Permits, WorldValue, supply_of, world_of}
 use Rattle.vt_ns.specs.Lent.{as_lent}
 

@@ -7,9 +7,9 @@ use Rattle.vt_laws_trees.proofs.calls.inodes.InodesOwn.{calls_change_their_own}
 use Rattle.vt_laws_trees.proofs.calls.inodes.InodesPartLaws.{only_chmod_changes_modes, only_chown_changes_owners, only_naming_changes_entries, only_opaque_changes_marks, only_writes_change_bytes}
 use Rattle.vt_laws_trees.specs.Calls.Effects.{ChangesAreByRight, HasOpenFor, MayDo}
 use Rattle.vt_laws_trees.specs.Calls.Inodes.{IsNotHanded, StaysIfThere, change_of, changes_names, entries_named_by, is_own, is_own_entry, owner_of, same_entry, sets_mark, sets_mode, sets_owner, writes_bytes}
-use Rattle.vt_laws_rules.proofs.given.Inversion.{calls_are_granted}
-use Rattle.vt_laws_rules.specs.Granted.{IsGranted}
-use Rattle.vt_laws_rules.specs.Granted.IsGranted.{changes_mark, changes_mode, changes_owner, creates, creates_exclusively, keeps_names, makes_directory, makes_hard_link, makes_symlink, makes_whiteout, opens, opens_existing, overwrites_file, removes_directory, renames, unlinks, writes_new_file, writes_part}
+use Rattle.vt_laws_rules.proofs.given.Ways.{calls_are_granted}
+use Rattle.vt_laws_rules.proofs.given.Ways.{IsGranted}
+use Rattle.vt_laws_rules.proofs.given.Ways.IsGranted.{changes_mark, changes_mode, changes_owner, creates, creates_exclusively, keeps_names, makes_directory, makes_hard_link, makes_symlink, makes_whiteout, opens, opens_existing, overwrites_file, removes_directory, renames, unlinks, writes_new_file, writes_part}
 use Rattle.vt_spec.specs.Rights.{cap_chown, is_member}
 use Rattle.vt_spec.specs.declared.attributes.Attr.{Attr}
 use Rattle.vt_laws_trees.proofs.trees.TreesWalked.{Ends, at_end, not-false}

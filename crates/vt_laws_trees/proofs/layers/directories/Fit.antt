@@ -8,7 +8,7 @@ use Rattle.vt_laws_trees.specs.Layers.Layers.Mounted.{AreLayers}
 use Rattle.vt_laws_trees.specs.Layers.Layers.NewOverlays.{NewOverlayHasOwnParents, NewOverlayIsFit, NewOverlayIsTree, NewOverlayListsNumbers}
 use Rattle.vt_laws_trees.proofs.layers.directories.Merged.{merged_is_tree, merged_lists_numbers, merged_own_parents}
 use Rattle.vt_laws_trees.proofs.layers.layers.ShownMerged.{CanMerge, entry_is_here, in_layer, inodes, node_of, objects}
-use Rattle.vt_laws_trees.proofs.layers.layers.ShownMounted.{can_merge, bounded, is_open, root_shown}
+use Rattle.vt_laws_trees.proofs.layers.layers.ShownMounted.{can_merge, is_open, root_shown}
 use Rattle.vt_laws_trees.proofs.layers.layers.ShownNames.{last_name}
 use Rattle.vt_laws_trees.proofs.layers.layers.ShownObjects.{Among, from_filter_map, object_is}
 use Rattle.vt_laws_trees.proofs.layers.layers.ShownWhole.{is_of_object}

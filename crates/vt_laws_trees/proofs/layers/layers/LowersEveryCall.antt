@@ -4,8 +4,8 @@ use Rattle.vt_spec.proofs.Common.{Access, Call, Change, CopyUp, Fresh, Location,
 use Rattle.vt_laws_trees.specs.Layers.Layers.Untouched.{HasNoUpperLayer, changes_no_mount, inodes_changed}
 use Rattle.vt_laws_trees.proofs.layers.layers.LowersCalls.{Stays, stays_itself, change_stays, stays_where_same, unlocked_differs}
 use Rattle.vt_laws_rules.proofs.given.CallsGranted.{call_holds}
-use Rattle.vt_laws_rules.specs.Granted.{IsGranted}
-use Rattle.vt_laws_rules.specs.Granted.IsGranted.{changes_mark, changes_mode, changes_owner, creates, creates_exclusively, makes_directory, makes_hard_link, makes_symlink, makes_whiteout, mounts_overlayfs, mounts_tmpfs, opens, opens_existing, overwrites_file, removes_directory, renames, unlinks, writes_new_file, writes_part}
+use Rattle.vt_laws_rules.proofs.given.Ways.{IsGranted}
+use Rattle.vt_laws_rules.proofs.given.Ways.IsGranted.{changes_mark, changes_mode, changes_owner, creates, creates_exclusively, makes_directory, makes_hard_link, makes_symlink, makes_whiteout, mounts_overlayfs, mounts_tmpfs, opens, opens_existing, overwrites_file, removes_directory, renames, unlinks, writes_new_file, writes_part}
 use Rattle.vt_laws_trees.proofs.layers.layers.LowersMounts.{same_filesystems_without, same_mounted_without}
 use Rattle.vt_laws_trees.proofs.trees.ChangesByOthers.{files_stay}
 

@@ -16,8 +16,8 @@ use Rattle.vt_laws_trees.proofs.layers.mounting.Reached.{layers_are_reached}
 use Rattle.vt_laws_trees.proofs.layers.mounting.Walked.{AreWalked, all_plain, are_walked, fit_layers, has_layers, none_refuses, shown_plain}
 use Rattle.vt_laws_trees.proofs.layers.layers.ShownObjects.{Among}
 use Rattle.vt_laws_rules.proofs.given.CallsGranted.{call_holds, answered_holds}
-use Rattle.vt_laws_rules.specs.Granted.{IsGranted}
-use Rattle.vt_laws_rules.specs.Granted.IsGranted.{mounts_overlayfs}
+use Rattle.vt_laws_rules.proofs.given.Ways.{IsGranted}
+use Rattle.vt_laws_rules.proofs.given.Ways.IsGranted.{mounts_overlayfs}
 
 -- mounts and masters are not looked at
 abbrev WithMounts : World ℕ → List (Mount ℕ) → (ℕ → Option ℕ) → World ℕ

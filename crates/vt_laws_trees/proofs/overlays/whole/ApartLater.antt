@@ -1,6 +1,6 @@
 -- Layers stand apart after a change of an overlay.
 use Rattle.std.proofs.Common.{arith, ◌≡◌, ◌≢◌, refl, sym, ap, subst, ◌∙◌, true≢false, eqb-true, eq-eqb, ◌⊎◌, ⊎_elim, inl, inr, ℕ, nat_eq, Bool, true, false, not, cond, ◌&&◌, ◌||◌, List, [], ◌∷◌, ◌++◌, map, Option, Some, None, is_some, flat_map, option_to_list}
-use Rattle.vt_spec.proofs.Common.{Among, Change, Filesystem, Fresh, IsTree, Layer, Location, Merge, Overlay, Real, Stack, Upper, World, among-append_left, among-append_right, among-filter, among-flat_map, among-from_filter, among-from_flat_map, among-from_map, among_from_list_all, and_from, and_true_left, and_true_right, any_among, any_from_among, any_pair, common_steps, counts_in_layer, directory_used, entry_at, eqb_tells, filesystem_numbered, is_directory_node, is_overlay, is_plain_layer, is_under, layers_of, layers_of_all, led, lies_in_layer, lies_or_counts_under, list_any, live_lowers, live_upper_and_work, mount_at, none_among, none_from_among, none_is_some, of_overlay, or_cases, or_false_alone, or_left, or_right, overlap, overlaps_one_of, overlay_or, overlays, replaced_if_numbered, same_Some, stack_of, upper_and_work, with_change}
+use Rattle.vt_spec.proofs.Common.{Among, Change, Filesystem, Fresh, IsTree, Layer, Location, Merge, Overlay, Real, Stack, Upper, World, among-append_left, among-append_right, among-filter, among-flat_map, among-from_filter, among-from_flat_map, among-from_map, among_from_list_all, and_from, and_true_left, and_true_right, any_among, any_from_among, any_pair, common_steps, counts_in_layer, directory_used, entry_at, eqb_tells, filesystem_numbered, is_directory_node, is_overlay, is_plain_layer, is_under, layers_of, layers_of_all, led, lies_in_layer, lies_or_counts_under, list_any, live_lowers, live_upper_and_work, mount_at, none_among, none_from_among, none_is_some, of_overlay, or_cases, or_false_alone, or_left, overlap, overlaps_one_of, overlay_or, overlays, replaced_if_numbered, same_Some, stack_of, upper_and_work, with_change}
 use Rattle.vt_laws_trees.specs.Layers.Layers.Locked.{LeadsAsBefore}
 use Rattle.vt_laws_trees.specs.Layers.Layers.Upper.{IsUpperObject}
 use Rattle.vt_laws_trees.proofs.layers.locked.Apart.{layer_among, layer_plain, lies_there, never_both, no_overlay_in, object_counts, upper_in_layers, upper_is_layer}

@@ -1,5 +1,5 @@
 -- What lies or counts under a layer is there.
-use Rattle.std.proofs.Common.{arith, ◌≡◌, ◌≢◌, sym, ap, subst, ◌∙◌, true≢false, eqb-true, eq-eqb, ne_eqb, ◌⊎◌, ⊎_elim, inl, inr, ℕ, nat_eq, true, false, not, List, [], ◌∷◌, Option, Some, None, is_some}
+use Rattle.std.proofs.Common.{arith, ◌≡◌, sym, ap, subst, ◌∙◌, true≢false, eqb-true, eq-eqb, ne_eqb, ⊎_elim, inl, inr, ℕ, nat_eq, true, false, not, List, [], ◌∷◌, Option, Some, None, is_some}
 use Rattle.vt_spec.proofs.Common.{Among, OverlayInvariants, Filesystem, Layer, Lower, Overlay, Real, Upper, World, among-from_filter, and_true_left, and_true_right, any_among, any_pair, common_steps, counts_in_layer, filesystem_numbered, holds_of, is_object_of, is_overlay, is_plain_layer, is_real_upper, is_there, is_under, lies_in_layer, lies_or_counts_under, list_any, none_among, open_layer, or_cases, or_false_left, or_false_right, overlays, upper_object, OverlayInvariants, or_right, any_from_among, and_from}
 use Rattle.vt_laws_trees.proofs.layers.layers.ShownDirectories.{led_is_there}
 use Rattle.vt_laws_trees.proofs.overlays.whole.ApartPaths.{under_led}

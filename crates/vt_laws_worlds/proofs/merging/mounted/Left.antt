@@ -8,8 +8,8 @@ use Rattle.vt_laws_trees.proofs.layers.mounting.Walked.{AreWalked, are_walked, h
 use Rattle.vt_laws_worlds.proofs.overlays_let_go.mounting.NewOverlays.{new_mounts_of_overlays_keep_all}
 use Rattle.vt_laws_worlds.specs.Merging.MountedAnew.{MountingLeavesOverlays, MountingLeavesTrees, MountingLetsNothingGo}
 use Rattle.vt_laws_rules.proofs.given.CallsGranted.{call_holds}
-use Rattle.vt_laws_rules.specs.Granted.{IsGranted}
-use Rattle.vt_laws_rules.specs.Granted.IsGranted.{mounts_overlayfs}
+use Rattle.vt_laws_rules.proofs.given.Ways.{IsGranted}
+use Rattle.vt_laws_rules.proofs.given.Ways.IsGranted.{mounts_overlayfs}
 
 -- M2 has seen that the destination's mount is in the task's namespace
 is_own : (namespace : ℕ) (o : Option ℕ) → not (holds_of (nat_eq namespace) o) ≡ false → is_some o ≡ true

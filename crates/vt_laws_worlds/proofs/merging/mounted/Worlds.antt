@@ -33,8 +33,8 @@ use Rattle.vt_spec.proofs.FreshNumbers.{served-differ}
 use Rattle.vt_laws_trees.specs.Trees.Settling.{inode_in}
 use Rattle.vt_laws_worlds.proofs.worlds.FitPermits.{destination}
 use Rattle.vt_laws_rules.proofs.given.CallsGranted.{call_holds}
-use Rattle.vt_laws_rules.specs.Granted.{IsGranted}
-use Rattle.vt_laws_rules.specs.Granted.IsGranted.{mounts_overlayfs}
+use Rattle.vt_laws_rules.proofs.given.Ways.{IsGranted}
+use Rattle.vt_laws_rules.proofs.given.Ways.IsGranted.{mounts_overlayfs}
 
 -- each of a list is one of the numbers that are handed in
 abbrev AreOf : Fresh ℕ → List ℕ → Type 0

@@ -2,9 +2,10 @@
 use Rattle.std.proofs.Common.{List, Option, Some, [], ap, arith, drop, false, inl, inr, is_some, le-leb, leb-true, ltb-false, nat_eq, nat_le, not, refl, sym, take, true, true≢false, ℕ, ◌&&◌, ◌*◌, ◌+◌, ◌==◌, ◌∙◌, ◌∷◌, ◌≡◌, length-append, length-drop, length-take, length, nat_lt, ◌++◌}
 use Rattle.vt_spec.proofs.Common.{Access, Call, Descriptor, Filesystem, Fresh, Here, IsNewIn, IsWorld, ListsNumbers, Location, Looks, Node, NoneFails, Permit, Place, Serves, Task, ToOpen, World, all_from_among, among_from_list_all, and_true_first, bytes_in, common_steps, descriptor_found, descriptor_numbered, entries_in, entries_in-no_directory, evens, file_is_there, file_mode, files_at, found_among, has_regular_files_open, is_directory_node, is_directory_there, is_empty, is_fit_filesystem, is_kind, is_kind_in, is_special, kind_of, largest_file, longest_path, looks_of, make_permit, mount_at, name_of, new_file, new_name_rules, nil_from_not_some, node_at, object_there, object_walk, or_false_left, overfills, overwritten, padded, special_word, symlink_walk, task_called}
 use Rattle.vt_laws_trees.specs.Calls.Inodes.{written_if_some}
-use Rattle.vt_laws_rules.proofs.given.Inversion.{calls_are_granted}
-use Rattle.vt_laws_rules.specs.Granted.{IsGranted, directory_made, symlink_made, whiteout_made}
-use Rattle.vt_laws_rules.specs.Granted.IsGranted.{changes_mark, changes_mode, changes_owner, creates, creates_exclusively, makes_directory, makes_hard_link, makes_symlink, makes_whiteout, opens, opens_existing, overwrites_file, removes_directory, renames, unlinks, writes_new_file, writes_part}
+use Rattle.vt_laws_rules.proofs.given.Ways.{calls_are_granted}
+use Rattle.vt_laws_rules.proofs.given.Ways.{IsGranted}
+use Rattle.vt_laws_rules.specs.Judging.{directory_made, symlink_made, whiteout_made}
+use Rattle.vt_laws_rules.proofs.given.Ways.IsGranted.{changes_mark, changes_mode, changes_owner, creates, creates_exclusively, makes_directory, makes_hard_link, makes_symlink, makes_whiteout, opens, opens_existing, overwrites_file, removes_directory, renames, unlinks, writes_new_file, writes_part}
 use Rattle.vt_laws_trees.proofs.trees.ChangesOfSizes.{fits}
 use Rattle.vt_laws_trees.proofs.overlays.whole.UpperSizes.{fits_here}
 use Rattle.vt_laws_worlds.specs.OverlayPermits.Asked.{AsksWellIf, PermitsAskWell, change_asked}

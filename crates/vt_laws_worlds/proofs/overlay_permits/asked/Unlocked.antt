@@ -2,9 +2,10 @@
 use Rattle.std.proofs.Common.{arith, List, Some, [], eqb-true, false, nat_eq, refl, true, true≢false, ℕ, ◌||◌, ◌≡◌, option_to_list, ◌≢◌}
 use Rattle.vt_spec.proofs.Common.{Access, Call, Fresh, Location, Looks, Node, Permit, Place, Task, ToOpen, World, common_steps, entry_at, file_mode, files_at, has_no_upper, is_locked, is_locked_at, is_special, list_any, looks_of, make_permit, mount_at, name_of, new_file, object_there, or_false_left, or_false_right, or_parts, overfills, removing, special_word}
 use Rattle.vt_laws_trees.specs.Calls.Inodes.{written_if_some}
-use Rattle.vt_laws_rules.proofs.given.Inversion.{calls_are_granted}
-use Rattle.vt_laws_rules.specs.Granted.{IsGranted, directory_made, symlink_made, whiteout_made}
-use Rattle.vt_laws_rules.specs.Granted.IsGranted.{changes_mark, changes_mode, changes_owner, creates, creates_exclusively, makes_directory, makes_hard_link, makes_symlink, makes_whiteout, opens, opens_existing, overwrites_file, removes_directory, renames, unlinks, writes_new_file, writes_part}
+use Rattle.vt_laws_rules.proofs.given.Ways.{calls_are_granted}
+use Rattle.vt_laws_rules.proofs.given.Ways.{IsGranted}
+use Rattle.vt_laws_rules.specs.Judging.{directory_made, symlink_made, whiteout_made}
+use Rattle.vt_laws_rules.proofs.given.Ways.IsGranted.{changes_mark, changes_mode, changes_owner, creates, creates_exclusively, makes_directory, makes_hard_link, makes_symlink, makes_whiteout, opens, opens_existing, overwrites_file, removes_directory, renames, unlinks, writes_new_file, writes_part}
 use Rattle.vt_laws_worlds.specs.OverlayPermits.Asked.{change_asked}
 use Rattle.vt_laws_worlds.specs.OverlayPermits.Unlocked.{PermitsSpareWhatIsLocked, SparesLocked, SparesLockedIf}
 use Rattle.vt_laws_worlds.proofs.permits.sees.SeesNames.{old_mount}

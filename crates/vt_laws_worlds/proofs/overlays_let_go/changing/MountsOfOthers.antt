@@ -9,9 +9,9 @@ use Rattle.vt_laws_worlds.specs.Worlds.Permits.{IsReached}
 use Rattle.vt_laws_worlds.proofs.worlds.Reached.{is_reached}
 use Rattle.vt_laws_worlds.proofs.worlds.ReachedPlaces.{IsOldPlace, old_leaf_walk_found, old_walk_found}
 use Rattle.vt_laws_worlds.proofs.worlds.SeenMounts.{tree_namespace}
-use Rattle.vt_laws_rules.proofs.given.Inversion.{calls_are_granted}
-use Rattle.vt_laws_rules.specs.Granted.{IsGranted}
-use Rattle.vt_laws_rules.specs.Granted.IsGranted.{removes_directory, renames}
+use Rattle.vt_laws_rules.proofs.given.Ways.{calls_are_granted}
+use Rattle.vt_laws_rules.proofs.given.Ways.{IsGranted}
+use Rattle.vt_laws_rules.proofs.given.Ways.IsGranted.{removes_directory, renames}
 use Rattle.vt_laws_trees.proofs.trees.TreesWalked.{at_end}
 
 -- P1: no mount of the task's namespace stands on the directory

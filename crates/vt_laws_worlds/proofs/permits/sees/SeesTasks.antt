@@ -2,9 +2,10 @@
 use Rattle.std.proofs.Common.{List, Ok, Option, Some, [], ap, arith, eqb-true, false, inl, inr, is_some, le-leb, nat_eq, nat_le, not, refl, sym, true, true≢false, ℕ, ◌&&◌, ◌∙◌, ◌≡◌, length}
 use Rattle.vt_spec.proofs.Common.{Call, Fresh, Here, IsWorld, Looks, Node, Permit, Task, World, common_steps, deepest_name, descriptor_found, directory_walk, entries_in, entries_in-no_directory, file_mode, holds_of, is_directory_at, is_directory_node, is_directory_there, is_empty, is_kind_in, largest_file, longest_path, looks_of, most_forks, new_file, nil_from_not_some, node_at, object_there, or_parts, overfills, special_word, symlink_walk, task_called}
 use Rattle.std.proofs.Math.Nat.{mod-lt}
-use Rattle.vt_laws_rules.proofs.given.Inversion.{calls_are_granted}
-use Rattle.vt_laws_rules.specs.Granted.{IsGranted, directory_made, symlink_made, whiteout_made}
-use Rattle.vt_laws_rules.specs.Granted.IsGranted.{changes_mark, changes_mode, changes_owner, changes_umask, closes, creates, creates_exclusively, drops_capabilities, forks, lists_directory, makes_directory, makes_hard_link, makes_symlink, makes_whiteout, mounts_overlayfs, opens, opens_existing, overwrites_file, reads_file, reads_part, reads_symlink, removes_directory, renames, unlinks, writes_new_file, writes_part}
+use Rattle.vt_laws_rules.proofs.given.Ways.{calls_are_granted}
+use Rattle.vt_laws_rules.proofs.given.Ways.{IsGranted}
+use Rattle.vt_laws_rules.specs.Judging.{directory_made, symlink_made, whiteout_made}
+use Rattle.vt_laws_rules.proofs.given.Ways.IsGranted.{changes_mark, changes_mode, changes_owner, changes_umask, closes, creates, creates_exclusively, drops_capabilities, forks, lists_directory, makes_directory, makes_hard_link, makes_symlink, makes_whiteout, mounts_overlayfs, opens, opens_existing, overwrites_file, reads_file, reads_part, reads_symlink, removes_directory, renames, unlinks, writes_new_file, writes_part}
 use Rattle.vt_laws_worlds.proofs.permits.sees.SeesNames.{made_as_file, made_at_new, old_mount, same_kind, tree_here}
 use Rattle.vt_laws_worlds.specs.Permits.Sees.{GivenPermitsAreSeenTo, SeesTo}
 use Rattle.vt_spec.specs.Machine.Rules.Conditions.{kind_at}

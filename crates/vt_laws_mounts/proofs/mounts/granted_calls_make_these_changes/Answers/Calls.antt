@@ -3,8 +3,8 @@ use Rattle.std.proofs.Common.{arith, ◌≡◌, refl, sym, ap, ◌∙◌, false,
 use Rattle.vt_spec.proofs.Common.{Bind, Call, Done, Exit, Fresh, Here, LayerLocations, Lazy, Looks, Mount, MountFlags, MountOverlay, MountPlain, MoveMount, OverlayWords, Permit, PivotRoot, Place, Remount, Rename, Rmdir, SetType, Setns, Task, TaskName, ToBind, ToEnterNamespace, ToMountOverlay, ToMountPlain, ToMove, ToPivot, ToSetFlags, ToSetType, ToUnmountLazily, TypeWord, Unshare, World, apply, bound_at, common_steps, destination_walk, directory_walk, is_directory_there, is_one_object, layers_walked, lazily_unmounted, looks_of, mount_at, mounted, moved_to, moving, namespace_entered, namespaces_ended, object_there, odds, old_leaf_walk, old_walk, overfills, overlay_at, overlay_mounted, pivoted, plain_filesystem, removing, rename_new_walk, same_ok, source_walk, task_called, unshared, walk_end, with_flags, with_type, without_mounts_on, without_replaced, without_task}
 use Rattle.vt_laws_mounts.specs.Mounts.Granted.{BindBinds, ExitEnds, LazyUnmounts, MountMounts, MoveMoves, OverlayMounts, PivotPivots, RemountSetsFlags, RmdirTakesMounts, SetnsEnters, TypeIsSet, UnshareCopies, RenameOfOneObject, RenameReplaces}
 use Rattle.vt_laws_mounts.proofs.mounts.MountsLeft.{mounts-with_change}
-use Rattle.vt_laws_rules.specs.Granted.{AreNames, IsGranted}
-use Rattle.vt_laws_rules.specs.Granted.IsGranted.{binds, changes_flags, changes_type, enters_namespace, exits, keeps_names, mounts_overlayfs, mounts_tmpfs, moves_mount, pivots_root, removes_directory, renames, unmounts_lazily, unshares}
+use Rattle.vt_laws_rules.proofs.given.Ways.{AreNames, IsGranted}
+use Rattle.vt_laws_rules.proofs.given.Ways.IsGranted.{binds, changes_flags, changes_type, enters_namespace, exits, keeps_names, mounts_overlayfs, mounts_tmpfs, moves_mount, pivots_root, removes_directory, renames, unmounts_lazily, unshares}
 use Rattle.vt_laws_mounts.proofs.mounts.MountsGranted.{leaves_mounts, one_end}
 
 module _ (fresh : Fresh ℕ) (world : World ℕ) (task : Task ℕ) where

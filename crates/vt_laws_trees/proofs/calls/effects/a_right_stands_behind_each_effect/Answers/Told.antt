@@ -7,9 +7,9 @@ use Rattle.vt_spec.specs.declared.attributes.Kind.TheVariants.{Symlink}
 use Rattle.vt_spec.specs.declared.errors.Deny.{Deny}
 use Rattle.vt_spec.specs.Machine.Rules.Descriptors.{access_rights}
 use Rattle.vt_laws_trees.proofs.trees.TreesWalked.{not-false}
-use Rattle.vt_laws_rules.proofs.given.Inversion.{calls_are_granted}
-use Rattle.vt_laws_rules.specs.Granted.{IsGranted}
-use Rattle.vt_laws_rules.specs.Granted.IsGranted.{creates, creates_exclusively, lists_directory, opens, opens_existing, reads_file, reads_part, reads_symlink}
+use Rattle.vt_laws_rules.proofs.given.Ways.{calls_are_granted}
+use Rattle.vt_laws_rules.proofs.given.Ways.{IsGranted}
+use Rattle.vt_laws_rules.proofs.given.Ways.IsGranted.{creates, creates_exclusively, lists_directory, opens, opens_existing, reads_file, reads_part, reads_symlink}
 
 are_names : Result Answer Deny → Bool
 are_names (Ok (Names names)) = true

@@ -5,7 +5,7 @@ use Rattle.vt_laws_trees.proofs.calls.inodes.InodesOwn.{calls_change_their_own}
 use Rattle.vt_laws_trees.proofs.calls.inodes.InodesSettled.{inode_after_call}
 use Rattle.vt_laws_trees.proofs.calls.inodes.calls_keep_to_their_paths.Answers.ReachedWalks.{granted_spares}
 use Rattle.vt_laws_trees.specs.Calls.Reached.{CallsKeepToTheirPaths}
-use Rattle.vt_laws_rules.proofs.given.Inversion.{calls_are_granted}
+use Rattle.vt_laws_rules.proofs.given.Ways.{calls_are_granted}
 use Rattle.vt_laws_trees.specs.Trees.Settling.{inode_in}
 
 pub calls_keep_to_their_paths : CallsKeepToTheirPaths

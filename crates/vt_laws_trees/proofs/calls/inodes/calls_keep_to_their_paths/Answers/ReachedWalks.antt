@@ -3,8 +3,8 @@ use Rattle.std.proofs.Common.{arith, Result, ap, eqb-true, is_some, map, nat_eq,
 use Rattle.vt_spec.proofs.Common.{Call, Descriptor, Fresh, Location, Looks, Permit, Place, Rules, Stop, Task, ToRename, ToWritePart, World, and-false, common_steps, descriptor_found, evens, is_among, is_special, looks_of, mount_at, mount_numbered, name_of, object_there, or_false_left, or_parts, overfills, rename_new_walk, special_word, walk_unless, ⊤}
 use Rattle.vt_laws_trees.specs.Calls.Inodes.{is_own}
 use Rattle.vt_laws_trees.specs.Calls.Reached.{directory_and_new, directory_and_new_at, directory_and_object_at, directory_at, file_or_new, file_or_new_at, is_at_one_of, is_new_root, nothing_or_new, nothing_or_new_at, object_at, reached_by}
-use Rattle.vt_laws_rules.specs.Granted.{IsGranted}
-use Rattle.vt_laws_rules.specs.Granted.IsGranted.{changes_mark, changes_mode, changes_owner, creates, creates_exclusively, makes_directory, makes_hard_link, makes_symlink, makes_whiteout, mounts_tmpfs, overwrites_file, removes_directory, renames, unlinks, writes_new_file, writes_part}
+use Rattle.vt_laws_rules.proofs.given.Ways.{IsGranted}
+use Rattle.vt_laws_rules.proofs.given.Ways.IsGranted.{changes_mark, changes_mode, changes_owner, creates, creates_exclusively, makes_directory, makes_hard_link, makes_symlink, makes_whiteout, mounts_tmpfs, overwrites_file, removes_directory, renames, unlinks, writes_new_file, writes_part}
 use Rattle.vt_spec.proofs.Walk.{directory_walk, file_walk, is_directory_there, new_leaf_walk, new_walk, object_walk, old_leaf_walk, old_walk, symlink_walk}
 use Rattle.vt_laws_trees.proofs.trees.TreesWalked.{IsNewPlace, IsOldPlace, IsPlace, at_end, ends_new_walk, ends_old_leaf_walk, ends_old_walk, not-false, place_named}
 

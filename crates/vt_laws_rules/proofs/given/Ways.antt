@@ -1,17 +1,18 @@
--- The ways in which a call is granted: where its walks end, that no rule of its tables fails, and its permit.
-use Rattle.std.specs.Prelude.{Bool, List, None, Ok, Option, Some, [], false, length, nat_lt, ok_or, true, unwrap_or, ℕ, ◌++◌, ◌||◌, ◌∷◌, ◌≡◌}
-use Rattle.vt_spec.specs.Errors.{NoneFails, denial}
+-- The ways in which a call is granted, for proofs by cases: where its walks end, that no rule of its tables fails, and
+-- its permit. `judge` permits nothing else.
+use Rattle.std.proofs.Common.{Bool, List, None, Ok, Option, Some, [], false, length, nat_lt, ok_or, true, ℕ, ◌++◌, ◌||◌, ◌∷◌, ◌≡◌}
+use Rattle.vt_spec.specs.Errors.{NoneFails, Rules, denial}
 use Rattle.vt_spec.specs.Language.Calls.{Access, Call, CapabilityWord, ForkWords, MountFlags, OverlayWords, TaskName, TypeWord}
 use Rattle.vt_spec.specs.Language.Calls.Call.{Bind, Chdir, Chmod, Chown, Chroot, Close, Drop, Exec, Exit, Fork, Lazy, LinkTo, ListMounts, Ls, Lstat, MakeWhiteout, Mkdir, MountOverlay, MountPlain, MoveMount, Opaque, OpenFile, PivotRoot, Pread, Pwrite, Read, Readlink, Remount, Rename, Rmdir, SetType, Setns, Stat, SymlinkAt, Umask, Umount, Unlink, Unshare, Write}
 use Rattle.vt_spec.specs.Language.Calls.Creation.{Exclusive, NoCreation, OrCreate}
 use Rattle.vt_spec.specs.Language.Changes.Change.{SetAttr, SetBytes, SetMark}
 use Rattle.vt_spec.specs.Language.Limits.{largest_file}
-use Rattle.vt_spec.specs.Machine.Judge.{judge, make_permit, open_new_permit, unnumbered}
+use Rattle.vt_spec.specs.Machine.Judge.{make_permit, open_new_permit, unnumbered}
 use Rattle.vt_spec.specs.Machine.Looks.{Looks}
 use Rattle.vt_spec.specs.Machine.Mounts.{Location}
 use Rattle.vt_spec.specs.Machine.Permits.{Permit}
 use Rattle.vt_spec.specs.Machine.Permits.Permit.{Allowed, ToBind, ToChange, ToClose, ToEnterNamespace, ToExit, ToFork, ToList, ToListMounts, ToMountOverlay, ToMountPlain, ToMove, ToOpen, ToPivot, ToRead, ToReadPart, ToRemoveDirectory, ToRename, ToSetCredentials, ToSetDirectory, ToSetFlags, ToSetRoot, ToSetType, ToSetUmask, ToStat, ToUnmount, ToUnmountLazily, ToUnshare, ToWritePart}
-use Rattle.vt_spec.specs.Machine.Rows.{exact_attr, new_attr, directory_mode, file_mode, linking, new_file, symlink_mode}
+use Rattle.vt_spec.specs.Machine.Rows.{file_mode, linking, new_file}
 use Rattle.vt_spec.specs.Machine.Rules.Attributes.{attr_at, attr_rules, opaque_rules}
 use Rattle.vt_spec.specs.Machine.Rules.Conditions.{lacks}
 use Rattle.vt_spec.specs.Machine.Rules.Descriptors.{descriptor_at, descriptor_rules, exclusive_word_rules, open_rules, pwrite_rules}
@@ -23,25 +24,12 @@ use Rattle.vt_spec.specs.Machine.Rules.Tasks.{enter_rules, fork_rules}
 use Rattle.vt_spec.specs.Machine.Walking.{Here, Place, directory_walk, file_walk, is_directory_there, is_special, name_of, new_leaf_walk, new_walk, object_walk, old_leaf_walk, old_walk, symlink_walk}
 use Rattle.vt_spec.specs.Machine.World.{Descriptor, Task}
 use Rattle.vt_spec.specs.Rights.{cap_sys_admin, cap_sys_chroot, owns}
-use Rattle.vt_spec.specs.Tree.{Node, new_directory}
-use Rattle.vt_spec.specs.Tree.Content.{Symlink, Whiteout}
 use Rattle.vt_spec.specs.declared.errors.Rule.TheVariants.{E1, E2, E6, K1, S2}
 use Rattle.vt_spec.specs.Machine.Attributes.{attr_with_mode, attr_with_owner, may_chown}
 use Rattle.vt_spec.specs.Machine.Tasks.{capabilities_of, child_credentials, permission_bits, with_dropped}
-
-module _ {N : Type 0} where
-  -- the inode of mkdir(2), in the directory where its walk ends
-  abbrev pub directory_made : Task N → Place N → Option ℕ → Node N
-  directory_made task place mode =
-      record { attr = new_attr task (unwrap_or mode directory_mode); content = new_directory place.parent.node }
-
-  -- the inode of symlink(2)
-  abbrev pub symlink_made : Task N → List ℕ → Node N
-  symlink_made task text = record { attr = exact_attr task symlink_mode; content = Symlink text }
-
-  -- the inode of mknod(2) of the character device 0/0
-  abbrev pub whiteout_made : Task N → Node N
-  whiteout_made task = record { attr = exact_attr task 0; content = Whiteout }
+use Rattle.vt_spec.proofs.Common.{judge}
+use Rattle.vt_laws_rules.proofs.given.Inversion.{IfGranted, call_is_granted, holds_of_granted}
+use Rattle.vt_laws_rules.specs.Judging.{directory_made, judging, symlink_made, whiteout_made}
 
 -- where the two walks of rename(2) end, and that neither last word is special
 pub record AreNames {N : Type 0} (eq : N → N → Bool) (looks : Looks N) (task : Task N) (old new : List ℕ)
@@ -257,16 +245,76 @@ pub data IsGranted {N : Type 0} (eq : N → N → Bool) (looks : Looks N) (overf
   -- mountinfo of proc(5)
   lists_mounts : IsGranted eq looks overfills task ListMounts ToListMounts
 
--- What `judge` permits is granted in one of these ways.
-abbrev pub CallsAreGranted : Type 0
-CallsAreGranted =
-    (eq : ℕ → ℕ → Bool) (looks : Looks ℕ) (overfills : Permit ℕ → Bool) (task : Task ℕ) (call : Call)
-    (permit : Permit ℕ)
-    → judge eq looks overfills task call ≡ Ok permit → IsGranted eq looks overfills task call permit
+-- no rule of two tables in one fails
+none_of_both : (rules more : Rules) → NoneFails (rules ++ more) → NoneFails rules × NoneFails more
+none_of_both [] more pass = (tt, pass)
+none_of_both ((fails, rule) ∷ rows) more pass = let rest = none_of_both rows more pass.1 in ((pass.0, rest.0), rest.1)
 
--- What is granted in one of these ways, `judge` permits.
-abbrev pub GrantsAreJudged : Type 0
-GrantsAreJudged =
-    (eq : ℕ → ℕ → Bool) (looks : Looks ℕ) (overfills : Permit ℕ → Bool) (task : Task ℕ) (call : Call)
-    (permit : Permit ℕ)
-    → IsGranted eq looks overfills task call permit → judge eq looks overfills task call ≡ Ok permit
+module _ {N : Type 0} (eq : N → N → Bool) (looks : Looks N) (overfills : Permit N → Bool) (task : Task N) where
+  -- the way of each call
+  ways : (call : Call) → IfGranted eq looks overfills task (IsGranted eq looks overfills task call) (judging eq looks task call)
+  ways (Ls path) = lists_directory path
+  ways (Stat path) = shows_object path
+  ways (Lstat path) = shows_symlink path
+  ways (Readlink path) = reads_symlink path
+  ways (Read path) = reads_file path
+  ways (Exec path) = may_execute path
+  ways (Write path bytes) = λ place end. (
+    λ file there passed. overwrites_file path bytes place file end (passed.0, tt) there passed.1,
+    λ missing passed. writes_new_file path bytes place end (passed.0, tt) missing (passed.1.0, tt) passed.1.1,
+  )
+  ways (Mkdir path mode) = makes_directory path mode
+  ways (SymlinkAt text path) = λ fits place. makes_symlink text path place fits
+  ways (MakeWhiteout path) = makes_whiteout path
+  ways (LinkTo old new) = λ from from_end place end passed.
+      makes_hard_link old new from place from_end end (passed.0, tt) passed.1
+  ways (Unlink path) = λ place end passed. unlinks path place end (passed.0, tt) passed.1
+  ways (Rmdir path) = removes_directory path
+  ways (Rename old new) = λ from from_end from_named to to_end to_named.
+      let names : AreNames eq looks task old new from to =
+      record { from_end = from_end; from_named = from_named; to_end = to_end; to_named = to_named } in
+      (keeps_names old new from to names, renames old new from to names)
+  ways (Chmod path mode) = changes_mode path mode
+  ways (Chown path uid gid) = changes_owner path uid gid
+  ways (Opaque path mark) = λ admin here. changes_mark path mark here admin
+  ways (OpenFile path access NoCreation) = λ room here. opens path access here room
+  ways (OpenFile path access (OrCreate mode)) = λ room place end. (
+    λ file there passed. opens_existing path access mode place file room end (passed.0, tt) there passed.1,
+    λ missing passed. creates path access mode place room end (passed.0, tt) missing passed.1,
+  )
+  ways (OpenFile path access (Exclusive mode)) = λ room place end named passed.
+      creates_exclusively path access mode place room end (named.0, (named.1.0, (passed.0, tt))) passed.1
+  ways (Pread number offset size) = reads_part number offset size
+  ways (Pwrite number offset bytes) = writes_part number offset bytes
+  ways (Close number) = closes number
+  ways (Chdir path) = changes_directory path
+  ways (Chroot path) = λ capable here. changes_root path here capable
+  ways (Umask mode) = changes_umask mode
+  ways (Drop which) = drops_capabilities which
+  ways (Fork words) = forks words
+  ways Exit = exits
+  ways Unshare = unshares
+  ways (Setns name) = enters_namespace name
+  ways (MountPlain path flags) = λ admin here. mounts_tmpfs path flags here admin
+  ways (MountOverlay path None flags) = λ admin here end. tt
+  ways (MountOverlay path (Some words) flags) = λ admin here end layers walked passed.
+      let parts = none_of_both (layer_rules eq looks layers (overlay_at looks task layers))
+      (new_mount_rules eq looks task here.location
+      (overfills (ToMountOverlay here.location (overlay_at looks task layers) flags))) passed in
+      mounts_overlayfs path words flags here layers admin end walked parts.0 parts.1
+  ways (Bind source path recursive) = λ admin from from_end here. binds source path recursive from here admin from_end
+  ways (MoveMount source path) = λ admin from from_end here. moves_mount source path from here admin from_end
+  ways (Umount path) = λ admin here. unmounts path here admin
+  ways (Lazy path) = λ admin here. unmounts_lazily path here admin
+  ways (Remount path flags) = λ admin here. changes_flags path flags here admin
+  ways (SetType path word recursive) = λ admin here. changes_type path word recursive here admin
+  ways (PivotRoot new put) = λ admin root root_end here. pivots_root new put root here admin root_end
+  ways ListMounts = lists_mounts
+
+-- a call that is permitted is granted in one of these ways
+pub calls_are_granted : {N : Type 0} (eq : N → N → Bool) (looks : Looks N) (overfills : Permit N → Bool) (task : Task N)
+    (call : Call) (permit : Permit N) → judge eq looks overfills task call ≡ Ok permit
+    → IsGranted eq looks overfills task call permit
+calls_are_granted eq looks overfills task call permit e =
+    holds_of_granted eq looks overfills task (IsGranted eq looks overfills task call) (judging eq looks task call) permit
+    (ways eq looks overfills task call) (call_is_granted eq looks overfills task call permit e)
