@@ -1,3 +1,4 @@
+pub mod Asked
 pub mod ByWords
 pub mod HalfWalks
 pub mod Routes

@@ -5,3 +5,4 @@ pub mod Meanings
 pub mod Counting
 pub mod Whole
 pub mod Routed
+pub mod Asked

@@ -1,4 +1,5 @@
 //! Walks by words lead where whole walks lead.
+ghost use Rattle.vt_laws_turns.specs.Walks.Asked.{TurnsCheckWhatIsAsked, TurnsWalkWhatIsAsked};
 ghost use Rattle.vt_laws_turns.specs.Walks.ByWords.{AllWordsAreTheWalk, FirstWordsAreOfTheWalk};
 ghost use Rattle.vt_laws_turns.specs.Walks.Routes.{RoutesAreWalks};
 
@@ -14,4 +15,14 @@ pub fn walks_go_word_by_word()
     ensures first_words { FirstWordsAreOfTheWalk }
     ensures all_words { AllWordsAreTheWalk }
     ensures routes { RoutesAreWalks }
+{}
+
+/// The first turn of a call with a path checks the S and K rules that the call asks (`rules`). If the task's root and
+/// working directory are directories, turns walk the paths that the call asks, in its order (`paths`).
+///
+/// What a call asks is `judging` of `vt_laws_rules`, whose run is `judge`. Behind a path that is refused turns go on as
+/// behind `/`.
+pub fn turns_walk_what_calls_ask()
+    ensures rules { TurnsCheckWhatIsAsked }
+    ensures paths { TurnsWalkWhatIsAsked }
 {}
