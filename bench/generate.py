@@ -5,6 +5,7 @@ usage: generate.py KIND LINES
 
 files   directories, and in each a file that is written and read, in turn
 listed  like files, with every 50th line an `ls` of one of the directories
+escaped like files, with an escape in each fourth line
 deep    files at the end of a path of 40 directories, written and read
 one     names in one directory that grows with the script
 users   files of eight users, made, linked, renamed, written and read by descriptor, and removed, in directories that
@@ -63,6 +64,11 @@ def listed(lines):
     count = min(DIRECTORIES, max(1, lines // 10))
     for i, line in enumerate(files(lines)):
         yield f't ls /d{i % count}' if i > count and i % 50 == 0 else line
+
+
+def escaped(lines):
+    for i, line in enumerate(files(lines)):
+        yield line.replace('/d', r'/\x64') if i % 4 == 3 else line
 
 
 def deep(lines):
@@ -528,7 +534,7 @@ def stacks(lines):
 
 
 KINDS = {
-    'files': files, 'listed': listed, 'deep': deep, 'one': one, 'users': users, 'links': links, 'mounts': mounts,
+    'files': files, 'listed': listed, 'escaped': escaped, 'deep': deep, 'one': one, 'users': users, 'links': links, 'mounts': mounts,
     'spaces': spaces,
     'received60': lambda lines: received(lines, 60), 'received600': lambda lines: received(lines, 600),
     'received2000': lambda lines: received(lines, 2000),

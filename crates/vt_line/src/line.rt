@@ -123,11 +123,11 @@ fn escaped_request<'a>(
     requires { length line.now ≤ longest_line }
     ensures { IsRequestRead (request_of (overlays (version_of version)) line.now) result }
 {
-    let Some(unescaped) = Unescaped::from_line(line) else {
+    let texts = texts.get_or_insert_with(Unescaped::new);
+    if !texts.fill(line) {
         return Err(Rule::S1.denial());
-    };
-    let unescaped = texts.insert(unescaped);
-    words_request(version, alloc, Words::of_texts(unescaped))
+    }
+    words_request(version, alloc, Words::of_texts(texts))
 }
 
 /// As `escaped_request`. It is inlined, so that room for what that returns is made only where a line has escapes.

@@ -1,9 +1,9 @@
 //! The tokens of a line, and the texts that they spell.
-ghost use Rattle.std.specs.Prelude.{◌≡◌, ◌≢◌, ◌+◌, ◌≤◌, ◌<◌, ◌||◌, ◌==◌, ◌++◌, ◌∷◌, [], ℕ, Some, None, length, option_map, slice_index, cond, MatchOption};
+ghost use Rattle.std.specs.Prelude.{◌≡◌, ◌≢◌, ◌+◌, ◌≤◌, ◌<◌, ◌||◌, ◌==◌, ◌++◌, ◌∷◌, [], ℕ, Some, None, length, option_map, slice_index, cond, sum, true, MatchOption};
 ghost use Rattle.std.specs.List.{list_all};
 ghost use Rattle.vt_spec.specs.Language.Script.{is_silent, is_plain, raw_tokens, token_text, each_of, next_reading, completed};
 ghost use Rattle.vt_spec.specs.Lists.{is_empty_list};
-ghost use Rattle.vt_line.specs.Tokens.{reading_of};
+ghost use Rattle.vt_line.specs.Tokens.{cut, few_texts, reading_of};
 
 use crate::hex::HexDigit;
 use arrayvec::ArrayVec;
@@ -202,34 +202,64 @@ fn unescape(token: &[u8], text: &mut ArrayVec<u8, LONGEST_LINE>) -> bool
     reading == Reading::Between
 }
 
+/// Appends the texts that a line's tokens spell, unless one spells none, or there are more than a line of the grammar has.
+fn append_texts(
+    line: &[u8],
+    bytes: &mut ArrayVec<u8, LONGEST_LINE>,
+    sizes: &mut ArrayVec<usize, MOST_TEXTS>,
+) -> bool
+    requires line { length line.now ≤ LONGEST_LINE }
+    requires no_bytes { bytes.old.items ≡ [] }
+    requires no_sizes { sizes.old.items ≡ [] }
+    ensures value { cond result (Some (cut bytes.new.items sizes.new.items)) None ≡ few_texts line.now }
+    ensures whole { result ≡ true → sum sizes.new.items ≡ length bytes.new.items }
+{
+    let tokens = line
+        .split(|byte| *byte == b' ')
+        .filter(|token| !token.is_empty());
+    for token in tokens {
+        if sizes.is_full() {
+            return false;
+        }
+        let start = bytes.len();
+        if !unescape(token, bytes) {
+            return false;
+        }
+        sizes.push(bytes.len() - start);
+    }
+    true
+}
+
 impl Unescaped {
-    ghost use Rattle.std.specs.Prelude.{◌≡◌, ◌≤◌, length, sum};
+    ghost use Rattle.std.specs.Prelude.{◌≡◌, ◌≤◌, [], None, Some, cond, length, sum};
     ghost use Rattle.vt_spec.specs.Language.Limits.{longest_line};
     ghost use Rattle.vt_line.specs.Tokens.{cut, few_texts};
 
-    /// The texts that a line's tokens spell.
-    ///
-    /// Nothing where a token spells none, or there are more than a line of the grammar has.
-    pub fn from_line(line: &[u8]) -> Option<Self>
-        requires { length line.now ≤ longest_line }
-        ensures { result ≡ few_texts line.now }
+    /// Room for texts.
+    pub fn new() -> Self
+        ensures { result ≡ [] }
     {
-        let mut bytes = ArrayVec::new();
-        let mut sizes = ArrayVec::new();
-        let tokens = line
-            .split(|byte| *byte == b' ')
-            .filter(|token| !token.is_empty());
-        for token in tokens {
-            if sizes.is_full() {
-                return None;
-            }
-            let start = bytes.len();
-            if !unescape(token, &mut bytes) {
-                return None;
-            }
-            sizes.push(bytes.len() - start);
+        Unescaped {
+            bytes: ArrayVec::new(),
+            sizes: ArrayVec::new(),
         }
-        Some(Unescaped { bytes, sizes })
+    }
+
+    /// Takes the texts that a line's tokens spell, in place of those that it had: no room is made anew.
+    ///
+    /// `false` where a token spells none, or there are more than a line of the grammar has.
+    pub fn fill(&mut self, line: &[u8]) -> bool
+        requires { length line.now ≤ longest_line }
+        ensures { cond result (Some self.new) None ≡ few_texts line.now }
+    {
+        self.bytes.clear();
+        self.sizes.clear();
+        let is_filled = append_texts(line, &mut self.bytes, &mut self.sizes);
+        if !is_filled {
+            self.bytes.clear();
+            self.sizes.clear();
+        }
+        is_filled
     }
 
     /// The bytes of the texts, and their sizes.

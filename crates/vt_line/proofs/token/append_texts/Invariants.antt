@@ -2,7 +2,7 @@ use Rattle.std.proofs.Common.{◌≡◌, ◌≤◌, ◌+◌, drop, length, sum, 
 use Rattle.vt_spec.proofs.Common.{each_of, raw_tokens, token_text}
 use Rattle.vt_line.specs.Tokens.{cut}
 use Rattle.vt_line.proofs.TokenLemmas.{read_before}
-use Rattle.vt_line.proofs.token.Unescaped.from_line.Given as goal
+use Rattle.vt_line.proofs.token.append_texts.Given as goal
 
 abbrev pub invariant-loop-token : goal.invariant-loop-token
 invariant-loop-token l = record {
@@ -10,9 +10,9 @@ invariant-loop-token l = record {
   is_finite : (goal.iterator-loop-token).is_finite l.token-iterator;
   count : length l.sizes.items ≡ length l.yielded;
   few : length l.sizes.items ≤ 6;
-  room : length l.bytes.items + sum_by length (drop (length l.yielded) (raw_tokens l.fn.line)) ≤ sum_by length
-      (raw_tokens l.fn.line);
+  room : length l.bytes.items + sum_by length (drop (length l.yielded) (raw_tokens l.line)) ≤ sum_by length
+      (raw_tokens l.line);
   whole : sum l.sizes.items ≡ length l.bytes.items;
   read : read_before (cut l.bytes.items l.sizes.items)
-      (each_of token_text (drop (length l.yielded) (raw_tokens l.fn.line))) ≡ each_of token_text (raw_tokens l.fn.line);
+      (each_of token_text (drop (length l.yielded) (raw_tokens l.line))) ≡ each_of token_text (raw_tokens l.line);
 }

@@ -4,7 +4,7 @@ use Rattle.std.proofs.lemmas.List.Sums.{sum_by-drop_more}
 use Rattle.vt_line.specs.Tokens.{cut}
 use Rattle.vt_line.proofs.Splits.{each_of-end, each_of-more, each_of-none}
 use Rattle.vt_line.proofs.TokenLemmas.{YieldsList-tokens, few_texts-few, few_texts-many, few_texts-wrong, read_before, read_before-first, appended, not_appended, cut-push, sum-push, tokens-length}
-use Rattle.vt_line.proofs.token.Unescaped.from_line.Goals as goal
+use Rattle.vt_line.proofs.token.append_texts.Goals as goal
 
 pub unescape-requires : goal.unescape-requires
 unescape-requires c =
@@ -18,10 +18,10 @@ unescape-requires c =
     let room = c.loop-token.invariant.room in
     let token = sum_by-drop_more length (raw_tokens line) n c.in-Some.token.now turn.0 in
     let same = ap length turn.1 in
-    omega (arith, room, token, same, tokens-length line, c.requires)
+    omega (arith, room, token, same, tokens-length line, c.requires.line)
 
-pub returns-then-is_full : goal.returns-then-is_full
-returns-then-is_full c =
+pub returns-then-is_full-clause-value : goal.returns-then-is_full-clause-value
+returns-then-is_full-clause-value c =
     let line = c.args.line.now in
     let split = YieldsList-from_slice_split _ (λ byte. eqb byte 32) line (cc) (cc) (cc)
     (λ x b q k. search (rules, tests)) in
@@ -34,8 +34,8 @@ returns-then-is_full c =
     let count = c.loop-token.invariant.count in
     sym (few_texts-many line (omega (arith, turn.0, many, count)))
 
-pub returns-then-not-unescape : goal.returns-then-not-unescape
-returns-then-not-unescape c =
+pub returns-then-not-unescape-clause-value : goal.returns-then-not-unescape-clause-value
+returns-then-not-unescape-clause-value c =
     let line = c.args.line.now in
     let split = YieldsList-from_slice_split _ (λ byte. eqb byte 32) line (cc) (cc) (cc)
     (λ x b q k. search (rules, tests)) in
@@ -101,8 +101,8 @@ loop-token-preserved c =
           ∙ ap (read_before (cut bytes sizes)) (sym left) ∙ c.loop-token.invariant.read;
     }
 
-pub returns : goal.returns
-returns c =
+pub returns-clause-value : goal.returns-clause-value
+returns-clause-value c =
     let line = c.args.line.now in
     let split = YieldsList-from_slice_split _ (λ byte. eqb byte 32) line (cc) (cc) (cc)
     (λ x b q k. search (rules, tests)) in
@@ -116,3 +116,6 @@ returns c =
     let none_left = each_of-end token_text (raw_tokens line) n (omega (arith, last.1)) in
     ap Some (sym (append-nil texts)) ∙ ap (read_before texts) (sym none_left) ∙ c.loop-token.invariant.read
     ∙ sym (few_texts-few line (omega (arith, last.1, few, count)))
+
+pub returns-clause-whole : goal.returns-clause-whole
+returns-clause-whole c = λ true. c.loop-token.invariant.whole
