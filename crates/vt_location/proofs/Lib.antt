@@ -1,3 +1,4 @@
 pub mod NumberLemmas
 pub mod NodeLemmas
 pub mod OrderLemmas
+pub mod AskedLemmas

@@ -20,3 +20,4 @@ mod NotedLemmas
 mod MostLemmas
 pub mod EnteringLemmas
 pub mod ListedLemmas
+pub mod NamedLemmas

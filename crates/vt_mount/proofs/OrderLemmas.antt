@@ -17,7 +17,7 @@ pub whole : (x y : MountId) → x.count ≡ y.count → x ≡ y
 whole x y is = ap (λ n. record { count = n }) is
 
 -- they are sorted as all that is kept under numbers
-in_order-is : (es : List (MountId × Mounted)) → in_order es ≡ in_order_by count_of es
+pub in_order-is : (es : List (MountId × Mounted)) → in_order es ≡ in_order_by count_of es
 in_order-is [] = refl
 in_order-is (e ∷ es) = ap (put id_cmp e.0 e.1) (in_order-is es)
 

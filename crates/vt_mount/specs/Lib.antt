@@ -10,3 +10,4 @@ pub mod Waiting
 pub mod Sources
 pub mod Moving
 pub mod Reserved
+pub mod Named

@@ -10,6 +10,7 @@ ghost use Rattle.vt_cred.specs.MountFlags.{flags_of};
 ghost use Rattle.vt_location.specs.Locations.{location_of};
 ghost use Rattle.vt_location.specs.MountValue.{mount_of, propagation_of};
 ghost use Rattle.vt_location.specs.Numbers.{counted, mount_number};
+ghost use Rattle.vt_mount.specs.Named.{NameEach};
 ghost use Rattle.vt_mount.specs.Listed.{same_id};
 ghost use Rattle.vt_mount.specs.MountsValue.{are_ascending, changed, held, mounts_in, released, uses_of, writers_of};
 ghost use Rattle.vt_mount.specs.Sources.{has_counted_source};
@@ -90,6 +91,13 @@ impl Mounts {
         ensures sources { list_all has_counted_source (mounts_in self.now) ≡ true }
     {
         *self.by_number.allocator()
+    }
+
+    /// The numbers of all mounts, in no order.
+    pub fn ids(&self) -> &[MountId]
+        ensures { NameEach result.now self.now }
+    {
+        self.by_number.keys().as_slice()
     }
 
     /// The mount of this number.

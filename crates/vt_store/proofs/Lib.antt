@@ -18,3 +18,5 @@ pub mod LayersOver
 pub mod AnyNamed
 pub mod NamesFound
 pub mod NumbersOwned
+pub mod NamedEach
+pub mod AllNamed

@@ -1,6 +1,6 @@
 -- The directories that have names for a file, among those that its tree lists.
-use Rattle.std.proofs.Common.{Bool, List, None, Option, Some, ap, eqb-true, false, is_some, length, nat_eq, option_map, refl, slice_index_or, sym, suc, true, true≢false, ℕ, ◌<◌, ◌&&◌, ◌||◌, ◌∙◌, ◌∷◌, ◌≡◌, [], unwrap_or, arith}
-use Rattle.vt_spec.proofs.Common.{Node, entries_in, entries_of, found_passes, has_entry_to, is_among, list_any, none_is_some, same_Some, targets_in, common_steps}
+use Rattle.std.proofs.Common.{Bool, List, None, Option, Some, ap, eqb-true, false, is_some, length, nat_eq, option_map, refl, slice_index_or, sym, suc, true, true≢false, ℕ, ◌<◌, ◌&&◌, ◌||◌, ◌∙◌, ◌∷◌, ◌≡◌, [], unwrap_or, arith, flat_map}
+use Rattle.vt_spec.proofs.Common.{Node, Tree, and-true, entries_in, entries_of, found_passes, has_entry_to, is_among, list_any, list_any-append, named_in, none_is_some, same_Some, targets_in, common_steps}
 use Rattle.vt_fs.specs.FilesystemsValue.{FilesystemEntry, Filesystems, entry_of, files_at, files_seen, no_entry, node_seen}
 use Rattle.vt_fs.proofs.Numbers.{numbers_listed}
 use Rattle.vt_location.proofs.NumberLemmas.{exchanged_back, exchanged_slot}
@@ -35,7 +35,7 @@ at_index one (first ∷ rest) among = by (nat_eq one first) refl among (at_index
     by true e f later = (0, omega arith, sym (eqb-true one first e))
     by false e f later = let found = later f in (suc found.0, omega (arith, found.1), found.2)
 
-nodes_found : (trees : Filesystems) (count : ℕ) (tree : TreeValue)
+pub nodes_found : (trees : Filesystems) (count : ℕ) (tree : TreeValue)
     → Some tree ≡ option_map (λ (entry : FilesystemEntry). entry.tree) (entry_of trees count) → (number : ℕ)
     → option_map (node_seen count) ((tree_of tree).node (exchanged count number))
     ≡ (files_at trees count).tree.node number
@@ -63,7 +63,8 @@ seen_targets count (Some node) slot =
 has_node : (object : ℕ) (o : Option (Node ℕ)) → is_among nat_eq object (targets_in o) ≡ true → is_some o ≡ true
 has_node object o e = grind (arith, common_steps)
 
-module _ (plain : Filesystems) (overlays : List OverlayEntry) (count : ℕ) (tree : TreeValue)
+-- Directories that have a name for the inode in a slot, and pass a test
+module _ (plain : Filesystems) (count : ℕ) (passes : ℕ → Bool) (tree : TreeValue)
     (is : Some tree ≡ option_map (λ (entry : FilesystemEntry). entry.tree) (entry_of plain count))
     (slot : ℕ) (small : slot < 18446744073709551616) (directories : List ℕ)
     (holds : HoldsNames (tree_of tree) slot directories) where
@@ -74,33 +75,81 @@ module _ (plain : Filesystems) (overlays : List OverlayEntry) (count : ℕ) (tre
       ∙ seen_targets count ((tree_of tree).node (exchanged count number)) slot
 
   abbrev test : ℕ → Bool
-  test = names_in_layer plain overlays count (inode_number count slot)
+  test number = has_entry_to nat_eq (files_at plain count).tree number (inode_number count slot) && passes number
 
   -- a directory that passes is one of the tree
-  pub one_named : (number : ℕ) → test number ≡ true → list_any test (files_at plain count).numbers ≡ true
-  one_named number passes = one_passes test number passes (files_at plain count).numbers (listed
-      (has_entry_to nat_eq (files_at plain count).tree number (inode_number count slot)) refl passes)
+  pub one_passing : (number : ℕ) → test number ≡ true → list_any test (files_at plain count).numbers ≡ true
+  one_passing number true_is = one_passes test number true_is (files_at plain count).numbers (listed
+      (has_entry_to nat_eq (files_at plain count).tree number (inode_number count slot)) refl true_is)
     where
       listed : (b : Bool) → has_entry_to nat_eq (files_at plain count).tree number (inode_number count slot) ≡ b
-          → (b && list_any (directory_lies_in_overlay plain count number) overlays) ≡ true
+          → (b && passes number) ≡ true
           → is_among nat_eq number (files_at plain count).numbers ≡ true
-      listed true named passes = grind (arith, common_steps, numbers_listed, has_node, named)
-      listed false named passes = absurd (true≢false (sym passes))
+      listed true named passing = grind (arith, common_steps, numbers_listed, has_node, named)
+      listed false named passing = absurd (true≢false (sym passing))
 
   -- where none of those that are listed passes, none does
-  pub none_named : ((k : ℕ) → k < length directories → test (exchanged count (slice_index_or directories k 0)) ≡ false)
+  pub none_passing : ((k : ℕ) → k < length directories → test (exchanged count (slice_index_or directories k 0)) ≡ false)
       → list_any test (files_at plain count).numbers ≡ false
-  none_named fails = none_passes test each (files_at plain count).numbers
+  none_passing fails = none_passes test each (files_at plain count).numbers
     where
       by : (number : ℕ) (b : Bool)
           → has_entry_to nat_eq (files_at plain count).tree number (inode_number count slot) ≡ b
-          → (b && list_any (directory_lies_in_overlay plain count number) overlays) ≡ false
+          → (b && passes number) ≡ false
       by number true named =
           let found = at_index (exchanged count number) directories
           (holds (exchanged count number) (sym (entry_seen number) ∙ named)) in
-          sym (ap (λ b. b && list_any (directory_lies_in_overlay plain count number) overlays) named)
+          sym (ap (λ b. b && passes number) named)
           ∙ sym (ap test (ap (exchanged count) found.2 ∙ exchanged_back count number)) ∙ fails found.0 found.1
       by number false named = refl
 
       each : (number : ℕ) → test number ≡ false
       each number = by number (has_entry_to nat_eq (files_at plain count).tree number (inode_number count slot)) refl
+
+module _ (plain : Filesystems) (overlays : List OverlayEntry) (count : ℕ) (tree : TreeValue)
+    (is : Some tree ≡ option_map (λ (entry : FilesystemEntry). entry.tree) (entry_of plain count))
+    (slot : ℕ) (small : slot < 18446744073709551616) (directories : List ℕ)
+    (holds : HoldsNames (tree_of tree) slot directories) where
+  abbrev in_layer : ℕ → Bool
+  in_layer number = list_any (directory_lies_in_overlay plain count number) overlays
+
+  abbrev names : ℕ → Bool
+  names = names_in_layer plain overlays count (inode_number count slot)
+
+  -- those that lie in a layer
+  pub one_named : (number : ℕ) → names number ≡ true → list_any names (files_at plain count).numbers ≡ true
+  one_named = one_passing plain count in_layer tree is slot small directories holds
+
+  pub none_named : ((k : ℕ) → k < length directories → names (exchanged count (slice_index_or directories k 0)) ≡ false)
+      → list_any names (files_at plain count).numbers ≡ false
+  none_named = none_passing plain count in_layer tree is slot small directories holds
+
+-- An inode has a name just if some directory has one for it
+
+named_after : (tree : Tree ℕ) (object : ℕ) (numbers : List ℕ)
+    → is_among nat_eq object (flat_map (λ directory. targets_in (tree.node directory)) numbers)
+    ≡ list_any (λ directory. has_entry_to nat_eq tree directory object && true) numbers
+named_after tree object [] = refl
+named_after tree object (directory ∷ numbers) =
+    list_any-append (nat_eq object) (targets_in (tree.node directory)) _
+    ∙ (λ i. sym (and-true (has_entry_to nat_eq tree directory object)) i || named_after tree object numbers i)
+
+module _ (plain : Filesystems) (count : ℕ) (tree : TreeValue)
+    (is : Some tree ≡ option_map (λ (entry : FilesystemEntry). entry.tree) (entry_of plain count))
+    (slot : ℕ) (small : slot < 18446744073709551616) (directories : List ℕ)
+    (holds : HoldsNames (tree_of tree) slot directories) where
+  abbrev has_name : ℕ → Bool
+  has_name number = has_entry_to nat_eq (files_at plain count).tree number (inode_number count slot)
+
+  pub named_by_one : (number : ℕ) → has_name number ≡ true
+      → is_among nat_eq (inode_number count slot) (named_in (files_at plain count)) ≡ true
+  named_by_one number named = named_after (files_at plain count).tree (inode_number count slot) (files_at plain count).numbers
+      ∙ one_passing plain count (λ number. true) tree is slot small directories holds number
+      (and-true (has_name number) ∙ named)
+
+  pub named_by_none : ((k : ℕ) → k < length directories
+      → has_name (exchanged count (slice_index_or directories k 0)) ≡ false)
+      → is_among nat_eq (inode_number count slot) (named_in (files_at plain count)) ≡ false
+  named_by_none fails = named_after (files_at plain count).tree (inode_number count slot) (files_at plain count).numbers
+      ∙ none_passing plain count (λ number. true) tree is slot small directories holds
+      (λ k within. and-true (has_name (exchanged count (slice_index_or directories k 0))) ∙ fails k within)

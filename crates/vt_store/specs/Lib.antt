@@ -9,3 +9,5 @@ pub mod LayersHeld
 pub mod Lends
 pub mod Locks
 pub mod Laws
+pub mod Naming
+pub mod Named

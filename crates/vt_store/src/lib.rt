@@ -8,6 +8,7 @@ mod layer_counts;
 mod layers;
 mod locks;
 mod looking;
+mod naming;
 mod overlays;
 mod paths;
 mod store;

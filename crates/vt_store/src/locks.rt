@@ -77,8 +77,8 @@ fn names_in_layer(
     overlays.have_layer_over(plain, directory) && has_name(plain, directory, file)
 }
 
-// Whether a directory has a name for a file of its filesystem.
-fn has_name(plain: &Filesystems, directory: InodeRef, file: InodeRef) -> bool
+/// Whether a directory has a name for an inode of its filesystem.
+pub(crate) fn has_name(plain: &Filesystems, directory: InodeRef, file: InodeRef) -> bool
     requires { directory.filesystem ≡ file.filesystem }
     ensures { result ≡ has_entry_to nat_eq (files_at plain.now file.filesystem.count).tree (inode_of directory)
         (inode_of file) }

@@ -78,6 +78,7 @@ impl Model for Overlays {
 
 impl Overlays {
     ghost use Rattle.vt_store.specs.LayersHeld.{new_overlay};
+    ghost use Rattle.vt_store.specs.Named.{NameEach};
     ghost use Rattle.vt_store.specs.Locks.{directory_lies_in_overlay, overlay_stands_in};
     ghost use Rattle.vt_store.specs.OverlaysValue.{entry_kept, overlay_of, with_overlay_changed, without_overlay};
 
@@ -98,6 +99,13 @@ impl Overlays {
         ensures { (result ≡ true) ↔ (self.now ≡ []) }
     {
         self.by_number.is_empty()
+    }
+
+    /// The numbers of all, in no order.
+    pub fn ids(&self) -> &[FilesystemId]
+        ensures { NameEach result.now self.now }
+    {
+        self.by_number.keys().as_slice()
     }
 
     /// The overlay of this number, if there is one. No hash is taken for one older than all.

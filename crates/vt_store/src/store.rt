@@ -29,6 +29,7 @@ impl Model for Store {
 impl Store {
     ghost use Rattle.vt_store.specs.StoreValue.{filesystem_in, overlay_in};
     ghost use Rattle.vt_store.specs.Lends.{lends_plain};
+    ghost use Rattle.vt_store.specs.Named.{NameEach};
 
     /// These plain filesystems, and no overlays. It does not allocate.
     pub fn new(alloc: Global, plain: Filesystems) -> Self
@@ -54,6 +55,13 @@ impl Store {
         ensures value { result.now ≡ self.old.plain }
     {
         &mut self.plain
+    }
+
+    /// The numbers of all overlays, in no order.
+    pub fn overlays(&self) -> &[FilesystemId]
+        ensures { NameEach result.now self.now.overlays }
+    {
+        self.overlays.ids()
     }
 
     /// Whether there are overlays.

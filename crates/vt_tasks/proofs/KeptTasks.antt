@@ -1,6 +1,6 @@
 -- Tasks as the map keeps them, in whatever order, and as contracts see them, in the order in which they were forked.
-use Rattle.std.proofs.Common.{◌≡◌, ℕ, ◌+◌, ◌≤◌, true, false, List, [], ◌∷◌, ◌++◌, ◌&&◌, map, nat_eq, nat_lt, Option, Some, None, option_map, refl, sym, ap, ◌∙◌, subst}
-use Rattle.vt_spec.proofs.Common.{AllByRecursion, Credentials, IsEquivalence, Location, Task, TaskName, child_name, child_of, keys_of, list_all, list_any, lookup, nat_list_eq_equiv, or_parts, pointwise, same_name, set_value}
+use Rattle.std.proofs.Common.{◌≡◌, ℕ, ◌+◌, ◌≤◌, true, false, List, [], ◌∷◌, ◌++◌, ◌&&◌, map, nat_eq, nat_lt, Option, Some, None, option_map, refl, sym, ap, ◌∙◌, subst, IsPermutation}
+use Rattle.vt_spec.proofs.Common.{AllByRecursion, Credentials, IsEquivalence, IsPermutation-map, Location, Task, TaskName, child_name, child_of, keys_of, list_all, list_any, lookup, nat_list_eq_equiv, or_parts, pointwise, same_name, set_value}
 use Rattle.std.specs.declared.vec.Vec.{Vec}
 use Rattle.std.specs.List.{IsDistinct}
 use Rattle.std.specs.Map.{IsKeyTest}
@@ -271,3 +271,13 @@ module _ {A : Type 0} where
   pub born-kept : (kept : List (Vec ℕ A × Held)) → born_in_order (map (λ e. e.1) kept) ≡ tasks_of (in_order kept)
   born-kept kept = ap (λ l. map (λ one. one.1) (in_order_by (λ n. n) l)) (kept-shown kept)
       ∙ sym (births.shows (Vec ℕ A) Held birth (λ e. task_of e.1) kept)
+
+  values-shown : (kept : List (Vec ℕ A × Held)) → map task_of (map (λ e. e.1) kept) ≡ tasks_of kept
+  values-shown [] = refl
+  values-shown (e ∷ kept) = ap (λ l. task_of e.1 ∷ l) (values-shown kept)
+
+  -- in whatever order
+  pub kept-permuted : (kept : List (Vec ℕ A × Held)) → IsDistinct nat_eq (births_of kept)
+      → IsPermutation (map task_of (map (λ e. e.1) kept)) (tasks_of (in_order kept))
+  kept-permuted kept apart = subst (λ l. IsPermutation l (tasks_of (in_order kept))) (sym (values-shown kept))
+      (IsPermutation-map (λ e. task_of e.1) kept (in_order kept) (births.permuted (Vec ℕ A) Held birth kept apart))

@@ -1,5 +1,5 @@
 //! All tasks, by their names.
-ghost use Rattle.std.specs.Prelude.{◌<◌, ◌≡◌, ◌⊎◌, [], ◌∷◌, Err, Ok, map, nat_eq, true, Some, IfOk, IfErr, OnOk, OnErr, option_map, option_copied};
+ghost use Rattle.std.specs.Prelude.{◌<◌, ◌≡◌, ◌⊎◌, [], ◌∷◌, Err, Ok, map, nat_eq, true, Some, IfOk, IfErr, IsPermutation, OnOk, OnErr, option_map, option_copied};
 ghost use Rattle.std.specs.Fn.{FnOnceReturnsAtMut, FnOnceTakesAtMut};
 ghost use Rattle.std.specs.Cmp.Lexicographic.{pointwise};
 ghost use Rattle.std.specs.List.{list_all};
@@ -91,7 +91,8 @@ impl Tasks {
 
     /// The tasks, in no order. Their births tell in which order they were forked.
     pub fn kept(&self) -> &[Task]
-        ensures { born_in_order result.now ≡ self.now }
+        ensures order { born_in_order result.now ≡ self.now }
+        ensures all { IsPermutation (map task_of result.now) self.now }
     {
         self.by_name.values().as_slice()
     }
