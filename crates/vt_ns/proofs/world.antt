@@ -1,4 +1,5 @@
 -- What the proofs of the methods of `World` use.
+pub mod Births
 pub mod BoundEvents
 pub mod BoundTrees
 pub mod ChangedWithMounts

@@ -6,6 +6,7 @@ ghost use Rattle.vt_mount.specs.MountsValue.{mounts_in};
 ghost use Rattle.vt_spec.specs.Machine.Permits.Permit.{ToEnterNamespace};
 ghost use Rattle.vt_ns.specs.Entering.{HasRoomToEnter, namespace_root};
 ghost use Rattle.vt_mounting.specs.Detach.Events.{Becomes, Permits};
+ghost use Rattle.vt_ns.specs.Counting.{CountsNothing};
 
 use crate::forking::{count_task, has_room, has_room_for_task, hold_once_more};
 use crate::world::World;
@@ -29,6 +30,7 @@ impl World {
         requires { Permits self.old name.now (ToEnterNamespace (namespace_number namespace)) }
         ensures ok { OnOk result (Becomes self.old name.now (ToEnterNamespace (namespace_number namespace)) self.new) }
         ensures room { HasRoomToEnter self.old namespace.count → IsOk result }
+        ensures counts { OnOk result (CountsNothing self.old self.new) }
         ensures err { OnErr result (self.new ≡ self.old) }
     {
         let root = namespace_root(&self.mounts, namespace).unwrap();

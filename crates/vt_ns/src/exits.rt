@@ -5,6 +5,7 @@ ghost use Rattle.vt_spec.specs.Machine.Permits.Permit.{ToExit};
 ghost use Rattle.vt_mounting.specs.Detach.Events.{Becomes, Permits};
 ghost use Rattle.vt_mounting.specs.Detach.NamespacesLeft.{is_small_file, without_file};
 ghost use Rattle.vt_mounting.specs.Detach.Stored.{OverlaysLeft, kept};
+ghost use Rattle.vt_ns.specs.Counting.{CountsNothing};
 
 use crate::world::World;
 use vt_mount::Mounts;
@@ -19,7 +20,8 @@ impl World {
     /// not allocate.
     pub fn exit(&mut self, name: &TaskName)
         requires { Permits self.old name.now ToExit }
-        ensures { Becomes self.old name.now ToExit self.new }
+        ensures ok { Becomes self.old name.now ToExit self.new }
+        ensures counts { CountsNothing self.old self.new }
     {
         let Some(task) = self.tasks.exit(name) else {
             return;

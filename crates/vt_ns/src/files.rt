@@ -10,6 +10,7 @@ ghost use Rattle.vt_spec.specs.Machine.Permits.Permit.{ToChange};
 ghost use Rattle.vt_mounting.specs.Detach.Events.{Becomes, Permits};
 ghost use Rattle.vt_ns.specs.Grants.{Grants};
 ghost use Rattle.vt_ns.specs.Vacancy.{NextInodeIsVacant};
+ghost use Rattle.vt_ns.specs.Counting.{CountsNothing};
 
 use crate::world::World;
 use std::alloc::AllocError;
@@ -23,8 +24,9 @@ impl World {
     #[inline(always)]
     pub fn set_attr(&mut self, name: &TaskName, object: Location, attr: Attr)
         requires { Permits self.old name.now (ToChange (location_of object) (SetAttr (number_of object.node) attr)) }
-        ensures { Becomes self.old name.now
+        ensures ok { Becomes self.old name.now
             (ToChange (location_of object) (SetAttr (number_of object.node) attr)) self.new }
+        ensures counts { CountsNothing self.old self.new }
     {
         self.store.plain_mut().set_attr(object.node, attr);
     }
@@ -34,8 +36,9 @@ impl World {
     pub fn set_opaque(&mut self, name: &TaskName, directory: Location, opaque: bool)
         requires { Permits self.old name.now
             (ToChange (location_of directory) (SetMark (number_of directory.node) opaque)) }
-        ensures { Becomes self.old name.now
+        ensures ok { Becomes self.old name.now
             (ToChange (location_of directory) (SetMark (number_of directory.node) opaque)) self.new }
+        ensures counts { CountsNothing self.old self.new }
     {
         self.store.plain_mut().set_opaque(directory.node, opaque);
     }
@@ -45,8 +48,9 @@ impl World {
     pub fn write(&mut self, name: &TaskName, file: Location, bytes: Vec<u8>)
         requires { Permits self.old name.now
             (ToChange (location_of file) (SetBytes (number_of file.node) bytes.items)) }
-        ensures { Becomes self.old name.now
+        ensures ok { Becomes self.old name.now
             (ToChange (location_of file) (SetBytes (number_of file.node) bytes.items)) self.new }
+        ensures counts { CountsNothing self.old self.new }
     {
         self.store.plain_mut().write(file.node, bytes);
     }
@@ -57,6 +61,7 @@ impl World {
     pub fn link(&mut self, name: &TaskName, new: ToLink) -> Result<(), AllocError>
         requires { Permits self.old name.now (make_permit (Link new)) }
         ensures ok { OnOk result (Becomes self.old name.now (make_permit (Link new)) self.new) }
+        ensures counts { OnOk result (CountsNothing self.old self.new) }
         ensures err { OnErr result (self.new ≡ self.old) }
     {
         self.store
@@ -69,7 +74,8 @@ impl World {
     #[inline(always)]
     pub fn unlink(&mut self, name: &TaskName, gone: ToUnlink)
         requires { Permits self.old name.now (remove_permit (Unlink gone)) }
-        ensures { Becomes self.old name.now (remove_permit (Unlink gone)) self.new }
+        ensures ok { Becomes self.old name.now (remove_permit (Unlink gone)) self.new }
+        ensures counts { CountsNothing self.old self.new }
     {
         self.store
             .plain_mut()
@@ -82,6 +88,7 @@ impl World {
     pub fn write_part(&mut self, name: &TaskName, part: ToWritePart) -> Result<(), AllocError>
         requires { Permits self.old name.now (write_permit (Part part)) }
         ensures ok { OnOk result (Becomes self.old name.now (write_permit (Part part)) self.new) }
+        ensures counts { OnOk result (CountsNothing self.old self.new) }
         ensures err { OnErr result (self.new ≡ self.old) }
     {
         let bytes = part.bytes.as_slice();
@@ -98,6 +105,7 @@ impl World {
         requires { Grants self.old name.now (make_permit (Node new)) }
         ensures vacant { OnOk result (NextInodeIsVacant self.old (location_of new.directory)) }
         ensures ok { OnOk result (Becomes self.old name.now (make_permit (Node new)) self.new) }
+        ensures counts { OnOk result (CountsNothing self.old self.new) }
         ensures err { OnErr result (self.new ≡ self.old) }
     {
         self.store.plain_mut().create(self.mounts.alloc(), new.directory.node, new.name, new.node)?;

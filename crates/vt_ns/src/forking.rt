@@ -9,6 +9,7 @@ ghost use Rattle.vt_mounting.specs.Detach.Forking.{HasRoom, with_task_more};
 ghost use Rattle.vt_mounting.specs.Detach.Stored.{kept};
 ghost use Rattle.vt_mounting.specs.Detach.Uses.{with_location};
 ghost use Rattle.vt_world.specs.WorldValue.{entries_of, world_of};
+ghost use Rattle.vt_ns.specs.Counting.{CountsATask};
 
 use crate::world::World;
 use indexmap::IndexMap;
@@ -30,6 +31,7 @@ impl World {
         ensures name { IfOk result (λ child. Some child
             ≡ option_map child_name (task_called (world_of self.old) name.now)) }
         ensures ok { OnOk result (Becomes self.old name.now (ToFork cred) self.new) }
+        ensures counts { OnOk result (CountsATask self.old self.new) }
         ensures err { OnErr result (self.new ≡ self.old) }
     {
         let parent = self.tasks.get(name).unwrap();

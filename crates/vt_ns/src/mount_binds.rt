@@ -28,6 +28,7 @@ impl World {
         ensures counts { OnOk result (self.new.next
             ≡ self.old.next + counted_for self.old (location_of bind.destination)
             (bind_tree nat_eq (world_of self.old) (location_of bind.source) bind.recursive)) }
+        ensures births { self.new.births ≡ self.old.births }
         ensures err { OnErr result (self.new ≡ self.old) }
     {
         let alloc = self.mounts.alloc();

@@ -38,6 +38,7 @@ impl World {
         ensures counts { OnOk result (self.new.next ≤ self.old.next + counted_for self.old (location_of place)
             (mount_tree nat_eq (mounts_in self.old.mounts) (mount_numbered nat_eq (world_of self.old)
             (mount_number mount)))) }
+        ensures births { self.new.births ≡ self.old.births }
         ensures err { OnErr result (self.new ≡ self.old) }
     {
         if is_member(type_of(&self.mounts, place.mount)) {
@@ -59,6 +60,7 @@ impl World {
         ensures ok { OnOk result (Becomes self.old name.now
             (ToMove (mount_number mount) (location_of place)) self.new) }
         ensures counts { self.new.next ≡ self.old.next }
+        ensures births { self.new.births ≡ self.old.births }
         ensures err { OnErr result (self.new ≡ self.old) }
     {
         let left = self.mount_point(mount);
@@ -89,6 +91,7 @@ impl World {
         ensures counts { OnOk result (self.new.next ≡ self.old.next + counted_for self.old (location_of place)
             (mount_tree nat_eq (mounts_in self.old.mounts) (mount_numbered nat_eq (world_of self.old)
             (mount_number mount)))) }
+        ensures births { self.new.births ≡ self.old.births }
         ensures err { OnErr result (self.new ≡ self.old) }
     {
         let alloc = self.mounts.alloc();

@@ -51,6 +51,7 @@ impl World {
             (ToMountPlain (location_of place) (flags_of flags)) self.new) }
         ensures counts { OnOk result (self.new.next
             ≡ self.old.next + 4 * length (parts_of nat_eq (world_of self.old) (location_of place))) }
+        ensures births { self.new.births ≡ self.old.births }
         ensures err { OnErr result (self.new ≡ self.old) }
     {
         let alloc = self.mounts.alloc();

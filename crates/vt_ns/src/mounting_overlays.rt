@@ -36,6 +36,7 @@ impl World {
         ensures ok { OnOk result (MountsOverlay self.old name.now new self.new) }
         ensures counts { OnOk result (self.new.next
             ≡ self.old.next + 4 * length (parts_of nat_eq (world_of self.old) (location_of new.destination))) }
+        ensures births { self.new.births ≡ self.old.births }
         ensures err { OnErr result (self.new ≡ self.old) }
     {
         let alloc = self.mounts.alloc();

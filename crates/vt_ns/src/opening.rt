@@ -25,6 +25,8 @@ impl World {
     /// The opening world: a namespace with a root mount of an empty filesystem, and the first task, which may do all.
     pub fn new(alloc: Global) -> Result<World, AllocError>
         ensures opening { IfOk result (λ world. world_of world ≡ opening nat_eq opening_numbers) }
+        ensures counts { IfOk result (λ world. world.next ≡ 3) }
+        ensures births { IfOk result (λ world. world.births ≡ 1) }
     {
         let number = MountId::new(0);
         let namespace = NamespaceId::new(1);

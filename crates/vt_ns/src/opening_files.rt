@@ -16,6 +16,7 @@ ghost use Rattle.vt_world.specs.WorldValue.{world_of};
 ghost use Rattle.vt_ns.specs.Grants.{Grants};
 ghost use Rattle.vt_ns.specs.Opening.{MakesNext};
 ghost use Rattle.vt_ns.specs.Vacancy.{NextInodeIsVacant};
+ghost use Rattle.vt_ns.specs.Counting.{CountsNothing};
 
 use crate::world::World;
 use std::alloc::{AllocError, Global};
@@ -38,6 +39,7 @@ impl World {
         ensures number { IfOk result (λ number.
             Some number ≡ option_map free_number (task_called (world_of self.old) name.now)) }
         ensures ok { OnOk result (Becomes self.old name.now (descriptor_permit (OpenNew new)) self.new) }
+        ensures counts { OnOk result (CountsNothing self.old self.new) }
         ensures err { OnErr result (self.new ≡ self.old) }
     {
         let Location { mount, node } = new.directory;
@@ -89,13 +91,14 @@ fn open_next(
     name: Vec<u8>,
     node: NewNode,
 ) -> Result<u8, AllocError>
-    requires may { MayOpenMore (called task.now tasks.old) }
+    requires may { MayOpenMore (called task.now tasks.old.tasks) }
     requires directory { IsDirectory (files_at filesystems.old directory.filesystem.count).tree (number_of directory) }
     requires free { number_at (files_at filesystems.old directory.filesystem.count).tree
         (number_of directory) name.items ≡ None }
     requires node { IsNewIn directory.slot node }
-    ensures number { IfOk result (λ number. Some number ≡ option_map free_number (called task.now tasks.old)) }
-    ensures ok { OnOk result (tasks.new ≡ changed_called task.now (with_open opened) tasks.old) }
+    ensures number { IfOk result (λ number. Some number ≡ option_map free_number (called task.now tasks.old.tasks)) }
+    ensures ok { OnOk result (tasks.new
+        ≡ record tasks.old { tasks = changed_called task.now (with_open opened) tasks.old.tasks }) }
     ensures made { OnOk result (MakesNext directory name.items node filesystems.old filesystems.new) }
     ensures err_tasks { OnErr result (tasks.new ≡ tasks.old) }
     ensures err_filesystems { OnErr result (filesystems.new ≡ filesystems.old) }

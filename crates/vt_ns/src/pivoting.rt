@@ -31,6 +31,7 @@ impl World {
         requires { Permits self.old name.now (ToPivot (mount_number new) (location_of put)) }
         ensures ok { OnOk result (Becomes self.old name.now (ToPivot (mount_number new) (location_of put)) self.new) }
         ensures counts { self.new.next ≡ self.old.next }
+        ensures births { self.new.births ≡ self.old.births }
         ensures err { OnErr result (self.new ≡ self.old) }
     {
         let task = self.tasks.get(name).unwrap();

@@ -7,6 +7,7 @@ ghost use Rattle.vt_permits.specs.GrantValue.{remove_permit};
 ghost use Rattle.vt_permits.specs.declared.grant.RemoveGrant.TheVariants.{Directory};
 ghost use Rattle.vt_mounting.specs.Detach.Detached.{tree_numbers};
 ghost use Rattle.vt_mounting.specs.Detach.Events.{Becomes, Permits};
+ghost use Rattle.vt_ns.specs.Counting.{CountsNothing};
 
 use crate::world::World;
 use std::alloc::{AllocError, Global};
@@ -26,6 +27,7 @@ impl World {
     ) -> Result<(), AllocError>
         requires { Permits self.old name.now (remove_permit (Directory removed)) }
         ensures ok { OnOk result (Becomes self.old name.now (remove_permit (Directory removed)) self.new) }
+        ensures counts { OnOk result (CountsNothing self.old self.new) }
         ensures err { OnErr result (self.new ≡ self.old) }
     {
         let directory = removed.directory.node;

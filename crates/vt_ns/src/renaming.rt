@@ -6,6 +6,7 @@ ghost use Rattle.vt_mount.specs.MountsValue.{mounts_in};
 ghost use Rattle.vt_permits.specs.GrantValue.{rename_permit};
 ghost use Rattle.vt_mounting.specs.Detach.Detached.{trees_of_replaced};
 ghost use Rattle.vt_mounting.specs.Detach.Events.{Becomes, Permits};
+ghost use Rattle.vt_ns.specs.Counting.{CountsNothing};
 
 use crate::removing::trees_on;
 use crate::world::World;
@@ -22,6 +23,7 @@ impl World {
     pub fn rename(&mut self, name: &TaskName, renamed: ToRename) -> Result<(), AllocError>
         requires { Permits self.old name.now (rename_permit renamed) }
         ensures ok { OnOk result (Becomes self.old name.now (rename_permit renamed) self.new) }
+        ensures counts { OnOk result (CountsNothing self.old self.new) }
         ensures err { OnErr result (self.new ≡ self.old) }
     {
         let ToRename {

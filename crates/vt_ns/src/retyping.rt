@@ -16,6 +16,7 @@ ghost use Rattle.vt_laws_worlds.specs.Permits.Steps.{makes_shared};
 ghost use Rattle.vt_mounting.specs.Detach.Events.{Becomes, Permits};
 ghost use Rattle.vt_world.specs.WorldValue.{world_of};
 ghost use Rattle.vt_ns.specs.Retyped.{IsRetyped, counted_after, set_if, with_counts};
+ghost use Rattle.vt_ns.specs.Counting.{CountsNothing};
 
 use crate::world::World;
 use std::alloc::{AllocError, Global};
@@ -31,7 +32,8 @@ impl World {
     /// Sets the flags of a mount: mount(2) with `MS_REMOUNT` and `MS_BIND`. It does not allocate.
     pub fn set_flags(&mut self, name: &TaskName, mount: MountId, flags: MountFlags)
         requires { Permits self.old name.now (ToSetFlags (mount_number mount) (flags_of flags)) }
-        ensures { Becomes self.old name.now (ToSetFlags (mount_number mount) (flags_of flags)) self.new }
+        ensures ok { Becomes self.old name.now (ToSetFlags (mount_number mount) (flags_of flags)) self.new }
+        ensures counts { CountsNothing self.old self.new }
     {
         self.mounts.set_flags(mount, flags);
     }
@@ -47,6 +49,7 @@ impl World {
         ensures ok { OnOk result (Becomes self.old name.now (mount_permit (SetType change)) self.new) }
         ensures counts { OnOk result (self.new.next ≡ counted_after (type_word_of change.word) self.old.next
             (numbers_of (named_mounts nat_eq (world_of self.old) (mount_number change.mount) change.recursive))) }
+        ensures births { self.new.births ≡ self.old.births }
         ensures err { OnErr result (self.new ≡ self.old) }
         ensures one { OnErr result ((change.recursive || makes_shared (mount_permit (SetType change))) ≡ true) }
     {

@@ -20,7 +20,8 @@ use vt_tasks::Tasks;
 impl World {
     /// Its tasks.
     pub fn tasks(&self) -> &Tasks
-        ensures { result.now ≡ self.now.tasks }
+        ensures tasks { result.now.tasks ≡ self.now.tasks }
+        ensures births { result.now.births ≡ self.now.births }
     {
         &self.tasks
     }

@@ -10,6 +10,7 @@ ghost use Rattle.vt_spec.specs.Machine.Tasks.{with_dropped};
 ghost use Rattle.vt_spec.specs.Machine.Permits.Permit.{ToClose, ToOpen, ToSetCredentials, ToSetDirectory, ToSetRoot, ToSetUmask};
 ghost use Rattle.vt_mounting.specs.Detach.Events.{Becomes, Permits, credentials_called};
 ghost use Rattle.vt_mounting.specs.Detach.Forking.{HasRoom};
+ghost use Rattle.vt_ns.specs.Counting.{CountsNothing};
 
 use crate::forking::{has_room, hold_once_more};
 use crate::world::World;
@@ -24,7 +25,8 @@ impl World {
     /// Sets the umask of a task: umask(2). It does not allocate.
     pub fn set_umask(&mut self, name: &TaskName, umask: Mode)
         requires { Permits self.old name.now (ToSetUmask umask) }
-        ensures { Becomes self.old name.now (ToSetUmask umask) self.new }
+        ensures ok { Becomes self.old name.now (ToSetUmask umask) self.new }
+        ensures counts { CountsNothing self.old self.new }
     {
         self.tasks.set_umask(name, umask);
     }
@@ -33,9 +35,10 @@ impl World {
     pub fn drop_caps(&mut self, name: &TaskName, dropped: Caps)
         requires { Permits self.old name.now
             (ToSetCredentials (with_dropped (credentials_called self.old name.now) (capability_bits dropped))) }
-        ensures { Becomes self.old name.now
+        ensures ok { Becomes self.old name.now
             (ToSetCredentials (with_dropped (credentials_called self.old name.now)
             (capability_bits dropped))) self.new }
+        ensures counts { CountsNothing self.old self.new }
     {
         self.tasks.drop_caps(name, dropped);
     }
@@ -47,6 +50,7 @@ impl World {
         requires { Permits self.old name.now (ToSetDirectory (location_of directory)) }
         ensures ok { OnOk result (Becomes self.old name.now (ToSetDirectory (location_of directory)) self.new) }
         ensures room { HasRoom 1 directory self.old.mounts self.old.filesystems → IsOk result }
+        ensures counts { OnOk result (CountsNothing self.old self.new) }
         ensures err { OnErr result (self.new ≡ self.old) }
     {
         hold(&mut self.mounts, &mut self.store, directory, false)?;
@@ -63,6 +67,7 @@ impl World {
         requires { Permits self.old name.now (ToSetRoot (location_of root)) }
         ensures ok { OnOk result (Becomes self.old name.now (ToSetRoot (location_of root)) self.new) }
         ensures room { HasRoom 1 root self.old.mounts self.old.filesystems → IsOk result }
+        ensures counts { OnOk result (CountsNothing self.old self.new) }
         ensures err { OnErr result (self.new ≡ self.old) }
     {
         hold(&mut self.mounts, &mut self.store, root, false)?;
@@ -75,7 +80,8 @@ impl World {
     /// Closes a file of a task: close(2). It does not allocate.
     pub fn close(&mut self, name: &TaskName, descriptor: u8)
         requires { Permits self.old name.now (ToClose descriptor) }
-        ensures { Becomes self.old name.now (ToClose descriptor) self.new }
+        ensures ok { Becomes self.old name.now (ToClose descriptor) self.new }
+        ensures counts { CountsNothing self.old self.new }
     {
         if let Some(closed) = self.tasks.close(name, descriptor) {
             leave(
@@ -100,6 +106,7 @@ impl World {
         ensures number { IfOk result (λ number.
             Some number ≡ option_map free_number (task_called (world_of self.old) name.now)) }
         ensures ok { OnOk result (Becomes self.old name.now (ToOpen (location_of file) (access_of access)) self.new) }
+        ensures counts { OnOk result (CountsNothing self.old self.new) }
         ensures err { OnErr result (self.new ≡ self.old) }
     {
         if !has_room(1, &self.mounts, &self.store, file) {

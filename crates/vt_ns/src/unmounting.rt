@@ -11,6 +11,7 @@ ghost use Rattle.vt_mounting.specs.Detach.Stored.{OverlaysLeft, kept};
 ghost use Rattle.vt_spec.specs.Machine.Permits.Permit.{ToUnmount, ToUnmountLazily};
 ghost use Rattle.vt_mounting.specs.Detach.Events.{Becomes, Permits};
 ghost use Rattle.vt_laws_worlds.specs.Permits.Taken.{is_ungrouped};
+ghost use Rattle.vt_ns.specs.Counting.{CountsNothing};
 
 use crate::world::World;
 use std::alloc::AllocError;
@@ -34,6 +35,7 @@ impl World {
         requires { Permits self.old name.now (ToUnmount (mount_number mount)) }
         ensures ok { OnOk result (Becomes self.old name.now (ToUnmount (mount_number mount)) self.new) }
         ensures alone { unmounts_alone (mounts_in self.old.mounts) (mount_number mount) ≡ true → IsOk result }
+        ensures counts { OnOk result (CountsNothing self.old self.new) }
         ensures err { OnErr result (self.new ≡ self.old) }
     {
         if self.is_alone(mount) {
@@ -54,7 +56,8 @@ impl World {
     fn unmount_alone(&mut self, name: &TaskName, mount: MountId)
         requires permitted { Permits self.old name.now (ToUnmount (mount_number mount)) }
         requires alone { unmounts_alone (mounts_in self.old.mounts) (mount_number mount) ≡ true }
-        ensures { Becomes self.old name.now (ToUnmount (mount_number mount)) self.new }
+        ensures ok { Becomes self.old name.now (ToUnmount (mount_number mount)) self.new }
+        ensures counts { CountsNothing self.old self.new }
     {
         detach(&mut self.mounts, &mut self.store, mount);
     }
@@ -63,6 +66,7 @@ impl World {
     fn unmount_everywhere(&mut self, name: &TaskName, mount: MountId) -> Result<(), AllocError>
         requires { Permits self.old name.now (ToUnmount (mount_number mount)) }
         ensures ok { OnOk result (Becomes self.old name.now (ToUnmount (mount_number mount)) self.new) }
+        ensures counts { OnOk result (CountsNothing self.old self.new) }
         ensures err { OnErr result (self.new ≡ self.old) }
     {
         let mut plan = vt_propagate::unmount(self.alloc, &self.mounts, &self.groups, mount)?;
@@ -81,6 +85,7 @@ impl World {
     pub fn unmount_lazily(&mut self, name: &TaskName, mount: MountId) -> Result<(), AllocError>
         requires { Permits self.old name.now (ToUnmountLazily (mount_number mount)) }
         ensures ok { OnOk result (Becomes self.old name.now (ToUnmountLazily (mount_number mount)) self.new) }
+        ensures counts { OnOk result (CountsNothing self.old self.new) }
         ensures err { OnErr result (self.new ≡ self.old) }
     {
         if stands_on_shared(&self.mounts, mount) {
@@ -101,7 +106,8 @@ impl World {
             ≡ tree_numbers (mounts_in self.old.mounts) (mount_number mount) }
         requires ungrouped { are_ungrouped (mounts_in self.old.mounts) (map mount_number tree.now) ≡ true }
         requires unshared { stands_on_shared (mounts_in self.old.mounts) (mount_number mount) ≡ false }
-        ensures { Becomes self.old name.now (ToUnmountLazily (mount_number mount)) self.new }
+        ensures ok { Becomes self.old name.now (ToUnmountLazily (mount_number mount)) self.new }
+        ensures counts { CountsNothing self.old self.new }
     {
         detach_each(&mut self.mounts, &mut self.store, tree);
     }
@@ -114,6 +120,7 @@ impl World {
     ) -> Result<(), AllocError>
         requires { Permits self.old name.now (ToUnmountLazily (mount_number mount)) }
         ensures ok { OnOk result (Becomes self.old name.now (ToUnmountLazily (mount_number mount)) self.new) }
+        ensures counts { OnOk result (CountsNothing self.old self.new) }
         ensures err { OnErr result (self.new ≡ self.old) }
     {
         let mut plan = vt_propagate::unmount_lazily(self.alloc, &self.mounts, &self.groups, mount)?;

@@ -21,6 +21,7 @@ impl World {
         requires { Permits self.old name.now ToUnshare }
         ensures ok { OnOk result (Becomes self.old name.now ToUnshare self.new) }
         ensures counts { OnOk result (self.new.next ≤ self.old.next + 2 * length self.old.mounts) }
+        ensures births { self.new.births ≡ self.old.births }
         ensures err { OnErr result (self.new ≡ self.old) }
     {
         let alloc = self.mounts.alloc();

@@ -36,7 +36,8 @@ impl Model for World {
       filesystems = w.store.plain;
       overlays = overlays_of_store w.store;
       namespaces = entries_of w.namespaces.entries;
-      tasks = w.tasks;
+      tasks = w.tasks.tasks;
+      births = w.tasks.births;
       next = w.next;
     } };
 
@@ -46,7 +47,8 @@ impl Model for World {
       filesystems = w.store.plain;
       overlays = overlays_of_store w.store;
       namespaces = entries_of w.namespaces.entries;
-      tasks = w.tasks;
+      tasks = w.tasks.tasks;
+      births = w.tasks.births;
       next = w.next;
     }) };
 }

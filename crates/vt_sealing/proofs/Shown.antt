@@ -147,7 +147,7 @@ module _ (world : World ℕ) (sealing : Sealing) (shows : IsShown world sealing)
   -- the world, with what is looked at in the place of what it has
   abbrev beside : World ℕ
   beside = record world {
-    tasks = sealing.tasks.now;
+    tasks = sealing.tasks.now.tasks;
     mounts = mounts_in sealing.mounts.now;
     master = master_in sealing.groups.now;
   }

@@ -53,14 +53,14 @@ world_seen sealing = record {
   master = master_in sealing.groups.now;
   filesystems = filesystems_looked sealing.store.now;
   namespaces = [];
-  tasks = sealing.tasks.now;
+  tasks = sealing.tasks.now.tasks;
   change = 0;
 }
 
 -- A world has these tasks, mounts and masters of groups, and these overlays in their order. Its plain filesystems have
 -- these trees. Whether tasks are sealed off asks nothing else of it.
 pub record IsShown (world : World ℕ) (sealing : Sealing) : Type 0 where
-  pub tasks : sealing.tasks.now ≡ world.tasks
+  pub tasks : sealing.tasks.now.tasks ≡ world.tasks
   pub mounts : mounts_in sealing.mounts.now ≡ world.mounts
   pub masters : (group : ℕ) → master_in sealing.groups.now group ≡ world.master group
   pub overlays : map layers_seen sealing.store.now.overlays ≡ overlays_without_trees world

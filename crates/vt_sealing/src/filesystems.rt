@@ -38,7 +38,7 @@ impl Sealing<'_> {
     fn have_member_in_open(&self) -> bool
         ensures { result ≡ list_any (λ task. is_member_task self.now.names.now task
             && list_any (λ location. is_open (world_seen self.now) self.now.names.now
-            (mount_at nat_eq (world_seen self.now) location).filesystem) (locations_of task)) self.now.tasks.now }
+            (mount_at nat_eq (world_seen self.now) location).filesystem) (locations_of task)) self.now.tasks.now.tasks }
     {
         self.tasks
             .kept()
@@ -168,7 +168,7 @@ impl Sealing<'_> {
     fn has_outsider(&self, filesystem: FilesystemId) -> bool
         ensures { result ≡ list_any (λ task. not (is_member_task self.now.names.now task)
             && list_any (λ location. nat_eq (filesystem_number filesystem)
-            (mount_at nat_eq (world_seen self.now) location).filesystem) (locations_of task)) self.now.tasks.now }
+            (mount_at nat_eq (world_seen self.now) location).filesystem) (locations_of task)) self.now.tasks.now.tasks }
     {
         self.tasks
             .kept()

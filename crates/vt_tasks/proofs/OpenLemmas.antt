@@ -1,5 +1,5 @@
 -- Open files in the order of their numbers.
-use Rattle.std.proofs.Common.{◌≡◌, ◌≢◌, ℕ, ◌+◌, ◌≤◌, ◌<◌, Bool, true, false, cond, List, [], ◌∷◌, ◌++◌, map, filter, length, not, nat_eq, nat_lt, Some, None, option_map, refl, sym, ap, ◌∙◌, true≢false, arith, lt-ltb, le-ltb, eq-eqb, ne_eqb, find, nat_le, insert, remove, slice_get, suc, zero, if◌then◌else◌, ◌-◌, eqb-true, leb-true, le-leb}
+use Rattle.std.proofs.Common.{◌≡◌, ◌≢◌, ℕ, ◌+◌, ◌≤◌, ◌<◌, Bool, true, false, cond, List, [], ◌∷◌, ◌++◌, map, filter, length, not, nat_eq, nat_lt, Some, None, option_map, refl, sym, ap, ◌∙◌, true≢false, arith, lt-ltb, le-ltb, ne_eqb, find, nat_le, insert, remove, slice_get, suc, zero, if◌then◌else◌, ◌-◌, eqb-true, leb-true, le-leb}
 use Rattle.vt_spec.proofs.Common.{Descriptor, and_from, and_true_left, and_true_right, eqb-false, free_from, inserted, keys_of, lookup, opens_for_writing, option_map_or, remove_entry, values_of}
 use Rattle.indexmap.specs.IndexMap.{IndexMap, get, index_before, insert_entry, insert_index, move_index}
 use Rattle.indexmap.proofs.CallerLemmas.{insert_entry-new}

@@ -9,7 +9,7 @@ use Rattle.vt_tasks.specs.declared.descriptors.OpenFile.{OpenFile}
 use Rattle.vt_tasks.specs.declared.task.Task.{Task as Held}
 use Rattle.vt_tasks.specs.Open.{numbered}
 use Rattle.vt_tasks.specs.TaskValue.{task_of}
-use Rattle.vt_tasks.specs.TasksValue.{AreFit, AreKeyed, AreNamedApart, Tasks, are_given_once, called, changed_by, changed_called, forked, forked_by, forked_once, has_files_in_order, replaced, tasks_of, with_child_behind, without_called}
+use Rattle.vt_tasks.specs.TasksValue.{AreFit, AreKeyed, AreNamedApart, Tasks, TasksValue, are_given_once, called, changed_by, changed_called, forked, forked_by, forked_once, has_files_in_order, replaced, tasks_of, with_child_behind, without_called}
 
 -- the tasks with this one in the place of the one of a name
 abbrev pub put_if : TaskName → Task ℕ → Task ℕ → Task ℕ
@@ -387,3 +387,10 @@ module _ {A : Type 0} (name : TaskName) (es middle fs : List (Vec ℕ A × Held)
             (files-replaced name es es fit (task_of parent) (forked_once (task_of parent)) here
             (in_order name es es fit parent is)) refl,
       )
+
+-- tasks and their births are the same if both are
+abbrev value_of : Tasks → ℕ → TasksValue
+value_of tasks births = record { tasks = tasks; births = births }
+
+pub told : {a b : Tasks} {m n : ℕ} → a ≡ b → m ≡ n → value_of a m ≡ value_of b n
+told tasks births i = value_of (tasks i) (births i)

@@ -24,6 +24,11 @@ use Rattle.vt_tasks.specs.TaskValue.{task_of}
 abbrev pub Tasks : Type 0
 Tasks = List (Task ℕ)
 
+-- the tasks, and how many there ever were
+pub record TasksValue : Type 0 where
+  pub tasks : Tasks
+  pub births : ℕ
+
 -- the first task, with its root and its working directory here
 abbrev pub first_task_at : ℕ → Location ℕ → Task ℕ
 first_task_at namespace root = entered_at (first_task nat_eq (λ number. namespace)) namespace root

@@ -1,5 +1,5 @@
 //! All tasks, by their names.
-ghost use Rattle.std.specs.Prelude.{◌<◌, ◌≡◌, ◌⊎◌, [], ◌∷◌, Err, Ok, map, nat_eq, true, Some, IfOk, IfErr, IsPermutation, OnOk, OnErr, option_map, option_copied};
+ghost use Rattle.std.specs.Prelude.{◌+◌, ◌<◌, ◌≡◌, ◌⊎◌, [], ◌∷◌, Err, Ok, map, nat_eq, true, Some, IfOk, IfErr, IsPermutation, OnOk, OnErr, option_map, option_copied};
 ghost use Rattle.std.specs.Fn.{FnOnceReturnsAtMut, FnOnceTakesAtMut};
 ghost use Rattle.std.specs.Cmp.Lexicographic.{pointwise};
 ghost use Rattle.std.specs.List.{list_all};
@@ -63,11 +63,11 @@ pub struct Tasks {
 }
 
 impl Model for Tasks {
-    ghost use Rattle.vt_tasks.specs.TasksValue.{AreKept, Tasks, in_order, tasks_of};
+    ghost use Rattle.vt_tasks.specs.TasksValue.{AreKept, TasksValue, in_order, tasks_of};
 
-    ghost Value = { Tasks };
+    ghost Value = { TasksValue };
 
-    ghost view = { λ t. tasks_of (in_order t.by_name.entries) };
+    ghost view = { λ t. record { tasks = tasks_of (in_order t.by_name.entries); births = t.births } };
 
     ghost invariant = { λ t. AreKept t.births t.by_name.entries };
 }
@@ -75,7 +75,9 @@ impl Model for Tasks {
 impl Tasks {
     /// The first task alone, with its root and its working directory here.
     pub fn new(alloc: Global, namespace: NamespaceId, root: Location) -> Result<Self, AllocError>
-        ensures ok { IfOk result (λ tasks. tasks ≡ first_task_at (namespace_number namespace) (location_of root) ∷ []) }
+        ensures tasks { IfOk result (λ new.
+            new.tasks ≡ first_task_at (namespace_number namespace) (location_of root) ∷ []) }
+        ensures births { IfOk result (λ new. new.births ≡ 1) }
     {
         let mut by_name = IndexMap::new(alloc);
         by_name.insert(Vec::new(alloc), Task::first(alloc, namespace, root))?;
@@ -84,15 +86,15 @@ impl Tasks {
 
     /// The task of this name.
     pub fn get(&self, name: &TaskName) -> Option<&Task>
-        ensures { option_map task_of (option_copied result) ≡ called name.now self.now }
+        ensures { option_map task_of (option_copied result) ≡ called name.now self.now.tasks }
     {
         found_called(&self.by_name, name.numbers())
     }
 
     /// The tasks, in no order. Their births tell in which order they were forked.
     pub fn kept(&self) -> &[Task]
-        ensures order { born_in_order result.now ≡ self.now }
-        ensures all { IsPermutation (map task_of result.now) self.now }
+        ensures order { born_in_order result.now ≡ self.now.tasks }
+        ensures all { IsPermutation (map task_of result.now) self.now.tasks }
     {
         self.by_name.values().as_slice()
     }
@@ -100,7 +102,7 @@ impl Tasks {
     /// The namespace of the task of this name.
     pub fn namespace_called(&self, name: &TaskName) -> Option<NamespaceId>
         ensures { option_map namespace_number result
-            ≡ option_map (λ task. task.namespace) (called name.now self.now) }
+            ≡ option_map (λ task. task.namespace) (called name.now self.now.tasks) }
     {
         let task = self.get(name)?;
         Some(task.namespace)
@@ -108,7 +110,9 @@ impl Tasks {
 
     /// Sets the umask of a task: umask(2). It does not allocate.
     pub fn set_umask(&mut self, name: &TaskName, umask: Mode)
-        ensures { self.new ≡ changed_called name.now (λ task. record task { umask = umask }) self.old }
+        ensures { self.new ≡ record self.old {
+          tasks = changed_called name.now (λ task. record task { umask = umask }) self.old.tasks;
+        } }
     {
         if let Some(task) = self.by_name.get_mut(name.numbers()) {
             task.umask = umask;
@@ -117,9 +121,11 @@ impl Tasks {
 
     /// Drops capabilities of a task for good: capset(2). It does not allocate.
     pub fn drop_caps(&mut self, name: &TaskName, dropped: Caps)
-        ensures { self.new
-            ≡ changed_called name.now
-            (λ task. record task { credentials = with_dropped task.credentials (capability_bits dropped) }) self.old }
+        ensures { self.new ≡ record self.old {
+          tasks = changed_called name.now
+              (λ task. record task { credentials = with_dropped task.credentials (capability_bits dropped) })
+              self.old.tasks;
+        } }
     {
         if let Some(task) = self.by_name.get_mut(name.numbers()) {
             task.cred.drop_caps(dropped);
@@ -128,9 +134,11 @@ impl Tasks {
 
     /// Sets the working directory of a task, and returns the old one: chdir(2). It does not allocate.
     pub fn set_directory(&mut self, name: &TaskName, directory: Location) -> Option<Location>
-        ensures left { option_map location_of result ≡ option_map (λ task. task.directory) (called name.now self.old) }
-        ensures rest { self.new ≡ changed_called name.now
-            (λ task. record task { directory = location_of directory }) self.old }
+        ensures left { option_map location_of result ≡ option_map (λ task. task.directory) (called name.now self.old.tasks) }
+        ensures rest { self.new ≡ record self.old {
+          tasks = changed_called name.now
+              (λ task. record task { directory = location_of directory }) self.old.tasks;
+        } }
     {
         let task = self.by_name.get_mut(name.numbers())?;
         Some(mem::replace(&mut task.directory, directory))
@@ -138,8 +146,11 @@ impl Tasks {
 
     /// Sets the root of a task, and returns the old one: chroot(2). It does not allocate.
     pub fn set_root(&mut self, name: &TaskName, root: Location) -> Option<Location>
-        ensures left { option_map location_of result ≡ option_map (λ task. task.root) (called name.now self.old) }
-        ensures rest { self.new ≡ changed_called name.now (λ task. record task { root = location_of root }) self.old }
+        ensures left { option_map location_of result ≡ option_map (λ task. task.root) (called name.now self.old.tasks) }
+        ensures rest { self.new ≡ record self.old {
+          tasks = changed_called name.now
+              (λ task. record task { root = location_of root }) self.old.tasks;
+        } }
     {
         let task = self.by_name.get_mut(name.numbers())?;
         Some(mem::replace(&mut task.root, root))
@@ -148,9 +159,11 @@ impl Tasks {
     /// Moves a task into a namespace, with this directory as its root and its working directory, and returns what it
     /// left: setns(2). It does not allocate.
     pub fn enter(&mut self, name: &TaskName, namespace: NamespaceId, root: Location) -> Option<Left>
-        ensures left { option_map left_of result ≡ option_map left_by (called name.now self.old) }
-        ensures rest { self.new
-            ≡ changed_called name.now (λ task. entered_at task (namespace_number namespace) (location_of root)) self.old }
+        ensures left { option_map left_of result ≡ option_map left_by (called name.now self.old.tasks) }
+        ensures rest { self.new ≡ record self.old {
+          tasks = changed_called name.now
+              (λ task. entered_at task (namespace_number namespace) (location_of root)) self.old.tasks;
+        } }
     {
         self.move_root_and_directory(name, namespace, root, root)
     }
@@ -164,11 +177,12 @@ impl Tasks {
         root: Location,
         directory: Location,
     ) -> Option<Left>
-        ensures left { option_map left_of result ≡ option_map left_by (called name.now self.old) }
-        ensures rest { self.new
-            ≡ changed_called name.now
-            (λ task. record task { namespace = namespace_number namespace; root = location_of root; directory = location_of directory })
-            self.old }
+        ensures left { option_map left_of result ≡ option_map left_by (called name.now self.old.tasks) }
+        ensures rest { self.new ≡ record self.old {
+          tasks = changed_called name.now
+              (λ task. record task { namespace = namespace_number namespace; root = location_of root; directory = location_of directory })
+              self.old.tasks;
+        } }
     {
         let task = self.by_name.get_mut(name.numbers())?;
         let left = Left {
@@ -184,7 +198,7 @@ impl Tasks {
 
     /// How many roots and working directories of a namespace's tasks are at a location. It does not allocate.
     pub fn places_at(&self, namespace: NamespaceId, at: Location) -> u64
-        ensures count { result ≡ all_places_at (namespace_number namespace) (location_of at) self.now }
+        ensures count { result ≡ all_places_at (namespace_number namespace) (location_of at) self.now.tasks }
         ensures few { result < u64.MAX }
     {
         let mut count = 0;
@@ -197,8 +211,10 @@ impl Tasks {
     /// Moves the roots and working directories of a namespace's tasks from the root of the first mount to that of the
     /// second: pivot_root(2). It does not allocate.
     pub fn pivot(&mut self, namespace: NamespaceId, root: &Mount, new: &Mount)
-        ensures { self.new ≡ map (pivoted_task nat_eq (namespace_number namespace) (mount_of root.now)
-            (mount_of new.now)) self.old }
+        ensures { self.new ≡ record self.old {
+          tasks = map (pivoted_task nat_eq (namespace_number namespace)
+              (mount_of root.now) (mount_of new.now)) self.old.tasks;
+        } }
     {
         for index in 0..self.by_name.len() {
             if let Some(task) = self.by_name.get_index_mut(index) {
@@ -209,9 +225,10 @@ impl Tasks {
 
     /// Opens a file of a task under the least free number, and returns that number: open(2).
     pub fn open(&mut self, name: &TaskName, opened: OpenFile) -> Result<u8, AllocError>
-        requires { MayOpenMore (called name.now self.old) }
-        ensures number { IfOk result (λ number. Some number ≡ option_map free_number (called name.now self.old)) }
-        ensures ok { OnOk result (self.new ≡ changed_called name.now (with_open opened) self.old) }
+        requires { MayOpenMore (called name.now self.old.tasks) }
+        ensures number { IfOk result (λ number. Some number ≡ option_map free_number (called name.now self.old.tasks)) }
+        ensures ok { OnOk result (self.new
+            ≡ record self.old { tasks = changed_called name.now (with_open opened) self.old.tasks }) }
         ensures err { OnErr result (self.new ≡ self.old) }
     {
         let task = self.by_name.get_mut(name.numbers()).unwrap();
@@ -229,10 +246,11 @@ impl Tasks {
         other: &mut S,
         step: F,
     ) -> Result<u8, AllocError>
-        requires may { MayOpenMore (called name.now self.old) }
+        requires may { MayOpenMore (called name.now self.old.tasks) }
         requires callable { FnOnceTakesAtMut F.FnOnce step other.old }
-        ensures number { IfOk result (λ number. Some number ≡ option_map free_number (called name.now self.old)) }
-        ensures ok { OnOk result (self.new ≡ changed_called name.now (with_open opened) self.old) }
+        ensures number { IfOk result (λ number. Some number ≡ option_map free_number (called name.now self.old.tasks)) }
+        ensures ok { OnOk result (self.new
+            ≡ record self.old { tasks = changed_called name.now (with_open opened) self.old.tasks }) }
         ensures step_ok { OnOk result (FnOnceReturnsAtMut F.FnOnce step other.old (Ok tt) other.new) }
         ensures step_err { IfErr result (λ refused. (other.new ≡ other.old)
             ⊎ FnOnceReturnsAtMut F.FnOnce step other.old (Err refused) other.new) }
@@ -245,9 +263,12 @@ impl Tasks {
     /// Closes a file of a task, and returns it: close(2). It does not allocate.
     pub fn close(&mut self, name: &TaskName, number: u8) -> Option<OpenFile>
         ensures value { option_map (numbered number) result
-            ≡ option_and_then (λ task. descriptor_numbered task number) (called name.now self.old) }
-        ensures rest { self.new ≡ changed_called name.now (λ task. without_descriptor task number) self.old }
-        ensures order { list_all has_files_in_order self.old ≡ true }
+            ≡ option_and_then (λ task. descriptor_numbered task number) (called name.now self.old.tasks) }
+        ensures rest { self.new ≡ record self.old {
+          tasks = changed_called name.now
+              (λ task. without_descriptor task number) self.old.tasks;
+        } }
+        ensures order { list_all has_files_in_order self.old.tasks ≡ true }
     {
         let task = self.by_name.get_mut(name.numbers())?;
         task.descriptors.remove(number)
@@ -260,9 +281,10 @@ impl Tasks {
     ///
     /// It fails too where 2^64 - 1 tasks were forked.
     pub fn fork(&mut self, name: &TaskName, cred: Cred) -> Result<TaskName, AllocError>
-        requires { MayFork (called name.now self.old) }
-        ensures name { IfOk result (λ child. Some child ≡ option_map child_name (called name.now self.old)) }
-        ensures ok { OnOk result (self.new ≡ forked name.now cred self.old) }
+        requires { MayFork (called name.now self.old.tasks) }
+        ensures name { IfOk result (λ child. Some child ≡ option_map child_name (called name.now self.old.tasks)) }
+        ensures tasks { OnOk result (self.new.tasks ≡ forked name.now cred self.old.tasks) }
+        ensures births { OnOk result (self.new.births ≡ self.old.births + 1) }
         ensures err { OnErr result (self.new ≡ self.old) }
     {
         let alloc = *self.by_name.allocator();
@@ -285,8 +307,8 @@ impl Tasks {
 
     /// Removes a task, and returns it: _exit(2). It does not allocate.
     pub fn exit(&mut self, name: &TaskName) -> Option<Task>
-        ensures value { option_map task_of result ≡ called name.now self.old }
-        ensures rest { self.new ≡ without_called name.now self.old }
+        ensures value { option_map task_of result ≡ called name.now self.old.tasks }
+        ensures rest { self.new ≡ record self.old { tasks = without_called name.now self.old.tasks } }
     {
         self.by_name.swap_remove(name.numbers())
     }

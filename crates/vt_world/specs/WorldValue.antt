@@ -28,7 +28,7 @@ pub record OverlayEntry : Type 0 where
   pub mounts : ℕ
 
 -- Filesystems are plain ones and overlays, each in the order of their numbers. `next` is what is counted next: all
--- mounts, filesystems and namespaces have lower counts.
+-- mounts, filesystems and namespaces have lower counts. `births` is how many tasks there ever were.
 pub record WorldValue : Type 0 where
   pub mounts : List MountEntry
   pub groups : Grouping
@@ -36,6 +36,7 @@ pub record WorldValue : Type 0 where
   pub overlays : List OverlayEntry
   pub namespaces : List NamespaceEntry
   pub tasks : List (meant.Task ℕ)
+  pub births : ℕ
   pub next : ℕ
 
 abbrev pub namespace_of : NamespaceEntry → meant.Namespace ℕ

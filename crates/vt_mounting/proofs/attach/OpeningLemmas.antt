@@ -139,6 +139,7 @@ first_value entry = record {
   overlays = [];
   namespaces = first_namespace_entries;
   tasks = first_tasks;
+  births = 1;
   next = 3;
 }
 
@@ -196,9 +197,10 @@ module _ (entry : FilesystemEntry) (counts : entry.count ≡ 2)
 
 -- what is made for the opening world is held, and is seen as that
 module _ (mounts : List MountEntry) (groups : Grouping) (filesystems : Filesystems) (namespaces : List NamespaceEntry)
-    (tasks : List (meant.Task ℕ)) (mounts_are : mounts ≡ first_mount_entries) (groups_are : groups ≡ no_groups)
+    (tasks : List (meant.Task ℕ)) (births : ℕ) (mounts_are : mounts ≡ first_mount_entries) (groups_are : groups ≡ no_groups)
     (filesystems_are : shown filesystems ≡ first_shown 2)
-    (namespaces_are : namespaces ≡ first_namespace_entries) (tasks_are : tasks ≡ first_tasks) where
+    (namespaces_are : namespaces ≡ first_namespace_entries) (tasks_are : tasks ≡ first_tasks)
+    (births_are : births ≡ 1) where
   abbrev made : WorldValue
   made = record {
     mounts = mounts;
@@ -207,6 +209,7 @@ module _ (mounts : List MountEntry) (groups : Grouping) (filesystems : Filesyste
     overlays = [];
     namespaces = namespaces;
     tasks = tasks;
+    births = births;
     next = 3;
   }
 
@@ -221,6 +224,7 @@ module _ (mounts : List MountEntry) (groups : Grouping) (filesystems : Filesyste
     overlays = [];
     namespaces = namespaces_are i;
     tasks = tasks_are i;
+    births = births_are i;
     next = 3;
   }
 

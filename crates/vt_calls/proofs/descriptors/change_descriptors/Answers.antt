@@ -51,4 +51,4 @@ returns-in_ok-open_new-in-OpenNew c =
 pub returns-in-Close : goal.returns-in-Close
 returns-in-Close c =
     made c.args.world.now c.args.name.now (Descriptor c.args.grant) (descriptor_permit (granted.Close c.in-Close.descriptor))
-    (λ task called. ap descriptor_permit c.in-Close.is) _ _ tt (λ task called. refl) c.close.ensures
+    (λ task called. ap descriptor_permit c.in-Close.is) _ _ tt (λ task called. refl) c.close.ensures.ok

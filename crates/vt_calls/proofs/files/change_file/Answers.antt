@@ -28,7 +28,7 @@ set_opaque-requires c = permitted c.args.world.now c.args.name.now (Write c.args
 pub returns-in-Content : goal.returns-in-Content
 returns-in-Content c =
     made c.args.world.now c.args.name.now (Write c.args.grant) (write_permit (granted.Content c.in-Content.file c.in-Content.bytes))
-    (λ task called. ap write_permit c.in-Content.is) _ _ tt (λ task called. refl) c.write.ensures
+    (λ task called. ap write_permit c.in-Content.is) _ _ tt (λ task called. refl) c.write.ensures.ok
 
 pub returns-in-Part : goal.returns-in-Part
 returns-in-Part c =
@@ -39,9 +39,9 @@ returns-in-Part c =
 pub returns-in-Attr : goal.returns-in-Attr
 returns-in-Attr c =
     made c.args.world.now c.args.name.now (Write c.args.grant) (write_permit (granted.Attr c.in-Attr.object c.in-Attr.attr))
-    (λ task called. ap write_permit c.in-Attr.is) _ _ tt (λ task called. refl) c.set_attr.ensures
+    (λ task called. ap write_permit c.in-Attr.is) _ _ tt (λ task called. refl) c.set_attr.ensures.ok
 
 pub returns-in-Mark : goal.returns-in-Mark
 returns-in-Mark c = made c.args.world.now c.args.name.now (Write c.args.grant)
     (write_permit (granted.Mark c.in-Mark.directory c.in-Mark.opaque))
-    (λ task called. ap write_permit c.in-Mark.is) _ _ tt (λ task called. refl) c.set_opaque.ensures
+    (λ task called. ap write_permit c.in-Mark.is) _ _ tt (λ task called. refl) c.set_opaque.ensures.ok

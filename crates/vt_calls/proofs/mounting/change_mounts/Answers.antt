@@ -46,7 +46,7 @@ returns-in-UnmountLazily c =
 pub returns-in-SetFlags : goal.returns-in-SetFlags
 returns-in-SetFlags c =
     made c.args.world.now c.args.name.now (Mount c.args.grant) (mount_permit (granted.SetFlags c.in-SetFlags.mount c.in-SetFlags.flags))
-    (λ task called. ap mount_permit c.in-SetFlags.is) _ _ tt (λ task called. refl) c.set_flags.ensures
+    (λ task called. ap mount_permit c.in-SetFlags.is) _ _ tt (λ task called. refl) c.set_flags.ensures.ok
 
 pub returns-in-SetType : goal.returns-in-SetType
 returns-in-SetType c =

@@ -24,7 +24,7 @@ rename-requires c =
 pub returns-in-Unlink : goal.returns-in-Unlink
 returns-in-Unlink c =
     made c.args.world.now c.args.name.now (Remove c.args.grant) (remove_permit (granted.Unlink c.in-Unlink.gone))
-    (λ task called. ap remove_permit c.in-Unlink.is) _ _ tt (λ task called. refl) c.unlink.ensures
+    (λ task called. ap remove_permit c.in-Unlink.is) _ _ tt (λ task called. refl) c.unlink.ensures.ok
 
 pub returns-in-Directory : goal.returns-in-Directory
 returns-in-Directory c =

@@ -74,18 +74,18 @@ returns-in-EnterNamespace c =
 
 pub returns-in-SetUmask : goal.returns-in-SetUmask
 returns-in-SetUmask c = made c.args.world.now c.args.name.now (Task c.args.grant) (ToSetUmask c.in-SetUmask.umask)
-    (λ task called. ap (task_permit task) c.in-SetUmask.is) _ _ tt (λ task called. refl) c.set_umask.ensures
+    (λ task called. ap (task_permit task) c.in-SetUmask.is) _ _ tt (λ task called. refl) c.set_umask.ensures.ok
 
 pub returns-in-Exit : goal.returns-in-Exit
 returns-in-Exit c = made c.args.world.now c.args.name.now (Task c.args.grant) ToExit
-    (λ task called. ap (task_permit task) c.in-Exit.is) _ _ tt (λ task called. refl) c.exit.ensures
+    (λ task called. ap (task_permit task) c.in-Exit.is) _ _ tt (λ task called. refl) c.exit.ensures.ok
 
 pub returns-in-DropCaps : goal.returns-in-DropCaps
 returns-in-DropCaps c = made c.args.world.now c.args.name.now (Task c.args.grant) (ToSetCredentials
     (with_dropped (credentials_called c.args.world.now c.args.name.now) (capability_bits c.in-DropCaps.caps)))
     (λ task called. ap (task_permit task) c.in-DropCaps.is
     ∙ ap (λ found. ToSetCredentials (with_dropped (unwrap_or (option_map (λ t. t.credentials) found) first_credentials)
-    (capability_bits c.in-DropCaps.caps))) (sym called)) _ _ tt (λ task called. refl) c.drop_caps.ensures
+    (capability_bits c.in-DropCaps.caps))) (sym called)) _ _ tt (λ task called. refl) c.drop_caps.ensures.ok
 
 pub returns-in_err-fork-in-Fork : goal.returns-in_err-fork-in-Fork
 returns-in_err-fork-in-Fork c =

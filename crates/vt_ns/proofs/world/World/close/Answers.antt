@@ -6,10 +6,11 @@ use Rattle.vt_tasks.specs.TasksValue.{has_files_in_order}
 use Rattle.vt_ns.specs.contracts.world.World.{the_view}
 use Rattle.vt_mounting.proofs.detach.Closing.{file_is_closed, nothing_is_closed}
 use Rattle.vt_ns.proofs.world.StoresKept.{kept_is}
+use Rattle.vt_ns.proofs.world.Births.{births_are, held_with, tasks_are}
 use Rattle.vt_ns.proofs.world.World.close.Goals as goal
 
 abbrev after_leaving : (c : goal.After-leave) → WorldValue
-after_leaving c = record (remade (the_view c.self.inside) c.leave.new.mounts c.leave.new.store.plain c.close.new.self) {
+after_leaving c = record (remade (the_view c.self.inside) c.leave.new.mounts c.leave.new.store.plain c.close.new.self.tasks) {
   overlays = overlays_of_store c.leave.new.store;
 }
 
@@ -28,30 +29,42 @@ done c =
     done_in_store (the_view c.self.inside) (after_leaving c) c.self.inside.store c.leave.new.store c.self.invariant
     c.leave.ensures.overlays c.args.name.now (ToClose c.args.descriptor) permits
     (file_is_closed (the_view c.self.inside) c.args.name.now c.args.descriptor c.in-Some.closed c.leave.new.mounts
-    c.leave.new.store.plain (map merged_of c.leave.new.store.overlays) c.close.new.self c.self.invariant permits
-    c.leave.ensures.slot (among_from_list_all has_files_in_order c.self.inside.tasks c.close.ensures.order)
+    c.leave.new.store.plain (map merged_of c.leave.new.store.overlays) c.close.new.self.tasks c.self.invariant permits
+    c.leave.ensures.slot (among_from_list_all has_files_in_order c.self.inside.tasks.tasks c.close.ensures.order)
     (sym (ap (option_map (numbered c.args.descriptor)) c.in-Some.is) ∙ c.close.ensures.value)
-    c.close.ensures.rest (left_so c))
+    (tasks_are c.close.ensures.rest) (left_so c))
 
 pub invariant_of-self : goal.invariant_of-self
-invariant_of-self c = (done c).held
+invariant_of-self c = held_with (done c).held c.close.new.self.births
 
-pub returns-in-Some : goal.returns-in-Some
-returns-in-Some c =
+pub returns-in-Some-clause-ok : goal.returns-in-Some-clause-ok
+returns-in-Some-clause-ok c =
     subst (λ value. Becomes value c.args.name.now (ToClose c.args.descriptor) (after_leaving c)) c.self.view_is
     (done c).becomes
 
 pub invariant_of-self-in_default : goal.invariant_of-self-in_default
-invariant_of-self-in_default c =
-    (nothing_is_closed (the_view c.self.inside) c.args.name.now c.args.descriptor c.close.new.self c.self.invariant
+invariant_of-self-in_default c = held_with
+    (nothing_is_closed (the_view c.self.inside) c.args.name.now c.args.descriptor c.close.new.self.tasks c.self.invariant
     (subst (λ value. Permits value c.args.name.now (ToClose c.args.descriptor)) (sym c.self.view_is) c.requires)
     (sym (ap (option_map (numbered c.args.descriptor)) c.in_default.is) ∙ c.close.ensures.value)
-    c.close.ensures.rest).held
+    (tasks_are c.close.ensures.rest)).held c.close.new.self.births
 
-pub returns-in_default : goal.returns-in_default
-returns-in_default c = subst (λ value. Becomes value c.args.name.now (ToClose c.args.descriptor)
-    (after (the_view c.self.inside) c.close.new.self)) c.self.view_is
-    (nothing_is_closed (the_view c.self.inside) c.args.name.now c.args.descriptor c.close.new.self c.self.invariant
+pub returns-in_default-clause-ok : goal.returns-in_default-clause-ok
+returns-in_default-clause-ok c = subst (λ value. Becomes value c.args.name.now (ToClose c.args.descriptor)
+    (after (the_view c.self.inside) c.close.new.self.tasks)) c.self.view_is
+    (nothing_is_closed (the_view c.self.inside) c.args.name.now c.args.descriptor c.close.new.self.tasks c.self.invariant
     (subst (λ value. Permits value c.args.name.now (ToClose c.args.descriptor)) (sym c.self.view_is) c.requires)
     (sym (ap (option_map (numbered c.args.descriptor)) c.in_default.is) ∙ c.close.ensures.value)
-    c.close.ensures.rest).becomes
+    (tasks_are c.close.ensures.rest)).becomes
+
+pub returns-in-Some-clause-counts : goal.returns-in-Some-clause-counts
+returns-in-Some-clause-counts c = record {
+  numbers = ap (λ (value : WorldValue). value.next) c.self.view_is;
+  births = births_are c.close.ensures.rest ∙ ap (λ (value : WorldValue). value.births) c.self.view_is;
+}
+
+pub returns-in_default-clause-counts : goal.returns-in_default-clause-counts
+returns-in_default-clause-counts c = record {
+  numbers = ap (λ (value : WorldValue). value.next) c.self.view_is;
+  births = births_are c.close.ensures.rest ∙ ap (λ (value : WorldValue). value.births) c.self.view_is;
+}

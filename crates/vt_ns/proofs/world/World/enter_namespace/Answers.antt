@@ -8,6 +8,7 @@ use Rattle.vt_ns.proofs.CountingLemmas.{room_left}
 use Rattle.vt_mounting.proofs.detach.Entered.{namespace_has_a_root, task_enters}
 use Rattle.vt_ns.specs.Entering.{HasRoomToEnter}
 use Rattle.vt_ns.proofs.world.StoresKept.{kept_is}
+use Rattle.vt_ns.proofs.world.Births.{births_are, held_with, tasks_are}
 use Rattle.vt_ns.proofs.world.World.enter_namespace.Goals.{then-not-has_room-via-then-not-has_room, then-not-has_room-via-else-not-has_room+then-not-has_room_for_task}
 use Rattle.vt_ns.proofs.world.World.enter_namespace.Goals as goal
 
@@ -30,7 +31,8 @@ after c = record {
   filesystems = c.leave_namespace.new.store.plain;
   overlays = overlays_of_store c.leave_namespace.new.store;
   namespaces = entries_of c.leave_namespace.new.namespaces.entries;
-  tasks = c.enter.new.self;
+  tasks = c.enter.new.self.tasks;
+  births = c.self.inside.tasks.births;
   next = c.self.inside.next;
 }
 
@@ -69,11 +71,11 @@ done c =
     (task_enters (the_view c.self.inside) c.args.name.now c.args.namespace.count c.unwrap-root.result left
     c.leave_namespace.new.mounts c.leave_namespace.new.groups c.leave_namespace.new.store.plain
     (map merged_of c.leave_namespace.new.store.overlays)
-    (entries_of c.leave_namespace.new.namespaces.entries) c.enter.new.self
+    (entries_of c.leave_namespace.new.namespaces.entries) c.enter.new.self.tasks
     (kept c.leave-in-Some.new.mounts c.leave-in-Some.new.store) c.self.invariant permits
     (sym (ap (option_map location_of) c.unwrap-root.ensures) ∙ c.namespace_root.ensures)
     c.hold_once_more.ensures.slot c.leave.ensures.slot c.leave-in-Some.ensures.slot
-    (sym (ap (option_map left_of) c.in-Some.is) ∙ c.enter.ensures.left) c.enter.ensures.rest (left_so c)
+    (sym (ap (option_map left_of) c.in-Some.is) ∙ c.enter.ensures.left) (tasks_are c.enter.ensures.rest) (left_so c)
     (c.leave_namespace.ensures.namespaces ∙ ap (with_one_task_less left.namespace.count) c.count_task.ensures)
     (subst (λ all. MountsAreLeft (counted left.namespace.count) (namespace_entry left.namespace.count all)
     (kept c.leave-in-Some.new.mounts c.leave-in-Some.new.store) c.self.inside.groups
@@ -81,7 +83,7 @@ done c =
     c.count_task.ensures c.leave_namespace.ensures.mounts))
 
 pub invariant_of-self : goal.invariant_of-self
-invariant_of-self c = (done c).held
+invariant_of-self c = held_with (done c).held c.enter.new.self.births
 
 pub returns-in-Some-clause-ok : goal.returns-in-Some-clause-ok
 returns-in-Some-clause-ok c =
@@ -100,3 +102,9 @@ returns-then-not-has_room-clause-room c = λ room.
           (let for_task = w.has_room_for_task.ensures.1 here.tasks in let no = w.if-not-has_room_for_task.true in
           search rules)
     ]
+
+pub returns-in-Some-clause-counts : goal.returns-in-Some-clause-counts
+returns-in-Some-clause-counts c = record {
+  numbers = ap (λ (value : WorldValue). value.next) c.self.view_is;
+  births = births_are c.enter.ensures.rest ∙ ap (λ (value : WorldValue). value.births) c.self.view_is;
+}

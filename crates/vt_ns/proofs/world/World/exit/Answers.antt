@@ -4,6 +4,7 @@ use Rattle.vt_ns.proofs.Common.{Becomes, IsDone, OverlaysLeft, Permits, WorldVal
 use Rattle.vt_ns.specs.contracts.world.World.{the_view}
 use Rattle.vt_mounting.proofs.detach.Exiting.{task_exits}
 use Rattle.vt_ns.proofs.world.StoresKept.{kept_is}
+use Rattle.vt_ns.proofs.world.Births.{births_are, held_with, tasks_are}
 use Rattle.vt_ns.proofs.world.World.exit.Goals as goal
 
 abbrev after : (c : goal.After-drop-task-6) → WorldValue
@@ -13,7 +14,8 @@ after c = record {
   filesystems = c.leave_namespace.new.store.plain;
   overlays = overlays_of_store c.leave_namespace.new.store;
   namespaces = entries_of c.leave_namespace.new.namespaces.entries;
-  tasks = c.exit.new.self;
+  tasks = c.exit.new.self.tasks;
+  births = c.self.inside.tasks.births;
   next = c.self.inside.next;
 }
 
@@ -46,8 +48,8 @@ done c =
     (kept c.leave_files.new.mounts c.leave_files.new.store)
     c.leave_namespace.new.mounts c.leave_namespace.new.groups c.leave_namespace.new.store.plain
     (map merged_of c.leave_namespace.new.store.overlays)
-    (entries_of c.leave_namespace.new.namespaces.entries) c.exit.new.self c.self.invariant permits
-    (sym (ap (option_map task_of) c.in-Some.is) ∙ c.exit.ensures.value) c.exit.ensures.rest (record {
+    (entries_of c.leave_namespace.new.namespaces.entries) c.exit.new.self.tasks c.self.invariant permits
+    (sym (ap (option_map task_of) c.in-Some.is) ∙ c.exit.ensures.value) (tasks_are c.exit.ensures.rest) (record {
       root = c.leave.ensures.slot;
       directory = c.leave-2.ensures.slot;
       slots = c.leave_files.ensures.slots;
@@ -57,7 +59,13 @@ done c =
     }) c.leave_namespace.ensures.namespaces c.leave_namespace.ensures.mounts)
 
 pub invariant_of-self-2 : goal.invariant_of-self-2
-invariant_of-self-2 c = (done c).held
+invariant_of-self-2 c = held_with (done c).held c.exit.new.self.births
 
-pub returns : goal.returns
-returns c = subst (λ value. Becomes value c.args.name.now ToExit (after c)) c.self.view_is (done c).becomes
+pub returns-clause-ok : goal.returns-clause-ok
+returns-clause-ok c = subst (λ value. Becomes value c.args.name.now ToExit (after c)) c.self.view_is (done c).becomes
+
+pub returns-clause-counts : goal.returns-clause-counts
+returns-clause-counts c = record {
+  numbers = ap (λ (value : WorldValue). value.next) c.self.view_is;
+  births = births_are c.exit.ensures.rest ∙ ap (λ (value : WorldValue). value.births) c.self.view_is;
+}

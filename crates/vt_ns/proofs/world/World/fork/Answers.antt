@@ -1,4 +1,4 @@
-use Rattle.std.proofs.Common.{ap, false, map, option_copied, option_map, rules, subst, sym, ◌≡◌, ◌∙◌}
+use Rattle.std.proofs.Common.{◌+◌, ap, false, map, option_copied, option_map, rules, subst, sym, ◌≡◌, ◌∙◌}
 use Rattle.vt_spec.proofs.Common.{ToFork}
 use Rattle.vt_ns.proofs.Common.{Becomes, IsDone, Permits, WorldValue, entries_of, kept, kept_of, merged_of, overlays_of_store, task_of, with_location}
 use Rattle.vt_ns.specs.contracts.world.World.{the_view}
@@ -6,6 +6,7 @@ use Rattle.vt_ns.proofs.CountingLemmas.{room_left}
 use Rattle.vt_ns.proofs.world.ForkedTasks.{may_fork, task_is_forked}
 use Rattle.vt_ns.proofs.world.RemainingTasks.{remade_in}
 use Rattle.vt_ns.proofs.world.StoresKept.{kept_is, same_in_store}
+use Rattle.vt_ns.proofs.world.Births.{held_with}
 use Rattle.vt_ns.proofs.world.World.fork.Goals as goal
 
 pub fork-requires : goal.fork-requires
@@ -21,7 +22,7 @@ hold_once_more-requires-2 c =
 -- the world but for its overlays
 abbrev forked : (c : goal.After-count_task) → WorldValue
 forked c = remade_in (the_view c.self.inside) c.hold_once_more-2.new.mounts c.hold_once_more-2.new.store.plain
-    (entries_of c.count_task.new.namespaces.entries) c.fork.new.self
+    (entries_of c.count_task.new.namespaces.entries) c.fork.new.self.tasks
 
 abbrev after : (c : goal.After-count_task) → WorldValue
 after c = record (forked c) { overlays = overlays_of_store c.hold_once_more-2.new.store }
@@ -46,12 +47,18 @@ done c =
     c.hold_once_more.ensures.slot c.hold_once_more-2.ensures.slot
     c.hold_once_more-2.new.mounts c.hold_once_more-2.new.store.plain
     (map merged_of c.hold_once_more-2.new.store.overlays)
-    (entries_of c.count_task.new.namespaces.entries) c.fork.new.self
-    c.count_task.ensures c.in_ok-child.ensures.ok (held_so c))
+    (entries_of c.count_task.new.namespaces.entries) c.fork.new.self.tasks
+    c.count_task.ensures c.in_ok-child.ensures.tasks (held_so c))
 
 pub invariant_of-self-2 : goal.invariant_of-self-2
-invariant_of-self-2 c = (done c).held
+invariant_of-self-2 c = held_with (done c).held c.fork.new.self.births
 
 pub returns-clause-ok : goal.returns-clause-ok
 returns-clause-ok c =
     subst (λ value. Becomes value c.args.name.now (ToFork c.args.cred) (after c)) c.self.view_is (done c).becomes
+
+pub returns-clause-counts : goal.returns-clause-counts
+returns-clause-counts c = record {
+  numbers = ap (λ (value : WorldValue). value.next) c.self.view_is;
+  births = c.in_ok-child.ensures.births ∙ ap (λ (value : WorldValue). value.births + 1) c.self.view_is;
+}

@@ -11,6 +11,7 @@ use Rattle.vt_ns.specs.Grants.{Grants}
 use Rattle.vt_ns.proofs.world.OpeningGranted.{IsNext, MayOpen, has_next, open_permitted, open_vacant}
 use Rattle.vt_ns.proofs.world.OpeningNew.{make_fits, may_open_one, new_in_directory, new_opens, used_once}
 use Rattle.vt_ns.proofs.world.PlainStored.{done_plainly}
+use Rattle.vt_ns.proofs.world.Births.{births_are, held_with, tasks_are}
 use Rattle.vt_ns.proofs.world.World.open_new.Goals.{After-alloc}
 use Rattle.vt_ns.specs.Vacancy.{NextInodeIsVacant}
 use Rattle.vt_ns.proofs.world.World.open_new.Goals as goal
@@ -72,7 +73,7 @@ open_next-requires-clause-node c = new_in_directory (the_view c.self.inside) (ma
 
 abbrev after : (c : goal.After-self-2-1) → WorldValue
 after c = with_store (record c.self.inside.store { plain = c.pin.new.self })
-    (record (the_view c.self.inside) { mounts = c.hold.new.self; tasks = c.open_next.new.tasks })
+    (record (the_view c.self.inside) { mounts = c.hold.new.self; tasks = c.open_next.new.tasks.tasks })
 
 -- the world then is the one that the permit leaves
 done : (c : goal.After-self-2-1) → IsDone (the_view c.self.inside) c.args.name.now
@@ -90,7 +91,7 @@ done c =
     (rw c.plain_mut.ensures.value at c.pin.ensures.ok) in
     done_plainly value c.self.inside.store c.self.invariant c.args.name.now (descriptor_permit (OpenNew c.args.new))
     (open_permitted value (may at) (next at)) c.pin.new.self
-    (record value { mounts = c.hold.new.self; tasks = c.open_next.new.tasks })
+    (record value { mounts = c.hold.new.self; tasks = c.open_next.new.tasks.tasks })
     (new_opens value (may at) (next at) c.open_next.new.filesystems made c.hold.new.self c.pin.new.self
     (map merged_seen value.overlays) (λ i. record {
       mounts = (mounts ∙ ap (λ writes. changed_mounts (counted c.args.new.directory.mount.count)
@@ -98,10 +99,10 @@ done c =
       filesystems = pins c.unwrap-file.result.filesystem.count
           (number_of c.unwrap-file.result) c.open_next.new.filesystems c.pin.new.self filesystems i;
       overlays = map merged_seen value.overlays;
-    }) c.open_next.new.tasks c.in_ok-number.ensures.ok)
+    }) c.open_next.new.tasks.tasks (tasks_are c.in_ok-number.ensures.ok))
 
 pub invariant_of-self-2 : goal.invariant_of-self-2
-invariant_of-self-2 c = (done c).held
+invariant_of-self-2 c = held_with (done c).held c.open_next.new.tasks.births
 
 pub returns-clause-ok : goal.returns-clause-ok
 returns-clause-ok c = subst (λ value. Becomes value c.args.name.now (descriptor_permit (OpenNew c.args.new)) (after c))
@@ -112,3 +113,9 @@ returns-clause-vacant c =
     let at = (goal.at.returns-clause-vacant c).After-alloc in
     subst (λ value. NextInodeIsVacant value (location_of c.args.new.directory)) c.self.view_is
     (open_vacant (the_view c.self.inside) (may at) (next at))
+
+pub returns-clause-counts : goal.returns-clause-counts
+returns-clause-counts c = record {
+  numbers = ap (λ (value : WorldValue). value.next) c.self.view_is;
+  births = births_are c.in_ok-number.ensures.ok ∙ ap (λ (value : WorldValue). value.births) c.self.view_is;
+}

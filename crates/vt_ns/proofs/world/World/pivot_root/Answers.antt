@@ -7,6 +7,7 @@ use Rattle.vt_ns.proofs.world.PivotedEvents.{new_is_placed, room_to_enter, root_
 use Rattle.vt_ns.specs.Pivoting.{with_uses}
 use Rattle.vt_ns.proofs.world.StoresKept.{kept_is, same_in_store}
 use Rattle.vt_store.proofs.LayersCounted.{unlimited}
+use Rattle.vt_ns.proofs.world.Births.{births_are, held_with, tasks_are}
 use Rattle.vt_ns.proofs.world.World.pivot_root.Goals as goal
 
 pub unwrap-root-requires : goal.unwrap-root-requires
@@ -63,7 +64,7 @@ held_so c = c.hold_each.ensures.held ∙ ap (with_uses c.places_at-moved.result 
     (λ i. kept_with c.pivot.new.self c.pin.new.self (kept_is (the_view c.self.inside) c.self.inside.store i).overlays)
 
 abbrev after : (c : goal.After-pivot-2) → WorldValue
-after c = record (remade (the_view c.self.inside) c.release_each.new.mounts c.unpin.new.self c.pivot-2.new.self) {
+after c = record (remade (the_view c.self.inside) c.release_each.new.mounts c.unpin.new.self c.pivot-2.new.self.tasks) {
   overlays = overlays_of_store (record c.release_each.new.store { plain = c.unpin.new.self });
 }
 
@@ -80,7 +81,7 @@ done c =
     (λ full. absurd (omega (arith, c.if-uses.false, (rw c.plain.ensures at c.uses.ensures), full))) in
     let point = c.unwrap-point.result in
     same_in_store (the_view c.self.inside)
-    (remade (the_view c.self.inside) c.release_each.new.mounts c.unpin.new.self c.pivot-2.new.self)
+    (remade (the_view c.self.inside) c.release_each.new.mounts c.unpin.new.self c.pivot-2.new.self.tasks)
     c.self.inside.store (record c.release_each.new.store { plain = c.unpin.new.self }) c.self.invariant
     (c.release_each.ensures.overlays ∙ c.hold_each.ensures.overlays) c.args.name.now
     (ToPivot (counted c.args.new.count) (location_of c.args.put)) permits
@@ -96,19 +97,22 @@ done c =
     (sym c.self.view_is)) c.places_at-moved.result c.places_at-moved.ensures.count
     c.pivot.new.self c.hold_each.new.mounts c.release_each.new.mounts c.pin.new.self c.hold_each.new.store.plain
     c.release_each.new.store.plain c.unpin.new.self (map merged_of c.hold_each.new.store.overlays)
-    (map merged_of c.release_each.new.store.overlays) c.pivot-2.new.self
+    (map merged_of c.release_each.new.store.overlays) c.pivot-2.new.self.tasks
     (search rules) c.hold_each.ensures.slot c.release_each.ensures.slot
     (subst (λ found. IfSome found (λ (at : Location). is_small_node at.node ≡ true)) c.unwrap-point.ensures
     c.mount_point.ensures.slot) c.in_ok-pivot.ensures.ok
     (pins c.args.put.node.filesystem.count (number_of c.args.put.node) c.self.inside.store.plain c.pin.new.self
     pinned_so) (held_so c) c.release_each.ensures.left
     (unpins point.node.filesystem.count (number_of point.node) c.release_each.new.store.plain c.unpin.new.self
-    (rw c.plain_mut-2.ensures.value at c.unpin.ensures)) c.pivot-2.ensures)
+    (rw c.plain_mut-2.ensures.value at c.unpin.ensures)) (tasks_are c.pivot-2.ensures))
 
 pub invariant_of-self-2 : goal.invariant_of-self-2
-invariant_of-self-2 c = (done c).held
+invariant_of-self-2 c = held_with (done c).held c.pivot-2.new.self.births
 
 pub returns-clause-ok : goal.returns-clause-ok
 returns-clause-ok c =
     subst (λ value. Becomes value c.args.name.now (ToPivot (counted c.args.new.count) (location_of c.args.put)) (after c))
     c.self.view_is (done c).becomes
+
+pub returns-clause-births : goal.returns-clause-births
+returns-clause-births c = births_are c.pivot-2.ensures ∙ ap (λ (value : WorldValue). value.births) c.self.view_is

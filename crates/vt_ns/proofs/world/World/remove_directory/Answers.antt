@@ -1,8 +1,8 @@
-use Rattle.std.proofs.Common.{rules, ◌≡◌, ◌≢◌, sym, subst, arith, length}
+use Rattle.std.proofs.Common.{rules, ◌≡◌, ◌≢◌, sym, subst, arith, length, ap, ◌∙◌}
 use Rattle.vt_permits.specs.GrantValue.{remove_permit}
 use Rattle.vt_permits.specs.declared.grant.RemoveGrant.TheVariants.{Directory}
 use Rattle.vt_ns.specs.contracts.world.World.{the_view}
-use Rattle.vt_ns.proofs.Common.{Becomes, Permits, with_store}
+use Rattle.vt_ns.proofs.Common.{Becomes, Permits, with_store, WorldValue}
 use Rattle.vt_ns.proofs.world.DirectoryRemoved.{directory_goes, directory_goes_alone}
 use Rattle.vt_ns.proofs.world.FileRemoving.{removal_fits, removed_in, removed_is_kept}
 use Rattle.vt_ns.proofs.world.World.remove_directory.Goals as goal
@@ -87,3 +87,17 @@ returns-clause-ok c =
           c.in_ok-gone.gone.items c.in_ok-gone.ensures.ok none c.unlink.new.self
           (rw c.plain_mut.ensures.value at (rw c.as_slice.ensures.value at c.unlink.ensures))).becomes)
     ]
+
+pub returns-clause-counts : goal.returns-clause-counts
+returns-clause-counts c = elim c.if-not-is_empty.branch [
+  | then-not-is_empty w ↦ record {
+    numbers = ap (λ (value : WorldValue). value.next) w.self-is ∙ ap (λ (value : WorldValue). value.next) c.self.view_is;
+    births = ap (λ (value : WorldValue). value.births) w.self-is
+        ∙ ap (λ (value : WorldValue). value.births) c.self.view_is;
+  }
+  | else-not-is_empty w ↦ record {
+    numbers = ap (λ (value : WorldValue). value.next) w.self-is ∙ ap (λ (value : WorldValue). value.next) c.self.view_is;
+    births = ap (λ (value : WorldValue). value.births) w.self-is
+        ∙ ap (λ (value : WorldValue). value.births) c.self.view_is;
+  }
+]

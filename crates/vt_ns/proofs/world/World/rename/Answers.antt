@@ -1,7 +1,7 @@
-use Rattle.std.proofs.Common.{rules, ◌≡◌, ◌≢◌, sym, subst, arith, length}
+use Rattle.std.proofs.Common.{rules, ◌≡◌, ◌≢◌, sym, subst, arith, length, ap, ◌∙◌}
 use Rattle.vt_permits.specs.GrantValue.{rename_permit}
 use Rattle.vt_ns.specs.contracts.world.World.{the_view}
-use Rattle.vt_ns.proofs.Common.{Becomes, Permits, with_store}
+use Rattle.vt_ns.proofs.Common.{Becomes, Permits, with_store, WorldValue}
 use Rattle.vt_ns.proofs.world.FileRenaming.{rename_fits, renamed_is_kept, renamed_object, renamed_to}
 use Rattle.vt_ns.proofs.world.RenamedOver.{rename_over, rename_stays}
 use Rattle.vt_ns.proofs.world.World.rename.Goals as goal
@@ -111,3 +111,17 @@ returns-clause-ok c =
           c.in_ok-gone.gone.items c.in_ok-gone.ensures.ok none c.rename.new.self
           (rw c.plain_mut.ensures.value at (rw c.as_slice.ensures.value at c.in_ok-rename.ensures.ok))).becomes)
     ]
+
+pub returns-clause-counts : goal.returns-clause-counts
+returns-clause-counts c = elim c.if-not-is_empty.branch [
+  | then-not-is_empty w ↦ record {
+    numbers = ap (λ (value : WorldValue). value.next) w.self-is ∙ ap (λ (value : WorldValue). value.next) c.self.view_is;
+    births = ap (λ (value : WorldValue). value.births) w.self-is
+        ∙ ap (λ (value : WorldValue). value.births) c.self.view_is;
+  }
+  | else-not-is_empty w ↦ record {
+    numbers = ap (λ (value : WorldValue). value.next) w.self-is ∙ ap (λ (value : WorldValue). value.next) c.self.view_is;
+    births = ap (λ (value : WorldValue). value.births) w.self-is
+        ∙ ap (λ (value : WorldValue). value.births) c.self.view_is;
+  }
+]

@@ -8,19 +8,19 @@ use Rattle.vt_ns.proofs.world.World.set_flags.Goals as goal
 pub invariant_of-self : goal.invariant_of-self
 invariant_of-self c = (subst (λ mounts. IsDone (the_view c.self.inside) c.args.name.now
     (ToSetFlags (counted c.args.mount.count) (flags_of c.args.flags))
-    (remade (the_view c.self.inside) mounts c.self.inside.store.plain c.self.inside.tasks)) (sym c.set_flags.ensures)
+    (remade (the_view c.self.inside) mounts c.self.inside.store.plain c.self.inside.tasks.tasks)) (sym c.set_flags.ensures)
     (flags_are_set (the_view c.self.inside) c.self.invariant c.args.name.now (counted c.args.mount.count)
     (flags_of c.args.flags)
     (subst (λ value. Permits value c.args.name.now (ToSetFlags (counted c.args.mount.count) (flags_of c.args.flags)))
     (sym c.self.view_is) c.requires))).held
 
-pub returns : goal.returns
-returns c =
+pub returns-clause-ok : goal.returns-clause-ok
+returns-clause-ok c =
     subst (λ value. Becomes value c.args.name.now (ToSetFlags (counted c.args.mount.count) (flags_of c.args.flags))
-    (remade (the_view c.self.inside) c.set_flags.new.self c.self.inside.store.plain c.self.inside.tasks)) c.self.view_is
+    (remade (the_view c.self.inside) c.set_flags.new.self c.self.inside.store.plain c.self.inside.tasks.tasks)) c.self.view_is
     (subst (λ mounts. IsDone (the_view c.self.inside) c.args.name.now
     (ToSetFlags (counted c.args.mount.count) (flags_of c.args.flags))
-    (remade (the_view c.self.inside) mounts c.self.inside.store.plain c.self.inside.tasks)) (sym c.set_flags.ensures)
+    (remade (the_view c.self.inside) mounts c.self.inside.store.plain c.self.inside.tasks.tasks)) (sym c.set_flags.ensures)
     (flags_are_set (the_view c.self.inside) c.self.invariant c.args.name.now (counted c.args.mount.count)
     (flags_of c.args.flags)
     (subst (λ value. Permits value c.args.name.now (ToSetFlags (counted c.args.mount.count) (flags_of c.args.flags)))

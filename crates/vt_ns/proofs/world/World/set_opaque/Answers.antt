@@ -15,8 +15,8 @@ invariant_of-self c =
     (mark_is_set (the_view c.self.inside) c.self.invariant c.args.name.now c.args.directory c.args.opaque
     c.set_opaque.new.self (omega arith) permits (rw c.plain_mut.ensures.value at c.set_opaque.ensures))).held
 
-pub returns : goal.returns
-returns c =
+pub returns-clause-ok : goal.returns-clause-ok
+returns-clause-ok c =
     let permits = subst (λ value. Permits value c.args.name.now
     (ToChange (location_of c.args.directory) (SetMark (number_of c.args.directory.node) c.args.opaque))) (sym c.self.view_is) c.requires in
     subst (λ value. Becomes value c.args.name.now

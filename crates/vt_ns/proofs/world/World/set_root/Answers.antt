@@ -4,10 +4,11 @@ use Rattle.vt_ns.proofs.Common.{Becomes, IsDone, Permits, WorldValue, done_in_st
 use Rattle.vt_ns.specs.contracts.world.World.{the_view}
 use Rattle.vt_mounting.proofs.detach.Places.{root_is_set}
 use Rattle.vt_ns.proofs.world.StoresKept.{kept_is}
+use Rattle.vt_ns.proofs.world.Births.{births_are, held_with, tasks_are}
 use Rattle.vt_ns.proofs.world.World.set_root.Goals as goal
 
 abbrev after : (c : goal.After-leave) → WorldValue
-after c = record (remade (the_view c.self.inside) c.leave.new.mounts c.leave.new.store.plain c.set_root.new.self) {
+after c = record (remade (the_view c.self.inside) c.leave.new.mounts c.leave.new.store.plain c.set_root.new.self.tasks) {
   overlays = overlays_of_store c.leave.new.store;
 }
 
@@ -30,14 +31,20 @@ done c =
     (left_itself old.overlays c.hold.new.store.overlays c.in_ok-hold.ensures.overlays) c.leave.ensures.overlays)
     c.args.name.now (ToSetRoot (location_of c.args.root)) permits
     (root_is_set (the_view c.self.inside) c.args.name.now c.args.root c.in-Some.left c.leave.new.mounts
-    c.leave.new.store.plain (map merged_of c.leave.new.store.overlays) c.set_root.new.self c.self.invariant permits
+    c.leave.new.store.plain (map merged_of c.leave.new.store.overlays) c.set_root.new.self.tasks c.self.invariant permits
     c.in_ok-hold.ensures.slot c.leave.ensures.slot
-    (sym (ap (option_map location_of) c.in-Some.is) ∙ c.set_root.ensures.left) c.set_root.ensures.rest (left_so c))
+    (sym (ap (option_map location_of) c.in-Some.is) ∙ c.set_root.ensures.left) (tasks_are c.set_root.ensures.rest) (left_so c))
 
 pub invariant_of-self-in-Some : goal.invariant_of-self-in-Some
-invariant_of-self-in-Some c = (done c).held
+invariant_of-self-in-Some c = held_with (done c).held c.set_root.new.self.births
 
 pub returns-in-Some-clause-ok : goal.returns-in-Some-clause-ok
 returns-in-Some-clause-ok c =
     subst (λ value. Becomes value c.args.name.now (ToSetRoot (location_of c.args.root)) (after c))
     c.self.view_is (done c).becomes
+
+pub returns-in-Some-clause-counts : goal.returns-in-Some-clause-counts
+returns-in-Some-clause-counts c = record {
+  numbers = ap (λ (value : WorldValue). value.next) c.self.view_is;
+  births = births_are c.set_root.ensures.rest ∙ ap (λ (value : WorldValue). value.births) c.self.view_is;
+}

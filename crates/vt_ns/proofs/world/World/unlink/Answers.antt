@@ -46,8 +46,8 @@ invariant_of-self c =
     c.args.gone.name.items c.args.gone.object (omega arith) (omega arith) permits c.unlink.new.self
     (rw c.plain_mut.ensures.value at (rw c.as_slice.ensures.value at c.unlink.ensures)))).held
 
-pub returns : goal.returns
-returns c =
+pub returns-clause-ok : goal.returns-clause-ok
+returns-clause-ok c =
     let permits = subst (λ value. Permits value c.args.name.now
     (remove_permit (Unlink c.args.gone))) (sym c.self.view_is) c.requires in
     subst (λ value. Becomes value c.args.name.now (remove_permit (Unlink c.args.gone))

@@ -35,6 +35,6 @@ done c =
 pub invariant_of-self : goal.invariant_of-self
 invariant_of-self c = (done c).held
 
-pub returns : goal.returns
-returns c = subst (λ value. Becomes value c.args.name.now (ToUnmountLazily (counted c.args.mount.count)) (after c))
+pub returns-clause-ok : goal.returns-clause-ok
+returns-clause-ok c = subst (λ value. Becomes value c.args.name.now (ToUnmountLazily (counted c.args.mount.count)) (after c))
     c.self.view_is (done c).becomes

@@ -11,6 +11,7 @@ use Rattle.vt_mount.proofs.AttachedLemmas.{as_many}
 use Rattle.vt_mounting.proofs.attach.TasksUnshared.{task_is_unshared}
 use Rattle.vt_mounting.proofs.attach.UnsharingLemmas.{namespace_added, numbers_before, uses_left, uses_left_then, writers_left, writers_left_then}
 use Rattle.vt_ns.proofs.world.StoresKept.{kept_is}
+use Rattle.vt_ns.proofs.world.Births.{births_are, held_with, tasks_are}
 use Rattle.vt_ns.proofs.world.World.unshare.Goals as goal
 
 pub attach_copies-requires-clause-before : goal.attach_copies-requires-clause-before
@@ -82,7 +83,8 @@ after c = record {
   filesystems = c.leave_namespace.new.store.plain;
   overlays = overlays_of_store c.leave_namespace.new.store;
   namespaces = entries_of c.leave_namespace.new.namespaces.entries;
-  tasks = c.move_root_and_directory.new.self;
+  tasks = c.move_root_and_directory.new.self.tasks;
+  births = c.self.inside.tasks.births;
   next = c.self.inside.next + 2 * length c.attached_in.result.now;
 }
 
@@ -126,18 +128,18 @@ done c =
       left = c.leave_namespace.ensures.mounts;
       before = numbers_before (the_view c.self.inside) c.self.invariant c.alloc-alloc.ensures.counted;
       namespaces_left = c.leave_namespace.ensures.namespaces;
-      tasks = c.move_root_and_directory.ensures.rest ∙ ap (λ n. changed_called c.args.name.now (λ task. record task {
+      tasks = tasks_are c.move_root_and_directory.ensures.rest ∙ ap (λ n. changed_called c.args.name.now (λ task. record task {
         namespace = counted n;
         root = location_of root;
         directory = location_of directory;
-      }) c.self.inside.tasks) (ap (λ (id : NamespaceId). id.count) c.new-new.ensures);
+      }) c.self.inside.tasks.tasks) (ap (λ (id : NamespaceId). id.count) c.new-new.ensures);
       next = ap (λ n. c.self.inside.next + 2 * n) (as_many c.attached_in.result.now
           (attached_in (counted own.namespace.count) c.self.inside.mounts) c.attached_in.ensures.are);
       same_overlays = refl;
     }))
 
 pub invariant_of-self-2 : goal.invariant_of-self-2
-invariant_of-self-2 c = (done c).held
+invariant_of-self-2 c = held_with (done c).held c.move_root_and_directory.new.self.births
 
 pub returns-clause-ok : goal.returns-clause-ok
 returns-clause-ok c = subst (λ value. Becomes value c.args.name.now ToUnshare (after c)) c.self.view_is (done c).becomes
@@ -152,3 +154,7 @@ returns-clause-counts c =
     let all = length-map c.self.inside.mounts (λ (entry : MountEntry). entry.mount) in
     subst (λ (value : WorldValue). c.self.inside.next + 2 * length c.attached_in.result.now
     ≤ value.next + 2 * length value.mounts) c.self.view_is (omega (arith, many, parted, all))
+
+pub returns-clause-births : goal.returns-clause-births
+returns-clause-births c =
+    births_are c.move_root_and_directory.ensures.rest ∙ ap (λ (value : WorldValue). value.births) c.self.view_is

@@ -29,8 +29,8 @@ invariant_of-self c =
     (write_is_done (the_view c.self.inside) c.self.invariant c.args.name.now c.args.file c.args.bytes.items
     (omega arith) permits c.write.new.self (rw c.plain_mut.ensures.value at c.write.ensures))).held
 
-pub returns : goal.returns
-returns c =
+pub returns-clause-ok : goal.returns-clause-ok
+returns-clause-ok c =
     let permits = subst (λ value. Permits value c.args.name.now
     (ToChange (location_of c.args.file) (SetBytes (number_of c.args.file.node) c.args.bytes.items))) (sym c.self.view_is) c.requires in
     subst (λ value. Becomes value c.args.name.now

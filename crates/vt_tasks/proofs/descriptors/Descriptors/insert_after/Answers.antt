@@ -1,4 +1,4 @@
-use Rattle.std.proofs.Common.{IfOk, IsOk, OnOk, ap, arith, false, inr, is_err, length, refl, sym, true, true≢false, Err, Ok, Result, ◌∙◌, ◌≡◌, ◌≤◌}
+use Rattle.std.proofs.Common.{IfOk, IsOk, ap, arith, inr, length, refl, sym, true, true≢false, Err, Ok, Result, ◌∙◌, ◌≡◌, ◌≤◌}
 use Rattle.vt_spec.proofs.Common.{err_from_is_err_and, free_from, inserted}
 use Rattle.vt_tasks.specs.Open.{are_ascending, numbered}
 use Rattle.vt_tasks.proofs.OpenLemmas.{ascending-inserted, entries-inserted, length-opened, lookup-free, opened, opened-inserted}

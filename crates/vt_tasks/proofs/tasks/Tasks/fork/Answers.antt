@@ -25,13 +25,13 @@ pub unwrap-parent-requires : goal.unwrap-parent-requires
 unwrap-parent-requires c =
     let map = c.self.inside.by_name in
     there-shared c.get.result (λ none. granted-there _ _ c.requires
-    ((λ i. called (sym c.numbers-numbers.ensures.value i) (sym c.self.view_is i))
+    ((λ i. called (sym c.numbers-numbers.ensures.value i) (sym c.self.view_is i).tasks)
     ∙ called-absent c.numbers-numbers.result.now map map c.self.invariant (sym c.get.ensures.value ∙ none)))
 
 pub overflow_add-forks : goal.overflow_add-forks
 overflow_add-forks c =
     let parent = c.unwrap-parent.result.now in
-    let found = the_parent _ _ _ _ c.self.inside.by_name parent c.self.invariant c.numbers-numbers.ensures.value c.self.view_is
+    let found = the_parent _ _ _ _ c.self.inside.by_name parent c.self.invariant c.numbers-numbers.ensures.value (ap (λ value. value.tasks) c.self.view_is)
     (sym c.get.ensures.value ∙ ap option_copied c.unwrap-parent.ensures) in
     let few = (granted-so _ _ (task_of parent) c.requires found).0 in
     search rules
@@ -39,7 +39,7 @@ overflow_add-forks c =
 pub child-requires : goal.child-requires
 child-requires c =
     let parent = c.unwrap-parent.result.now in
-    let found = the_parent _ _ _ _ c.self.inside.by_name parent c.self.invariant c.numbers-numbers.ensures.value c.self.view_is
+    let found = the_parent _ _ _ _ c.self.inside.by_name parent c.self.invariant c.numbers-numbers.ensures.value (ap (λ value. value.tasks) c.self.view_is)
     (sym c.get.ensures.value ∙ ap option_copied c.unwrap-parent.ensures) in
     record { few = (granted-so _ _ (task_of parent) c.requires found).0 }
 
@@ -67,13 +67,13 @@ invariant_of-self-2 c =
 pub returns-clause-name : goal.returns-clause-name
 returns-clause-name c =
     let parent = c.unwrap-parent.result.now in
-    let found = the_parent _ _ _ _ c.self.inside.by_name parent c.self.invariant c.numbers-numbers.ensures.value c.self.view_is
+    let found = the_parent _ _ _ _ c.self.inside.by_name parent c.self.invariant c.numbers-numbers.ensures.value (ap (λ value. value.tasks) c.self.view_is)
     (sym c.get.ensures.value ∙ ap option_copied c.unwrap-parent.ensures) in
     ap Some (c.in_ok-child_name.ensures.cases ∙ ap (λ (task : Task ℕ). task.name) c.in_ok-child.ensures.child)
     ∙ sym (ap (option_map child_name) found)
 
-pub returns-clause-ok : goal.returns-clause-ok
-returns-clause-ok c =
+pub returns-clause-tasks : goal.returns-clause-tasks
+returns-clause-tasks c =
     let map = c.self.inside.by_name in
     let parent = c.unwrap-parent.result.now in
     let name = c.numbers-numbers.result.now in
@@ -87,7 +87,7 @@ returns-clause-ok c =
           c.args.cred c.self.invariant is key_is c.in_ok-child.ensures.child c.in_ok-child.ensures.birth inserts
           c.get_mut.ensures.unique w.in-Some.parent.now _
           (sym c.get_mut.ensures.value ∙ ap option_copied_mut w.in-Some.is) refl (c.get_mut.follows.holds _)
-          ∙ (λ i. forked (c.numbers-numbers.ensures.value i) c.args.cred (c.self.view_is i))
+          ∙ (λ i. forked (c.numbers-numbers.ensures.value i) c.args.cred (c.self.view_is i).tasks)
       | in_default w ↦
           absurd (never-absent c.self.inside.births name map c.insert.new.self c.insert.new.self
           c.in_ok-key.key parent c.in_ok-child.child c.args.cred c.self.invariant is key_is c.in_ok-child.ensures.child

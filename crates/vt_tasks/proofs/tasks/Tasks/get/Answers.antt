@@ -7,4 +7,4 @@ pub returns : goal.returns
 returns c =
     let map = c.self.inside.by_name in
     called-got c.numbers.result.now map map c.self.invariant _ c.found_called.ensures
-    ∙ (λ i. called (c.numbers.ensures.value i) (c.self.view_is i))
+    ∙ (λ i. called (c.numbers.ensures.value i) (c.self.view_is i).tasks)

@@ -3,21 +3,21 @@ use Rattle.vt_spec.proofs.Common.{OnOk_then, free_number, option_copied_mut}
 use Rattle.vt_tasks.specs.TaskValue.{task_of}
 use Rattle.vt_tasks.specs.TasksValue.{called, changed_called, tasks_of, with_open}
 use Rattle.vt_tasks.proofs.KeptTasks.{called-absent, called-found, written-change, written-fit, written-same}
-use Rattle.vt_tasks.proofs.TasksLemmas.{granted-so, granted-there, ok-equal, on-err, opened-in_order, opened-under, there-mut}
+use Rattle.vt_tasks.proofs.TasksLemmas.{granted-so, granted-there, ok-equal, on-err, opened-in_order, opened-under, there-mut, told}
 use Rattle.vt_tasks.proofs.tasks.Tasks.open_after.Goals as goal
 
 pub unwrap-task-requires : goal.unwrap-task-requires
 unwrap-task-requires g c =
     let map = c.self.inside.by_name in
     there-mut c.get_mut.result (λ none. granted-there _ _ c.requires.may
-    ((λ i. called (sym c.numbers.ensures.value i) (sym c.self.view_is i))
+    ((λ i. called (sym c.numbers.ensures.value i) (sym c.self.view_is i).tasks)
     ∙ called-absent c.numbers.result.now map map c.self.invariant (sym c.get_mut.ensures.value ∙ none)))
 
 pub insert_after-requires-clause-few : goal.insert_after-requires-clause-few
 insert_after-requires-clause-few g c =
     let map = c.self.inside.by_name in
     granted-so _ _ (task_of c.unwrap-task.result.now) c.requires.may
-    ((λ i. called (sym c.numbers.ensures.value i) (sym c.self.view_is i))
+    ((λ i. called (sym c.numbers.ensures.value i) (sym c.self.view_is i).tasks)
     ∙ called-found c.numbers.result.now map map c.self.invariant c.unwrap-task.result.now
     (sym c.get_mut.ensures.value ∙ ap option_copied_mut c.unwrap-task.ensures))
 
@@ -34,21 +34,23 @@ returns-clause-number g c =
     let found = called-found c.numbers.result.now map map c.self.invariant c.unwrap-task.result.now
     (sym c.get_mut.ensures.value ∙ ap option_copied_mut c.unwrap-task.ensures) in
     ok-equal c.insert_after.result _ _
-    (sym (ap (option_map free_number) ((λ i. called (sym c.numbers.ensures.value i) (sym c.self.view_is i)) ∙ found)))
+    (sym (ap (option_map free_number) ((λ i. called (sym c.numbers.ensures.value i) (sym c.self.view_is i).tasks) ∙ found)))
     c.insert_after.ensures.number
 
 pub returns-clause-ok : goal.returns-clause-ok
-returns-clause-ok g c = OnOk_then c.insert_after.result (λ is.
+returns-clause-ok g c = OnOk_then c.insert_after.result (λ is. told (
     written-change c.numbers.result.now c.self.inside.by_name _ c.self.invariant
     (with_open c.args.opened) c.unwrap-task.result.now _
     (sym c.get_mut.ensures.value ∙ ap option_copied_mut c.unwrap-task.ensures) refl refl c.get_mut.ensures.unique
     (c.get_mut.follows.holds _) (λ i. record (task_of c.unwrap-task.result.now) { descriptors = is i })
-    ∙ (λ i. changed_called (c.numbers.ensures.value i) (with_open c.args.opened) (c.self.view_is i)))
+    ∙ (λ i. changed_called (c.numbers.ensures.value i) (with_open c.args.opened) (c.self.view_is i).tasks))
+    (ap (λ value. value.births) c.self.view_is))
     (opened-under c.insert_after.result c.args.opened _ _ _ c.insert_after.ensures.number c.insert_after.ensures.ok)
 
 pub returns-clause-err : goal.returns-clause-err
-returns-clause-err g c = on-err c.insert_after.result (λ same.
+returns-clause-err g c = on-err c.insert_after.result (λ same. told (
     ap tasks_of (written-same c.numbers.result.now c.self.inside.by_name _ c.self.invariant c.unwrap-task.result.now _
     (λ i. record c.unwrap-task.result.now { descriptors = same i })
     (sym c.get_mut.ensures.value ∙ ap option_copied_mut c.unwrap-task.ensures) (c.get_mut.follows.holds _))
-    ∙ c.self.view_is) c.insert_after.ensures.err
+    ∙ ap (λ value. value.tasks) c.self.view_is)
+    (ap (λ value. value.births) c.self.view_is)) c.insert_after.ensures.err

@@ -4,6 +4,7 @@ use Rattle.vt_location.specs.MountValue.{mount_of}
 use Rattle.vt_location.specs.Numbers.{counted}
 use Rattle.vt_tasks.specs.TasksValue.{AreKept, births_of, tasks_of}
 use Rattle.vt_tasks.proofs.PivotLemmas.{all-of, as-many, births-set_value_at, changed-next, kept-pivoted, keys-set_value_at, pivoted-in_order, pivoting}
+use Rattle.vt_tasks.proofs.TasksLemmas.{told}
 use Rattle.vt_tasks.proofs.tasks.Tasks.pivot.Goals as goal
 use Rattle.vt_tasks.proofs.tasks.Tasks.pivot.Goals.{in-Some, in_default}
 
@@ -52,6 +53,6 @@ returns c =
     let other = mount_of c.args.new.now in
     let last : c.loop-index.index ≡ length old = omega
     (arith, c.loop-index-test.false, c.loop-index.auto.index-end, c.len-index-end.ensures.len) in
-    pivoted-in_order namespace root other old new c.loop-index.invariant.1 c.loop-index.invariant.2
+    told (pivoted-in_order namespace root other old new c.loop-index.invariant.1 c.loop-index.invariant.2
     (all-of (pivoting namespace root other) c.loop-index.index old new last c.loop-index.invariant.3)
-    ∙ ap (map (pivoting namespace root other)) c.self.view_is
+    ∙ ap (λ value. map (pivoting namespace root other) value.tasks) c.self.view_is) (c.loop-index.invariant.0 ∙ ap (λ value. value.births) c.self.view_is)

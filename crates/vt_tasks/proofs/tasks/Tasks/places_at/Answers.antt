@@ -26,4 +26,4 @@ returns-clause-count c =
     c.loop-task.invariant.told ∙ ap (sum_by test) (take_all c.loop-task.task-index _ c.loop-task-test.false
     ∙ c.as_slice-task-items.ensures ∙ c.values.ensures.rest)
     ∙ counted_in_order namespace place c.self.inside.by_name.entries c.self.invariant.apart
-    ∙ ap (all_places_at namespace place) c.self.view_is
+    ∙ ap (λ value. all_places_at namespace place value.tasks) c.self.view_is

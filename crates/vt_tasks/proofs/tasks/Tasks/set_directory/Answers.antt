@@ -4,6 +4,7 @@ use Rattle.vt_location.specs.Locations.{location_of}
 use Rattle.vt_tasks.specs.TaskValue.{task_of}
 use Rattle.vt_tasks.specs.TasksValue.{called, changed_called, in_order, tasks_of}
 use Rattle.vt_tasks.proofs.KeptTasks.{called-absent, called-found, changed-absent, written-change, written-fit}
+use Rattle.vt_tasks.proofs.TasksLemmas.{told}
 use Rattle.vt_tasks.proofs.tasks.Tasks.set_directory.Goals as goal
 
 pub returns-in_err-task-clause-left : goal.returns-in_err-task-clause-left
@@ -12,17 +13,17 @@ returns-in_err-task-clause-left c =
     let absent = called-absent c.numbers.result.now map map c.self.invariant
     (sym c.get_mut.ensures.value ∙ ap option_copied_mut c.in_err-task.was) in
     ap (option_map location_of) c.from_residual.ensures ∙ sym (ap (option_map (λ task. task.directory))
-    ((λ i. called (sym c.numbers.ensures.value i) (sym c.self.view_is i)) ∙ absent))
+    ((λ i. called (sym c.numbers.ensures.value i) (sym c.self.view_is i).tasks) ∙ absent))
 
 pub returns-in_err-task-clause-rest : goal.returns-in_err-task-clause-rest
 returns-in_err-task-clause-rest c =
     let map = c.self.inside.by_name in
-    ap (λ map. tasks_of (in_order map.entries)) c.get_mut.follows.holds-at-none
+    told (ap (λ map. tasks_of (in_order map.entries)) c.get_mut.follows.holds-at-none
     ∙ sym (changed-absent c.numbers.result.now map map c.self.invariant
     (λ task. record task { directory = location_of c.args.directory })
     (sym c.get_mut.ensures.value ∙ ap option_copied_mut c.in_err-task.was))
     ∙ (λ i. changed_called (c.numbers.ensures.value i)
-    (λ task. record task { directory = location_of c.args.directory }) (c.self.view_is i))
+    (λ task. record task { directory = location_of c.args.directory }) (c.self.view_is i).tasks)) (ap (λ value. value.births) c.self.view_is)
 
 pub invariant_of-self-2 : goal.invariant_of-self-2
 invariant_of-self-2 c =
@@ -36,13 +37,14 @@ returns-clause-left c =
     let found = called-found c.numbers.result.now map map c.self.invariant c.in_ok-task.task.now
     (sym c.get_mut.ensures.value ∙ ap option_copied_mut c.in_ok-task.was) in
     ap (λ left. Some (location_of left)) c.replace.ensures.value ∙ sym (ap (option_map (λ task. task.directory))
-    ((λ i. called (sym c.numbers.ensures.value i) (sym c.self.view_is i)) ∙ found))
+    ((λ i. called (sym c.numbers.ensures.value i) (sym c.self.view_is i).tasks) ∙ found))
 
 pub returns-clause-rest : goal.returns-clause-rest
-returns-clause-rest c = written-change c.numbers.result.now c.self.inside.by_name _ c.self.invariant
+returns-clause-rest c =
+    told (written-change c.numbers.result.now c.self.inside.by_name _ c.self.invariant
     (λ task. record task { directory = location_of c.args.directory }) c.in_ok-task.task.now _
     (sym c.get_mut.ensures.value ∙ ap option_copied_mut c.in_ok-task.was) refl refl c.get_mut.ensures.unique
     (c.get_mut.follows.holds _)
     (λ i. record (task_of c.in_ok-task.task.now) { directory = location_of (c.replace.ensures.after i) })
     ∙ (λ i. changed_called (c.numbers.ensures.value i)
-    (λ task. record task { directory = location_of c.args.directory }) (c.self.view_is i))
+    (λ task. record task { directory = location_of c.args.directory }) (c.self.view_is i).tasks)) (ap (λ value. value.births) c.self.view_is)
