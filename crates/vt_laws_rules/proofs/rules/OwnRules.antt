@@ -1,15 +1,15 @@
 -- Each call is refused by its own rules, with the error of the rule, and leaves the world then.
-use Rattle.std.proofs.Common.{arith, ◌≡◌, refl, ℕ, nat_eq, Bool, true, false, List, [], ◌∷◌, Option, Some, None, ok_or, Result, Err, IfErr, Ok, subst, sym}
-use Rattle.vt_spec.proofs.Common.{Call, common_steps, judge_in, policy, Allowed, Fresh, Judgement, Looks, Permit, Stop, Task, TaskName, World, and_then, apply, call_outcome, denial, descriptor_at, layers_walked, looks_of, only_looks, task_called, walk_end, overfills}
+use Rattle.std.proofs.Common.{arith, ◌≡◌, refl, ℕ, nat_eq, Bool, true, false, List, [], ◌∷◌, Option, Some, None, ok_or, Result, Err, IfErr, Ok, subst, sym, ◌&&◌, ◌++◌}
+use Rattle.vt_spec.proofs.Common.{Allowed, Call, Fresh, Judgement, Looks, Permit, Stop, Task, TaskName, World, and_parts, and_then, apply, call_outcome, common_steps, denial, descriptor_at, judge_in, layers_walked, looks_of, only_looks, overfills, policy, task_called, walk_end}
 use Rattle.vt_laws_rules.proofs.given.Runs.{judge_is_the_run}
-use Rattle.vt_laws_rules.proofs.rules.CallTables.{HasWalks, Tabled, call_tables}
-use Rattle.vt_laws_rules.proofs.rules.Outcomes.{DeniesOwn, IsOwn, RefusesOwn, after_own, error_is, finished_own, and_then_own, if_own, unless_own}
+use Rattle.vt_laws_rules.proofs.rules.CallTables.{Tabled, call_tables, if_true, walks_of}
+use Rattle.vt_laws_rules.proofs.rules.Outcomes.{DeniesOwn, IsOwn, RefusesOwn, after_own, and_then_own, are_own, error_is, finished_own, if_own, unless_own}
 use Rattle.vt_laws_rules.proofs.rules.WalkRules.{RefusesAsWalk, StopsAsWalk, destination_walks, directory_walks, file_walks, layer_walks, leaf_walks, new_leaf_walks, new_walks, object_walks, old_leaf_walks, old_walks, rename_new_walks, source_walks}
 use Rattle.vt_laws_rules.specs.Denials.{DenialChangesNothing}
 use Rattle.vt_laws_rules.specs.Judging.{Aim, Judging, NameAim, judging, run, walk_to, walk_to_name}
 use Rattle.vt_laws_rules.specs.Judging.Aim.{ADestination, ADirectory, ASource, ASymlink, AnObject}
 use Rattle.vt_laws_rules.specs.Judging.NameAim.{AFile, ANewLeaf, ANewName, ARenamed, AnOldLeaf, AnOldName}
-use Rattle.vt_laws_rules.specs.RuleOrder.{DenialHasErrorOfRule, DenialIsOwn, rules_of}
+use Rattle.vt_laws_rules.specs.RuleOrder.{DenialHasErrorOfRule, DenialIsOwn, has_path, rules_of, walk_rules}
 use Rattle.vt_laws_rules.specs.RuleRanks.{is_among}
 use Rattle.vt_spec.specs.declared.errors.Deny.{Deny}
 use Rattle.vt_spec.specs.declared.errors.Rule.{Rule}
@@ -41,44 +41,57 @@ module _ (world : World ℕ) (task : Task ℕ) where
   names_walk AnOldLeaf path = old_leaf_walks nat_eq world task path
   names_walk (ARenamed directory) path = rename_new_walks nat_eq world task path directory
 
-module _ (own words : List Rule) (world : World ℕ) (task : Task ℕ) (overfills : Permit ℕ → Bool) where
+module _ (own words : List Rule) (walks : Bool) (world : World ℕ) (task : Task ℕ) (overfills : Permit ℕ → Bool)
+    (more : walks ≡ true → (rule : Rule) → is_among rule walk_rules ≡ true → is_among rule own ≡ true) where
   -- a walk of a call whose rules have those of walks
-  walk_own : {A : Type 0} → HasWalks own words → (walk : Result A (Stop ℕ)) (next : A → Judgement ℕ)
+  walk_own : {A : Type 0} → walks ≡ true → (walk : Result A (Stop ℕ)) (next : A → Judgement ℕ)
       → StopsAsWalk walk → ((a : A) → RefusesOwn own (next a)) → RefusesOwn own (and_then (walk_end walk) next)
-  walk_own more walk next stops h = grind (arith, common_steps)
+  walk_own has walk next stops h = grind (arith, common_steps, more has)
 
-  refuses_more : {A : Type 0} → HasWalks own words → (result : Result A Deny) → RefusesAsWalk result
-      → RefusesOwn own result
-  refuses_more more result walks = grind (arith, common_steps)
+  refuses_more : {A : Type 0} → walks ≡ true → (result : Result A Deny) → RefusesAsWalk result → RefusesOwn own result
+  refuses_more has result refuses = grind (arith, common_steps, more has)
 
   abbrev runs : Judging ℕ → Judgement ℕ
   runs asked = run nat_eq (looks_of nat_eq world) task overfills asked
 
   -- what is asked by a call's own rules is refused by them
-  run_own : (before : Bool) (asked : Judging ℕ) → Tabled own words before asked → RefusesOwn own (runs asked)
+  run_own : (before : Bool) (asked : Judging ℕ) → Tabled own words walks before asked → RefusesOwn own (runs asked)
   run_own before (Grants permit) tables = tt
-  run_own before (Checks rules permit) tables = unless_own own rules (Ok permit) tables.0 tt
+  run_own before (Checks rules permit) tables = unless_own own rules (Ok permit) (and_parts (are_own own rules) _ tables).0 tt
   run_own before (Attaches rules permit) tables =
-      unless_own own (rules (overfills permit)) (Ok permit) (tables (overfills permit)).0 tt
-  run_own before (Refuses rule) tables = unless_own own {A = Permit ℕ} ((true, rule) ∷ []) (Ok Allowed) tables.0 tt
+      unless_own own (rules (overfills permit)) (Ok permit)
+      (and_parts (are_own own (rules (overfills permit))) _ (tables (overfills permit))).0 tt
+  run_own before (Refuses rule) tables =
+      unless_own own {A = Permit ℕ} ((true, rule) ∷ []) (Ok Allowed)
+      (and_parts (are_own own ((true, rule) ∷ [])) _ tables).0 tt
   run_own before (Needs rules next) tables =
-      unless_own own rules (runs next) tables.1 (run_own before next tables.2)
-  run_own before (FindsFile number fits next) tables = and_then_own own (descriptor_at task number fits) _
-      (found_own own S4 _ tables.1) (λ descriptor. run_own before (next descriptor) (tables.2 descriptor))
+      let parts = if_true (before && are_own own rules) tables in
+      unless_own own rules (runs next) (and_parts before _ parts.0).1 (run_own before next parts.1)
+  run_own before (FindsFile number fits next) tables =
+      let parts = if_true (before && is_among S4 own) tables in
+      and_then_own own (descriptor_at task number fits) _ (found_own own S4 _ (and_parts before _ parts.0).1)
+      (λ descriptor. run_own before (next descriptor) (parts.1 descriptor))
   run_own before (FindsTask name next) tables =
+      let parts = if_true (before && is_among S2 own) tables in
       and_then_own own (ok_or ((looks_of nat_eq world).namespace_called name) (denial S2)) _
-      (found_own own S2 _ tables.1) (λ namespace. run_own before (next namespace) (tables.2 namespace))
+      (found_own own S2 _ (and_parts before _ parts.0).1)
+      (λ namespace. run_own before (next namespace) (parts.1 namespace))
   run_own before (Walks aim path next) tables =
-      walk_own tables.0 (walk_to nat_eq (looks_of nat_eq world) task aim path) _ (aims_walk world task aim path)
-      (λ here. run_own false (next here) (tables.1 here))
+      let parts = if_true walks tables in
+      walk_own parts.0 (walk_to nat_eq (looks_of nat_eq world) task aim path) _ (aims_walk world task aim path)
+      (λ here. run_own false (next here) (parts.1 here))
   run_own before (Names aim path next) tables =
-      walk_own tables.0 (walk_to_name nat_eq (looks_of nat_eq world) task aim path) _ (names_walk world task aim path)
-      (λ place. run_own false (next place) (tables.1 place))
+      let parts = if_true walks tables in
+      walk_own parts.0 (walk_to_name nat_eq (looks_of nat_eq world) task aim path) _ (names_walk world task aim path)
+      (λ place. run_own false (next place) (parts.1 place))
   run_own before (Layers layers next) tables =
+      let parts = if_true walks tables in
       and_then_own own (layers_walked nat_eq (looks_of nat_eq world) task layers) _
-      (refuses_more tables.0 _ (layer_walks nat_eq world task layers))
-      (λ found. run_own false (next found) (tables.1 found))
-  run_own before (Words rules next) tables = unless_own own rules (runs next) tables.0 (run_own false next tables.2)
+      (refuses_more parts.0 _ (layer_walks nat_eq world task layers))
+      (λ found. run_own false (next found) (parts.1 found))
+  run_own before (Words rules next) tables =
+      let parts = if_true (are_own own rules && are_own (walk_rules ++ words) rules) tables in
+      unless_own own rules (runs next) (and_parts (are_own own rules) _ parts.0).0 (run_own false next parts.1)
   run_own before (IfThere (Some file) there missing) tables = run_own false (there file) (tables.0 file)
   run_own before (IfThere None there missing) tables = run_own false missing tables.1
   run_own before (IfSo test so otherwise) tables =
@@ -89,8 +102,8 @@ call_own : (fresh : Fresh ℕ) (world : World ℕ) (task : Task ℕ) (call : Cal
 call_own fresh world task call =
     subst (RefusesOwn (rules_of call))
     (sym (judge_is_the_run nat_eq (looks_of nat_eq world) (overfills nat_eq fresh world task) task call))
-    (run_own (rules_of call) (last_word_rules call) world task (overfills nat_eq fresh world task) true
-    (judging nat_eq (looks_of nat_eq world) task call) (call_tables world task call))
+    (run_own (rules_of call) (last_word_rules call) (has_path call) world task (overfills nat_eq fresh world task)
+    (walks_of call) true (judging nat_eq (looks_of nat_eq world) task call) (call_tables world task call))
 
 -- a permit is applied, and refuses nothing
 applied_own : (rules : List Rule) (fresh : Fresh ℕ) (world : World ℕ) (task : Task ℕ) (permit : Permit ℕ)

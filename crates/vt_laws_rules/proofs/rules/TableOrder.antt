@@ -1,14 +1,14 @@
 -- Each table of rules is in the policy's order, and walks are refused by the rules of walks.
-use Rattle.std.proofs.Common.{arith, ◌≡◌, refl, ℕ, nat_eq, Bool, true, false, List, [], ◌∷◌, ◌++◌, Option, ok_or, Result, IfOk, true≢false, sym, None, Some}
-use Rattle.vt_spec.proofs.Common.{Permit, Rules, Stop, Task, World, and_then, common_steps, denial, descriptor_at, layers_walked, looks_of, overfills, unless, walk_end}
-use Rattle.vt_laws_rules.proofs.rules.CallTables.{Tabled, call_tables}
-use Rattle.vt_laws_rules.proofs.rules.Outcomes.{IsOwn, RefusesOwn, among_front, and_then_own, error_is, unless_own}
+use Rattle.std.proofs.Common.{arith, ◌≡◌, refl, ℕ, nat_eq, Bool, true, false, List, [], ◌∷◌, ◌++◌, ◌&&◌, Option, ok_or, Result, IfOk, true≢false, sym, None, Some}
+use Rattle.vt_spec.proofs.Common.{Permit, Rules, Stop, Task, World, and_parts, and_then, common_steps, denial, descriptor_at, layers_walked, looks_of, overfills, unless, walk_end}
+use Rattle.vt_laws_rules.proofs.rules.CallTables.{IfTrue, Tabled, call_tables, if_true}
+use Rattle.vt_laws_rules.proofs.rules.Outcomes.{IsOwn, RefusesOwn, among_front, and_then_own, are_own, error_is, unless_own}
 use Rattle.vt_laws_rules.proofs.rules.OwnRules.{aims_walk, names_walk}
 use Rattle.vt_laws_rules.proofs.rules.WalkRules.{RefusesAsWalk, StopsAsWalk, layer_walks}
 use Rattle.vt_laws_rules.specs.Asked.{asked_last, failing, first_rules, last_rules, last_word_rules, rules_behind}
 use Rattle.vt_laws_rules.specs.Judging.{Judging, judging, walk_to, walk_to_name, by_option}
-use Rattle.vt_laws_rules.specs.RuleOrder.{FirstTablesInOrder, LastTablesInOrder, WalksRefuseAsWalks, rules_of, walk_rules}
-use Rattle.vt_laws_rules.specs.RuleRanks.{IsInOrderAfterWalk}
+use Rattle.vt_laws_rules.specs.RuleOrder.{FirstTablesInOrder, LastTablesInOrder, WalksRefuseAsWalks, has_path, rules_of, walk_rules}
+use Rattle.vt_laws_rules.specs.RuleRanks.{IsInOrderAfterWalk, is_among}
 use Rattle.vt_spec.specs.declared.errors.Rule.{Rule}
 use Rattle.vt_spec.specs.declared.errors.Rule.TheVariants.{S2, S4}
 use Rattle.vt_spec.specs.declared.errors.Deny.{Deny}
@@ -40,7 +40,11 @@ passed_refuses own [] answer none h = h
 passed_refuses own ((true, rule) ∷ rows) answer none h = cc
 passed_refuses own ((false, rule) ∷ rows) answer none h = passed_refuses own rows answer none h
 
-module _ (own words : List Rule) (world : World ℕ) (task : Task ℕ) (overfills : Permit ℕ → Bool) where
+-- what is asked behind a test that passes
+later : {A : Type 0} (test : Bool) → IfTrue test A → A
+later test a = (if_true test a).1
+
+module _ (own words : List Rule) (walks : Bool) (world : World ℕ) (task : Task ℕ) (overfills : Permit ℕ → Bool) where
   abbrev last : Judging ℕ → Result Rules Deny
   last asked = last_rules nat_eq (looks_of nat_eq world) task overfills asked
 
@@ -48,30 +52,32 @@ module _ (own words : List Rule) (world : World ℕ) (task : Task ℕ) (overfill
   first asked = first_rules nat_eq (looks_of nat_eq world) task asked
 
   abbrev Rest : Bool → Judging ℕ → Type 0
-  Rest before asked = Tabled own words before asked
+  Rest before asked = Tabled own words walks before asked
 
   -- the table that is asked last
   in_order : (before : Bool) (asked : Judging ℕ) → Rest before asked → IsInOrderAtEnd (last asked)
   in_order before (Grants permit) tables = refl
-  in_order before (Checks rules permit) tables = tables.1
-  in_order before (Attaches rules permit) tables = (tables (overfills permit)).1
-  in_order before (Refuses rule) tables = tables.1
-  in_order before (Needs rules next) tables = ok_rules rules (last next) (in_order before next tables.2)
-  in_order before (FindsFile number fits next) tables =
-      ok_then (descriptor_at task number fits) _ (λ descriptor. in_order before (next descriptor) (tables.2 descriptor))
+  in_order before (Checks rules permit) tables = (and_parts (are_own own rules) _ tables).1
+  in_order before (Attaches rules permit) tables =
+      (and_parts (are_own own (rules (overfills permit))) _ (tables (overfills permit))).1
+  in_order before (Refuses rule) tables = (and_parts (are_own own ((true, rule) ∷ [])) _ tables).1
+  in_order before (Needs rules next) tables = ok_rules rules (last next) (in_order before next (later (before && are_own own rules) tables))
+  in_order before (FindsFile number fits next) tables = ok_then (descriptor_at task number fits) _
+      (λ descriptor. in_order before (next descriptor) (later (before && is_among S4 own) tables descriptor))
   in_order before (FindsTask name next) tables =
       ok_then (ok_or ((looks_of nat_eq world).namespace_called name) (denial S2)) _
-      (λ namespace. in_order before (next namespace) (tables.2 namespace))
+      (λ namespace. in_order before (next namespace) (later (before && is_among S2 own) tables namespace))
   in_order before (Walks aim path next) tables =
       ok_then (walk_end (walk_to nat_eq (looks_of nat_eq world) task aim path)) _
-      (λ here. in_order false (next here) (tables.1 here))
+      (λ here. in_order false (next here) (later walks tables here))
   in_order before (Names aim path next) tables =
       ok_then (walk_end (walk_to_name nat_eq (looks_of nat_eq world) task aim path)) _
-      (λ place. in_order false (next place) (tables.1 place))
+      (λ place. in_order false (next place) (later walks tables place))
   in_order before (Layers layers next) tables =
       ok_then (layers_walked nat_eq (looks_of nat_eq world) task layers) _
-      (λ found. in_order false (next found) (tables.1 found))
-  in_order before (Words rules next) tables = ok_rules rules (last next) (in_order false next tables.2)
+      (λ found. in_order false (next found) (later walks tables found))
+  in_order before (Words rules next) tables = ok_rules rules (last next)
+      (in_order false next (later (are_own own rules && are_own (walk_rules ++ words) rules) tables))
   in_order before (IfThere (Some file) there missing) tables = in_order false (there file) (tables.0 file)
   in_order before (IfThere None there missing) tables = in_order false missing tables.1
   in_order before (IfSo true so otherwise) tables = in_order false so tables.0
@@ -101,6 +107,10 @@ module _ (own words : List Rule) (world : World ℕ) (task : Task ℕ) (overfill
       → RefusesOwn Walking (and_then (ok_or object (denial S2)) next)
   task_refuses object rest next none h = grind (arith, common_steps)
 
+  -- behind a walk no first rule is left
+  abbrev none_left : {A : Type 0} → false ≡ true → A
+  none_left e = absurd (true≢false (sym e))
+
   walks_refuse : (before : Bool) (asked : Judging ℕ) → Rest before asked
       → (before ≡ true → failing (first asked) ≡ []) → RefusesOwn Walking (last asked)
   walks_refuse before (Grants permit) tables none = tt
@@ -108,38 +118,37 @@ module _ (own words : List Rule) (world : World ℕ) (task : Task ℕ) (overfill
   walks_refuse before (Attaches rules permit) tables none = tt
   walks_refuse before (Refuses rule) tables none = tt
   walks_refuse before (Needs rules next) tables none =
-      let pass = both_pass rules (first next) (none tables.0) in
-      passed_refuses Walking rules (last next) pass.0 (walks_refuse before next tables.2 (λ e. pass.1))
+      let pass = both_pass rules (first next) (none (and_parts before _ (if_true (before && are_own own rules) tables).0).0) in
+      passed_refuses Walking rules (last next) pass.0 (walks_refuse before next (later (before && are_own own rules) tables) (λ e. pass.1))
   walks_refuse before (FindsFile number fits next) tables none =
-      step_refuses S4 _ (λ descriptor. first (next descriptor)) _ (none tables.0)
-      (λ descriptor pass. walks_refuse before (next descriptor) (tables.2 descriptor) (λ e. pass))
+      step_refuses S4 _ (λ descriptor. first (next descriptor)) _ (none (and_parts before _ (if_true (before && is_among S4 own) tables).0).0)
+      (λ descriptor pass. walks_refuse before (next descriptor) (later (before && is_among S4 own) tables descriptor) (λ e. pass))
   walks_refuse before (FindsTask name next) tables none =
       task_refuses ((looks_of nat_eq world).namespace_called name) (λ namespace. first (next namespace)) _
-      (none tables.0) (λ namespace pass. walks_refuse before (next namespace) (tables.2 namespace) (λ e. pass))
+      (none (and_parts before _ (if_true (before && is_among S2 own) tables).0).0)
+      (λ namespace pass. walks_refuse before (next namespace) (later (before && is_among S2 own) tables namespace) (λ e. pass))
   walks_refuse before (Walks aim path next) tables none =
       walk_refuses (walk_to nat_eq (looks_of nat_eq world) task aim path) _ (aims_walk world task aim path)
-      (λ here. walks_refuse false (next here) (tables.1 here) (λ e. absurd (true≢false (sym e))))
+      (λ here. walks_refuse false (next here) (later walks tables here) none_left)
   walks_refuse before (Names aim path next) tables none =
       walk_refuses (walk_to_name nat_eq (looks_of nat_eq world) task aim path) _ (names_walk world task aim path)
-      (λ place. walks_refuse false (next place) (tables.1 place) (λ e. absurd (true≢false (sym e))))
+      (λ place. walks_refuse false (next place) (later walks tables place) none_left)
   walks_refuse before (Layers layers next) tables none =
       and_then_own Walking (layers_walked nat_eq (looks_of nat_eq world) task layers) _
       (layers_refuse _ (layer_walks nat_eq world task layers))
-      (λ found. walks_refuse false (next found) (tables.1 found) (λ e. absurd (true≢false (sym e))))
-  walks_refuse before (Words rules next) tables none = unless_own Walking rules (last next) tables.1
-      (walks_refuse false next tables.2 (λ e. absurd (true≢false (sym e))))
+      (λ found. walks_refuse false (next found) (later walks tables found) none_left)
+  walks_refuse before (Words rules next) tables none =
+      unless_own Walking rules (last next) (and_parts (are_own own rules) _ (if_true (are_own own rules && are_own Walking rules) tables).0).1
+      (walks_refuse false next (later (are_own own rules && are_own Walking rules) tables) none_left)
   walks_refuse before (IfThere (Some file) there missing) tables none =
-      walks_refuse false (there file) (tables.0 file) (λ e. absurd (true≢false (sym e)))
-  walks_refuse before (IfThere None there missing) tables none =
-      walks_refuse false missing tables.1 (λ e. absurd (true≢false (sym e)))
-  walks_refuse before (IfSo true so otherwise) tables none =
-      walks_refuse false so tables.0 (λ e. absurd (true≢false (sym e)))
-  walks_refuse before (IfSo false so otherwise) tables none =
-      walks_refuse false otherwise tables.1 (λ e. absurd (true≢false (sym e)))
+      walks_refuse false (there file) (tables.0 file) none_left
+  walks_refuse before (IfThere None there missing) tables none = walks_refuse false missing tables.1 none_left
+  walks_refuse before (IfSo true so otherwise) tables none = walks_refuse false so tables.0 none_left
+  walks_refuse before (IfSo false so otherwise) tables none = walks_refuse false otherwise tables.1 none_left
 
 pub last_in_order : LastTablesInOrder
 last_in_order fresh world task call =
-    in_order (rules_of call) (last_word_rules call) world task (overfills nat_eq fresh world task) true
+    in_order (rules_of call) (last_word_rules call) (has_path call) world task (overfills nat_eq fresh world task) true
     (judging nat_eq (looks_of nat_eq world) task call) (call_tables world task call)
 
 pub first_in_order : FirstTablesInOrder
@@ -148,5 +157,5 @@ first_in_order world task call = grind (arith, common_steps)
 pub walks_refuse_as_walks : WalksRefuseAsWalks
 walks_refuse_as_walks fresh world task call deny none e =
     (error_is (λ d. IsOwn (walk_rules ++ last_word_rules call) d) (asked_last fresh world task call) deny e
-    (walks_refuse (rules_of call) (last_word_rules call) world task (overfills nat_eq fresh world task) true
-    (judging nat_eq (looks_of nat_eq world) task call) (call_tables world task call) (λ before. none))).1
+    (walks_refuse (rules_of call) (last_word_rules call) (has_path call) world task (overfills nat_eq fresh world task)
+    true (judging nat_eq (looks_of nat_eq world) task call) (call_tables world task call) (λ before. none))).1
