@@ -4,10 +4,10 @@ pub mod AllJudged
 pub mod Anywhere
 pub mod Busy
 pub mod ByPart
+pub mod CallsAsked
 pub mod Grounds
 pub mod Judged
 pub mod JudgedFiles
-pub mod JudgedMounts
 pub mod JudgedMoves
 pub mod JudgedOverlays
 pub mod JudgedPivots

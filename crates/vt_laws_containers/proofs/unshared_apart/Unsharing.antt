@@ -1,6 +1,6 @@
 -- No unshare(2) by a task of a sealed set gives others a foothold.
 use Rattle.std.proofs.Common.{inl, inr, ◌≡◌, refl, sym, ap, ℕ, nat_eq, true, false, List, Some, Ok, Err, filter, not, eqb-true, IfOk, is_ok}
-use Rattle.vt_spec.proofs.Common.{cases_Bool, Fresh, Judgement, Serves, Task, TaskName, ToUnshare, Unshare, World, among-filter, among-from_filter, any_among, judge_in, namespaces_ended, none_among, not-true, same_name, task_called, unshared}
+use Rattle.vt_spec.proofs.Common.{cases_Bool, Fresh, Judgement, Serves, Task, TaskName, ToUnshare, Unshare, World, among-filter, among-from_filter, any_among, judge_in, looks_of, namespaces_ended, none_among, not-true, same_name, task_called, unshared}
 use Rattle.vt_laws_containers.proofs.Common.{cases_Option, IsCallOfTheirs, Unshares, ran, unshares}
 use Rattle.vt_laws_containers.specs.Footholds.{GivesNoFoothold}
 use Rattle.vt_laws_containers.proofs.footholds.AsBefore.{OthersAsBefore}
@@ -34,7 +34,8 @@ either_as_before world names name it task called fresh serves = elim (cases_Bool
 pub unshares_give_no_foothold : UnsharesGiveNoFoothold
 unshares_give_no_foothold world names name it fresh serves = elim (cases_Option (task_called world name)) [
   | inl e ↦ refused_out it fresh (ap (λ o. is_ok (ran name Unshare world fresh o).answer) e)
-  | inr its ↦ judged_by its.0 its.1 (judge_in nat_eq fresh world its.0 Unshare) refl (unshares its.0)
+  | inr its ↦ judged_by its.0 its.1 (judge_in nat_eq fresh world its.0 Unshare) refl
+      (unshares (looks_of nat_eq world) its.0)
 ]
   where
     judged_by : (task : Task ℕ) → task_called world name ≡ Some task

@@ -1,11 +1,11 @@
 -- Each mount(2) with MS_BIND, recursive or not, ends in the part as in the world.
 use Rattle.std.proofs.Common.{arith, ◌≡◌, refl, sym, ap, subst, ◌∙◌, ⊎_elim, ℕ, zero, suc, nat_eq, Bool, true, false, List, [], Some, None, Ok, filter, length, not, IfOk}
-use Rattle.vt_spec.proofs.Common.{Among, Bind, Copies, Done, Filesystem, Fresh, IsWorld, Location, Mount, Permit, Serves, Task, TaskName, ToBind, World, admin_rules, among-filter, among-from_filter, among-from_flat_map, and_then, attach_permit, attached_by, bind_permit, bind_rules, bind_tree, bindable_children, bindable_tree, bound_at, children, common_steps, copies_from, destination_walk, granted, is_among, is_elsewhere, is_own_mount, is_unbindable, judge_in, list_any, members, mount_at, number-mount_in, numbers_raised, or_parts, overfills, part_of, policy, source_of, source_walk, stands_under, task_called, used_directly, used_filesystems, walk_end}
+use Rattle.vt_spec.proofs.Common.{Among, Bind, Copies, Done, Filesystem, Fresh, IsWorld, Location, Mount, Permit, Serves, Task, TaskName, ToBind, World, among-filter, among-from_filter, among-from_flat_map, attached_by, bind_permit, bind_tree, bindable_children, bindable_tree, bound_at, children, common_steps, copies_from, granted, is_among, is_elsewhere, is_own_mount, is_unbindable, judge_in, list_any, members, mount_at, number-mount_in, numbers_raised, or_parts, overfills, part_of, policy, source_of, stands_under, task_called, used_directly, used_filesystems}
 use Rattle.vt_laws_members.proofs.judging.Common.{IsMember, IsTheirs, bind_alike, caller_in, children_own, own_theirs, owned, sealing_of, theirs_directly, theirs_from}
 use Rattle.vt_laws_members.proofs.Common.{all_in_use, binds_keep_all, is_own, locations_of_worlds_stand, mounts_of_worlds_stand, numbered}
 use Rattle.vt_laws_members.specs.Judging.{is_theirs}
 use Rattle.vt_laws_members.specs.Changes.Changes.{EndsAlike, IsCallOfTheirs}
-use Rattle.vt_laws_members.proofs.changes.Common.{StandsHere, by_known, heard_by_own, master_same, of_passed, of_rules, of_walk, one, part_in_use, ran, ran_there, run_by, same_caller}
+use Rattle.vt_laws_members.proofs.changes.Common.{StandsHere, by_known, heard_by_own, master_same, ends_so, judged_so, one, part_in_use, ran, ran_there, run_by, same_caller}
 use Rattle.vt_laws_members.specs.Attached.Attaching.{BindsEndAlike}
 use Rattle.vt_laws_members.proofs.attached.AttachedAlike.{copies_alike}
 use Rattle.vt_laws_members.proofs.attached.CopiesAlike.{AttachesTheirs, base, base_part, no_new_ones, parts, parts_alike}
@@ -26,28 +26,18 @@ module _ {world : World ℕ} {names : List TaskName} {task : Task ℕ} (member :
 
   pub binds_there : (fresh : Fresh ℕ) (source path : List ℕ) → IfOk
       (bind_permit nat_eq (one member) (overfills nat_eq fresh world task) task source path recursive) Binds
-  unfolding bind_permit
-  binds_there fresh source path = of_rules Binds (admin_rules task) _
-      (of_walk (StandsHere member) Binds (source_walk nat_eq (one member) task source)
-      (λ from. and_then (walk_end (destination_walk nat_eq (one member) task path))
-      (λ here. attach_permit (bind_rules nat_eq (one member) task from.location here.location)
-      (overfills nat_eq fresh world task) (ToBind from.location here.location recursive))) (at_source member source)
-      (λ from at. of_walk (StandsHere member) Binds (destination_walk nat_eq (one member) task path)
-      (λ here. attach_permit (bind_rules nat_eq (one member) task from.location here.location)
-      (overfills nat_eq fresh world task) (ToBind from.location here.location recursive)) (at_destination member path)
-      (λ here on. of_passed Binds (bind_rules nat_eq (one member) task from.location here.location
-      (overfills nat_eq fresh world task (ToBind from.location here.location recursive)))
-      (Ok (ToBind from.location here.location recursive)) (λ passed.
+  binds_there fresh source path = judged_so (one member) (overfills nat_eq fresh world task) task Binds
+      (Bind source path recursive) (λ admin from from_end here end passed.
       let both = or_parts (is_elsewhere nat_eq (one member) task from.location)
       (is_elsewhere nat_eq (one member) task here.location) passed.0 in (
         from.location,
         here.location,
         refl,
-        at,
+        ends_so (StandsHere member) (at_source member source) from_end,
         owned member from.location both.0,
-        on,
+        ends_so (StandsHere member) (at_destination member path) end,
         owned member here.location both.1,
-      )))))
+      ))
 
 -- What a bind copies is of mounts of theirs
 module _ (world : World ℕ) (names : List TaskName) (is : IsWorld nat_eq world) where

@@ -1,6 +1,6 @@
 -- Each mount(2) with MS_MOVE ends in the part as in the world.
 use Rattle.std.proofs.Common.{arith, ◌≡◌, refl, sym, ap, subst, ◌∙◌, ℕ, nat_eq, true, false, List, [], Option, Some, None, Ok, is_some, not, eqb-true, IfOk}
-use Rattle.vt_spec.proofs.Common.{Among, Copies, Done, Fresh, Location, Mount, MountInvariants, MoveMount, Permit, Serves, Task, TaskName, ToMove, World, admin_rules, among-filter, among-map, and_then, attach, attach_permit, attached_by, common_steps, copies_from, destination_walk, granted, holds_of, is_among_numbers, is_elsewhere, is_own_mount, judge_in, members, mount_at, mount_tree, move_permit, move_rules, moved_to, moved_tree, not-false, number-mount_in, numbers_raised, or_parts, overfills, part_of, policy, settled, source_walk, task_called, walk_end}
+use Rattle.vt_spec.proofs.Common.{Among, Copies, Done, Fresh, Location, Mount, MountInvariants, MoveMount, Permit, Serves, Task, TaskName, ToMove, World, among-filter, among-map, attach, attached_by, common_steps, copies_from, granted, holds_of, is_among_numbers, is_elsewhere, is_own_mount, judge_in, members, mount_at, mount_tree, move_permit, moved_to, moved_tree, not-false, number-mount_in, numbers_raised, or_parts, overfills, part_of, policy, settled, task_called}
 use Rattle.vt_laws_members.proofs.judging.Common.{IsMember, IsTheirs, caller_in, own_theirs, owned, same_mount, sealing_of, theirs_from, tree_alike}
 use Rattle.vt_laws_members.proofs.Common.{all_live, is_attached, is_mount, is_own, numbers_of, tested_live}
 use Rattle.vt_laws_mounts.specs.Mounts.Moving.{CanMove}
@@ -10,7 +10,7 @@ use Rattle.vt_laws_mounts.proofs.attached.BindsStand.{moves_keep_numbers}
 use Rattle.vt_laws_mounts.proofs.moves.Moving.{moves_keep_standing}
 use Rattle.vt_laws_members.specs.Judging.{is_theirs}
 use Rattle.vt_laws_members.specs.Changes.Changes.{EndsAlike, IsCallOfTheirs}
-use Rattle.vt_laws_members.proofs.changes.Common.{StandsHere, by_known, ended_alike, of_passed, of_rules, of_walk, one, own_in_part, part_mounts, ran, ran_there, run_by, same_caller}
+use Rattle.vt_laws_members.proofs.changes.Common.{StandsHere, by_known, ended_alike, ends_so, judged_so, one, own_in_part, part_mounts, ran, ran_there, run_by, same_caller}
 use Rattle.vt_laws_members.specs.Attached.Attaching.{MovesEndAlike}
 use Rattle.vt_laws_members.proofs.attached.CopiesAlike.{AttachesTheirs, attached_there, base_part, no_new_ones, parts, parts_alike}
 use Rattle.vt_laws_members.proofs.attached.Destination.{at_destination, at_source, placed, placed_there, there}
@@ -41,27 +41,17 @@ module _ {world : World ℕ} {names : List TaskName} {task : Task ℕ} (member :
 
   pub moves_there : (fresh : Fresh ℕ) (source path : List ℕ) → IfOk
       (move_permit nat_eq (one member) (overfills nat_eq fresh world task) task source path) Moves
-  unfolding move_permit
-  moves_there fresh source path = of_rules Moves (admin_rules task) _
-      (of_walk (StandsHere member) Moves (source_walk nat_eq (one member) task source)
-      (λ from. and_then (walk_end (destination_walk nat_eq (one member) task path))
-      (λ here. attach_permit (move_rules nat_eq (one member) task from.location here.location)
-      (overfills nat_eq fresh world task) (ToMove from.location.mount here.location))) (at_source member source)
-      (λ from at. of_walk (StandsHere member) Moves (destination_walk nat_eq (one member) task path)
-      (λ here. attach_permit (move_rules nat_eq (one member) task from.location here.location)
-      (overfills nat_eq fresh world task) (ToMove from.location.mount here.location)) (at_destination member path)
-      (λ here on. of_passed Moves (move_rules nat_eq (one member) task from.location here.location
-      (overfills nat_eq fresh world task (ToMove from.location.mount here.location)))
-      (Ok (ToMove from.location.mount here.location)) (λ passed.
+  moves_there fresh source path = judged_so (one member) (overfills nat_eq fresh world task) task Moves
+      (MoveMount source path) (λ admin from from_end here end passed.
       let both = or_parts (is_elsewhere nat_eq (one member) task from.location)
       (is_elsewhere nat_eq (one member) task here.location) passed.0 in (
         from.location,
         here.location,
         refl,
         record {
-          from_on = at;
+          from_on = ends_so (StandsHere member) (at_source member source) from_end;
           from_own = owned member from.location both.0;
-          on = on;
+          on = ends_so (StandsHere member) (at_destination member path) end;
           own = owned member here.location both.1;
           can = record {
             placed = not-false (is_some (mount_at nat_eq world from.location).mount_point) passed.1.1.1.1.1.1.0;
@@ -70,7 +60,7 @@ module _ {world : World ℕ} {names : List TaskName} {task : Task ℕ} (member :
             outside = passed.1.1.1.0;
           };
         },
-      )))))
+      ))
 
 -- after a move mounts stand, and groups live
 moves_stay : (w : World ℕ) (fresh : Fresh ℕ) (from here : Location ℕ) → Serves nat_eq w fresh

@@ -1,11 +1,11 @@
 -- Each mount(2) of a new plain filesystem ends in the part as in the world.
 use Rattle.std.proofs.Common.{◌≡◌, refl, sym, ap, subst, ◌∙◌, inl, inr, ⊎_elim, ℕ, nat_eq, true, false, List, [], ◌∷◌, Some, None, Ok, ◌||◌, eq-eqb, IfOk}
-use Rattle.vt_spec.proofs.Common.{Among, Copies, Done, Filesystem, Fresh, Location, Mount, MountFlags, MountPlain, Permit, Serves, Task, TaskName, ToMountPlain, World, admin_rules, attach_permit, attached_by, copies_from, destination_walk, granted, is_among, judge_in, layers_of, list_any, members, mount_at, mount_plain_permit, mounted, new_mount, new_mount_rules, none_is_some, numbers_raised, odds, of_overlay, overfills, part_of, plain_filesystem, policy, source_of, task_called, used_filesystems}
+use Rattle.vt_spec.proofs.Common.{Among, Copies, Done, Filesystem, Fresh, Location, Mount, MountFlags, MountPlain, Permit, Serves, Task, TaskName, ToMountPlain, World, attached_by, copies_from, granted, is_among, judge_in, layers_of, list_any, members, mount_at, mount_plain_permit, mounted, new_mount, none_is_some, numbers_raised, odds, of_overlay, overfills, part_of, plain_filesystem, policy, source_of, task_called, used_filesystems}
 use Rattle.vt_laws_members.proofs.judging.Common.{IsMember, IsTheirs, caller_in, owned, sealing_of, theirs_from}
 use Rattle.vt_laws_members.proofs.Common.{all_in_use, is_own, locations_of_worlds_stand, mounts_of_worlds_stand, new_mounts_of_trees_keep_all}
 use Rattle.vt_laws_members.specs.Judging.{is_theirs}
 use Rattle.vt_laws_members.specs.Changes.Changes.{EndsAlike, IsCallOfTheirs}
-use Rattle.vt_laws_members.proofs.changes.Common.{StandsHere, by_known, ended_alike, of_passed, of_rules, of_walk, one, part_in_use, ran, ran_there, run_by, same_caller}
+use Rattle.vt_laws_members.proofs.changes.Common.{StandsHere, by_known, ended_alike, ends_so, judged_so, one, part_in_use, ran, ran_there, run_by, same_caller}
 use Rattle.vt_laws_members.specs.Attached.Attaching.{PlainMountsEndAlike}
 use Rattle.vt_laws_members.proofs.attached.AttachedAlike.{copies_alike}
 use Rattle.vt_laws_members.proofs.attached.CopiesAlike.{AttachesTheirs, base_part, parts, parts_alike}
@@ -22,14 +22,13 @@ module _ {world : World ℕ} {names : List TaskName} {task : Task ℕ} (member :
 
   pub mounts_there : (fresh : Fresh ℕ) (path : List ℕ) → IfOk
       (mount_plain_permit nat_eq (one member) (overfills nat_eq fresh world task) task path flags) Mounts
-  unfolding mount_plain_permit
-  mounts_there fresh path = of_rules Mounts (admin_rules task) _
-      (of_walk (StandsHere member) Mounts (destination_walk nat_eq (one member) task path)
-      (λ here. attach_permit (new_mount_rules nat_eq (one member) task here.location)
-      (overfills nat_eq fresh world task) (ToMountPlain here.location flags)) (at_destination member path)
-      (λ here on. of_passed Mounts (new_mount_rules nat_eq (one member) task here.location
-      (overfills nat_eq fresh world task (ToMountPlain here.location flags))) (Ok (ToMountPlain here.location flags))
-      (λ passed. (here.location, refl, on, owned member here.location passed.0))))
+  mounts_there fresh path = judged_so (one member) (overfills nat_eq fresh world task) task Mounts
+      (MountPlain path flags) (λ admin here end passed. (
+        here.location,
+        refl,
+        ends_so (StandsHere member) (at_destination member path) end,
+        owned member here.location passed.0,
+      ))
 
 -- A granted mount of a plain filesystem
 module _ {world : World ℕ} {names : List TaskName} {name : TaskName} {path : List ℕ} {flags : MountFlags}

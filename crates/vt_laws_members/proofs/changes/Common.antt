@@ -20,9 +20,9 @@ pub use Rattle.vt_laws_members.proofs.changes.letting_go.SeeLess.{part_of_less}
 pub use Rattle.vt_laws_members.proofs.changes.letting_go.Sweep.{part_of_settled, swept_of}
 pub use Rattle.vt_laws_members.proofs.changes.letting_go.Taken.{all_stay, group_lost, part_after, part_taken, taken_parts, world_after, world_taken, worlds_left}
 pub use Rattle.vt_laws_members.proofs.changes.letting_go.TasksStay.{tasks_stay}
-pub use Rattle.vt_laws_members.proofs.changes.letting_go.Umounting.{Passed, of_passed, umounts_end_alike}
+pub use Rattle.vt_laws_members.proofs.changes.letting_go.Umounting.{umounts_end_alike}
 pub use Rattle.vt_laws_members.proofs.changes.letting_go.WorldReady.{alone, world_ready}
-pub use Rattle.vt_laws_members.proofs.changes.looks.Granted.{of_rules, of_walk}
+pub use Rattle.vt_laws_members.proofs.changes.looks.Granted.{any_answers, ends_so, judged_so}
 pub use Rattle.vt_laws_members.proofs.changes.looks.Told.{ended_alike, looks_end_alike, ran, same_caller}
 pub use Rattle.vt_laws_members.proofs.changes.names.Elsewhere.{own_here, plain_points}
 pub use Rattle.vt_laws_members.proofs.changes.names.GrantedNames.{Names, NamingCall, naming_of, naming_theirs}

@@ -1,20 +1,21 @@
 -- Calls of members are judged in their part as in the world.
-use Rattle.std.proofs.Common.{arith, ◌≡◌, refl, sym, ap, subst, ◌∙◌, inr, ℕ, nat_eq, Bool, true, false, cond, List, [], ◌∷◌, filter, find, Option, Some, None, Ok, not, ◌||◌, ok_or, option_to_list}
-use Rattle.vt_spec.proofs.Common.{Among, Bind, Call, Chdir, Chmod, Chown, Chroot, Close, Descriptor, Drop, Exec, Exit, Fork, Judgement, Lazy, LinkTo, ListMounts, Location, Looks, Ls, Lstat, MakeWhiteout, Mkdir, MountOverlay, MountPlain, MoveMount, Opaque, OpenFile, Permit, PivotRoot, Pread, Pwrite, Read, Readlink, Remount, Rename, Rmdir, SetType, Setns, Stat, SymlinkAt, Task, TaskName, ToWritePart, Umask, Umount, Unlink, Unshare, World, Write, among-append_left, among-append_right, among-flat_map, among-map, among_from_contains, and_then, common_steps, contains_from_among, denial, descriptor_numbered, found_among, holds_of, is_among, is_busy, is_elsewhere, is_locked_at, is_member_task, judge, live_layers, live_upper_and_work, locations, locations_of, looks_of, members, mount_at, mount_tree, number-mount_in, overlaps_one_of, part_of, pwrite_permit, pwrite_rules, same_name, same_task_name, setns_permit, unless, upper_and_work, used_filesystems}
-use Rattle.vt_laws_members.proofs.Common.{Alike, S4, each_from, is_own, located, sealed_by}
+use Rattle.std.proofs.Common.{arith, ◌≡◌, refl, sym, ap, subst, ◌∙◌, inr, ℕ, nat_eq, Bool, true, false, cond, List, [], ◌∷◌, filter, find, Some, not, ◌||◌}
+use Rattle.vt_spec.proofs.Common.{Among, Call, Descriptor, Location, Looks, Permit, Setns, Task, TaskName, World, among-append_left, among-append_right, among-flat_map, among-map, among_from_contains, common_steps, contains_from_among, holds_of, is_among, is_busy, is_elsewhere, is_locked_at, is_member_task, judge, live_layers, live_upper_and_work, locations, locations_of, looks_of, members, mount_at, mount_tree, number-mount_in, overlaps_one_of, part_of, same_name, same_task_name, upper_and_work, used_filesystems}
+use Rattle.vt_laws_members.proofs.Common.{Alike, each_from, is_own, located, sealed_by}
 use Rattle.vt_laws_members.proofs.judging.TheirCalls.{IsMember, a_member}
 use Rattle.vt_laws_members.specs.Judging.{MembersAreJudgedAlike, is_theirs}
 use Rattle.vt_laws_members.proofs.judging.Busy.{busy_alike}
 use Rattle.vt_laws_members.proofs.judging.Grounds.{IsTheirs, its_mount, over_alike, same_mount, theirs_from, theirs_test}
-use Rattle.vt_laws_members.proofs.judging.Judged.{JudgesAlike, chdir_alike, chroot_alike, exec_alike, list_alike, lstat_alike, read_alike, readlink_alike, stat_alike}
-use Rattle.vt_laws_members.proofs.judging.JudgedFiles.{chmod_alike, chown_alike, hard_link_alike, mkdir_alike, opaque_alike, open_alike, symlink_alike, unlink_alike, whiteout_alike, write_alike}
-use Rattle.vt_laws_members.proofs.judging.JudgedMounts.{bind_alike, lazy_alike, plain_alike, type_alike}
-use Rattle.vt_laws_members.proofs.judging.JudgedMoves.{TreesAlike, move_alike, umount_alike}
-use Rattle.vt_laws_members.proofs.judging.JudgedOverlays.{LayersAlike, any_same, overlay_alike}
-use Rattle.vt_laws_members.proofs.judging.JudgedRemoving.{RenamesAlike, rename_alike, rmdir_alike}
+use Rattle.vt_laws_members.proofs.judging.Judged.{JudgesAlike, run_alike}
+use Rattle.vt_laws_members.proofs.judging.CallsAsked.{calls_asked}
+use Rattle.vt_laws_rules.proofs.given.Runs.{judge_is_the_run}
+use Rattle.vt_laws_rules.specs.Judging.{judging}
+use Rattle.vt_laws_members.proofs.judging.JudgedMoves.{TreesAlike}
+use Rattle.vt_laws_members.proofs.judging.JudgedOverlays.{LayersAlike, any_same}
+use Rattle.vt_laws_members.proofs.judging.JudgedRemoving.{RenamesAlike}
 use Rattle.vt_laws_members.proofs.judging.LowersSeen.{lower_directory_alike}
 use Rattle.vt_laws_members.proofs.judging.Anywhere.{anywhere_alike}
-use Rattle.vt_laws_members.proofs.judging.JudgedPivots.{ParentsAlike, pivot_alike, remount_alike}
+use Rattle.vt_laws_members.proofs.judging.JudgedPivots.{ParentsAlike}
 use Rattle.vt_laws_members.proofs.judging.ParentsSeen.{parents_alike}
 use Rattle.vt_laws_members.proofs.judging.Locks.{locked_alike}
 use Rattle.vt_laws_members.proofs.judging.Masks.{RulesSeeAlike}
@@ -112,32 +113,9 @@ module _ {world : World ℕ} {names : List TaskName} {task : Task ℕ} (member :
       descriptor.location member.among (inr (inr (among-map _ task.descriptors descriptor m))) in
       locked_here descriptor.location (located_used world names member.is _ at) (sym (located world names _ at))
 
-  pwrite_alike : (number offset : ℕ) (bytes : List ℕ)
-      → pwrite_permit one task number offset bytes ≡ pwrite_permit other task number offset bytes
-  unfolding pwrite_permit
-  pwrite_alike number offset bytes = by (descriptor_numbered task number) refl
-    where
-      wrote : Looks ℕ → Descriptor ℕ → Judgement ℕ
-      wrote looks descriptor = unless (pwrite_rules looks descriptor.location offset bytes)
-          (Ok (ToWritePart descriptor.location offset bytes))
-
-      of_found : Looks ℕ → Option (Descriptor ℕ) → Judgement ℕ
-      of_found looks o =
-          and_then (ok_or (find (λ (d : Descriptor ℕ). d.writes) (option_to_list o)) (denial S4)) (wrote looks)
-
-      which : (descriptor : Descriptor ℕ) → Among descriptor task.descriptors → (b : Bool)
-          → and_then (ok_or (cond b (Some descriptor) None) (denial S4)) (wrote one)
-          ≡ and_then (ok_or (cond b (Some descriptor) None) (denial S4)) (wrote other)
-      which descriptor m false = refl
-      which descriptor m true = cc (descriptor_locked descriptor m)
-
-      by : (o : Option (Descriptor ℕ)) → descriptor_numbered task number ≡ o → of_found one o ≡ of_found other o
-      by o e = grind (arith, common_steps, which, found_among)
-
-  setns_alike : (name : TaskName) → is_among same_name name names ≡ true
-      → setns_permit one task name ≡ setns_permit other task name
-  unfolding setns_permit
-  setns_alike name theirs = grind (arith, common_steps, called_alike)
+  namespace_alike : (name : TaskName) → is_among same_name name names ≡ true
+      → one.namespace_called name ≡ other.namespace_called name
+  namespace_alike name theirs = grind (arith, common_steps, called_alike)
 
   renames : RenamesAlike one other own
   renames = record {
@@ -185,50 +163,11 @@ module _ {world : World ℕ} {names : List TaskName} {task : Task ℕ} (member :
   pub judged : (overfills : Permit ℕ → Bool) (call : Call)
       → ((name : TaskName) → call ≡ Setns name → is_among same_name name names ≡ true)
       → judge nat_eq one overfills task call ≡ judge nat_eq other overfills task call
-  judged overfills (Ls path) t = list_alike judges path
-  judged overfills (Stat path) t = stat_alike judges path
-  judged overfills (Lstat path) t = lstat_alike judges path
-  judged overfills (Readlink path) t = readlink_alike judges path
-  judged overfills (Read path) t = read_alike judges path
-  judged overfills (Write path bytes) t = write_alike judges path bytes
-  judged overfills (Exec path) t = exec_alike judges path
-  judged overfills (Mkdir path mode) t = mkdir_alike judges path mode
-  judged overfills (SymlinkAt text path) t = symlink_alike judges text path
-  judged overfills (MakeWhiteout path) t = whiteout_alike judges path
-  judged overfills (LinkTo old new) t = hard_link_alike judges old new
-  judged overfills (Unlink path) t = unlink_alike judges path
-  judged overfills (Rmdir path) t =
-      rmdir_alike judges (points_alike world names member.is task member.among) path
-  judged overfills (Rename old new) t =
-      rename_alike judges (points_alike world names member.is task member.among) renames old new
-  judged overfills (Chmod path mode) t = chmod_alike judges path mode
-  judged overfills (Chown path uid gid) t = chown_alike judges path uid gid
-  judged overfills (Opaque path mark) t = opaque_alike judges path mark
-  judged overfills (OpenFile path access how) t = open_alike judges path access how
-  judged overfills (Pread descriptor offset size) t = refl
-  judged overfills (Pwrite descriptor offset bytes) t = pwrite_alike descriptor offset bytes
-  judged overfills (Close descriptor) t = refl
-  judged overfills (Chdir path) t = chdir_alike judges path
-  judged overfills (Chroot path) t = chroot_alike judges path
-  judged overfills (Umask mode) t = refl
-  judged overfills (Drop which) t = refl
-  judged overfills (Fork words) t = refl
-  judged overfills Exit t = refl
-  judged overfills Unshare t = refl
-  judged overfills (Setns name) t = setns_alike name (t name refl)
-  judged overfills (MountPlain path flags) t = plain_alike judges overfills path flags
-  judged overfills (MountOverlay path options flags) t =
-      overlay_alike task own judges layers overfills path options flags
-  judged overfills (Bind source path recursive) t =
-      bind_alike judges overfills source path recursive
-  judged overfills (MoveMount source path) t = move_alike uses judges parents trees overfills source path
-  judged overfills (Umount path) t = umount_alike uses judges parents trees path
-  judged overfills (Lazy path) t = lazy_alike judges overfills path
-  judged overfills (Remount path flags) t = remount_alike uses judges parents path flags
-  judged overfills (SetType path word recursive) t =
-      type_alike judges overfills path word recursive
-  judged overfills (PivotRoot new put) t = pivot_alike uses judges parents new put
-  judged overfills ListMounts t = refl
+  judged overfills call theirs = judge_is_the_run nat_eq one overfills task call
+      ∙ run_alike judges overfills (judging nat_eq one task call) (judging nat_eq other task call)
+      (calls_asked judges (points_alike world names member.is task member.among) renames parents trees layers
+      descriptor_locked overfills call (λ name same. namespace_alike name (theirs name same)))
+      ∙ sym (judge_is_the_run nat_eq other overfills task call)
 
 pub members_are_judged_alike : MembersAreJudgedAlike
 members_are_judged_alike world names task call is overfills =

@@ -1,11 +1,10 @@
 -- Unmounts and moves of mounts are judged alike.
-use Rattle.std.proofs.Common.{◌≡◌, refl, ap, ◌∙◌, ℕ, nat_eq, Bool, true, false, not, List, [], ◌∷◌, Ok, is_some, ◌||◌, ◌&&◌}
-use Rattle.vt_spec.proofs.Common.{Here, Judgement, Location, Looks, Mount, Permit, Task, ToMove, ToUnmount, admin_rules, and_then, destination_walk, directory_walk, has_shared_parent, is_elsewhere, is_no_root, is_shared, is_unbindable, list_any, move_permit, source_walk, umount_permit, unless, walk_end}
+use Rattle.std.proofs.Common.{◌≡◌, refl, ◌∙◌, ℕ, nat_eq, Bool, true, false, not, List, [], ◌∷◌, Ok, is_some, ◌||◌, ◌&&◌}
+use Rattle.vt_spec.proofs.Common.{Judgement, Location, Looks, Mount, Task, ToMove, ToUnmount, has_shared_parent, is_elsewhere, is_no_root, is_shared, is_unbindable, list_any, unless}
 use Rattle.vt_laws_members.proofs.Common.{M10, M2, M4, M5, M6, M7, M8, M9, mount_at}
-use Rattle.vt_laws_members.proofs.judging.Judged.{JudgesAlike, Stands, leads_alike}
+use Rattle.vt_laws_members.proofs.judging.Judged.{JudgesAlike}
 use Rattle.vt_laws_members.proofs.judging.JudgedPivots.{ParentsAlike}
 use Rattle.vt_laws_members.proofs.judging.Masks.{by_mask}
-use Rattle.vt_laws_members.proofs.judging.WalksLead.{destination_agrees, directory_agrees, judged_alike, source_agrees}
 
 -- what these ask for besides: whether a mount of the task's namespace is busy, and trees of mounts
 pub record TreesAlike (one other : Looks ℕ) (task : Task ℕ) (own : ℕ → Bool) : Type 0 where
@@ -19,9 +18,6 @@ module _ {one other : Looks ℕ} {task : Task ℕ} {own : ℕ → Bool} (uses : 
   abbrev On : ℕ → Type 0
   On number = own number ≡ true
 
-  abbrev StandsThere : Here ℕ → Type 0
-  StandsThere = Stands alike
-
   -- the rules of umount(2), with whether the mount is busy
   abbrev unmount_by : Location ℕ → Bool → Looks ℕ → Judgement ℕ
   unmount_by here busy looks = unless ((is_elsewhere nat_eq looks task here, M2) ∷ (is_no_root nat_eq looks here, M7)
@@ -32,14 +28,11 @@ module _ {one other : Looks ℕ} {task : Task ℕ} {own : ℕ → Bool} (uses : 
   busy_by here on true e = cc (e)
   busy_by here on false e = cc (trees.busy here on e)
 
-  pub umount_alike : (path : List ℕ) → umount_permit nat_eq one task path ≡ umount_permit nat_eq other task path
-  unfolding umount_permit
-  umount_alike path = cc (judged_alike StandsThere (directory_walk nat_eq one task path)
-      (directory_walk nat_eq other task path) (λ here. unmount_by here.location (one.is_busy here.location.mount) one)
-      (λ here. unmount_by here.location (other.is_busy here.location.mount) other) (directory_agrees
-      (leads_alike alike) path) (λ here on. busy_by here.location on (is_elsewhere nat_eq one task here.location) refl
-      ∙ by_mask own uses one other alike.rules (unmount_by here.location (other.is_busy here.location.mount))
-      (λ looks. rw (is_elsewhere, is_no_root, mount_at, on) refl)))
+  pub unmount_alike : (here : Location ℕ) → On here.mount
+      → unmount_by here (one.is_busy here.mount) one ≡ unmount_by here (other.is_busy here.mount) other
+  unmount_alike here on = busy_by here on (is_elsewhere nat_eq one task here) refl
+      ∙ by_mask own uses one other alike.rules (unmount_by here (other.is_busy here.mount))
+      (λ looks. rw (is_elsewhere, is_no_root, mount_at, on) refl)
 
   -- the rules of a move, with the tree that moves and whether it has a shared parent
   abbrev move_by : Bool → Location ℕ → Location ℕ → (parent : Bool) → List (Mount ℕ) → Looks ℕ → Judgement ℕ
@@ -53,27 +46,11 @@ module _ {one other : Looks ℕ} {task : Task ℕ} {own : ℕ → Bool} (uses : 
   move_of overfull from here asked looks =
       move_by overfull from here (has_shared_parent asked from) (asked.mount_tree from.mount) looks
 
-  move_same : (overfull : Bool) (from here : Location ℕ) → On from.mount → On here.mount
+  pub move_alike : (overfull : Bool) (from here : Location ℕ) → On from.mount → On here.mount
       → move_of overfull from here one one ≡ move_of overfull from here other other
-  move_same overfull from here there on = cc (
+  move_alike overfull from here there on = cc (
     parents.parent from there,
     trees.tree from there,
     by_mask own uses one other alike.rules (move_of overfull from here other)
         (λ looks. rw (is_elsewhere, is_no_root, mount_at, there, on) refl),
   )
-
-  pub move_alike : (overfills : Permit ℕ → Bool) (source path : List ℕ)
-      → move_permit nat_eq one overfills task source path ≡ move_permit nat_eq other overfills task source path
-  unfolding move_permit
-  move_alike overfills source path = ap (unless (admin_rules task)) (judged_alike StandsThere
-      (source_walk nat_eq one task source) (source_walk nat_eq other task source) (λ from. and_then
-      (walk_end (destination_walk nat_eq one task path)) (λ here. moved from.location here.location one))
-      (λ from. and_then (walk_end (destination_walk nat_eq other task path))
-      (λ here. moved from.location here.location other)) (source_agrees (leads_alike alike) source)
-      (λ from there. judged_alike StandsThere (destination_walk nat_eq one task path)
-      (destination_walk nat_eq other task path) (λ here. moved from.location here.location one)
-      (λ here. moved from.location here.location other) (destination_agrees (leads_alike alike) path) (λ here on.
-      move_same (overfills (ToMove from.location.mount here.location)) from.location here.location there on)))
-    where
-      moved : Location ℕ → Location ℕ → Looks ℕ → Judgement ℕ
-      moved from here looks = move_of (overfills (ToMove from.mount here)) from here looks looks

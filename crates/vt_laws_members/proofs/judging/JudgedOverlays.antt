@@ -1,10 +1,10 @@
 -- Mounts of overlays are judged alike.
 use Rattle.std.proofs.Common.{arith, ◌≡◌, refl, ap, ◌∙◌, inl, inr, ⊎_elim, ℕ, nat_eq, Bool, true, not, List, [], ◌∷◌, ◌++◌, Option, Some, None, Ok, Err, Result, length, is_some, ◌||◌, ◌&&◌, nat_lt, option_map, option_to_list}
-use Rattle.vt_spec.proofs.Common.{Among, Here, Judgement, Layer, LayerLocations, Location, Looks, Mount, MountFlags, Overlay, OverlayWords, Permit, Stop, Task, ToMountOverlay, admin_rules, among-append, among-append_left, among-append_right, among-from_map, and_then, any_pair, attach_permit, common_steps, destination_walk, each_walked, has_single_lower, is_elsewhere, is_empty_list, is_overlay_at, is_read_only, layer_at, layer_locations, layer_rules, layers_walked, list_any, map_alike, most_lowers, mount_overlay_permit, new_mount_rules, one_under_another, overlay_at, overlay_permit_by, source_walk, unless, upper_and_work, walk_end, walked_if_given, work_walked}
+use Rattle.vt_spec.proofs.Common.{Among, Rules, Here, Judgement, Layer, LayerLocations, Location, Looks, Mount, MountFlags, Overlay, OverlayWords, Permit, Stop, Task, ToMountOverlay, among-append, among-append_left, among-append_right, among-from_map, and_then, any_pair, common_steps, each_walked, has_single_lower, is_elsewhere, is_empty_list, is_overlay_at, is_read_only, layer_at, layer_locations, layer_rules, layers_walked, list_any, map_alike, most_lowers, new_mount_rules, one_under_another, overlay_at, source_walk, unless, upper_and_work, walk_end, walked_if_given, work_walked}
 use Rattle.vt_laws_members.proofs.Common.{Agree, Deny, Each, O2, O3, O5, lie_apart, mount_at, upper_and_work_locations}
-use Rattle.vt_laws_members.proofs.judging.Judged.{JudgesAlike, Stands, leads_alike}
+use Rattle.vt_laws_members.proofs.judging.Judged.{AreAt, JudgesAlike, Stands, leads_alike}
 use Rattle.vt_laws_members.proofs.judging.Masks.{by_mask}
-use Rattle.vt_laws_members.proofs.judging.WalksLead.{destination_agrees, judged_alike, source_agrees}
+use Rattle.vt_laws_members.proofs.judging.WalksLead.{source_agrees}
 
 -- tests that agree on a list
 pub any_same : {A : Type 0} (p q : A → Bool) (xs : List A) → Each (λ x. p x ≡ q x) xs → list_any p xs ≡ list_any q xs
@@ -47,9 +47,6 @@ module _ {one other : Looks ℕ} (task : Task ℕ) (own : ℕ → Bool) {uses : 
   abbrev At : Location ℕ → Type 0
   At here = On here.mount
 
-  abbrev AreAt : LayerLocations ℕ → Type 0
-  AreAt layers = Each At (layer_locations layers)
-
   -- Walks of the layers
 
   walked_one : (path : List ℕ)
@@ -70,15 +67,15 @@ module _ {one other : Looks ℕ} (task : Task ℕ) (own : ℕ → Bool) {uses : 
   given_agrees None = (refl, λ l m. absurd m)
   given_agrees (Some path) = grind (arith, common_steps, and_agree, walked_one)
 
-  layers_agree : (words : OverlayWords)
-      → Agree AreAt (layers_walked nat_eq one task words) (layers_walked nat_eq other task words)
-  layers_agree words = and_agree (λ list. Each At list) AreAt (each_walked nat_eq one task words.lowers)
+  pub layers_agree : (words : OverlayWords)
+      → Agree (AreAt alike) (layers_walked nat_eq one task words) (layers_walked nat_eq other task words)
+  layers_agree words = and_agree (λ list. Each At list) (AreAt alike) (each_walked nat_eq one task words.lowers)
       (each_walked nat_eq other task words.lowers) (after_lowers one) (after_lowers other) (each_agrees words.lowers)
       (λ lowers below.
-      and_agree (λ o. Each At (option_to_list o)) AreAt (walked_if_given nat_eq one task words.upper)
+      and_agree (λ o. Each At (option_to_list o)) (AreAt alike) (walked_if_given nat_eq one task words.upper)
       (walked_if_given nat_eq other task words.upper) (after_upper one lowers) (after_upper other lowers)
       (given_agrees words.upper) (λ upper above.
-      and_agree (λ o. Each At (option_to_list o)) AreAt (walked_if_given nat_eq one task (work_walked words))
+      and_agree (λ o. Each At (option_to_list o)) (AreAt alike) (walked_if_given nat_eq one task (work_walked words))
       (walked_if_given nat_eq other task (work_walked words)) (made lowers upper) (made lowers upper)
       (given_agrees (work_walked words)) (λ work beside. (
         refl,
@@ -107,7 +104,7 @@ module _ {one other : Looks ℕ} (task : Task ℕ) (own : ℕ → Bool) {uses : 
   same_given None all = refl
   same_given (Some here) all = ap Some (same_layer here (all here (inl refl)))
 
-  module _ (layers : LayerLocations ℕ) (all : AreAt layers) where
+  module _ (layers : LayerLocations ℕ) (all : AreAt alike layers) where
     at_lower : Each At layers.lowers
     at_lower l m = all l (among-append_left _ (option_to_list layers.work) l (among-append_left layers.lowers _ l m))
 
@@ -188,39 +185,21 @@ module _ {one other : Looks ℕ} (task : Task ℕ) (own : ℕ → Bool) {uses : 
           O5,
         ) ∷ []
 
-  abbrev mount_by : (Permit ℕ → Bool) → Location ℕ → MountFlags → LayerLocations ℕ → Overlay ℕ → Looks ℕ → Looks ℕ
-      → Judgement ℕ
-  mount_by overfills here flags layers overlay asked looks = unless (layer_rules nat_eq asked layers overlay)
-      (attach_permit (new_mount_rules nat_eq looks task here) overfills (ToMountOverlay here overlay flags))
+  -- the mount of an overlay, with the rules of its layers given
+  abbrev mount_by : (Permit ℕ → Bool) → Location ℕ → MountFlags → Rules → Overlay ℕ → Looks ℕ → Judgement ℕ
+  mount_by overfills here flags rules overlay looks =
+      unless (rules ++ new_mount_rules nat_eq looks task here (overfills (ToMountOverlay here overlay flags)))
+      (Ok (ToMountOverlay here overlay flags))
 
-  permit_by : (overfills : Permit ℕ → Bool) (here : Location ℕ) → At here
-      → (options : Option OverlayWords) (flags : MountFlags)
-      → overlay_permit_by nat_eq one overfills task here options flags
-      ≡ overlay_permit_by nat_eq other overfills task here options flags
-  permit_by overfills here on None flags = refl
-  permit_by overfills here on (Some words) flags = by (layers_walked nat_eq one task words) (layers_agree words)
-    where
-      next : Looks ℕ → LayerLocations ℕ → Judgement ℕ
-      next looks layers = mount_by overfills here flags layers (overlay_at looks task layers) looks looks
-
-      by : (r : Result (LayerLocations ℕ) Deny) → Agree AreAt r (layers_walked nat_eq other task words)
-          → and_then r (next one) ≡ and_then (layers_walked nat_eq other task words) (next other)
-      by (Ok layers) (e, all) =
-          ap (λ rules. unless rules (attach_permit (new_mount_rules nat_eq one task here) overfills
-          (ToMountOverlay here (overlay_at one task layers) flags))) (same_rules layers all)
-          ∙ by_mask own uses one other alike.rules
-          (mount_by overfills here flags layers (overlay_at one task layers) other)
-          (λ looks. rw (is_elsewhere, mount_at, on) refl)
-          ∙ ap (λ overlay. mount_by overfills here flags layers overlay other other) (same_overlay layers all)
-          ∙ ap (λ r. and_then r (next other)) e
-      by (Err deny) (e, all) = ap (λ r. and_then r (next other)) e
-
-  pub overlay_alike : (overfills : Permit ℕ → Bool) (path : List ℕ) (options : Option OverlayWords) (flags : MountFlags)
-      → mount_overlay_permit nat_eq one overfills task path options flags
-      ≡ mount_overlay_permit nat_eq other overfills task path options flags
-  unfolding mount_overlay_permit
-  overlay_alike overfills path options flags = ap (unless (admin_rules task))
-      (judged_alike StandsThere (destination_walk nat_eq one task path) (destination_walk nat_eq other task path)
-      (λ here. overlay_permit_by nat_eq one overfills task here.location options flags)
-      (λ here. overlay_permit_by nat_eq other overfills task here.location options flags)
-      (destination_agrees (leads_alike alike) path) (λ here on. permit_by overfills here.location on options flags))
+  pub overlay_alike : (overfills : Permit ℕ → Bool) (here : Location ℕ) → At here → (flags : MountFlags)
+      (layers : LayerLocations ℕ) → AreAt alike layers → mount_by overfills here flags
+      (layer_rules nat_eq one layers (overlay_at one task layers)) (overlay_at one task layers) one
+      ≡ mount_by overfills here flags (layer_rules nat_eq other layers (overlay_at other task layers))
+      (overlay_at other task layers) other
+  overlay_alike overfills here on flags layers all =
+      ap (λ rules. mount_by overfills here flags rules (overlay_at one task layers) one) (same_rules layers all)
+      ∙ by_mask own uses one other alike.rules (mount_by overfills here flags
+      (layer_rules nat_eq other layers (overlay_at one task layers)) (overlay_at one task layers))
+      (λ looks. rw (is_elsewhere, mount_at, on) refl)
+      ∙ ap (λ overlay. mount_by overfills here flags (layer_rules nat_eq other layers overlay) overlay other)
+      (same_overlay layers all)

@@ -1,14 +1,12 @@
 -- rmdir(2) and rename(2) are judged alike.
 use Rattle.std.proofs.Common.{◌≡◌, refl, sym, ap, ◌∙◌, inl, inr, ℕ, nat_eq, Bool, true, false, ◌||◌, ◌&&◌, not, List, [], ◌∷◌, ◌++◌, Option, Some, None, Ok, option_to_list}
-use Rattle.vt_spec.proofs.Common.{Allowed, Judgement, Location, Looks, Place, Rules, Task, ToRemoveDirectory, ToRename, and_then, any_from_among, has_no_upper, holds_of, is_directory_there, is_mount_point_anywhere, is_mount_point_in, is_one_object, is_read_only, list_any, may_not, moving, name_of, object_there, old_leaf_walk, old_walk, old_word_rules, removing, rename_new_walk, rename_permit, renamed_permit, rmdir_permit, same_object_rules, unless, walk_end, write_right}
+use Rattle.vt_spec.proofs.Common.{Allowed, Judgement, Location, Looks, Place, Rules, Task, ToRemoveDirectory, ToRename, any_from_among, has_no_upper, holds_of, is_mount_point_anywhere, is_mount_point_in, is_one_object, is_read_only, list_any, may_not, moving, name_of, removing, same_object_rules, unless, write_right}
 use Rattle.vt_spec.specs.declared.errors.Rule.{Rule}
 use Rattle.vt_laws_members.proofs.Common.{B1, C1, C3, E2, E3, E4, E5, F1, F2, L1, O1, P1, P2, is_directory_at, mount_at}
 use Rattle.vt_spec.specs.Machine.Rules.Conditions.{is_kept, mounter_may_not}
 use Rattle.vt_spec.specs.Machine.Rules.Removing.{changes_parent, is_nonempty, is_stuck, same_filesystem}
-use Rattle.vt_laws_members.proofs.judging.Judged.{JudgesAlike, leads_alike}
-use Rattle.vt_laws_members.proofs.judging.JudgedFiles.{IsFound, IsPlaced, there_own}
+use Rattle.vt_laws_members.proofs.judging.Judged.{IsFound, JudgesAlike}
 use Rattle.vt_laws_members.proofs.judging.Masks.{by_both, by_mask, masked}
-use Rattle.vt_laws_members.proofs.judging.WalksLead.{judged_alike, old_agrees, old_leaf_agrees, rename_new_agrees, same_directory_there}
 
 -- P1, as two worlds have to show it alike
 abbrev pub PointsAlike : Looks ℕ → Looks ℕ → Task ℕ → (ℕ → Bool) → Type 0
@@ -27,9 +25,6 @@ module _ {one other : Looks ℕ} {task : Task ℕ} {own uses : ℕ → Bool} (al
   abbrev On : ℕ → Type 0
   On number = own number ≡ true
 
-  abbrev IsAt : Place ℕ → Type 0
-  IsAt = IsPlaced alike
-
   abbrev IsFoundAt : Option (Location ℕ) → Type 0
   IsFoundAt = IsFound alike
 
@@ -42,18 +37,13 @@ module _ {one other : Looks ℕ} {task : Task ℕ} {own uses : ℕ → Bool} (al
       ∷ (mounter_may_not looks place.parent write_right, B1) ∷ looks.mounter_rules place.parent (removing place object))
       (Ok (ToRemoveDirectory place.parent (name_of place.last) object))
 
-  rmdir_same : (place : Place ℕ) (object : Location ℕ) → On place.parent.mount → On object.mount
+  pub rmdir_alike : (place : Place ℕ) (object : Location ℕ) → On place.parent.mount → On object.mount
       → rmdir_by place object (is_mount_point_in nat_eq one task.namespace object) one
       ≡ rmdir_by place object (is_mount_point_in nat_eq other task.namespace object) other
-  rmdir_same place object on there =
+  rmdir_alike place object on there =
       by_mask own uses one other alike.rules
       (rmdir_by place object (is_mount_point_in nat_eq one task.namespace object))
       (λ looks. rw (is_read_only, there, on) refl) ∙ ap (λ b. rmdir_by place object b other) (same_points object there)
-
-  pub rmdir_alike : (path : List ℕ) → rmdir_permit nat_eq one task path ≡ rmdir_permit nat_eq other task path
-  unfolding rmdir_permit
-  rmdir_alike path = judged_alike IsAt (old_walk nat_eq one task path) _ _ _ (old_agrees (leads_alike alike) path)
-      (λ place at. cc (rmdir_same place (object_there place) at.0 (there_own alike place at)))
 
   -- Renaming
 
@@ -125,10 +115,10 @@ module _ {one other : Looks ℕ} {task : Task ℕ} {own uses : ℕ → Bool} (al
     stuck_same : is_stuck one from old ≡ is_stuck other from old
     stuck_same = cc (alike.rules.node old on_old, renames.lower from.parent (name_of from.last) on_from)
 
-    rename_same : (o : Option (Location ℕ)) → IsFoundAt o
+    pub rename_alike : (o : Option (Location ℕ)) → IsFoundAt o
         → rename_by from to old o (point_by one old o) (is_stuck one from old) one
         ≡ rename_by from to old o (point_by other old o) (is_stuck other from old) other
-    rename_same o found =
+    rename_alike o found =
         by_both own uses one other alike.rules (rename_by from to old o (point_by one old o) (is_stuck one from old))
         (covered o found (point_by one old o) (is_stuck one from old) one (alike.seen old.mount on_old))
         (covered o found (point_by one old o) (is_stuck one from old) other used_there)
@@ -138,42 +128,10 @@ module _ {one other : Looks ℕ} {task : Task ℕ} {own uses : ℕ → Bool} (al
     abbrev nothing_by : Looks ℕ → Judgement ℕ
     nothing_by looks = unless (same_object_rules nat_eq looks from to) (Ok Allowed)
 
-    nothing_same : nothing_by one ≡ nothing_by other
-    nothing_same = by_mask own uses one other alike.rules nothing_by (λ looks. rw (is_read_only, on_from, on_to) refl)
+    pub nothing_alike : nothing_by one ≡ nothing_by other
+    nothing_alike = by_mask own uses one other alike.rules nothing_by (λ looks. rw (is_read_only, on_from, on_to) refl)
 
-    one_object : (o : Option (Location ℕ)) → IsFoundAt o
+    pub one_object_alike : (o : Option (Location ℕ)) → IsFoundAt o
         → is_one_object nat_eq one old o ≡ is_one_object nat_eq other old o
-    one_object None found = refl
-    one_object (Some new) found = cc (alike.rules.mount old.mount on_old, alike.rules.mount new.mount (found new refl))
-
-    renamed_by : IsFoundAt to.object → (b : Bool)
-        → renamed_permit nat_eq b one task from to old ≡ renamed_permit nat_eq b other task from to old
-    renamed_by found true = nothing_same
-    renamed_by found false = rename_same to.object found
-
-    renamed_alike : IsFoundAt to.object
-        → renamed_permit nat_eq (is_one_object nat_eq one old to.object) one task from to old
-        ≡ renamed_permit nat_eq (is_one_object nat_eq other old to.object) other task from to old
-    renamed_alike found = cc (renamed_by found (is_one_object nat_eq one old to.object), one_object to.object found)
-
-  abbrev to_rename : Place ℕ → Looks ℕ → Place ℕ → Judgement ℕ
-  to_rename from looks to = unless (old_word_rules to)
-      (renamed_permit nat_eq (is_one_object nat_eq looks (object_there from) to.object) looks task from to
-      (object_there from))
-
-  pub rename_alike : RenamesAlike one other own → (old new : List ℕ)
-      → rename_permit nat_eq one task old new ≡ rename_permit nat_eq other task old new
-  unfolding rename_permit
-  rename_alike renames old new = judged_alike IsAt (old_leaf_walk nat_eq one task old)
-      (old_leaf_walk nat_eq other task old) (λ from. unless (old_word_rules from) (and_then
-      (walk_end (rename_new_walk nat_eq one task new (is_directory_there nat_eq one from))) (to_rename from one)))
-      (λ from. unless (old_word_rules from) (and_then
-      (walk_end (rename_new_walk nat_eq other task new (is_directory_there nat_eq other from))) (to_rename from other)))
-      (old_leaf_agrees (leads_alike alike) old) (λ from at. cc (
-        judged_alike IsAt (rename_new_walk nat_eq one task new (is_directory_there nat_eq one from))
-            (rename_new_walk nat_eq other task new (is_directory_there nat_eq one from)) (to_rename from one)
-            (to_rename from other) (rename_new_agrees (leads_alike alike) new (is_directory_there nat_eq one from))
-            (λ to stands. ap (unless (old_word_rules to))
-            (renamed_alike renames from to (object_there from) at.0 stands.0 (there_own alike from at) stands.1)),
-        same_directory_there (leads_alike alike) from at,
-      ))
+    one_object_alike None found = refl
+    one_object_alike (Some new) found = cc (alike.rules.mount old.mount on_old, alike.rules.mount new.mount (found new refl))

@@ -1,15 +1,10 @@
 -- What a granted pivot_root(2) has passed, in any world whose mounts have their invariants.
 use Rattle.std.proofs.Common.{arith, ◌≡◌, ℕ, nat_eq, Bool, true, false, true≢false, List, [], ◌∷◌, None, Ok, Err, Result, not, eqb-true, IfOk}
-use Rattle.vt_spec.proofs.Common.{Here, Location, Looks, MountInvariants, Permit, Stop, Task, ToPivot, World, admin_rules, at_topmost, child_at, common_steps, destination_walk, is_elsewhere, is_no_root, is_on_descendant, lies_under_location, looks_of, mount_at, mount_numbered, not-false, or_parts, pivot_permit, pivot_rules, source_walk, then_walk, unless, walk_unless, ⊤}
+use Rattle.vt_spec.proofs.Common.{Here, Location, Looks, MountInvariants, Permit, Stop, Task, ToPivot, World, at_topmost, child_at, common_steps, destination_walk, is_elsewhere, is_no_root, is_on_descendant, lies_under_location, looks_of, mount_at, mount_numbered, not-false, or_parts, pivot_permit, pivot_rules, source_walk, then_walk, walk_unless, NoneFails, PivotRoot}
 use Rattle.vt_laws_members.proofs.Common.{CanPivot, IsIn, W8, numbered_mounts_can_pivot, topmost}
 use Rattle.vt_laws_mounts.proofs.namespaces.Topmost.{topmost_is_free}
 use Rattle.vt_laws_worlds.proofs.worlds.FitPermits.{first_two}
-use Rattle.vt_laws_members.proofs.changes.Common.{Passed, of_passed, of_rules, of_walk}
-
--- wherever a walk ends
-ends_somewhere : (r : Result (Here ℕ) (Stop ℕ)) → IfOk r (λ here. ⊤)
-ends_somewhere (Ok here) = tt
-ends_somewhere (Err stop) = tt
+use Rattle.vt_laws_members.proofs.changes.Common.{any_answers, ends_so, judged_so}
 
 module _ (w : World ℕ) (kept : MountInvariants nat_eq w) (task : Task ℕ) where
   abbrev looks : Looks ℕ
@@ -43,7 +38,7 @@ module _ (w : World ℕ) (kept : MountInvariants nat_eq w) (task : Task ℕ) whe
       by (Err stop) = tt
 
   passes : (new put : Location ℕ) → child_at nat_eq w.mounts put ≡ None
-      → Passed (pivot_rules nat_eq looks task new put) → PivotsThere (ToPivot new.mount put)
+      → NoneFails (pivot_rules nat_eq looks task new put) → PivotsThere (ToPivot new.mount put)
   passes new put free passed =
       let own = or_parts (is_elsewhere nat_eq looks task task.root) _ passed.0 in
       let others = or_parts (is_elsewhere nat_eq looks task new) _ own.1 in
@@ -58,12 +53,6 @@ module _ (w : World ℕ) (kept : MountInvariants nat_eq w) (task : Task ℕ) whe
       (not-false (lies_under_location nat_eq looks new put) lie.1) free
 
   pub pivots_there : (new put : List ℕ) → IfOk (pivot_permit nat_eq looks task new put) PivotsThere
-  unfolding pivot_permit
-  pivots_there new put = of_rules PivotsThere (admin_rules task) _
-      (of_walk (λ root. ⊤) PivotsThere (source_walk nat_eq looks task new) _
-      (ends_somewhere (source_walk nat_eq looks task new))
-      (λ root done. of_walk Free PivotsThere (destination_walk nat_eq looks task put)
-      (λ here. unless (pivot_rules nat_eq looks task root.location here.location)
-      (Ok (ToPivot root.location.mount here.location))) (destination_free put)
-      (λ here free. of_passed PivotsThere (pivot_rules nat_eq looks task root.location here.location)
-      (Ok (ToPivot root.location.mount here.location)) (passes root.location here.location free))))
+  pivots_there new put = judged_so looks any_answers task PivotsThere (PivotRoot new put)
+      (λ admin root root_end here end passed.
+      passes root.location here.location (ends_so Free (destination_free put) end) passed)

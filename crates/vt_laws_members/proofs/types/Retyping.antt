@@ -1,11 +1,11 @@
 -- Each mount(2) that changes a propagation type ends in the part as in the world.
 use Rattle.std.proofs.Common.{◌≡◌, refl, sym, ap, subst, ◌∙◌, ⊎_elim, ℕ, zero, suc, nat_eq, Bool, true, false, List, [], Option, Some, Ok, map, IfOk}
-use Rattle.vt_spec.proofs.Common.{Among, Done, Fresh, IsWorld, Location, Mount, Permit, Propagation, Serves, SetType, Task, TaskName, ToSetType, TypeWord, World, admin_rules, among-filter, among-from_filter, among-from_flat_map, children, directory_walk, granted, holds_of, is_own_mount, judge_in, members, mount_at, mount_numbered, mount_tree, named_mounts, not-false, number-mount_in, numbers_by, numbers_raised, own_mounts, part_of, policy, regrouped, retyped, settled, task_called, tree_from, type_permit, type_rules, unless}
+use Rattle.vt_spec.proofs.Common.{Among, Done, Fresh, IsWorld, Location, Mount, Permit, Propagation, Serves, SetType, Task, TaskName, ToSetType, TypeWord, World, among-filter, among-from_filter, among-from_flat_map, children, granted, holds_of, is_own_mount, judge_in, members, mount_at, mount_numbered, mount_tree, named_mounts, not-false, number-mount_in, numbers_by, numbers_raised, own_mounts, part_of, policy, regrouped, retyped, settled, task_called, tree_from, type_permit}
 use Rattle.vt_laws_members.proofs.judging.Common.{IsMember, IsTheirs, caller_in, children_own, in_own, its_mount, own_theirs, same_mount, sealing_of, theirs_from, tree_alike}
 use Rattle.vt_laws_members.proofs.Common.{AllInUse, all_in_use, is_own, with_changed}
 use Rattle.vt_laws_members.specs.Judging.{is_theirs}
 use Rattle.vt_laws_members.specs.Changes.Changes.{EndsAlike, IsCallOfTheirs}
-use Rattle.vt_laws_members.proofs.changes.Common.{StandsHere, at_directory, by_known, ended_alike, of_passed, of_rules, of_walk, one, part_in_use, ran, ran_there, run_by, same_caller}
+use Rattle.vt_laws_members.proofs.changes.Common.{StandsHere, at_directory, by_known, ended_alike, any_answers, ends_so, judged_so, one, part_in_use, ran, ran_there, run_by, same_caller}
 use Rattle.vt_laws_members.specs.Types.TypeChanges.{OtherTypesEndAlike, TypesEndAlike, takes_groups}
 use Rattle.vt_laws_members.proofs.types.Inherited.{kind_left, master_left, settled_so}
 use Rattle.vt_laws_members.proofs.types.Retyped.{alike_by_any, alike_by_one, new_kind, new_masters, retyped_so, same_kind}
@@ -36,21 +36,15 @@ module _ {world : World ℕ} {names : List TaskName} {task : Task ℕ} (member :
   SetsType permit = (here : Location ℕ) × (permit ≡ ToSetType here.mount word recursive) × On here.mount
       × (is_own world names (members world names) (mount_at nat_eq world here) ≡ true)
 
-  pub sets_type : (path : List ℕ) → IfOk
-      (type_permit nat_eq (one member) task path word recursive) SetsType
-  unfolding type_permit
-  sets_type path = of_rules SetsType (admin_rules task) _
-      (of_walk (StandsHere member) SetsType (directory_walk nat_eq (one member) task path)
-      (λ here. unless (type_rules nat_eq (one member) task here.location)
-      (Ok (ToSetType here.location.mount word recursive))) (at_directory member path)
-      (λ here on. of_passed SetsType (type_rules nat_eq (one member) task here.location)
-      (Ok (ToSetType here.location.mount word recursive)) (λ passed. (
+  pub sets_type : (path : List ℕ) → IfOk (type_permit nat_eq (one member) task path word recursive) SetsType
+  sets_type path = judged_so (one member) any_answers task SetsType (SetType path word recursive)
+      (λ admin here end passed. (
         here.location,
         refl,
-        on,
+        ends_so (StandsHere member) (at_directory member path) end,
         in_own world names member.is task member.among (mount_at nat_eq world here.location)
             (not-false (holds_of (nat_eq task.namespace) (mount_at nat_eq world here.location).namespace) passed.0),
-      ))))
+      ))
 
 -- The mounts named
 module _ (world : World ℕ) (names : List TaskName) (is : IsWorld nat_eq world) where

@@ -1,11 +1,11 @@
 -- A write of bytes at an offset of an open file ends in the part as in the world.
-use Rattle.std.proofs.Common.{◌≡◌, refl, sym, ap, subst, ◌∙◌, ℕ, nat_eq, Bool, true, false, cond, find, List, ◌∷◌, Option, Some, None, Ok, IfOk, ok_or, option_to_list, ◌==◌}
-use Rattle.vt_spec.proofs.Common.{Among, Call, Descriptor, Location, Looks, Permit, Pwrite, SetBytes, Task, TaskName, ToWritePart, World, and_then, bytes_in, denial, descriptor_numbered, filesystem_numbered, found_among, judge_in, locations, looks_of, members, mount_at, node_at, overwritten, part_of, pwrite_permit, pwrite_rules, unless, ⊤}
-use Rattle.vt_laws_members.proofs.Common.{S4, found, located}
+use Rattle.std.proofs.Common.{◌≡◌, refl, sym, ap, subst, ◌∙◌, ℕ, nat_eq, List, ◌∷◌, Ok, IfOk}
+use Rattle.vt_spec.proofs.Common.{Among, Call, Descriptor, Location, Looks, Permit, Pwrite, SetBytes, Task, TaskName, ToWritePart, World, bytes_in, filesystem_numbered, judge_in, locations, looks_of, members, mount_at, node_at, overwritten, part_of, pwrite_permit, ⊤}
+use Rattle.vt_laws_members.proofs.Common.{found, located}
 use Rattle.vt_laws_members.proofs.judging.Common.{IsMember, caller_in, lasting, located_used, sealing_of}
 use Rattle.vt_laws_members.specs.Changes.Changes.{PartWritesEndAlike}
 use Rattle.vt_laws_members.proofs.changes.files.FilesEnding.{edit_ends}
-use Rattle.vt_laws_members.proofs.changes.looks.Granted.{of_rules, opened_theirs}
+use Rattle.vt_laws_members.proofs.changes.looks.Granted.{any_answers, found_theirs, judged_so}
 use Rattle.vt_laws_members.proofs.changes.looks.Told.{open_file}
 use Rattle.vt_laws_members.proofs.changes.tasks.Denied.{ran_there, run_by}
 
@@ -23,22 +23,8 @@ module _ {world : World ℕ} {names : List TaskName} {task : Task ℕ} (member :
   Written = Writes (locations (members world names)) bytes
 
   pub writes_theirs : (number offset : ℕ) → IfOk (pwrite_permit one task number offset bytes) Written
-  unfolding pwrite_permit
-  writes_theirs number offset = by (descriptor_numbered task number) refl
-    where
-      which : (descriptor : Descriptor ℕ) → Among descriptor task.descriptors → (b : Bool)
-          → IfOk (and_then (ok_or (cond b (Some descriptor) None) (denial S4))
-          (λ d. unless (pwrite_rules one d.location offset bytes) (Ok (ToWritePart d.location offset bytes)))) Written
-      which descriptor m false = tt
-      which descriptor m true = of_rules Written (pwrite_rules one descriptor.location offset bytes)
-          (Ok (ToWritePart descriptor.location offset bytes)) (opened_theirs member descriptor m, refl)
-
-      by : (o : Option (Descriptor ℕ)) → descriptor_numbered task number ≡ o
-          → IfOk (and_then (ok_or (find (λ (d : Descriptor ℕ). d.writes) (option_to_list o)) (denial S4))
-          (λ d. unless (pwrite_rules one d.location offset bytes) (Ok (ToWritePart d.location offset bytes)))) Written
-      by None e = tt
-      by (Some descriptor) e = which descriptor (found_among (λ (d : Descriptor ℕ). number == d.number)
-          task.descriptors descriptor e) descriptor.writes
+  writes_theirs number offset = judged_so one any_answers task Written (Pwrite number offset bytes)
+      (λ descriptor found passed. (found_theirs member number (λ (d : Descriptor ℕ). d.writes) descriptor found, refl))
 
 pub part_writes_end_alike : PartWritesEndAlike
 part_writes_end_alike world names name descriptor offset byte bytes it task called fresh other file at written

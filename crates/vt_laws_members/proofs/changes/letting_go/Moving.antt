@@ -1,12 +1,12 @@
 -- Calls of close(2), chdir(2) and chroot(2) end in the part as in the world.
-use Rattle.std.proofs.Common.{◌≡◌, refl, sym, ap, subst, ◌∙◌, inl, inr, ⊎_elim, ℕ, nat_eq, true, List, [], ◌∷◌, Some, Ok, Err, Result, filter, map, not, IfOk, ◌==◌}
-use Rattle.vt_spec.proofs.Common.{Among, Chdir, Chroot, Close, Descriptor, Here, Location, Looks, Permit, Task, TaskName, ToClose, ToSetDirectory, ToSetRoot, World, among-from_filter, among-from_map, among-map, and_then, cap_sys_chroot, chdir_permit, chroot_permit, close_permit, descriptor_at, directory_walk, enter_rules, is_among, judge_in, lacks, looks_of, part_of, task_called, unless, used_filesystems}
-use Rattle.vt_laws_members.proofs.Common.{Deny, K1}
+use Rattle.std.proofs.Common.{◌≡◌, refl, sym, ap, subst, ◌∙◌, inl, inr, ⊎_elim, ℕ, nat_eq, true, List, Some, Ok, Err, Result, filter, map, not, IfOk, ◌==◌}
+use Rattle.vt_spec.proofs.Common.{Among, Chdir, Chroot, Close, Descriptor, Here, Location, Looks, Permit, Task, TaskName, ToClose, ToSetDirectory, ToSetRoot, World, among-from_filter, among-from_map, among-map, and_then, chdir_permit, chroot_permit, close_permit, descriptor_at, directory_walk, is_among, judge_in, looks_of, part_of, task_called, used_filesystems}
+use Rattle.vt_laws_members.proofs.Common.{Deny}
 use Rattle.vt_laws_members.proofs.judging.Common.{HereAt, IsMember, IsTheirs, JudgesAlike, caller_in, directory_agrees, directory_theirs, judges, leads_alike, root_theirs, theirs_from}
 use Rattle.vt_laws_members.specs.Judging.{is_theirs}
 use Rattle.vt_laws_members.specs.Changes.Changes.{EndsAlike}
 use Rattle.vt_laws_members.specs.Changes.LettingGo.{ChdirsEndAlike, ChrootsEndAlike, ClosesEndAlike}
-use Rattle.vt_laws_members.proofs.changes.looks.Granted.{of_rules, of_walk}
+use Rattle.vt_laws_members.proofs.changes.looks.Granted.{any_answers, ends_so, judged_so}
 use Rattle.vt_laws_members.proofs.changes.tasks.ByPermit.{by_known}
 use Rattle.vt_laws_members.proofs.changes.tasks.Denied.{ran_there, run_by}
 use Rattle.vt_laws_members.proofs.changes.letting_go.Callers.{moved_alike, spaces_kept}
@@ -52,19 +52,12 @@ module _ {world : World ℕ} {names : List TaskName} {task : Task ℕ} (member :
   SetsRoot permit = (l : Location ℕ) × (permit ≡ ToSetRoot l) × On l.mount
 
   pub sets_directory : (path : List ℕ) → IfOk (chdir_permit nat_eq one task path) SetsDirectory
-  unfolding chdir_permit
-  sets_directory path = of_walk StandsHere SetsDirectory (directory_walk nat_eq one task path)
-      (λ here. unless (enter_rules one task here.location) (Ok (ToSetDirectory here.location))) (at_directory path)
-      (λ here on. of_rules SetsDirectory (enter_rules one task here.location) (Ok (ToSetDirectory here.location))
-      (here.location, refl, on))
+  sets_directory path = judged_so one any_answers task SetsDirectory (Chdir path) (λ here end passed.
+      (here.location, refl, ends_so StandsHere (at_directory path) end))
 
   pub sets_root : (path : List ℕ) → IfOk (chroot_permit nat_eq one task path) SetsRoot
-  unfolding chroot_permit
-  sets_root path = of_rules SetsRoot ((lacks task cap_sys_chroot, K1) ∷ []) _
-      (of_walk StandsHere SetsRoot (directory_walk nat_eq one task path)
-      (λ here. unless (enter_rules one task here.location) (Ok (ToSetRoot here.location))) (at_directory path)
-      (λ here on. of_rules SetsRoot (enter_rules one task here.location) (Ok (ToSetRoot here.location))
-      (here.location, refl, on)))
+  sets_root path = judged_so one any_answers task SetsRoot (Chroot path) (λ capable here end passed.
+      (here.location, refl, ends_so StandsHere (at_directory path) end))
 
 pub closes_end_alike : ClosesEndAlike
 closes_end_alike world names name number it fresh other = by_known it fresh other refl (λ task e. Closes number)

@@ -1,13 +1,13 @@
 -- Each umount(2) ends in the part as in the world.
-use Rattle.std.proofs.Common.{arith, ◌≡◌, refl, sym, ap, ◌∙◌, ⊎_elim, ℕ, nat_eq, true, false, true≢false, List, [], ◌∷◌, Option, Some, None, Ok, is_some, IfOk}
-use Rattle.vt_spec.proofs.Common.{Among, Call, Done, Fresh, Judgement, Location, Mount, MountInvariants, Outcome, Permit, Rules, Task, TaskName, ToUnmount, World, admin_rules, among-from_filter_map, among_numbers, common_steps, directory_walk, going, granted, has_child, members, mount_at, mount_numbered, none_among, none_from_among, not-false, numbers_raised, or_parts, part_of, policy, settled, stands_on, taken_away, task_called, umount_permit, umount_rules, unless, unmounted, ⊤}
+use Rattle.std.proofs.Common.{arith, ◌≡◌, refl, sym, ap, ◌∙◌, ⊎_elim, ℕ, nat_eq, true, false, true≢false, List, [], Option, Some, None, Ok, is_some, IfOk}
+use Rattle.vt_spec.proofs.Common.{Among, Call, Done, Fresh, Location, Mount, MountInvariants, Outcome, Permit, Task, TaskName, ToUnmount, World, among-from_filter_map, among_numbers, common_steps, going, granted, has_child, members, mount_at, mount_numbered, none_among, none_from_among, not-false, numbers_raised, or_parts, part_of, policy, settled, stands_on, taken_away, task_called, umount_permit, unmounted, Umount}
 use Rattle.vt_laws_members.proofs.detached.lazily.GoingAlike.{going_alike, going_own}
 use Rattle.vt_laws_members.proofs.judging.Common.{IsMember, IsTheirs, caller_in, no_events, same_mount, sealing_of, theirs_from}
 use Rattle.vt_laws_members.proofs.Common.{IsSealed, is_own, keep, kept_how, nowhere_stands, numbered, unmount_keeps_mounts}
 use Rattle.vt_laws_members.specs.Judging.{is_theirs}
 use Rattle.vt_laws_members.specs.Changes.Changes.{EndsAlike, IsCallOfTheirs, grown}
 use Rattle.vt_laws_members.specs.Changes.LettingGo.{UmountsEndAlike}
-use Rattle.vt_laws_members.proofs.changes.looks.Granted.{of_rules, of_walk}
+use Rattle.vt_laws_members.proofs.changes.looks.Granted.{any_answers, ends_so, judged_so}
 use Rattle.vt_laws_members.proofs.changes.looks.Told.{ended_alike, ran, same_caller}
 use Rattle.vt_laws_members.proofs.changes.tasks.ByPermit.{by_known}
 use Rattle.vt_laws_members.proofs.changes.tasks.Denied.{ran_there, run_by}
@@ -15,17 +15,6 @@ use Rattle.vt_laws_members.proofs.changes.letting_go.Moving.{StandsHere, at_dire
 use Rattle.vt_laws_members.proofs.changes.letting_go.PartMounts.{part_mounts}
 use Rattle.vt_laws_members.proofs.changes.letting_go.Taken.{taken_parts}
 use Rattle.vt_laws_members.proofs.changes.letting_go.Regrouped.{TheirsGo}
-
--- What is granted has passed all rules.
-abbrev pub Passed : Rules → Type 0
-Passed [] = ⊤
-Passed ((failed, rule) ∷ rules) = (failed ≡ false) × Passed rules
-
-pub of_passed : (P : Permit ℕ → Type 0) (rules : Rules) (r : Judgement ℕ) → (Passed rules → IfOk r P) → IfOk
-    (unless rules r) P
-of_passed P [] r next = next tt
-of_passed P ((true, rule) ∷ rules) r next = tt
-of_passed P ((false, rule) ∷ rules) r next = of_passed P rules r (λ passed. next (refl, passed))
 
 -- What a granted umount takes away
 module _ {world : World ℕ} {names : List TaskName} {task : Task ℕ} (member : IsMember world names task) where
@@ -36,20 +25,14 @@ module _ {world : World ℕ} {names : List TaskName} {task : Task ℕ} (member :
   Unmounts permit = (here : Location ℕ) × (permit ≡ ToUnmount here.mount) × On here.mount
       × (is_some (mount_at nat_eq world here).mount_point ≡ true) × (has_child nat_eq world here.mount ≡ false)
 
-  unmounts : (path : List ℕ) → IfOk
-      (umount_permit nat_eq (one member) task path) Unmounts
-  unfolding umount_permit
-  unmounts path = of_rules Unmounts (admin_rules task) _
-      (of_walk (StandsHere member) Unmounts (directory_walk nat_eq (one member) task path)
-      (λ here. unless (umount_rules nat_eq (one member) task here.location) (Ok (ToUnmount here.location.mount)))
-      (at_directory member path) (λ here on. of_passed Unmounts (umount_rules nat_eq (one member) task here.location)
-      (Ok (ToUnmount here.location.mount)) (λ passed. (
-        here.location,
-        refl,
-        on,
-        not-false (is_some (mount_at nat_eq world here.location).mount_point) passed.1.1.1.0,
-        (or_parts (has_child nat_eq world here.location.mount) _ passed.1.1.0).0,
-      ))))
+  unmounts : (path : List ℕ) → IfOk (umount_permit nat_eq (one member) task path) Unmounts
+  unmounts path = judged_so (one member) any_answers task Unmounts (Umount path) (λ admin here end passed. (
+    here.location,
+    refl,
+    ends_so (StandsHere member) (at_directory member path) end,
+    not-false (is_some (mount_at nat_eq world here.location).mount_point) passed.1.1.1.0,
+    (or_parts (has_child nat_eq world here.location.mount) _ passed.1.1.0).0,
+  ))
 
 -- what goes with a mount of theirs is theirs
 module _ {world : World ℕ} {names : List TaskName} (sealing : IsSealed world names) where

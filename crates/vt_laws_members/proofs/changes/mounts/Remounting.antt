@@ -1,12 +1,12 @@
 -- Each mount(2) with MS_REMOUNT and MS_BIND ends in the part as in the world.
 use Rattle.std.proofs.Common.{◌≡◌, refl, sym, ap, ◌∙◌, ℕ, nat_eq, Bool, true, false, List, [], Some, Ok, not, IfOk}
-use Rattle.vt_spec.proofs.Common.{Among, Done, Fresh, Location, Mount, MountFlags, Permit, Remount, Task, TaskName, ToSetFlags, World, admin_rules, directory_walk, granted, holds_of, judge_in, members, mount_at, mount_numbered, numbers_raised, part_of, policy, remount_permit, remount_rules, task_called, unless, with_mount, with_mounts}
+use Rattle.vt_spec.proofs.Common.{Among, Done, Fresh, Location, Mount, MountFlags, Permit, Remount, Task, TaskName, ToSetFlags, World, granted, holds_of, judge_in, members, mount_at, mount_numbered, numbers_raised, part_of, policy, remount_permit, task_called, with_mount, with_mounts}
 use Rattle.vt_laws_members.proofs.judging.Common.{IsMember, IsTheirs, caller_in, in_own, its_mount, same_mount, sealing_of, theirs_from}
 use Rattle.vt_laws_members.proofs.Common.{all_in_use, is_own, set_flags_keep_all}
 use Rattle.vt_laws_members.specs.Judging.{is_theirs}
 use Rattle.vt_laws_members.specs.Changes.Changes.{EndsAlike, IsCallOfTheirs}
 use Rattle.vt_laws_members.specs.Changes.MountChanges.{RemountsEndAlike}
-use Rattle.vt_laws_members.proofs.changes.Common.{StandsHere, at_directory, by_known, ended_alike, of_passed, of_rules, of_walk, one, part_in_use, part_mounts, ran, ran_there, run_by, same_caller}
+use Rattle.vt_laws_members.proofs.changes.Common.{StandsHere, at_directory, by_known, ended_alike, any_answers, ends_so, judged_so, one, part_in_use, part_mounts, ran, ran_there, run_by, same_caller}
 use Rattle.vt_laws_members.proofs.changes.mounts.FlagsLeft.{flags_left, later, later_part}
 
 -- What a granted remount sets
@@ -23,21 +23,14 @@ module _ {world : World ℕ} {names : List TaskName} {task : Task ℕ} (member :
   is_so true e = refl
   is_so false e = sym e
 
-  sets_flags : (path : List ℕ) → IfOk
-      (remount_permit nat_eq (one member) task path flags) SetsFlags
-  unfolding remount_permit
-  sets_flags path = of_rules SetsFlags (admin_rules task) _
-      (of_walk (StandsHere member) SetsFlags (directory_walk nat_eq (one member) task path)
-      (λ here. unless (remount_rules nat_eq (one member) task here.location flags)
-      (Ok (ToSetFlags here.location.mount flags))) (at_directory member path)
-      (λ here on. of_passed SetsFlags (remount_rules nat_eq (one member) task here.location flags)
-      (Ok (ToSetFlags here.location.mount flags)) (λ passed. (
-        here.location,
-        refl,
-        on,
-        in_own world names member.is task member.among (mount_at nat_eq world here.location)
-            (is_so (holds_of (nat_eq task.namespace) (mount_at nat_eq world here.location).namespace) passed.0),
-      ))))
+  sets_flags : (path : List ℕ) → IfOk (remount_permit nat_eq (one member) task path flags) SetsFlags
+  sets_flags path = judged_so (one member) any_answers task SetsFlags (Remount path flags) (λ admin here end passed. (
+    here.location,
+    refl,
+    ends_so (StandsHere member) (at_directory member path) end,
+    in_own world names member.is task member.among (mount_at nat_eq world here.location)
+        (is_so (holds_of (nat_eq task.namespace) (mount_at nat_eq world here.location).namespace) passed.0),
+  ))
 
 -- A granted remount
 module _ {world : World ℕ} {names : List TaskName} {name : TaskName} {path : List ℕ} {flags : MountFlags}

@@ -1,11 +1,11 @@
 -- An open of a file that is there, and is not copied up, ends in the part as in the world.
-use Rattle.std.proofs.Common.{arith, ◌≡◌, refl, sym, ap, subst, ◌∙◌, ◌⊎◌, inl, inr, ⊎_elim, ℕ, nat_eq, Bool, true, false, cond, List, [], ◌∷◌, ◌++◌, Option, Some, None, Ok, filter, map, ◌||◌, IfOk}
-use Rattle.vt_spec.proofs.Common.{Access, Among, Creation, Descriptor, Exclusive, Fresh, Here, IsWorld, Location, Looks, Mount, NoCreation, OpenFile, Opened, OrCreate, Outcome, Permit, Place, Task, TaskName, ToOpen, World, among-append, among-append_left, among-append_right, among-flat_map, among-from_filter, among-from_flat_map, among-from_map, among-map, any_among, any_from_among, changed_if, common_steps, create_file_permit, descriptor_rules, exclusive_word_rules, file_walk, file_word_rules, finished, found_among, free_number, holds_of, inserted, is_among, is_at, is_copied_up, is_member_task, list_any, locations, locations_of, looks_of, make_rules, map_twice, members, mount_at, name-replaced_if_called, new_file, new_walk, object_walk, open_by_permit, open_file_permit, open_new_permit, open_permit, open_rules, opened, opened_or_created_permit, opens_for_reading, opens_for_writing, part_of, raised, raised_task, replaced_if_called, roots_and_directories, same_name, same_task_name, same_truth, seen_by_descriptor, task_called, unless, unnumbered, used_directly, used_filesystems, when, with_copy, with_descriptor, ⊤}
-use Rattle.vt_laws_members.proofs.judging.Common.{FoundAt, HereAt, IsMember, IsTheirs, JudgesAlike, PlaceAt, caller_in, file_agrees, filesystem_alike, judges, leads_alike, new_agrees, object_agrees, theirs_directly, theirs_from}
+use Rattle.std.proofs.Common.{arith, ◌≡◌, refl, sym, ap, subst, ◌∙◌, ◌⊎◌, inl, inr, ⊎_elim, ℕ, nat_eq, Bool, true, false, cond, List, [], ◌∷◌, ◌++◌, Option, Some, filter, map, ◌||◌, IfOk}
+use Rattle.vt_spec.proofs.Common.{Access, Among, Creation, Descriptor, Exclusive, Fresh, Here, IsWorld, Location, Looks, Mount, NoCreation, OpenFile, Opened, OrCreate, Outcome, Permit, Place, Task, TaskName, ToOpen, World, among-append, among-append_left, among-append_right, among-flat_map, among-from_filter, among-from_flat_map, among-from_map, among-map, any_among, any_from_among, changed_if, common_steps, finished, found_among, free_number, holds_of, inserted, is_among, is_at, is_copied_up, is_member_task, list_any, locations, locations_of, looks_of, map_twice, members, mount_at, name-replaced_if_called, open_permit, opened, opens_for_reading, opens_for_writing, part_of, raised, raised_task, replaced_if_called, roots_and_directories, same_name, same_task_name, same_truth, seen_by_descriptor, task_called, used_directly, used_filesystems, when, with_copy, with_descriptor, ⊤}
+use Rattle.vt_laws_members.proofs.judging.Common.{FoundAt, HereAt, IsMember, IsTheirs, JudgesAlike, PlaceAt, caller_in, file_agrees, filesystem_alike, judges, leads_alike, object_agrees, theirs_directly, theirs_from}
 use Rattle.vt_laws_members.proofs.Common.{filter-map, is_own, keep, same_members}
 use Rattle.vt_laws_members.specs.Judging.{is_theirs}
 use Rattle.vt_laws_members.specs.Changes.Changes.{OpensEndAlike}
-use Rattle.vt_laws_members.proofs.changes.Common.{SeeAlike, members_changed, of_rules, of_walk, only_task, own_alike, raised_is, ran_there, roots_alike, run_by}
+use Rattle.vt_laws_members.proofs.changes.Common.{SeeAlike, members_changed, any_answers, ends_so, judged_so, only_task, own_alike, raised_is, ran_there, roots_alike, run_by}
 use Rattle.vt_laws_members.proofs.changes.tasks.Ending.{LeavesTasks, tasks_end_alike}
 use Rattle.vt_laws_members.proofs.changes.tasks.WholeMounts.{used_in_part, whole_in_part, whole_in_world}
 
@@ -40,39 +40,17 @@ module _ {world : World ℕ} {names : List TaskName} {task : Task ℕ} (member :
   abbrev IsFound : Option (Location ℕ) → Type 0
   IsFound = FoundAt (leads_alike alike)
 
-  opens_there : (file : Location ℕ) (access : Access) → On file.mount
-      → IfOk (open_file_permit nat_eq one task file access) Opens
-  opens_there file access on = of_rules Opens (open_rules one task file access) (Ok (ToOpen file access)) on
-
-  opens_new : (place : Place ℕ) (access : Access) (mode : ℕ)
-      → IfOk (create_file_permit nat_eq one task place access mode) Opens
-  opens_new place access mode = of_rules Opens (make_rules one task place (unnumbered place (new_file task mode [])))
-      (Ok (open_new_permit task place access mode)) tt
-
-  opens_either : (place : Place ℕ) (access : Access) (mode : ℕ) (o : Option (Location ℕ)) → IsFound o
-      → IfOk (opened_or_created_permit nat_eq one task place access mode o) Opens
-  opens_either place access mode None found = opens_new place access mode
-  opens_either place access mode (Some file) found = opens_there file access (found file refl)
-
-  opens_by : (path : List ℕ) (access : Access) (how : Creation)
-      → IfOk (open_by_permit nat_eq one task path access how) Opens
-  opens_by path access NoCreation = of_walk StandsHere Opens (object_walk nat_eq one task path)
-      (λ here. open_file_permit nat_eq one task here.location access) (object_agrees (leads_alike alike) path).1
-      (λ here on. opens_there here.location access on)
-  opens_by path access (OrCreate mode) = of_walk IsPlaced Opens (file_walk nat_eq one task path) (λ place. unless
-      (file_word_rules place) (opened_or_created_permit nat_eq one task place access mode place.object))
-      (file_agrees (leads_alike alike) path).1 (λ place at. of_rules Opens (file_word_rules place)
-      (opened_or_created_permit nat_eq one task place access mode place.object)
-      (opens_either place access mode place.object at.1))
-  opens_by path access (Exclusive mode) = of_walk IsPlaced Opens (new_walk nat_eq one task path)
-      (λ place. unless (exclusive_word_rules place) (create_file_permit nat_eq one task place access mode))
-      (new_agrees (leads_alike alike) path).1 (λ place at. of_rules Opens (exclusive_word_rules place)
-      (create_file_permit nat_eq one task place access mode) (opens_new place access mode))
-
   pub opens_theirs : (path : List ℕ) (access : Access) (how : Creation)
       → IfOk (open_permit nat_eq one task path access how) Opens
-  unfolding open_permit
-  opens_theirs path access how = of_rules Opens (descriptor_rules task) _ (opens_by path access how)
+  opens_theirs path access NoCreation = judged_so one any_answers task Opens (OpenFile path access NoCreation)
+      (λ room here end passed. ends_so StandsHere (object_agrees (leads_alike alike) path).1 end)
+  opens_theirs path access (OrCreate mode) = judged_so one any_answers task Opens (OpenFile path access (OrCreate mode))
+      (λ room place end. (
+        λ file there passed. (ends_so IsPlaced (file_agrees (leads_alike alike) path).1 end).1 file there,
+        λ missing passed. tt,
+      ))
+  opens_theirs path access (Exclusive mode) = judged_so one any_answers task Opens
+      (OpenFile path access (Exclusive mode)) (λ room place end named passed. tt)
 
 -- One more descriptor
 module _ (new : Descriptor ℕ) where
