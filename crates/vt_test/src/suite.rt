@@ -10,14 +10,7 @@ use thiserror::Error;
 use vt_io::line::LONGEST_LINE;
 use vt_lines::lines::first_line;
 use vt_script::Version;
-
-/// An answer that is wanted or given, or a further line of one.
-#[derive(Clone, Copy)]
-pub struct Answer<'a> {
-    /// The number of the line in its script, from 1.
-    pub number: u64,
-    pub text: &'a [u8],
-}
+pub use vt_verdict::compare::Answer;
 
 /// A script with what it wants. Lines of the file that are none of the script are empty lines of it.
 #[derive(Drop)]
