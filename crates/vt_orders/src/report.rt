@@ -107,7 +107,10 @@ fn schedules_of<C: Calls, T: Turns<C>>(
 }
 
 /// Tries the orders of a script, of which there are not too many, and tells in which ways its lines are answered.
-pub fn orders_told<C: Calls, T: Turns<C>>(asked: Asked<'_, '_>, by: &T) -> Result<Report, AllocError> {
+pub fn orders_told<C: Calls, T: Turns<C>>(
+    asked: Asked<'_, '_>,
+    by: &T,
+) -> Result<Report, AllocError> {
     let Asked {
         alloc,
         queues,
