@@ -1,6 +1,7 @@
 -- A grant that mounts no overlay is given to no call that does.
-use Rattle.std.proofs.Common.{◌≡◌, false, nat_eq, refl, subst, true, ℕ, Bool, List, [], ◌∷◌, Result, Ok, Err, Option, None, Some}
-use Rattle.vt_spec.proofs.Common.{Fresh, Judgement, LayerLocations, Location, Looks, MountFlags, MountOverlay, OverlayWords, Permit, Rules, Task, ToMountOverlay, World, admin_rules, and_then, destination_walk, judge, judge_in, layer_rules, layers_walked, looks_of, mount_overlay_permit, new_mount_rules, overfills, overlay_at, overlay_permit_by, unless, walk_end}
+use Rattle.std.proofs.Common.{◌≡◌, false, nat_eq, refl, subst, true, ℕ, Bool, List, [], ◌++◌, ◌∷◌, Result, Ok, Err, Option, None, Some}
+use Rattle.vt_spec.proofs.Common.{Fresh, Here, Judgement, LayerLocations, Location, Looks, MountFlags, MountOverlay, OverlayWords, Permit, Rules, Task, ToMountOverlay, World, admin_rules, and_then, destination_walk, judge, judge_in, judging, layer_rules, layers_walked, looks_of, new_mount_rules, overfills, overlay_at, run, unless, walk_end}
+use Rattle.vt_spec.specs.Machine.Judging.{mounts_overlay_at}
 use Rattle.vt_spec.specs.declared.errors.Deny.{Deny}
 use Rattle.vt_spec.specs.Language.Calls as spec
 use Rattle.vt_laws_trees.specs.Trees.Calls.{mounts_overlay}
@@ -38,27 +39,27 @@ then_merging (Err deny) next merging = tt
 
 module _ (looks : Looks ℕ) (overfills : Permit ℕ → Bool) (who : Task ℕ) where
   by_options : (place : Location ℕ) (options : Option OverlayWords) (flags : MountFlags)
-      → Merging (overlay_permit_by nat_eq looks overfills who place options flags)
+      → Merging (run nat_eq looks who overfills (mounts_overlay_at nat_eq looks who place options flags))
   by_options place None flags = tt
   by_options place (Some words) flags = then_merging (layers_walked nat_eq looks who words)
-      (λ layers. unless (layer_rules nat_eq looks layers (overlay_at looks who layers)) (asked layers))
-      (λ layers. unless_merging (layer_rules nat_eq looks layers (overlay_at looks who layers)) (asked layers)
-      (unless_merging (new_mount_rules nat_eq looks who place (overfills (permit layers))) (Ok (permit layers)) refl))
+      (λ layers. unless (rules layers) (Ok (permit layers)))
+      (λ layers. unless_merging (rules layers) (Ok (permit layers)) refl)
     where
       permit : LayerLocations ℕ → Permit ℕ
       permit layers = ToMountOverlay place (overlay_at looks who layers) flags
 
-      asked : LayerLocations ℕ → Judgement ℕ
-      asked layers = unless (new_mount_rules nat_eq looks who place (overfills (permit layers))) (Ok (permit layers))
+      rules : LayerLocations ℕ → Rules
+      rules layers = layer_rules nat_eq looks layers (overlay_at looks who layers)
+          ++ new_mount_rules nat_eq looks who place (overfills (permit layers))
 
   mounting_merges : (path : List ℕ) (options : Option OverlayWords) (flags : MountFlags)
-      → Merging (mount_overlay_permit nat_eq looks overfills who path options flags)
-  unfolding mount_overlay_permit
-  mounting_merges path options flags = unless_merging (admin_rules who)
-      (and_then (walk_end (destination_walk nat_eq looks who path))
-      (λ here. overlay_permit_by nat_eq looks overfills who here.location options flags))
-      (then_merging (walk_end (destination_walk nat_eq looks who path))
-      (λ here. overlay_permit_by nat_eq looks overfills who here.location options flags)
+      → Merging (judge nat_eq looks overfills who (MountOverlay path options flags))
+  unfolding judging
+  mounting_merges path options flags =
+      let mounts : Here ℕ → Judgement ℕ = λ here.
+      run nat_eq looks who overfills (mounts_overlay_at nat_eq looks who here.location options flags) in
+      unless_merging (admin_rules who) (and_then (walk_end (destination_walk nat_eq looks who path)) mounts)
+      (then_merging (walk_end (destination_walk nat_eq looks who path)) mounts
       (λ here. by_options here.location options flags))
 
   permit_merges : (asked : spec.Call) (permit : Permit ℕ) → judge nat_eq looks overfills who asked ≡ Ok permit

@@ -1,7 +1,7 @@
 -- A judgement goes neither by the numbers handed in nor, as to room for mounts, by the task: the mount of an overlay's
 -- too.
-use Rattle.std.proofs.Common.{◌≡◌, refl, sym, ◌∙◌, ℕ, nat_eq, Bool, List, Option, None, Some, Ok}
-use Rattle.vt_spec.proofs.Common.{Call, Fresh, IsWorld, Location, Looks, MountFlags, MountOverlay, Overlay, OverlayWords, Permit, Task, ToMountOverlay, World, admin_rules, and_then, destination_walk, judge, judge_in, layer_rules, layers_walked, looks_of, mount_overlay_permit, new_mount_rules, overfills, overlay_at, unless, walk_end}
+use Rattle.std.proofs.Common.{◌≡◌, refl, sym, ◌∙◌, ℕ, nat_eq, Bool, List, ◌++◌, Option, None, Some, Ok}
+use Rattle.vt_spec.proofs.Common.{Call, Fresh, IsWorld, Location, Looks, MountFlags, MountOverlay, Overlay, OverlayWords, Permit, Task, ToMountOverlay, World, admin_rules, and_then, destination_walk, judge, judge_in, judging, layer_rules, layers_walked, looks_of, new_mount_rules, overfills, overlay_at, unless, walk_end}
 use Rattle.vt_laws_later_calls.proofs.limits.room.Counted.{overlays_ask_for_room}
 use Rattle.vt_laws_worlds.proofs.permits.taken.TakenJudged.{judgements_do_not_see_supplies}
 use Rattle.vt_laws_trees.specs.Runs.Handed.{counts_from}
@@ -14,17 +14,16 @@ module _ (looks : Looks ℕ) (task : Task ℕ) (ones others : Permit ℕ → Boo
     (alike : (place : Location ℕ) (overlay : Overlay ℕ) (flags : MountFlags)
     → ones (ToMountOverlay place overlay flags) ≡ others (ToMountOverlay place overlay flags)) where
   overlay_alike : (path : List ℕ) (options : Option OverlayWords) (flags : MountFlags)
-      → mount_overlay_permit nat_eq looks ones task path options flags
-      ≡ mount_overlay_permit nat_eq looks others task path options flags
-  unfolding mount_overlay_permit
+      → judge nat_eq looks ones task (MountOverlay path options flags)
+      ≡ judge nat_eq looks others task (MountOverlay path options flags)
+  unfolding judging
   overlay_alike path None flags = refl
   overlay_alike path (Some words) flags = λ i. unless (admin_rules task)
       (and_then (walk_end (destination_walk nat_eq looks task path)) (λ here.
       and_then (layers_walked nat_eq looks task words) (λ layers.
-      unless (layer_rules nat_eq looks layers (overlay_at looks task layers))
-      (unless (new_mount_rules nat_eq looks task here.location
-      (alike here.location (overlay_at looks task layers) flags i))
-      (Ok (ToMountOverlay here.location (overlay_at looks task layers) flags))))))
+      unless (layer_rules nat_eq looks layers (overlay_at looks task layers)
+      ++ new_mount_rules nat_eq looks task here.location (alike here.location (overlay_at looks task layers) flags i))
+      (Ok (ToMountOverlay here.location (overlay_at looks task layers) flags)))))
 
 -- What the world of the code judges is what the definitions judge.
 pub judged_as_meant : (value : WorldValue) (task : Task ℕ) (call : Call)

@@ -4,7 +4,7 @@ use Rattle.std.specs.Prelude.{Bool, Err, List, None, Ok, Option, Some, [], false
 use Rattle.std.specs.Int.Bits.{bit_or}
 use Rattle.vt_spec.specs.declared.errors.Rule.{Rule}
 use Rattle.vt_spec.specs.Language.Calls.{MountFlags}
-use Rattle.vt_spec.specs.Machine.Judge.{Judgement}
+use Rattle.vt_spec.specs.Machine.Judging.{Judgement}
 use Rattle.vt_spec.specs.Machine.Looks.{Looks}
 use Rattle.vt_spec.specs.Machine.Mounts.{Mount}
 use Rattle.vt_spec.specs.Machine.Permits.{Permit}

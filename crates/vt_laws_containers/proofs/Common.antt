@@ -59,5 +59,5 @@ pub use Rattle.vt_laws_worlds.proofs.overlay_permits.worlds.EveryCall.{every_cal
 pub use Rattle.vt_laws_worlds.proofs.overlays_stay.weaving.WovenLists.{filters_swapped}
 pub use Rattle.vt_laws_worlds.proofs.worlds.CallsKept.{name_found}
 pub use Rattle.vt_laws_worlds.proofs.worlds.FitPermitsNamed.{all_permits_fit}
-pub use Rattle.vt_spec.specs.Machine.Turns.{here_route, hold_one, layer_routes, open_route, place_route, rename_from_directory, replied, went_on}
+pub use Rattle.vt_spec.specs.Machine.Turns.{here_route, hold_one, layer_routes, place_or_root, place_route, replied, went_on}
 pub use Rattle.vt_spec.specs.declared.errors.Deny.{Deny}

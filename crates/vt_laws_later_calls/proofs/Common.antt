@@ -46,7 +46,7 @@ pub use Rattle.vt_laws_rules.proofs.given.GivenPermits.{permits_are_for_their_ca
 pub use Rattle.vt_laws_rules.proofs.judged.CallsJudged.{call_is_judged_then_applied, policy_judges_then_applies}
 pub use Rattle.vt_laws_rules.specs.Given.{IsFor}
 pub use Rattle.vt_laws_rules.proofs.given.Ways.{IsGranted}
-pub use Rattle.vt_laws_rules.specs.Judging.{directory_made, symlink_made}
+pub use Rattle.vt_spec.specs.Machine.Judging.{directory_made, symlink_made}
 pub use Rattle.vt_laws_rules.proofs.given.Ways.IsGranted.{changes_mode, changes_owner, creates, creates_exclusively, makes_directory, makes_hard_link, makes_symlink, opens, opens_existing, removes_directory, unlinks, unshares, writes_part}
 pub use Rattle.vt_laws_trees.proofs.layers.views.Entries.{is_entry, is_that_entry}
 pub use Rattle.vt_laws_trees.proofs.layers.views.Moves.{led_parts, move_told, no_way_up}

@@ -1,6 +1,6 @@
 -- What calls that look answer where their walks end.
 use Rattle.std.proofs.Common.{inl, inr, ◌⊎◌, arith, ◌≡◌, refl, ap, ◌∙◌, ℕ, nat_eq, Bool, true, false, cond, not, ◌||◌, ◌&&◌, List, [], ◌∷◌, Option, Some, Ok, Err, ok_or, Result}
-use Rattle.vt_spec.proofs.Common.{Answer, Bytes, Call, Content, Credentials, Fresh, Here, Judgement, Ls, Lstat, Names, Node, Outcome, Read, Readlink, Regular, Stat, Stop, Task, TaskName, ToList, Told, World, after, allows, and_then, apply, bytes_in, call_outcome, common_steps, denial, execute_right, filesystems_changed_by, finished, is_directory_node, is_kind_in, judge_in, kind_of, list_permit, lstat_permit, mount_at, mounter_allows, names_in, node_allows, node_at, policy, read_permit, read_right, readlink_permit, stat_line, stat_permit, task_called, unless, walk_end}
+use Rattle.vt_spec.proofs.Common.{Answer, Bytes, Call, Content, Credentials, Fresh, Here, Judgement, Ls, Lstat, Names, Node, Outcome, Read, Readlink, Regular, Stat, Stop, Task, TaskName, ToList, Told, World, after, allows, and_then, apply, bytes_in, call_outcome, common_steps, denial, execute_right, filesystems_changed_by, finished, is_directory_node, is_kind_in, judge_in, judging, kind_of, mount_at, mounter_allows, names_in, node_allows, node_at, policy, read_right, stat_line, task_called, unless, walk_end}
 use Rattle.vt_laws_later_calls.proofs.Common.{Attr, B1, C1, Deny, File, IsPlain, S2, Symlink, directory_walk, list_rules, object_walk, plain_numbered, read_rules, symlink_walk}
 use Rattle.vt_laws_later_calls.specs.LaterPaths.{reads_all}
 
@@ -36,29 +36,29 @@ module _ (world : World ℕ) (fresh : Fresh ℕ) (name : TaskName) {task : Task 
   pub lstat_of : (here : Here ℕ) → symlink_walk nat_eq world task path ≡ Ok here
       → (policy nat_eq fresh world name (Lstat path)).answer
       ≡ Ok (Told (stat_line (node_at nat_eq world here.location)))
-  unfolding lstat_permit
+  unfolding judging
   lstat_of here walk = cc called
 
   pub lstat_refused : (stop : Stop ℕ) → symlink_walk nat_eq world task path ≡ Err stop
       → (policy nat_eq fresh world name (Lstat path)).answer ≡ Err stop.deny
-  unfolding lstat_permit
+  unfolding judging
   lstat_refused stop walk = cc called
 
   pub stat_of : (here : Here ℕ) → object_walk nat_eq world task path ≡ Ok here
       → (policy nat_eq fresh world name (Stat path)).answer ≡ Ok (Told (stat_line (node_at nat_eq world here.location)))
-  unfolding stat_permit
+  unfolding judging
   stat_of here walk = cc called
 
   pub stat_refused : (stop : Stop ℕ) → object_walk nat_eq world task path ≡ Err stop
       → (policy nat_eq fresh world name (Stat path)).answer ≡ Err stop.deny
-  unfolding stat_permit
+  unfolding judging
   stat_refused stop walk = cc called
 
   pub readlink_of : (here : Here ℕ) → symlink_walk nat_eq world task path ≡ Ok here
       → is_kind_in Symlink (node_at nat_eq world here.location) ≡ true
       → (policy nat_eq fresh world name (Readlink path)).answer
       ≡ Ok (Bytes (bytes_in (node_at nat_eq world here.location)))
-  unfolding readlink_permit
+  unfolding judging
   readlink_of here walk is = cc called
 
   -- a directory is listed, if it may be read
@@ -66,7 +66,7 @@ module _ (world : World ℕ) (fresh : Fresh ℕ) (name : TaskName) {task : Task 
       → (policy nat_eq fresh world name (Ls path)).answer
       ≡ cond (node_allows task.credentials read_right (node_at nat_eq world here.location))
       (Ok (Names (names_in (node_at nat_eq world here.location)))) (Err (denial C1))
-  unfolding list_permit
+  unfolding judging
   list_of plain here walk = ap (λ o. (by_task (Ls path) o).answer) called
       ∙ ap (λ r. answer_of (and_then (walk_end r) (λ (here : Here ℕ).
       unless (list_rules nat_eq world task here.location) (Ok (ToList here.location))))) walk
@@ -97,7 +97,7 @@ module _ (world : World ℕ) (fresh : Fresh ℕ) (name : TaskName) {task : Task 
 
   pub list_refused : (stop : Stop ℕ) → directory_walk nat_eq world task path ≡ Err stop
       → (policy nat_eq fresh world name (Ls path)).answer ≡ Err stop.deny
-  unfolding list_permit
+  unfolding judging
   list_refused stop walk = cc called
 
   -- a regular file is read, if it may be
@@ -106,5 +106,5 @@ module _ (world : World ℕ) (fresh : Fresh ℕ) (name : TaskName) {task : Task 
       → node_at nat_eq world here.location ≡ Some (record { attr = attr; content = Regular bytes })
       → (policy nat_eq fresh world name (Read path)).answer
       ≡ cond (allows task.credentials attr File read_right) (Ok (Bytes bytes)) (Err (denial C1))
-  unfolding read_permit
+  unfolding judging
   read_of plain here walk attr bytes is = grind (arith, common_steps, read_rules, plain_numbered)

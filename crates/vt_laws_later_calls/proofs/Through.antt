@@ -1,6 +1,6 @@
 -- Bytes that were written by a descriptor are read by one.
 use Rattle.std.proofs.Common.{◌≡◌, refl, sym, ap, ◌∙◌, ⊎_elim, ℕ, nat_eq, eq-eqb, Bool, true, cond, List, [], ◌∷◌, length, take, drop, Option, Some, Ok, ok_or, option_to_list, find, true≢false, inr, ◌+◌, ◌-◌, ◌++◌, arith, replicate, append_assoc, length-append, length-take-le}
-use Rattle.vt_spec.proofs.Common.{Bytes, Call, Descriptor, Done, Filesystem, Fresh, IsWorld, Location, Looks, Node, Permit, Pread, Pwrite, SetBytes, Task, TaskName, ToWritePart, World, apply, bytes_in, common_steps, denial, descriptor_numbered, drop-append_seam, found_among, granted, has_regular_files_open, is_kind_in, locations_of, looks_of, mount_at, node_at, node_with_bytes, overwritten, padded, policy, pread_permit, pwritten, raised_task, same_Some, take-append_seam, task_called, with_change, with_filesystem}
+use Rattle.vt_spec.proofs.Common.{Bytes, Call, Descriptor, Done, Filesystem, Fresh, IsWorld, Location, Looks, Node, Permit, Pread, Pwrite, SetBytes, Task, TaskName, ToWritePart, World, apply, bytes_in, common_steps, denial, descriptor_numbered, drop-append_seam, found_among, granted, has_regular_files_open, is_kind_in, judging, locations_of, looks_of, mount_at, node_at, node_with_bytes, overwritten, padded, policy, pwritten, raised_task, same_Some, take-append_seam, task_called, with_change, with_filesystem}
 use Rattle.std.proofs.lemmas.List.{length-replicate}
 use Rattle.vt_laws_later_calls.proofs.Common.{Among, File, IsGranted, IsPlain, S4, among-map, among_from_list_all, called_there, change_of_plain, changed_one, found_new, numbered, old_number, tasks-pwritten, writes_part}
 use Rattle.vt_laws_later_calls.specs.Later.{IsOneInode, PwriteThenPread}
@@ -38,7 +38,7 @@ pub pread_of : (world : World ℕ) (fresh : Fresh ℕ) (name : TaskName) (task :
     (number offset size : ℕ) → task_called world name ≡ Some task → descriptor_numbered task number ≡ Some read
     → read.reads ≡ true → (policy nat_eq fresh world name (Pread number offset size)).answer
     ≡ Ok (Bytes (take size (drop offset (bytes_in (node_at nat_eq world read.location)))))
-unfolding pread_permit
+unfolding judging
 pread_of world fresh name task read number offset size called is reads =
     grind (arith, common_steps, number, descriptor_found)
 

@@ -2,5 +2,4 @@
 pub mod CallsGranted
 pub mod GivenPermits
 pub mod Inversion
-pub mod Runs
 pub mod Ways

@@ -1,8 +1,8 @@
 -- What each call asks, in its order, as folds of what it asks: the rules of the script and of capabilities, then its
 -- walks, then one table of rules.
 use Rattle.std.specs.Prelude.{Bool, Err, IsErrAnd, IsOk, List, Ok, Result, [], cond, filter, map, nat_eq, ok_or, true, ℕ, ◌++◌, ◌∷◌, ◌≡◌, ◌≤◌}
-use Rattle.vt_laws_rules.specs.Judging.{Judging, by_option, judging, walk_to, walk_to_name}
-use Rattle.vt_laws_rules.specs.Judging.Judging.{Attaches, Checks, FindsFile, FindsTask, Grants, IfSo, IfThere, Layers, Names, Needs, Refuses, Walks, Words}
+use Rattle.vt_spec.specs.Machine.Judging.{Judging, by_option, judging, walk_to, walk_to_name}
+use Rattle.vt_spec.specs.Machine.Judging.Judging.{Attaches, Checks, FindsFile, FindsTask, Grants, IfSo, IfThere, Layers, Names, Needs, Refuses, Walks, Words}
 use Rattle.vt_laws_rules.specs.RuleRanks.{is_among, rank}
 use Rattle.vt_spec.specs.declared.errors.Deny.{Deny}
 use Rattle.vt_spec.specs.declared.errors.Rule.{Rule}

@@ -1,8 +1,8 @@
 pub mod Asked
 pub mod Denials
 pub mod Given
+pub mod Granted
 pub mod Judged
-pub mod Judging
 pub mod Numbers
 pub mod Plain
 pub mod Renaming

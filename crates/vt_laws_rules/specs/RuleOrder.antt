@@ -1,7 +1,7 @@
 -- Which rules a call is refused by, and by which of several that fail.
 use Rattle.std.specs.Prelude.{Bool, Err, IfOk, IsErrAnd, List, None, Ok, Option, Some, [], false, if◌then◌else◌, map, nat_eq, true, ℕ, ◌++◌, ◌∷◌, ◌≡◌, ◌≢◌}
 use Rattle.vt_laws_rules.specs.Asked.{IsAnsweredByLeast, IsLeastOf, asked_first, asked_last, failing, last_word_rules}
-use Rattle.vt_laws_rules.specs.Judging.{exclusive_last_words}
+use Rattle.vt_spec.specs.Machine.Rules.Descriptors.{exclusive_word_rules}
 use Rattle.vt_laws_rules.specs.RuleRanks.{IsInOrder, IsInOrderAfterWalk, is_among}
 use Rattle.vt_spec.specs.declared.errors.Deny.{Deny}
 use Rattle.vt_spec.specs.declared.errors.Rule.{Rule}
@@ -201,7 +201,7 @@ ParentRulesInOrder =
 -- last table, which begins with a lesser rule, E3 or E1 (profile). Those of rename are one rule, P1.
 abbrev pub LastWordRulesInOrder : Type 0
 LastWordRulesInOrder = (place : Place ℕ)
-    → IsInOrderAfterWalk (rmdir_word_rules place) × IsInOrderAfterWalk (exclusive_last_words place)
+    → IsInOrderAfterWalk (rmdir_word_rules place) × IsInOrderAfterWalk (exclusive_word_rules place)
 
 -- The one table in another order: whether a link is followed at all, and how many were, is asked before its text is
 -- looked at, so W9 before W7 before W2 (profile).

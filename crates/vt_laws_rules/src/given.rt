@@ -1,6 +1,6 @@
 //! Which calls a permit is given to.
 ghost use Rattle.vt_laws_rules.specs.Given.{PermitsAreForTheirCalls};
-ghost use Rattle.vt_laws_rules.specs.Judging.{CallsAreGranted, GrantsAreJudged, JudgeIsTheRun};
+ghost use Rattle.vt_laws_rules.specs.Granted.{CallsAreGranted, GrantsAreJudged};
 
 /// Each of the 31 permits is granted to its own calls alone, and holds what the call asked for. Of where paths,
 /// descriptors and task names lead, and of what a new object holds, this says nothing.
@@ -10,12 +10,6 @@ ghost use Rattle.vt_laws_rules.specs.Judging.{CallsAreGranted, GrantsAreJudged, 
 /// the number that `close` names.
 pub fn permits_are_for_their_calls()
     ensures { PermitsAreForTheirCalls }
-{}
-
-/// For any given answers to M9, `judge` is the run of what a call asks (`judging`): its walks and its tables of rules,
-/// in their order, and then its permit.
-pub fn judge_is_the_run_of_its_judging()
-    ensures { JudgeIsTheRun }
 {}
 
 /// For any given answers to M9, `judge` grants a permit just if what the call asks leads to it (`IsGrantedBy`;

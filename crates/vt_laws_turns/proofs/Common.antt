@@ -31,7 +31,7 @@ pub use Rattle.vt_laws_worlds.proofs.worlds.Seen.{KeepsView, KeepsWhatIsSeen}
 pub use Rattle.vt_laws_worlds.proofs.worlds.SeenTrees.{unused_by_filesystem, unused_number}
 pub use Rattle.vt_laws_worlds.specs.Worlds.Permits.{MayPivot, NamesWhatIsThere}
 pub use Rattle.vt_spec.specs.Machine.Looks.{is_directory_at, mount_at, topmost}
-pub use Rattle.vt_spec.specs.Machine.Turns.{call_replied, first_sched, here_route, hold_one, layer_routes, open_route, place_route, played, queued_line, queued_request, queues_of, refused_line, replied, reply_text, run_whole, schedule_who, turn_of_line, went_on, with_item_last}
+pub use Rattle.vt_spec.specs.Machine.Turns.{call_replied, first_sched, here_route, hold_one, place_route, played, queued_line, queued_request, queues_of, refused_line, replied, reply_text, run_whole, schedule_who, turn_of_line, went_on, with_item_last}
 unfoldable pub use Rattle.vt_spec.specs.Machine.Turns.{turns_text}
 pub use Rattle.vt_spec.specs.Machine.Walking.{file_or_symlink, file_walked, followed, hop, is_lost, is_top, last_walked, new_name_rules, parent_location, path_walked, prefix_walked}
 pub use Rattle.vt_spec.specs.declared.errors.Deny.{Deny}

@@ -60,7 +60,7 @@ module _ (sched : Sched ℕ) (task : Task ℕ) (line : ℕ) (call : Call) (fresh
 
   first_is : (restarts : ℕ) → IsWalked (first_progress nat_eq sched.world task restarts)
       (first_turn nat_eq sched task line call fresh restarts)
-  first_is restarts = by_entry (unless (entry_rules task call) (Ok call)) restarts
+  first_is restarts = by_entry (unless (entry_rules nat_eq (looks_of nat_eq sched.world) task call) (Ok call)) restarts
 
   by_most : (most : Bool) (p : Progress ℕ) → under_way_of sched.under_way task.name ≡ Some p
       → is_overtaken nat_eq sched.world task p ≡ true → nat_le most_restarts p.restarts ≡ most

@@ -1,8 +1,10 @@
 -- Layers that options name, and mounts of overlays judged by them.
-use Rattle.std.proofs.Common.{◌≡◌, ◌≤◌, ℕ, Bool, true, false, [], ◌∷◌, Result, Ok, Err, Option, None, Some, length, take, nat_eq, refl, sym, ap, ◌∙◌, arith, length-take-le, List, is_some, nat_lt, not, ◌&&◌, take_all}
-use Rattle.vt_spec.proofs.Common.{Call, Here, Judgement, LayerLocations, Location, Looks, MountFlags, OverlayWords, Permit, Rules, Task, ToMountOverlay, and_then, cap_sys_admin, denial, destination_walk, has_single_lower, is_empty_list, lacks, layer_rules, layers_walked, most_lowers, mount_overlay_permit, nat_tests, new_mount_rules, overlay_at, overlay_permit_by, rest_of, unless, unless-let_through, unless-refused, walk_end}
+use Rattle.std.proofs.Common.{◌≡◌, ◌≤◌, ℕ, Bool, true, false, [], ◌∷◌, Result, Ok, Err, Option, None, Some, length, take, nat_eq, refl, sym, ap, ◌∙◌, arith, length-take-le, List, ◌++◌, is_some, nat_lt, not, ◌&&◌, take_all}
+use Rattle.vt_spec.proofs.Common.{Call, Here, Judgement, LayerLocations, Location, Looks, MountFlags, MountOverlay, OverlayWords, Permit, Rules, Task, ToMountOverlay, and_then, cap_sys_admin, denial, destination_walk, has_single_lower, is_empty_list, judge, judging, lacks, layer_rules, layers_walked, most_lowers, nat_tests, new_mount_rules, overlay_at, rest_of, run, unless, unless-let_through, unless-refused, walk_end}
 use Rattle.vt_spec.specs.declared.errors.Deny.{Deny}
 use Rattle.vt_spec.specs.declared.errors.Rule.TheVariants.{K1, O2, S5}
+use Rattle.vt_spec.proofs.Given.{joined_tables}
+use Rattle.vt_spec.specs.Machine.Judging.{mounts_overlay_at}
 use Rattle.vt_permits.specs.Memory.{JudgesByReceivers}
 use Rattle.vt_rules.proofs.Rows.{skipped, stopped}
 use Rattle.vt_walk.specs.WalkValue.{location_end}
@@ -102,16 +104,18 @@ module _ (looks : Looks ℕ) (task : Task ℕ) where
   -- what a mount of an overlay is asked, once it is known where
   module _ (overfills : Permit ℕ → Bool) (path : List ℕ) (options : Option OverlayWords) (flags : MountFlags) where
     abbrev judged : Judgement ℕ
-    judged = mount_overlay_permit nat_eq looks overfills task path options flags
+    judged = judge nat_eq looks overfills task (MountOverlay path options flags)
 
     abbrev asked : Location ℕ → Layers → Judgement ℕ
     asked place layers =
         let permit = ToMountOverlay place (overlay_at looks task layers) flags in
         unless (new_mount_rules nat_eq looks task place (overfills permit)) (Ok permit)
 
-    by_layers : (place : Location ℕ) (options : Option OverlayWords)
-        → overlay_permit_by nat_eq looks overfills task place options flags
-        ≡ and_then (layers_named looks task options) (asked place)
+    -- what is asked at the destination
+    abbrev mounted_at : Location ℕ → Option OverlayWords → Judgement ℕ
+    mounted_at place options = run nat_eq looks task overfills (mounts_overlay_at nat_eq looks task place options flags)
+
+    by_layers : (place : Location ℕ) (options : Option OverlayWords) → mounted_at place options ≡ and_then (layers_named looks task options) (asked place)
     by_layers place None = refl
     by_layers place (Some words) = by_walk (layers_walked nat_eq looks task words) where
       by_rules : {A B : Type 0} (rows : Rules) (a : A) (next : A → Result B Deny)
@@ -120,14 +124,20 @@ module _ (looks : Looks ℕ) (task : Task ℕ) where
       by_rules ((true, rule) ∷ rows) a next = refl
       by_rules ((false, rule) ∷ rows) a next = by_rules rows a next
 
-      by_walk : (walked : Result Layers Deny) → and_then walked (λ layers. ruled layers (asked place layers))
+      by_walk : (walked : Result Layers Deny) → and_then walked (λ layers.
+          let permit = ToMountOverlay place (overlay_at looks task layers) flags in
+          unless (layer_rules nat_eq looks layers (overlay_at looks task layers)
+          ++ new_mount_rules nat_eq looks task place (overfills permit)) (Ok permit))
           ≡ and_then (and_then walked (λ layers. ruled layers (Ok layers))) (asked place)
       by_walk (Ok layers) =
-          by_rules (layer_rules nat_eq looks layers (overlay_at looks task layers)) layers (asked place)
+          let rules = layer_rules nat_eq looks layers (overlay_at looks task layers) in
+          let permit = ToMountOverlay place (overlay_at looks task layers) flags in
+          sym (joined_tables rules (new_mount_rules nat_eq looks task place (overfills permit)) (Ok permit))
+          ∙ by_rules rules layers (asked place)
       by_walk (Err deny) = refl
 
     pub without_capability : lacks task cap_sys_admin ≡ true → judged ≡ Err (denial K1)
-    unfolding mount_overlay_permit
+    unfolding judging
     without_capability e = stopped _ K1 [] _ e
 
     abbrev destined : Result (Here ℕ) Deny
@@ -135,23 +145,23 @@ module _ (looks : Looks ℕ) (task : Task ℕ) where
 
     pub nowhere : (deny : Deny) → lacks task cap_sys_admin ≡ false → Err deny ≡ location_end destined
         → judged ≡ Err deny
-    unfolding mount_overlay_permit
+    unfolding judging
     nowhere deny e refused = skipped _ K1 [] _ e ∙ by_end destined refused where
       by_end : (end : Result (Here ℕ) Deny) → Err deny ≡ location_end end
-          → and_then end (λ here. overlay_permit_by nat_eq looks overfills task here.location options flags) ≡ Err deny
+          → and_then end (λ here. mounted_at here.location options) ≡ Err deny
       by_end (Ok here) refused = absurd cc
       by_end (Err other) refused = cc
 
     placed : (place : Location ℕ) → lacks task cap_sys_admin ≡ false → Ok place ≡ location_end destined
         → judged ≡ and_then (layers_named looks task options) (asked place)
-    unfolding mount_overlay_permit
+    unfolding judging
     placed place e there = skipped _ K1 [] _ e ∙ by_end destined there ∙ by_layers place options where
       by_end : (end : Result (Here ℕ) Deny) → Ok place ≡ location_end end
-          → and_then end (λ here. overlay_permit_by nat_eq looks overfills task here.location options flags)
-          ≡ overlay_permit_by nat_eq looks overfills task place options flags
+          → and_then end (λ here. mounted_at here.location options)
+          ≡ mounted_at place options
       by_end (Ok here) there =
           let same : here.location ≡ place = cc in
-          ap (λ at. overlay_permit_by nat_eq looks overfills task at options flags) same
+          ap (λ at. mounted_at at options) same
       by_end (Err other) there = absurd cc
 
     pub without_layers : (place : Location ℕ) (deny : Deny) → lacks task cap_sys_admin ≡ false

@@ -1,7 +1,7 @@
 //! What a mount of an overlay is granted, or the first rule that refuses it: mount(2).
 ghost use Rattle.std.specs.Prelude.{◌≡◌, Err, IfErr, IfOk, Ok, map, nat_eq};
 ghost use Rattle.vt_spec.specs.Language.Calls.Call.{MountOverlay};
-ghost use Rattle.vt_spec.specs.Machine.Judge.{mount_overlay_permit};
+ghost use Rattle.vt_spec.specs.Machine.Judge.{judge};
 ghost use Rattle.vt_spec.specs.Machine.Rules.Mounting.{destination_walk, layer_at};
 ghost use Rattle.vt_spec.specs.Machine.Walking.{walk_end};
 ghost use Rattle.vt_cred.specs.MountFlags.{flags_of};
@@ -86,8 +86,8 @@ pub fn mount_overlay<L: LookAtLayers>(
     flags: MountFlags,
 ) -> Result<Grant, Deny>
     ensures { JudgesByReceivers (MountOverlay path.now (options_named options.now) (flags_of flags)) (task_of who.now)
-        (mount_overlay_permit nat_eq (L.looks world.now) (L.overfills world.now) (task_of who.now) path.now
-        (options_named options.now) (flags_of flags)) result }
+        (judge nat_eq (L.looks world.now) (L.overfills world.now) (task_of who.now)
+        (MountOverlay path.now (options_named options.now) (flags_of flags))) result }
 {
     if lacks(who, Caps::CAP_SYS_ADMIN) {
         return Err(Rule::K1.denial());

@@ -6,7 +6,7 @@ use Rattle.vt_spec.specs.declared.errors.Rule.TheVariants.{M10, M8, M9, S5}
 use Rattle.vt_spec.specs.Errors.{denial}
 use Rattle.vt_spec.specs.Language.Calls.{Call}
 use Rattle.vt_spec.specs.Language.Calls.Call.{Bind, MountOverlay, MountPlain, MoveMount, Umount}
-use Rattle.vt_spec.specs.Machine.Judge.{Judgement}
+use Rattle.vt_spec.specs.Machine.Judging.{Judgement}
 use Rattle.vt_spec.specs.Machine.World.{Task}
 use Rattle.vt_permits.specs.declared.grant.Grant.{Grant}
 use Rattle.vt_permits.specs.GrantValue.{permit_of}

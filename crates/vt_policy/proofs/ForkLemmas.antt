@@ -1,9 +1,10 @@
 -- A child with the caller's credentials is refused by no rule on credentials.
 use Rattle.std.proofs.Common.{◌≡◌, ℕ, Bool, false, [], not, ◌&&◌, ◌||◌, ◌==◌, Ok, None, length, nat_le, eq-eqb, refl, ap, ◌∙◌, bytes_eq}
-use Rattle.vt_spec.proofs.Common.{Task, ToFork, bytes_eq-Decides, deepest_name, fork_permit, lacks, most_forks}
+use Rattle.vt_spec.proofs.Common.{Fork, Looks, Task, ToFork, bytes_eq-Decides, deepest_name, judging, lacks, most_forks}
 use Rattle.std.specs.Int.Bits.{and_self, bit_and}
 use Rattle.vt_spec.specs.declared.errors.Rule.TheVariants.{K1, S6}
 use Rattle.vt_rules.proofs.Rows.{skipped}
+use Rattle.vt_policy.specs.Judged.{judge_by_looks}
 
 differs : (a : ℕ) (lacking : Bool) → (not (a == a) && lacking) ≡ false
 differs a lacking = ap (λ same. not same && lacking) (eq-eqb a a refl)
@@ -17,10 +18,11 @@ same_groups : (gid : ℕ) (groups : _) (lacking : Bool) → (not (gid == gid && 
 same_groups gid groups lacking = ap (λ same. not (same && bytes_eq groups groups) && lacking) (eq-eqb gid gid refl)
     ∙ ap (λ same. not same && lacking) ((bytes_eq-Decides groups groups).1 refl)
 
-pub forked_alike : (task : Task ℕ) → (nat_le most_forks task.forks || nat_le deepest_name (length task.name)) ≡ false
-    → fork_permit task None ≡ Ok (ToFork task.credentials)
-unfolding fork_permit
-forked_alike task fertile =
+pub forked_alike : (looks : Looks ℕ) (task : Task ℕ)
+    → (nat_le most_forks task.forks || nat_le deepest_name (length task.name)) ≡ false
+    → judge_by_looks looks task (Fork None) ≡ Ok (ToFork task.credentials)
+unfolding judging
+forked_alike looks task fertile =
     skipped (nat_le most_forks task.forks || nat_le deepest_name (length task.name)) S6 _ _ fertile
     ∙ skipped _ K1 _ _ (differs task.credentials.uid _)
     ∙ skipped _ K1 _ _ (same_groups task.credentials.gid task.credentials.groups _)

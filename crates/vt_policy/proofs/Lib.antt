@@ -3,4 +3,5 @@ mod MountLemmas
 mod MoveLemmas
 mod PlaceLemmas
 mod ReadLemmas
+mod Receivers
 mod WalkEnds

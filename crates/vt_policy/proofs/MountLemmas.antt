@@ -1,10 +1,11 @@
 -- Mount calls that have passed their walks are left to their tables of rules.
 use Rattle.std.proofs.Common.{◌≡◌, ℕ, Bool, true, false, List, [], ◌∷◌, Result, Ok, Err, nat_eq, ap, ◌∙◌}
-use Rattle.vt_spec.proofs.Common.{Here, Location, Looks, MountFlags, Permit, Rules, Task, ToBind, ToMountPlain, ToMove, ToPivot, and_then, bind_permit, bind_rules, cap_sys_admin, destination_walk, directory_walk, is_elsewhere, is_no_root, lacks, mount_plain_permit, move_permit, move_rules, new_mount_rules, pivot_permit, pivot_rules, source_walk, unless, walk_end}
+use Rattle.vt_spec.proofs.Common.{Bind, Here, Location, Looks, MountFlags, MountPlain, MoveMount, Permit, PivotRoot, Rules, Task, ToBind, ToMountPlain, ToMove, ToPivot, and_then, bind_rules, cap_sys_admin, destination_walk, directory_walk, is_elsewhere, is_no_root, judge, judging, lacks, move_rules, new_mount_rules, pivot_rules, source_walk, unless, walk_end}
 use Rattle.vt_spec.specs.declared.errors.Deny.{Deny}
 use Rattle.vt_spec.specs.declared.errors.Rule.TheVariants.{K1, M2, M7}
 use Rattle.vt_policy.specs.Ends.{root_walk}
 use Rattle.vt_rules.proofs.Rows.{skipped}
+use Rattle.vt_policy.specs.Judged.{judge_by_looks}
 
 -- where a walk ends
 abbrev pub Reaches : Result (Here ℕ) Deny → Location ℕ → Type 0
@@ -18,10 +19,10 @@ reached end at next r = ap (λ e. and_then e (λ here. next here.location)) r.1 
 pub mount_plain_asked : (looks : Looks ℕ) (overfills : Permit ℕ → Bool) (task : Task ℕ) (path : List ℕ)
     (flags : MountFlags) (place : Location ℕ) → lacks task cap_sys_admin ≡ false
     → Reaches (walk_end (destination_walk nat_eq looks task path)) place
-    → mount_plain_permit nat_eq looks overfills task path flags
+    → judge nat_eq looks overfills task (MountPlain path flags)
     ≡ unless (new_mount_rules nat_eq looks task place (overfills (ToMountPlain place flags)))
     (Ok (ToMountPlain place flags))
-unfolding mount_plain_permit
+unfolding judging
 mount_plain_asked looks overfills task path flags place admin there = skipped _ K1 [] _ admin
     ∙ reached (walk_end (destination_walk nat_eq looks task path)) place
     (λ at. unless (new_mount_rules nat_eq looks task at (overfills (ToMountPlain at flags)))
@@ -31,10 +32,10 @@ pub bind_asked : (looks : Looks ℕ) (overfills : Permit ℕ → Bool) (task : T
     (source place : Location ℕ) → lacks task cap_sys_admin ≡ false
     → Reaches (walk_end (source_walk nat_eq looks task old)) source
     → Reaches (walk_end (destination_walk nat_eq looks task new)) place
-    → bind_permit nat_eq looks overfills task old new recursive
+    → judge nat_eq looks overfills task (Bind old new recursive)
     ≡ unless (bind_rules nat_eq looks task source place (overfills (ToBind source place recursive)))
     (Ok (ToBind source place recursive))
-unfolding bind_permit
+unfolding judging
 bind_asked looks overfills task old new recursive source place admin from there =
     let asked : Location ℕ → Location ℕ → Result (Permit ℕ) Deny = λ from. λ at.
     unless (bind_rules nat_eq looks task from at (overfills (ToBind from at recursive)))
@@ -47,10 +48,10 @@ pub move_asked : (looks : Looks ℕ) (overfills : Permit ℕ → Bool) (task : T
     (source place : Location ℕ) → lacks task cap_sys_admin ≡ false
     → Reaches (walk_end (source_walk nat_eq looks task old)) source
     → Reaches (walk_end (destination_walk nat_eq looks task new)) place
-    → move_permit nat_eq looks overfills task old new
+    → judge nat_eq looks overfills task (MoveMount old new)
     ≡ unless (move_rules nat_eq looks task source place (overfills (ToMove source.mount place)))
     (Ok (ToMove source.mount place))
-unfolding move_permit
+unfolding judging
 move_asked looks overfills task old new source place admin from there =
     let asked : Location ℕ → Location ℕ → Result (Permit ℕ) Deny = λ from. λ at.
     unless (move_rules nat_eq looks task from at (overfills (ToMove from.mount at))) (Ok (ToMove from.mount at)) in
@@ -60,9 +61,9 @@ move_asked looks overfills task old new source place admin from there =
 
 pub pivot_asked : (looks : Looks ℕ) (task : Task ℕ) (new put : List ℕ) (root place : Location ℕ)
     → lacks task cap_sys_admin ≡ false → Reaches (walk_end (source_walk nat_eq looks task new)) root
-    → Reaches (walk_end (destination_walk nat_eq looks task put)) place → pivot_permit nat_eq looks task new put
+    → Reaches (walk_end (destination_walk nat_eq looks task put)) place → judge_by_looks looks task (PivotRoot new put)
     ≡ unless (pivot_rules nat_eq looks task root place) (Ok (ToPivot root.mount place))
-unfolding pivot_permit
+unfolding judging
 pivot_asked looks task new put root place admin from there =
     let asked : Location ℕ → Location ℕ → Result (Permit ℕ) Deny = λ from. λ at.
     unless (pivot_rules nat_eq looks task from at) (Ok (ToPivot from.mount at)) in

@@ -1,6 +1,6 @@
 -- A move of a mount that has passed its walks: the rules before the receivers are asked for, and those after.
 use Rattle.std.proofs.Common.{◌≡◌, ℕ, Bool, false, List, [], ◌∷◌, Ok, Err, is_some, nat_eq, not, ◌∙◌}
-use Rattle.vt_spec.proofs.Common.{Location, Looks, Permit, Rules, Task, ToMove, cap_sys_admin, destination_walk, lacks, move_permit, source_walk, unless, unless-let_through, walk_end}
+use Rattle.vt_spec.proofs.Common.{Location, Looks, MoveMount, Permit, Rules, Task, ToMove, cap_sys_admin, destination_walk, judge, lacks, source_walk, unless, unless-let_through, walk_end}
 use Rattle.vt_spec.specs.declared.errors.Deny.{Deny}
 use Rattle.vt_spec.specs.declared.errors.Rule.TheVariants.{M10, M9}
 use Rattle.vt_spec.specs.Machine.Looks.{mount_at}
@@ -18,7 +18,7 @@ pub move_refused : (looks : Looks ℕ) (overfills : Permit ℕ → Bool) (task :
     → Reaches (walk_end (source_walk nat_eq looks task old)) source
     → Reaches (walk_end (destination_walk nat_eq looks task new)) place
     → (deny : Deny) → Err deny ≡ unless {A = Unit {0}} (move_table looks task source place) (Ok tt)
-    → move_permit nat_eq looks overfills task old new ≡ Err deny
+    → judge nat_eq looks overfills task (MoveMount old new) ≡ Err deny
 move_refused looks overfills task old new source place admin from there deny refused =
     let permit = ToMove source.mount place in
     move_asked looks overfills task old new source place admin from there
@@ -31,7 +31,7 @@ pub move_left : (looks : Looks ℕ) (overfills : Permit ℕ → Bool) (task : Ta
     → Reaches (walk_end (source_walk nat_eq looks task old)) source
     → Reaches (walk_end (destination_walk nat_eq looks task new)) place
     → Ok tt ≡ unless {A = Unit {0}} (move_table looks task source place) (Ok tt)
-    → move_permit nat_eq looks overfills task old new
+    → judge nat_eq looks overfills task (MoveMount old new)
     ≡ unless (last_rows looks source (overfills (ToMove source.mount place))) (Ok (ToMove source.mount place))
 move_left looks overfills task old new source place admin from there passed =
     let permit = ToMove source.mount place in

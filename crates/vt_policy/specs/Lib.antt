@@ -1,3 +1,4 @@
 pub mod Allocating
 pub mod Ends
+pub mod Judged
 pub mod PermitValue

@@ -1,8 +1,9 @@
 //! Calls that set attributes and marks: chmod(2), chown(2), setxattr(2).
 ghost use Rattle.std.specs.Prelude.{nat_eq};
-ghost use Rattle.vt_spec.specs.Machine.Judge.{chmod_permit, chown_permit, opaque_permit};
+ghost use Rattle.vt_spec.specs.Language.Calls.Call.{Chmod, Chown, Opaque};
 ghost use Rattle.vt_permits.specs.Memory.{JudgesAlike};
 ghost use Rattle.vt_tasks.specs.TaskValue.{task_of};
+ghost use Rattle.vt_policy.specs.Judged.{judge_by_looks};
 
 use crate::paths::{directory_at, object_at};
 use vt_cred::{Caps, Mode, owns};
@@ -14,10 +15,10 @@ use vt_spec::errors::{Deny, Rule};
 use vt_tasks::Task;
 
 /// After the rules of the walk those of `vt_rules::attr_permit`.
-#[tactic(auto, unfolding(vt_spec::specs::Machine::Judge::chmod_permit))]
+#[tactic(auto, unfolding(vt_spec::specs::Machine::Judging::judging))]
 pub fn chmod<L: Look>(world: &L, who: &Task, path: &[u8], mode: Mode) -> Result<Grant, Deny>
     ensures { JudgesAlike (task_of who.now)
-        (chmod_permit nat_eq (L.looks world.now) (task_of who.now) path.now mode) result }
+        (judge_by_looks (L.looks world.now) (task_of who.now) (Chmod path.now mode)) result }
 {
     let object = object_at(world, who, path)?;
     let old = attr_at(world, object);
@@ -30,7 +31,7 @@ pub fn chmod<L: Look>(world: &L, who: &Task, path: &[u8], mode: Mode) -> Result<
 }
 
 /// After the rules of the walk those of `vt_rules::attr_permit`.
-#[tactic(auto, unfolding(vt_spec::specs::Machine::Judge::chown_permit))]
+#[tactic(auto, unfolding(vt_spec::specs::Machine::Judging::judging))]
 pub fn chown<L: Look>(
     world: &L,
     who: &Task,
@@ -39,7 +40,7 @@ pub fn chown<L: Look>(
     gid: Option<u32>,
 ) -> Result<Grant, Deny>
     ensures { JudgesAlike (task_of who.now)
-        (chown_permit nat_eq (L.looks world.now) (task_of who.now) path.now uid gid) result }
+        (judge_by_looks (L.looks world.now) (task_of who.now) (Chown path.now uid gid)) result }
 {
     let object = object_at(world, who, path)?;
     let old = attr_at(world, object);
@@ -52,10 +53,10 @@ pub fn chown<L: Look>(
 }
 
 /// K1 (EPERM), and after the rules of the walk those of `may_mark`.
-#[tactic(auto, unfolding(vt_spec::specs::Machine::Judge::opaque_permit))]
+#[tactic(auto, unfolding(vt_spec::specs::Machine::Judging::judging))]
 pub fn opaque<L: Look>(world: &L, who: &Task, path: &[u8], mark: bool) -> Result<Grant, Deny>
     ensures { JudgesAlike (task_of who.now)
-        (opaque_permit nat_eq (L.looks world.now) (task_of who.now) path.now mark) result }
+        (judge_by_looks (L.looks world.now) (task_of who.now) (Opaque path.now mark)) result }
 {
     if lacks(who, Caps::CAP_SYS_ADMIN) {
         return Err(Rule::K1.denial());

@@ -1,10 +1,13 @@
 //! Calls on open files: open(2), pread(2), pwrite(2), close(2).
-ghost use Rattle.std.specs.Prelude.{nat_eq};
+ghost use Rattle.std.specs.Prelude.{nat_eq, ℕ};
 ghost use Rattle.vt_spec.specs.Language.Calls.Creation.{Exclusive, OrCreate};
-ghost use Rattle.vt_spec.specs.Machine.Judge.{close_permit, open_by_permit, open_permit, pread_permit, pwrite_permit};
+ghost use Rattle.vt_spec.specs.Language.Calls.Call.{Close, OpenFile, Pread, Pwrite};
 ghost use Rattle.vt_permits.specs.Memory.{Judges, JudgesAlike};
 ghost use Rattle.vt_request.specs.Requests.{access_of, creation_of};
 ghost use Rattle.vt_tasks.specs.TaskValue.{task_of};
+ghost use Rattle.vt_spec.specs.Machine.Judging.{opens};
+ghost use Rattle.vt_spec.specs.Machine.Looks.{Looks};
+ghost use Rattle.vt_policy.specs.Judged.{judge_by_looks, run_by_looks};
 
 use crate::paths::{file_place, new_place, object_at};
 use std::alloc::Global;
@@ -27,8 +30,8 @@ fn open_or_create<L: Look>(
     mode: Mode,
 ) -> Result<Grant, Deny>
     ensures { Judges (task_of who.now)
-        (open_by_permit nat_eq (L.looks world.now) (task_of who.now) path.now (access_of access)
-        (OrCreate mode)) result }
+        (run_by_looks (L.looks world.now) (task_of who.now)
+        (opens nat_eq (L.looks world.now) (task_of who.now) path.now (access_of access) (OrCreate mode))) result }
 {
     let place = file_place(world, who, path)?;
     if place.last.is_special() || place.slash {
@@ -50,8 +53,8 @@ fn open_exclusive<L: Look>(
     mode: Mode,
 ) -> Result<Grant, Deny>
     ensures { Judges (task_of who.now)
-        (open_by_permit nat_eq (L.looks world.now) (task_of who.now) path.now (access_of access)
-        (Exclusive mode)) result }
+        (run_by_looks (L.looks world.now) (task_of who.now)
+        (opens nat_eq (L.looks world.now) (task_of who.now) path.now (access_of access) (Exclusive mode))) result }
 {
     let place = new_place(world, who, path)?;
     if place.last.is_special() {
@@ -67,7 +70,7 @@ fn open_exclusive<L: Look>(
 }
 
 /// Before the rules of the walk: S3 (EMFILE). After them those of a file that is there, or of one that is made.
-#[tactic(auto, unfolding(vt_spec::specs::Machine::Judge::open_permit))]
+#[tactic(auto, unfolding(vt_spec::specs::Machine::Judging::judging))]
 pub fn open<L: Look>(
     alloc: Global,
     world: &L,
@@ -77,8 +80,8 @@ pub fn open<L: Look>(
     creation: Creation,
 ) -> Result<Grant, Deny>
     ensures { Judges (task_of who.now)
-        (open_permit nat_eq (L.looks world.now) (task_of who.now) path.now (access_of access)
-        (creation_of creation)) result }
+        (judge_by_looks (L.looks world.now) (task_of who.now)
+        (OpenFile path.now (access_of access) (creation_of creation))) result }
 {
     if who.descriptors.len() >= MAX_DESCRIPTORS {
         return Err(Rule::S3.denial());
@@ -94,9 +97,10 @@ pub fn open<L: Look>(
 }
 
 /// S4 (EBADF).
-#[tactic(auto, unfolding(vt_spec::specs::Machine::Judge::pread_permit))]
+#[tactic(auto, unfolding(vt_spec::specs::Machine::Judging::judging))]
 pub fn pread(who: &Task, descriptor: u8, offset: u32, size: u32) -> Result<Grant, Deny>
-    ensures { JudgesAlike (task_of who.now) (pread_permit (task_of who.now) descriptor offset size) result }
+    ensures { (looks : Looks ℕ) → JudgesAlike (task_of who.now)
+        (judge_by_looks looks (task_of who.now) (Pread descriptor offset size)) result }
 {
     let file = readable_file(who, descriptor)?;
     Ok(Grant::Look(LookGrant::ReadPart(ToReadPart {
@@ -107,7 +111,7 @@ pub fn pread(who: &Task, descriptor: u8, offset: u32, size: u32) -> Result<Grant
 }
 
 /// S4 (EBADF), E6 (EFBIG), L1 (EBUSY).
-#[tactic(auto, unfolding(vt_spec::specs::Machine::Judge::pwrite_permit))]
+#[tactic(auto, unfolding(vt_spec::specs::Machine::Judging::judging))]
 pub fn pwrite<L: Look>(
     world: &L,
     who: &Task,
@@ -116,7 +120,7 @@ pub fn pwrite<L: Look>(
     bytes: Vec<u8>,
 ) -> Result<Grant, Deny>
     ensures { JudgesAlike (task_of who.now)
-        (pwrite_permit (L.looks world.now) (task_of who.now) descriptor offset bytes.items) result }
+        (judge_by_looks (L.looks world.now) (task_of who.now) (Pwrite descriptor offset bytes.items)) result }
 {
     let file = writable_file(who, descriptor)?;
     let offset = offset as usize;
@@ -134,9 +138,10 @@ pub fn pwrite<L: Look>(
 }
 
 /// S4 (EBADF).
-#[tactic(auto, unfolding(vt_spec::specs::Machine::Judge::close_permit))]
+#[tactic(auto, unfolding(vt_spec::specs::Machine::Judging::judging))]
 pub fn close(who: &Task, descriptor: u8) -> Result<Grant, Deny>
-    ensures { JudgesAlike (task_of who.now) (close_permit (task_of who.now) descriptor) result }
+    ensures { (looks : Looks ℕ) → JudgesAlike (task_of who.now)
+        (judge_by_looks looks (task_of who.now) (Close descriptor)) result }
 {
     match who.descriptors.get(descriptor) {
         Some(_) => Ok(Grant::Descriptor(DescriptorGrant::Close { descriptor })),

@@ -50,6 +50,7 @@ pub(crate) fn granted<L: LookAtLayers>(
 
 // A call that only looks.
 #[inline(always)]
+#[tactic(auto, unfolding(vt_spec::specs::Machine::Judging::judging))]
 fn judge_look<L: LookAtLayers>(world: &L, who: &Task, call: LookCall<'_>) -> Result<Grant, Deny>
     ensures judged { JudgesByReceivers (look_call_of call.entry) (task_of who.now)
         (judge nat_eq (L.looks world.now) (L.overfills world.now) (task_of who.now) (look_call_of call.entry)) result }
@@ -74,6 +75,7 @@ fn judge_look<L: LookAtLayers>(world: &L, who: &Task, call: LookCall<'_>) -> Res
 
 // A call that makes a name.
 #[inline(always)]
+#[tactic(auto, unfolding(vt_spec::specs::Machine::Judging::judging))]
 fn judge_make<L: LookAtLayers>(
     alloc: Global,
     world: &L,
@@ -95,6 +97,7 @@ fn judge_make<L: LookAtLayers>(
 
 // A call that takes a name away.
 #[inline(always)]
+#[tactic(auto, unfolding(vt_spec::specs::Machine::Judging::judging))]
 fn judge_remove<L: LookAtLayers>(
     alloc: Global,
     world: &L,
@@ -115,6 +118,7 @@ fn judge_remove<L: LookAtLayers>(
 
 // A call that sets the content, the owner or the mode of an object, or the mark of a directory.
 #[inline(always)]
+#[tactic(auto, unfolding(vt_spec::specs::Machine::Judging::judging))]
 fn judge_write<L: LookAtLayers>(
     alloc: Global,
     world: &L,
@@ -141,6 +145,7 @@ fn judge_write<L: LookAtLayers>(
 
 // A call that opens or closes a file.
 #[inline(always)]
+#[tactic(auto, unfolding(vt_spec::specs::Machine::Judging::judging))]
 fn judge_descriptor<L: LookAtLayers>(
     alloc: Global,
     world: &L,
@@ -164,6 +169,7 @@ fn judge_descriptor<L: LookAtLayers>(
 
 // A call that changes the caller, or makes a task.
 #[inline(always)]
+#[tactic(auto, unfolding(vt_spec::specs::Machine::Judging::judging))]
 fn judge_task<L: LookAtLayers>(world: &L, who: &Task, call: TaskCall<'_>) -> Result<Grant, Deny>
     ensures judged { JudgesByReceivers (task_call_of call.entry) (task_of who.now)
         (judge nat_eq (L.looks world.now) (L.overfills world.now) (task_of who.now) (task_call_of call.entry)) result }
@@ -188,6 +194,7 @@ fn judge_task<L: LookAtLayers>(world: &L, who: &Task, call: TaskCall<'_>) -> Res
 
 // A call that changes mounts.
 #[inline(always)]
+#[tactic(auto, unfolding(vt_spec::specs::Machine::Judging::judging))]
 fn judge_mount<L: LookAtLayers>(
     alloc: Global,
     world: &L,

@@ -1,11 +1,12 @@
 //! Calls that look: stat(2), readlink(2), read(2), getdents(2), execve(2).
 ghost use Rattle.std.specs.Prelude.{◌≡◌, nat_eq, option_copied, Ok};
 ghost use Rattle.vt_spec.specs.Errors.{unless};
-ghost use Rattle.vt_spec.specs.Machine.Judge.{exec_permit, list_permit, lstat_permit, read_permit, readlink_permit, stat_permit};
+ghost use Rattle.vt_spec.specs.Language.Calls.Call.{Exec, Ls, Lstat, Read, Readlink, Stat};
 ghost use Rattle.vt_spec.specs.Machine.Rules.Looking.{read_rules};
 ghost use Rattle.vt_location.specs.Locations.{location_of};
 ghost use Rattle.vt_permits.specs.Memory.{JudgesAlike};
 ghost use Rattle.vt_tasks.specs.TaskValue.{task_of};
+ghost use Rattle.vt_policy.specs.Judged.{judge_by_looks};
 
 use crate::paths::{directory_at, object_at, object_found_at, symlink_at};
 use vt_cred::{Rights, allows};
@@ -18,9 +19,10 @@ use vt_spec::errors::{Deny, Rule};
 use vt_tasks::Task;
 
 /// After the rules of the walk: C1 (EACCES), B1 (EACCES).
-#[tactic(auto, unfolding(vt_spec::specs::Machine::Judge::list_permit))]
+#[tactic(auto, unfolding(vt_spec::specs::Machine::Judging::judging))]
 pub fn list<L: Look>(world: &L, who: &Task, path: &[u8]) -> Result<Grant, Deny>
-    ensures { JudgesAlike (task_of who.now) (list_permit nat_eq (L.looks world.now) (task_of who.now) path.now) result }
+    ensures { JudgesAlike (task_of who.now)
+        (judge_by_looks (L.looks world.now) (task_of who.now) (Ls path.now)) result }
 {
     let directory = directory_at(world, who, path)?;
     if !may(world, who, directory, Rights::READ) {
@@ -33,29 +35,30 @@ pub fn list<L: Look>(world: &L, who: &Task, path: &[u8]) -> Result<Grant, Deny>
 }
 
 /// The rules of the walk alone.
-#[tactic(auto, unfolding(vt_spec::specs::Machine::Judge::stat_permit))]
+#[tactic(auto, unfolding(vt_spec::specs::Machine::Judging::judging))]
 pub fn stat<L: Look>(world: &L, who: &Task, path: &[u8]) -> Result<Grant, Deny>
-    ensures { JudgesAlike (task_of who.now) (stat_permit nat_eq (L.looks world.now) (task_of who.now) path.now) result }
+    ensures { JudgesAlike (task_of who.now)
+        (judge_by_looks (L.looks world.now) (task_of who.now) (Stat path.now)) result }
 {
     let object = object_at(world, who, path)?;
     Ok(Grant::Look(LookGrant::Stat { object }))
 }
 
 /// The rules of the walk alone.
-#[tactic(auto, unfolding(vt_spec::specs::Machine::Judge::lstat_permit))]
+#[tactic(auto, unfolding(vt_spec::specs::Machine::Judging::judging))]
 pub fn lstat<L: Look>(world: &L, who: &Task, path: &[u8]) -> Result<Grant, Deny>
     ensures { JudgesAlike (task_of who.now)
-        (lstat_permit nat_eq (L.looks world.now) (task_of who.now) path.now) result }
+        (judge_by_looks (L.looks world.now) (task_of who.now) (Lstat path.now)) result }
 {
     let object = symlink_at(world, who, path)?;
     Ok(Grant::Look(LookGrant::Stat { object }))
 }
 
 /// After the rules of the walk: E5 (EINVAL).
-#[tactic(auto, unfolding(vt_spec::specs::Machine::Judge::readlink_permit))]
+#[tactic(auto, unfolding(vt_spec::specs::Machine::Judging::judging))]
 pub fn readlink<L: Look>(world: &L, who: &Task, path: &[u8]) -> Result<Grant, Deny>
     ensures { JudgesAlike (task_of who.now)
-        (readlink_permit nat_eq (L.looks world.now) (task_of who.now) path.now) result }
+        (judge_by_looks (L.looks world.now) (task_of who.now) (Readlink path.now)) result }
 {
     let symlink = symlink_at(world, who, path)?;
     if !is_kind(world, symlink, Kind::Symlink) {
@@ -95,9 +98,10 @@ fn may_read<L: Look>(
 }
 
 /// After the rules of the walk: E2 (EISDIR), E9 (ENXIO), C1 (EACCES), B1 (EACCES).
-#[tactic(auto, unfolding(vt_spec::specs::Machine::Judge::read_permit))]
+#[tactic(auto, unfolding(vt_spec::specs::Machine::Judging::judging))]
 pub fn read<L: Look>(world: &L, who: &Task, path: &[u8]) -> Result<Grant, Deny>
-    ensures { JudgesAlike (task_of who.now) (read_permit nat_eq (L.looks world.now) (task_of who.now) path.now) result }
+    ensures { JudgesAlike (task_of who.now)
+        (judge_by_looks (L.looks world.now) (task_of who.now) (Read path.now)) result }
 {
     let found = object_found_at(world, who, path)?;
     may_read(world, who, found.location, found.object)?;
@@ -107,9 +111,10 @@ pub fn read<L: Look>(world: &L, who: &Task, path: &[u8]) -> Result<Grant, Deny>
 }
 
 /// After the rules of the walk: E8 (EACCES), F3 (EACCES), C1 (EACCES), B1 (EACCES).
-#[tactic(auto, unfolding(vt_spec::specs::Machine::Judge::exec_permit))]
+#[tactic(auto, unfolding(vt_spec::specs::Machine::Judging::judging))]
 pub fn exec<L: Look>(world: &L, who: &Task, path: &[u8]) -> Result<Grant, Deny>
-    ensures { JudgesAlike (task_of who.now) (exec_permit nat_eq (L.looks world.now) (task_of who.now) path.now) result }
+    ensures { JudgesAlike (task_of who.now)
+        (judge_by_looks (L.looks world.now) (task_of who.now) (Exec path.now)) result }
 {
     let file = object_at(world, who, path)?;
     if !is_kind(world, file, Kind::File) {

@@ -2,9 +2,10 @@
 ghost use Rattle.std.specs.Prelude.{◌≡◌, nat_eq, IfErr, IfOk};
 ghost use Rattle.vt_spec.specs.declared.errors.Rule.TheVariants.{S5};
 ghost use Rattle.vt_spec.specs.Errors.{denial};
-ghost use Rattle.vt_spec.specs.Machine.Judge.{hard_link_permit, mkdir_permit, symlink_permit, whiteout_permit, write_permit};
+ghost use Rattle.vt_spec.specs.Language.Calls.Call.{LinkTo, MakeWhiteout, Mkdir, SymlinkAt, Write};
 ghost use Rattle.vt_permits.specs.Memory.{Judges};
 ghost use Rattle.vt_tasks.specs.TaskValue.{task_of};
+ghost use Rattle.vt_policy.specs.Judged.{judge_by_looks};
 
 use crate::paths::{file_place, new_leaf_place, new_place, symlink_at};
 use std::alloc::Global;
@@ -24,7 +25,7 @@ use vt_text::path::LONGEST_PATH;
 const DIRECTORY_MODE: u16 = 0o777;
 
 /// After the rules of the walk: E1 (EEXIST), and those of `may_make`.
-#[tactic(auto, unfolding(vt_spec::specs::Machine::Judge::mkdir_permit))]
+#[tactic(auto, unfolding(vt_spec::specs::Machine::Judging::judging))]
 pub fn mkdir<L: Look>(
     alloc: Global,
     world: &L,
@@ -33,7 +34,7 @@ pub fn mkdir<L: Look>(
     mode: Option<Mode>,
 ) -> Result<Grant, Deny>
     ensures { Judges (task_of who.now)
-        (mkdir_permit nat_eq (L.looks world.now) (task_of who.now) path.now mode) result }
+        (judge_by_looks (L.looks world.now) (task_of who.now) (Mkdir path.now mode)) result }
 {
     let place = new_place(world, who, path)?;
     if place.last.is_special() || place.object.is_some() {
@@ -58,7 +59,7 @@ fn text_of(alloc: Global, text: &[u8]) -> Result<Vec<u8>, Deny>
 
 /// Before the rules of the walk, of the symlink's text: W1 (ENOENT), W2 (ENAMETOOLONG). After them: E1 (EEXIST),
 /// and those of `may_make`.
-#[tactic(auto, unfolding(vt_spec::specs::Machine::Judge::symlink_permit))]
+#[tactic(auto, unfolding(vt_spec::specs::Machine::Judging::judging))]
 pub fn symlink<L: Look>(
     alloc: Global,
     world: &L,
@@ -67,7 +68,7 @@ pub fn symlink<L: Look>(
     path: &[u8],
 ) -> Result<Grant, Deny>
     ensures { Judges (task_of who.now)
-        (symlink_permit nat_eq (L.looks world.now) (task_of who.now) text.now path.now) result }
+        (judge_by_looks (L.looks world.now) (task_of who.now) (SymlinkAt text.now path.now)) result }
 {
     if text.is_empty() {
         return Err(Rule::W1.denial());
@@ -88,10 +89,10 @@ pub fn symlink<L: Look>(
 }
 
 /// After the rules of the walk those of `may_make_whiteout`.
-#[tactic(auto, unfolding(vt_spec::specs::Machine::Judge::whiteout_permit))]
+#[tactic(auto, unfolding(vt_spec::specs::Machine::Judging::judging))]
 pub fn whiteout<L: Look>(alloc: Global, world: &L, who: &Task, path: &[u8]) -> Result<Grant, Deny>
     ensures { Judges (task_of who.now)
-        (whiteout_permit nat_eq (L.looks world.now) (task_of who.now) path.now) result }
+        (judge_by_looks (L.looks world.now) (task_of who.now) (MakeWhiteout path.now)) result }
 {
     let place = new_leaf_place(world, who, path)?;
     may_make_whiteout(world, who, &place)?;
@@ -103,7 +104,7 @@ pub fn whiteout<L: Look>(alloc: Global, world: &L, who: &Task, path: &[u8]) -> R
 }
 
 /// After the rules of both walks: E1 (EEXIST) of a special last word, and then those of `may_link`.
-#[tactic(auto, unfolding(vt_spec::specs::Machine::Judge::hard_link_permit))]
+#[tactic(auto, unfolding(vt_spec::specs::Machine::Judging::judging))]
 pub fn link<L: Look>(
     alloc: Global,
     world: &L,
@@ -112,7 +113,7 @@ pub fn link<L: Look>(
     new: &[u8],
 ) -> Result<Grant, Deny>
     ensures { Judges (task_of who.now)
-        (hard_link_permit nat_eq (L.looks world.now) (task_of who.now) old.now new.now) result }
+        (judge_by_looks (L.looks world.now) (task_of who.now) (LinkTo old.now new.now)) result }
 {
     let object = symlink_at(world, who, old)?;
     let place = new_leaf_place(world, who, new)?;
@@ -128,7 +129,7 @@ pub fn link<L: Look>(
 }
 
 /// After the rules of the walk: E2 (EISDIR), and then those of a file that is there or of one that is made.
-#[tactic(auto, unfolding(vt_spec::specs::Machine::Judge::write_permit))]
+#[tactic(auto, unfolding(vt_spec::specs::Machine::Judging::judging))]
 pub fn write<L: Look>(
     alloc: Global,
     world: &L,
@@ -137,7 +138,7 @@ pub fn write<L: Look>(
     bytes: Vec<u8>,
 ) -> Result<Grant, Deny>
     ensures { Judges (task_of who.now)
-        (write_permit nat_eq (L.looks world.now) (task_of who.now) path.now bytes.items) result }
+        (judge_by_looks (L.looks world.now) (task_of who.now) (Write path.now bytes.items)) result }
 {
     let place = file_place(world, who, path)?;
     if place.last.is_special() || place.slash {

@@ -1,12 +1,13 @@
 //! Mount calls: mount(2) in its forms, umount(2), pivot_root(2).
 ghost use Rattle.std.specs.Prelude.{◌≡◌, nat_eq, Err, IfErr, IfOk};
-ghost use Rattle.vt_spec.specs.Language.Calls.Call.{Bind, MountPlain, MoveMount, Umount};
-ghost use Rattle.vt_spec.specs.Machine.Judge.{bind_permit, lazy_permit, mount_plain_permit, move_permit, pivot_permit, remount_permit, type_permit, umount_permit};
+ghost use Rattle.vt_spec.specs.Language.Calls.Call.{Bind, Lazy, MountPlain, MoveMount, PivotRoot, Remount, SetType, Umount};
+ghost use Rattle.vt_spec.specs.Machine.Judge.{judge};
 ghost use Rattle.vt_cred.specs.MountFlags.{flags_of};
 ghost use Rattle.vt_permits.specs.Memory.{JudgesAlike, JudgesByReceivers};
 ghost use Rattle.vt_request.specs.Requests.{type_word_of};
 ghost use Rattle.vt_tasks.specs.TaskValue.{task_of};
 ghost use Rattle.vt_policy.specs.Ends.{IsRootAt, root_walk};
+ghost use Rattle.vt_policy.specs.Judged.{judge_by_looks};
 
 use crate::paths::{destination_at, directory_at, source_at};
 use vt_cred::{Caps, MountFlags};
@@ -40,7 +41,7 @@ fn root_at<L: Look>(world: &L, who: &Task, path: &[u8]) -> Result<Location, Deny
 }
 
 /// K1 (EPERM), and after the rules of the walk M2 (EINVAL), M9 (ENOSPC).
-#[tactic(auto, unfolding(vt_spec::specs::Machine::Judge::mount_plain_permit))]
+#[tactic(auto, unfolding(vt_spec::specs::Machine::Judging::judging))]
 pub fn mount_plain<L: LookAtMounts>(
     world: &L,
     who: &Task,
@@ -48,8 +49,8 @@ pub fn mount_plain<L: LookAtMounts>(
     flags: MountFlags,
 ) -> Result<Grant, Deny>
     ensures { JudgesByReceivers (MountPlain path.now (flags_of flags)) (task_of who.now)
-        (mount_plain_permit nat_eq (L.looks world.now) (L.overfills world.now) (task_of who.now) path.now
-        (flags_of flags)) result }
+        (judge nat_eq (L.looks world.now) (L.overfills world.now) (task_of who.now)
+        (MountPlain path.now (flags_of flags))) result }
 {
     if lacks(who, Caps::CAP_SYS_ADMIN) {
         return Err(Rule::K1.denial());
@@ -66,7 +67,7 @@ pub fn mount_plain<L: LookAtMounts>(
 }
 
 /// K1 (EPERM), and after the rules of both walks M2 (EINVAL), M3 (EINVAL), M9 (ENOSPC).
-#[tactic(auto, unfolding(vt_spec::specs::Machine::Judge::bind_permit))]
+#[tactic(auto, unfolding(vt_spec::specs::Machine::Judging::judging))]
 pub fn bind<L: LookAtMounts>(
     world: &L,
     who: &Task,
@@ -75,8 +76,8 @@ pub fn bind<L: LookAtMounts>(
     recursive: bool,
 ) -> Result<Grant, Deny>
     ensures { JudgesByReceivers (Bind source.now path.now recursive) (task_of who.now)
-        (bind_permit nat_eq (L.looks world.now) (L.overfills world.now)
-        (task_of who.now) source.now path.now recursive) result }
+        (judge nat_eq (L.looks world.now) (L.overfills world.now) (task_of who.now)
+        (Bind source.now path.now recursive)) result }
 {
     if lacks(who, Caps::CAP_SYS_ADMIN) {
         return Err(Rule::K1.denial());
@@ -102,7 +103,7 @@ pub fn bind<L: LookAtMounts>(
 
 /// K1 (EPERM), and after the rules of both walks M2 (EINVAL), M4 (EINVAL), M5 (EINVAL), M6 (ELOOP), M7 (EINVAL), M9
 /// (ENOSPC), M10 (EINVAL).
-#[tactic(auto, unfolding(vt_spec::specs::Machine::Judge::move_permit))]
+#[tactic(auto, unfolding(vt_spec::specs::Machine::Judging::judging))]
 pub fn move_mount<L: LookAtMounts>(
     world: &L,
     who: &Task,
@@ -110,7 +111,8 @@ pub fn move_mount<L: LookAtMounts>(
     path: &[u8],
 ) -> Result<Grant, Deny>
     ensures { JudgesByReceivers (MoveMount source.now path.now) (task_of who.now)
-        (move_permit nat_eq (L.looks world.now) (L.overfills world.now) (task_of who.now) source.now path.now) result }
+        (judge nat_eq (L.looks world.now) (L.overfills world.now) (task_of who.now)
+        (MoveMount source.now path.now)) result }
 {
     if lacks(who, Caps::CAP_SYS_ADMIN) {
         return Err(Rule::K1.denial());
@@ -130,10 +132,10 @@ pub fn move_mount<L: LookAtMounts>(
 }
 
 /// K1 (EPERM), and after the rules of the walk M2 (EINVAL), M7 (EINVAL), M8 (EBUSY), M10 (EINVAL).
-#[tactic(auto, unfolding(vt_spec::specs::Machine::Judge::umount_permit))]
+#[tactic(auto, unfolding(vt_spec::specs::Machine::Judging::judging))]
 pub fn umount<L: LookAtMounts>(world: &L, who: &Task, path: &[u8]) -> Result<Grant, Deny>
     ensures { JudgesByReceivers (Umount path.now) (task_of who.now)
-        (umount_permit nat_eq (L.looks world.now) (task_of who.now) path.now) result }
+        (judge_by_looks (L.looks world.now) (task_of who.now) (Umount path.now)) result }
 {
     let here = root_at(world, who, path)?;
     if world.is_busy(here.mount)? {
@@ -146,9 +148,10 @@ pub fn umount<L: LookAtMounts>(world: &L, who: &Task, path: &[u8]) -> Result<Gra
 }
 
 /// K1 (EPERM), and after the rules of the walk M2 (EINVAL), M7 (EINVAL), M10 (EINVAL).
-#[tactic(auto, unfolding(vt_spec::specs::Machine::Judge::lazy_permit))]
+#[tactic(auto, unfolding(vt_spec::specs::Machine::Judging::judging))]
 pub fn lazy<L: Look>(world: &L, who: &Task, path: &[u8]) -> Result<Grant, Deny>
-    ensures { JudgesAlike (task_of who.now) (lazy_permit nat_eq (L.looks world.now) (task_of who.now) path.now) result }
+    ensures { JudgesAlike (task_of who.now)
+        (judge_by_looks (L.looks world.now) (task_of who.now) (Lazy path.now)) result }
 {
     let here = root_at(world, who, path)?;
     if !is_attached_somewhere(world, here.mount) {
@@ -158,7 +161,7 @@ pub fn lazy<L: Look>(world: &L, who: &Task, path: &[u8]) -> Result<Grant, Deny>
 }
 
 /// K1 (EPERM), and after the rules of the walk M2 (EINVAL), M7 (EINVAL), M8 (EBUSY).
-#[tactic(auto, unfolding(vt_spec::specs::Machine::Judge::remount_permit))]
+#[tactic(auto, unfolding(vt_spec::specs::Machine::Judging::judging))]
 pub fn remount<L: LookAtMounts>(
     world: &L,
     who: &Task,
@@ -166,7 +169,7 @@ pub fn remount<L: LookAtMounts>(
     flags: MountFlags,
 ) -> Result<Grant, Deny>
     ensures { JudgesAlike (task_of who.now)
-        (remount_permit nat_eq (L.looks world.now) (task_of who.now) path.now (flags_of flags)) result }
+        (judge_by_looks (L.looks world.now) (task_of who.now) (Remount path.now (flags_of flags))) result }
 {
     let here = root_at(world, who, path)?;
     if flags.is_read_only() && world.is_written_through(here.mount) {
@@ -179,7 +182,7 @@ pub fn remount<L: LookAtMounts>(
 }
 
 /// K1 (EPERM), and after the rules of the walk M2 (EINVAL), M7 (EINVAL).
-#[tactic(auto, unfolding(vt_spec::specs::Machine::Judge::type_permit))]
+#[tactic(auto, unfolding(vt_spec::specs::Machine::Judging::judging))]
 pub fn set_type<L: Look>(
     world: &L,
     who: &Task,
@@ -188,7 +191,7 @@ pub fn set_type<L: Look>(
     recursive: bool,
 ) -> Result<Grant, Deny>
     ensures { JudgesAlike (task_of who.now)
-        (type_permit nat_eq (L.looks world.now) (task_of who.now) path.now (type_word_of word) recursive) result }
+        (judge_by_looks (L.looks world.now) (task_of who.now) (SetType path.now (type_word_of word) recursive)) result }
 {
     let here = root_at(world, who, path)?;
     Ok(Grant::Mount(MountGrant::SetType(ToSetType {
@@ -199,10 +202,10 @@ pub fn set_type<L: Look>(
 }
 
 /// K1 (EPERM), and after the rules of both walks M2 (EINVAL), M7 (EINVAL), M11 (EBUSY), M12 (EINVAL).
-#[tactic(auto, unfolding(vt_spec::specs::Machine::Judge::pivot_permit))]
+#[tactic(auto, unfolding(vt_spec::specs::Machine::Judging::judging))]
 pub fn pivot_root<L: Look>(world: &L, who: &Task, new: &[u8], put: &[u8]) -> Result<Grant, Deny>
     ensures { JudgesAlike (task_of who.now)
-        (pivot_permit nat_eq (L.looks world.now) (task_of who.now) new.now put.now) result }
+        (judge_by_looks (L.looks world.now) (task_of who.now) (PivotRoot new.now put.now)) result }
 {
     if lacks(who, Caps::CAP_SYS_ADMIN) {
         return Err(Rule::K1.denial());

@@ -2,9 +2,10 @@
 ghost use Rattle.std.specs.Prelude.{◌≡◌, nat_eq, IfErr, IfOk};
 ghost use Rattle.vt_spec.specs.declared.errors.Rule.TheVariants.{S5};
 ghost use Rattle.vt_spec.specs.Errors.{denial};
-ghost use Rattle.vt_spec.specs.Machine.Judge.{rename_permit, rmdir_permit, unlink_permit};
+ghost use Rattle.vt_spec.specs.Language.Calls.Call.{Rename, Rmdir, Unlink};
 ghost use Rattle.vt_permits.specs.Memory.{Judges};
 ghost use Rattle.vt_tasks.specs.TaskValue.{task_of};
+ghost use Rattle.vt_policy.specs.Judged.{judge_by_looks};
 
 use crate::paths::{old_leaf_place, old_place, rename_place};
 use std::alloc::Global;
@@ -15,9 +16,9 @@ use vt_spec::errors::{Deny, Rule};
 use vt_tasks::Task;
 
 /// After the rules of the walk: E2 (EISDIR) of a special last word, and then those of `may_unlink`.
-#[tactic(auto, unfolding(vt_spec::specs::Machine::Judge::unlink_permit))]
+#[tactic(auto, unfolding(vt_spec::specs::Machine::Judging::judging))]
 pub fn unlink<L: Look>(alloc: Global, world: &L, who: &Task, path: &[u8]) -> Result<Grant, Deny>
-    ensures { Judges (task_of who.now) (unlink_permit nat_eq (L.looks world.now) (task_of who.now) path.now) result }
+    ensures { Judges (task_of who.now) (judge_by_looks (L.looks world.now) (task_of who.now) (Unlink path.now)) result }
 {
     let place = old_leaf_place(world, who, path)?;
     if place.last.is_special() {
@@ -33,9 +34,9 @@ pub fn unlink<L: Look>(alloc: Global, world: &L, who: &Task, path: &[u8]) -> Res
 
 /// After the rules of the walk: E4 (ENOTEMPTY), E5 (EINVAL) or P1 (EBUSY) of the special last words, and then those of
 /// `may_rmdir`.
-#[tactic(auto, unfolding(vt_spec::specs::Machine::Judge::rmdir_permit))]
+#[tactic(auto, unfolding(vt_spec::specs::Machine::Judging::judging))]
 pub fn rmdir<L: Look>(alloc: Global, world: &L, who: &Task, path: &[u8]) -> Result<Grant, Deny>
-    ensures { Judges (task_of who.now) (rmdir_permit nat_eq (L.looks world.now) (task_of who.now) path.now) result }
+    ensures { Judges (task_of who.now) (judge_by_looks (L.looks world.now) (task_of who.now) (Rmdir path.now)) result }
 {
     let place = old_place(world, who, path)?;
     match place.last {
@@ -54,7 +55,7 @@ pub fn rmdir<L: Look>(alloc: Global, world: &L, who: &Task, path: &[u8]) -> Resu
 
 /// After the rules of the first walk, P1 (EBUSY) of its special last word; the same of the second; then those of two
 /// objects, or of two names of one.
-#[tactic(auto, unfolding(vt_spec::specs::Machine::Judge::rename_permit))]
+#[tactic(auto, unfolding(vt_spec::specs::Machine::Judging::judging))]
 pub fn rename<L: Look>(
     alloc: Global,
     world: &L,
@@ -63,7 +64,7 @@ pub fn rename<L: Look>(
     new: &[u8],
 ) -> Result<Grant, Deny>
     ensures { Judges (task_of who.now)
-        (rename_permit nat_eq (L.looks world.now) (task_of who.now) old.now new.now) result }
+        (judge_by_looks (L.looks world.now) (task_of who.now) (Rename old.now new.now)) result }
 {
     let from = old_leaf_place(world, who, old)?;
     if from.last.is_special() {

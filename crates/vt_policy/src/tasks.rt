@@ -1,11 +1,13 @@
 //! Calls on tasks and namespaces: chdir(2), chroot(2), fork(2), setuid(2), setgroups(2), capset(2), unshare(2),
 //! setns(2).
-ghost use Rattle.std.specs.Prelude.{◌≡◌, nat_eq, option_map, None};
-ghost use Rattle.vt_spec.specs.Machine.Judge.{chdir_permit, chroot_permit, fork_permit, setns_permit, unshare_permit};
+ghost use Rattle.std.specs.Prelude.{◌≡◌, nat_eq, option_map, None, ℕ};
+ghost use Rattle.vt_spec.specs.Language.Calls.Call.{Chdir, Chroot, Fork, Setns, Unshare};
 ghost use Rattle.vt_spec.specs.Machine.Tasks.{permission_bits};
 ghost use Rattle.vt_permits.specs.Memory.{Judges, JudgesAlike};
 ghost use Rattle.vt_request.specs.Requests.{fork_words_of};
 ghost use Rattle.vt_tasks.specs.TaskValue.{task_of};
+ghost use Rattle.vt_spec.specs.Machine.Looks.{Looks};
+ghost use Rattle.vt_policy.specs.Judged.{judge_by_looks};
 
 use crate::paths::directory_at;
 use vt_cred::{Caps, Cred, Mode};
@@ -17,10 +19,10 @@ use vt_spec::errors::{Deny, Rule};
 use vt_tasks::Task;
 
 /// After the rules of the walk: C1 (EACCES), B1 (EACCES).
-#[tactic(auto, unfolding(vt_spec::specs::Machine::Judge::chdir_permit))]
+#[tactic(auto, unfolding(vt_spec::specs::Machine::Judging::judging))]
 pub fn chdir<L: Look>(world: &L, who: &Task, path: &[u8]) -> Result<Grant, Deny>
     ensures { JudgesAlike (task_of who.now)
-        (chdir_permit nat_eq (L.looks world.now) (task_of who.now) path.now) result }
+        (judge_by_looks (L.looks world.now) (task_of who.now) (Chdir path.now)) result }
 {
     let directory = directory_at(world, who, path)?;
     may_enter(world, who, directory)?;
@@ -28,10 +30,10 @@ pub fn chdir<L: Look>(world: &L, who: &Task, path: &[u8]) -> Result<Grant, Deny>
 }
 
 /// K1 (EPERM), and after the rules of the walk C1 (EACCES), B1 (EACCES).
-#[tactic(auto, unfolding(vt_spec::specs::Machine::Judge::chroot_permit))]
+#[tactic(auto, unfolding(vt_spec::specs::Machine::Judging::judging))]
 pub fn chroot<L: Look>(world: &L, who: &Task, path: &[u8]) -> Result<Grant, Deny>
     ensures { JudgesAlike (task_of who.now)
-        (chroot_permit nat_eq (L.looks world.now) (task_of who.now) path.now) result }
+        (judge_by_looks (L.looks world.now) (task_of who.now) (Chroot path.now)) result }
 {
     if lacks(who, Caps::CAP_SYS_CHROOT) {
         return Err(Rule::K1.denial());
@@ -49,9 +51,10 @@ pub fn permission_bits(mode: Mode) -> Mode
 }
 
 /// S6 (ENOSPC), K1 (EPERM).
-#[tactic(auto, unfolding(vt_spec::specs::Machine::Judge::fork_permit))]
+#[tactic(auto, unfolding(vt_spec::specs::Machine::Judging::judging))]
 pub fn fork(who: &Task, words: Option<ForkWords>) -> Result<Grant, Deny>
-    ensures { Judges (task_of who.now) (fork_permit (task_of who.now) (option_map fork_words_of words)) result }
+    ensures { (looks : Looks ℕ) → Judges (task_of who.now)
+        (judge_by_looks looks (task_of who.now) (Fork (option_map fork_words_of words))) result }
 {
     let Some(words) = words else {
         return fork_alike(who);
@@ -64,9 +67,9 @@ pub fn fork(who: &Task, words: Option<ForkWords>) -> Result<Grant, Deny>
 }
 
 // A child with the caller's credentials: S6 (ENOSPC).
-#[tactic(auto, unfolding(vt_spec::specs::Machine::Judge::fork_permit))]
+#[tactic(auto, unfolding(vt_spec::specs::Machine::Judging::judging))]
 fn fork_alike(who: &Task) -> Result<Grant, Deny>
-    ensures { Judges (task_of who.now) (fork_permit (task_of who.now) None) result }
+    ensures { (looks : Looks ℕ) → Judges (task_of who.now) (judge_by_looks looks (task_of who.now) (Fork None)) result }
 {
     if is_barren(who) {
         return Err(Rule::S6.denial());
@@ -78,9 +81,10 @@ fn fork_alike(who: &Task) -> Result<Grant, Deny>
 }
 
 /// K1 (EPERM).
-#[tactic(auto, unfolding(vt_spec::specs::Machine::Judge::unshare_permit))]
+#[tactic(auto, unfolding(vt_spec::specs::Machine::Judging::judging))]
 pub fn unshare(who: &Task) -> Result<Grant, Deny>
-    ensures { JudgesAlike (task_of who.now) (unshare_permit (task_of who.now)) result }
+    ensures { (looks : Looks ℕ) → JudgesAlike (task_of who.now)
+        (judge_by_looks looks (task_of who.now) Unshare) result }
 {
     if lacks(who, Caps::CAP_SYS_ADMIN) {
         return Err(Rule::K1.denial());
@@ -89,9 +93,10 @@ pub fn unshare(who: &Task) -> Result<Grant, Deny>
 }
 
 /// S2 (ESRCH) of the task that is named, K1 (EPERM).
-#[tactic(auto, unfolding(vt_spec::specs::Machine::Judge::setns_permit))]
+#[tactic(auto, unfolding(vt_spec::specs::Machine::Judging::judging))]
 pub fn setns<L: Look>(world: &L, who: &Task, name: &TaskName) -> Result<Grant, Deny>
-    ensures { JudgesAlike (task_of who.now) (setns_permit (L.looks world.now) (task_of who.now) name.now) result }
+    ensures { JudgesAlike (task_of who.now)
+        (judge_by_looks (L.looks world.now) (task_of who.now) (Setns name.now)) result }
 {
     let Some(namespace) = world.namespace_called(name) else {
         return Err(Rule::S2.denial());

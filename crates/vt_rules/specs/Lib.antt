@@ -1,2 +1,3 @@
+pub mod Permitted
 pub mod Places
 pub mod Tables

@@ -1,12 +1,12 @@
 //! Who may set attributes and marks: chmod(2), chown(2), setxattr(2).
 ghost use Rattle.std.specs.Prelude.{◌≡◌, nat_eq, Ok};
 ghost use Rattle.vt_spec.specs.Errors.{unless};
-ghost use Rattle.vt_spec.specs.Machine.Judge.{attr_permit};
 ghost use Rattle.vt_spec.specs.Machine.Attributes.{may_chown};
 ghost use Rattle.vt_spec.specs.Machine.Rules.Attributes.{attr_rules, opaque_rules};
 ghost use Rattle.vt_location.specs.Locations.{location_of};
 ghost use Rattle.vt_permits.specs.Memory.{JudgesAlike};
 ghost use Rattle.vt_tasks.specs.TaskValue.{task_of};
+ghost use Rattle.vt_rules.specs.Permitted.{attr_permit};
 
 use crate::rights::is_read_only;
 use vt_cred::{Caps, Cred};
@@ -53,7 +53,7 @@ pub fn attr_permit<L: Look>(
     attr: Attr,
 ) -> Result<Grant, Deny>
     ensures { JudgesAlike (task_of who.now)
-        (attr_permit nat_eq (L.looks world.now) (location_of object) allowed attr) result }
+        (attr_permit (L.looks world.now) (location_of object) allowed attr) result }
 {
     may_set_attr(world, object, allowed, &attr)?;
     Ok(Grant::Write(WriteGrant::Attr { object, attr }))

@@ -2,7 +2,6 @@
 ghost use Rattle.std.specs.Prelude.{◌≡◌, false, nat_eq, true, Ok, ℕ};
 ghost use Rattle.vt_spec.specs.Errors.{unless};
 ghost use Rattle.vt_spec.specs.Language.Calls.{opens_for_writing};
-ghost use Rattle.vt_spec.specs.Machine.Judge.{create_file_permit, open_file_permit};
 ghost use Rattle.vt_spec.specs.Machine.Rules.Descriptors.{access_rights, copy_rules, descriptor_at, is_copied_up, open_rules};
 ghost use Rattle.vt_spec.specs.Machine.Rules.Conditions.{has_no_upper};
 ghost use Rattle.vt_spec.specs.Machine.Walking.{Place as PlaceMeant};
@@ -11,6 +10,7 @@ ghost use Rattle.vt_location.specs.Locations.{location_of};
 ghost use Rattle.vt_permits.specs.Memory.{Judges, JudgesAlike};
 ghost use Rattle.vt_request.specs.Requests.{access_of};
 ghost use Rattle.vt_tasks.specs.TaskValue.{task_of};
+ghost use Rattle.vt_rules.specs.Permitted.{create_file_permit, open_file_permit};
 ghost use Rattle.vt_rules.specs.Places.{IsPlaceOf, file_of, location_result};
 
 use crate::making::may_make;
@@ -88,7 +88,7 @@ pub fn open_file_permit<L: Look>(
     access: Access,
 ) -> Result<Grant, Deny>
     ensures { JudgesAlike (task_of who.now)
-        (open_file_permit nat_eq (L.looks world.now) (task_of who.now) (location_of file) (access_of access))
+        (open_file_permit (L.looks world.now) (task_of who.now) (location_of file) (access_of access))
         result }
 {
     may_open(world, who, file, access)?;
@@ -107,7 +107,7 @@ pub fn create_file_permit<L: Look>(
     mode: Mode,
 ) -> Result<Grant, Deny>
     ensures { (meant : PlaceMeant ℕ) → IsPlaceOf place.now meant → Judges (task_of who.now)
-        (create_file_permit nat_eq (L.looks world.now) (task_of who.now) meant (access_of access) mode)
+        (create_file_permit (L.looks world.now) (task_of who.now) meant (access_of access) mode)
         result }
 {
     may_make(world, who, place.parent)?;

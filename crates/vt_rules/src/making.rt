@@ -1,7 +1,7 @@
 //! What may be made and written: mkdir(2), symlink(2), mknod(2), open(2) with `O_CREAT`, write(2).
-ghost use Rattle.std.specs.Prelude.{◌≡◌, nat_eq, None, Ok, Some, ℕ};
+ghost use Rattle.std.specs.Prelude.{◌≡◌, nat_eq, Ok, ℕ};
 ghost use Rattle.vt_spec.specs.Errors.{unless};
-ghost use Rattle.vt_spec.specs.Machine.Judge.{unnumbered, written_permit};
+ghost use Rattle.vt_spec.specs.Machine.Judging.{unnumbered};
 ghost use Rattle.vt_spec.specs.Machine.Rules.Making.{hard_link_rules, make_rules, rewrite_rules, whiteout_rules};
 ghost use Rattle.vt_spec.specs.Machine.Rows.{linking};
 ghost use Rattle.vt_spec.specs.Machine.Walking.{Place as PlaceMeant};
@@ -10,6 +10,7 @@ ghost use Rattle.vt_location.specs.Locations.{location_of, number_of};
 ghost use Rattle.vt_permits.specs.GrantValue.{node_in};
 ghost use Rattle.vt_permits.specs.Memory.{Judges, JudgesAlike};
 ghost use Rattle.vt_tasks.specs.TaskValue.{task_of};
+ghost use Rattle.vt_rules.specs.Permitted.{new_file_permit, rewrite_permit};
 ghost use Rattle.vt_rules.specs.Places.{IsPlaceOf};
 
 use crate::rights::{is_directory, is_kind, is_read_only, may, name_at, new_attr};
@@ -167,10 +168,8 @@ pub fn rewrite_permit<L: Look>(
     file: Location,
     bytes: Vec<u8>,
 ) -> Result<Grant, Deny>
-    ensures { (place : PlaceMeant ℕ) → JudgesAlike (task_of who.now)
-        (written_permit nat_eq (L.looks world.now) (task_of who.now) place bytes.items
-        (Some (location_of file)))
-        result }
+    ensures { JudgesAlike (task_of who.now)
+        (rewrite_permit (L.looks world.now) (task_of who.now) (location_of file) bytes.items) result }
 {
     may_rewrite(world, who, file, &bytes)?;
     Ok(Grant::Write(WriteGrant::Content { file, bytes }))
@@ -187,8 +186,7 @@ pub fn new_file_permit<L: Look>(
     bytes: Vec<u8>,
 ) -> Result<Grant, Deny>
     ensures { (meant : PlaceMeant ℕ) → IsPlaceOf place.now meant → Judges (task_of who.now)
-        (written_permit nat_eq (L.looks world.now) (task_of who.now) meant bytes.items None)
-        result }
+        (new_file_permit (L.looks world.now) (task_of who.now) meant bytes.items) result }
 {
     if bytes.len() > LARGEST_FILE {
         return Err(Rule::E6.denial());

@@ -85,8 +85,9 @@ pub use Rattle.vt_spec.specs.Machine.Filesystems.{changed_at, filesystem_changed
 pub use Rattle.vt_spec.specs.Machine.Invariants.{ForksAreCounted, HasLivingGroups, IsMerged, IsWorld, ListsNumbers, Lives, MountInvariants, NamespaceInvariants, OverlayInvariants, SameObject, Stands, TaskInvariants, TreeInvariants, are_ascending_from, has_fit_layers, has_fit_names, has_fit_text, has_its_root, has_one_root, has_regular_files_open, is_directory_seen_in, is_fit_filesystem, is_listed, is_located_well, is_no_larger, is_nowhere_or_attached, is_plain_layer, is_private, is_root_mount, is_there, is_within_limits, last_parent, live_lowers, node_shown, number_at_path, overlap, real_node, real_shown, same_content, share_a_mount_point, stands_in_its_namespace, stands_on_directories}
 pub use Rattle.vt_spec.specs.Machine.Invariants.Lives.{has_master, has_no_master}
 pub use Rattle.vt_spec.specs.Machine.Invariants.Stands.{at_root, on_parent}
-pub use Rattle.vt_spec.specs.Machine.Judge.{Judgement, attach_permit, attr_permit, create_file_permit, judge, judge_in, make_permit, open_by_permit, open_file_permit, open_new_permit, opened_or_created_permit, overlay_permit_by, renamed_permit, unnumbered, written_permit}
-unfoldable pub use Rattle.vt_spec.specs.Machine.Judge.{bind_permit, chdir_permit, chmod_permit, chown_permit, chroot_permit, close_permit, exec_permit, fork_permit, hard_link_permit, lazy_permit, list_permit, lstat_permit, mkdir_permit, mount_overlay_permit, mount_plain_permit, move_permit, opaque_permit, open_permit, pivot_permit, pread_permit, pwrite_permit, read_permit, readlink_permit, remount_permit, rename_permit, rmdir_permit, setns_permit, stat_permit, symlink_permit, type_permit, umount_permit, unlink_permit, unshare_permit, whiteout_permit, write_permit}
+pub use Rattle.vt_spec.specs.Machine.Judge.{judge, judge_in}
+pub use Rattle.vt_spec.specs.Machine.Judging.{Judgement, by_option, directory_made, make_permit, open_new_permit, run, symlink_made, unnumbered, whiteout_made}
+unfoldable pub use Rattle.vt_spec.specs.Machine.Judging.{judging}
 pub use Rattle.vt_spec.specs.Machine.Layers.{OpenLayer, Shown, at_path, has_lower_directory, names_shown, node_at_path, paths_from, shown, shown_in_lowers, view_of}
 pub use Rattle.vt_spec.specs.Machine.Listing.{filesystems_seen, groups_in_type, groups_seen, groups_shown, mount_line, mount_lines, mount_point_spot, number_among, peer_lines, spot_of, type_line}
 pub use Rattle.vt_spec.specs.Machine.Locked.{counts_in_layer, in_use, is_locked, is_locked_at, is_object_of, is_real_upper, lies_in_layer, lies_or_counts_under, live_layers, live_upper_and_work, of_overlay, overlaps_one_of, overlay_or, overlays, upper_and_work}

@@ -1,5 +1,5 @@
 -- What stands behind an answer: walks that end, steps that are taken, and tables of which no rule fails.
-use Rattle.std.proofs.Common.{◌≡◌, refl, sym, subst, Bool, Err, None, Ok, Option, Result, Some, [], false, true, ◌∷◌, cond, find, ok_or, ℕ, ◌∙◌}
+use Rattle.std.proofs.Common.{◌≡◌, refl, sym, subst, Bool, Err, None, Ok, Option, Result, Some, [], false, true, ◌++◌, ◌∷◌, cond, find, ok_or, ℕ, ◌∙◌}
 use Rattle.std.specs.Prelude.{⊤, option_to_list}
 use Rattle.vt_spec.specs.declared.errors.Deny.{Deny}
 use Rattle.vt_spec.specs.Errors.{NoneFails, Rules, and_then, unless, denial}
@@ -56,6 +56,19 @@ by_walk {N} {B = B} walk b next other e f =
 pub by_step : {A B : Type 0} (step : Result B Deny) (b : B) (next : B → Result A Deny) (other : Result A Deny)
     → step ≡ Ok b → next b ≡ other → and_then step next ≡ other
 by_step {B = B} step b next other e f = subst (λ (s : Result B Deny). and_then s next ≡ other) (sym e) f
+
+-- two tables in one
+pub joined_tables : {A : Type 0} (rules more : Rules) (answer : Result A Deny)
+    → unless rules (unless more answer) ≡ unless (rules ++ more) answer
+joined_tables [] more answer = refl
+joined_tables ((true, rule) ∷ rows) more answer = refl
+joined_tables ((false, rule) ∷ rows) more answer = joined_tables rows more answer
+
+-- what comes after a step is the same
+pub same_then : {A B : Type 0} (step : Result A Deny) (next other : A → Result B Deny) → ((a : A) → next a ≡ other a)
+    → and_then step next ≡ and_then step other
+same_then (Ok a) next other e = e a
+same_then (Err deny) next other e = refl
 
 -- a descriptor that is found is the task's, and opened for what is asked
 pub descriptor_found : {N : Type 0} (task : Task N) (number : ℕ) (fits : Descriptor N → Bool)

@@ -26,6 +26,7 @@ pub mod NewMounts
 pub mod Listing
 pub mod Permits
 pub mod Apply
+pub mod Judging
 pub mod Judge
 pub mod Policy
 pub mod SameWorlds

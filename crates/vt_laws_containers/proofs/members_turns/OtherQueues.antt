@@ -44,7 +44,7 @@ module _ (world : World ℕ) (under_way : List (Progress ℕ)) (queues others : 
 
     first : (task : Task ℕ) (restarts : ℕ) → SameTurned (first_turn nat_eq one task line call fresh restarts)
         (first_turn nat_eq other task line call fresh restarts)
-    first task restarts = entry (unless (entry_rules task call) (Ok call)) task restarts
+    first task restarts = entry (unless (entry_rules nat_eq (looks_of nat_eq world) task call) (Ok call)) task restarts
 
     again : (most : Bool) (task : Task ℕ) (progress : Progress ℕ)
         → SameTurned (restarted nat_eq most one task line call fresh progress)

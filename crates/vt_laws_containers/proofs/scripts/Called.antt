@@ -1,6 +1,6 @@
 -- Each name of the set that a call leaves is the name of a task.
 use Rattle.std.proofs.Common.{inr, ◌≡◌, ◌≢◌, refl, sym, ap, subst, ◌∙◌, inl, ℕ, nat_eq, Bool, true, false, true≢false, cond, not, List, [], ◌∷◌, ◌++◌, ◌||◌, Option, Some, None, Result, Ok, Err, find, is_ok, is_some, map, ◌+◌, arith}
-use Rattle.vt_spec.proofs.Common.{cases_Bool, Allowed, Answer, Call, Child, Exit, Fresh, Judgement, Outcome, Permit, Task, TaskName, ToBind, ToChange, ToClose, ToEnterNamespace, ToExit, ToFork, ToList, ToListMounts, ToMake, ToMountOverlay, ToMountPlain, ToMove, ToOpen, ToOpenNew, ToPivot, ToRead, ToReadPart, ToRemoveDirectory, ToRename, ToSetCredentials, ToSetDirectory, ToSetFlags, ToSetRoot, ToSetType, ToSetUmask, ToStat, ToUnmount, ToUnmountLazily, ToUnshare, ToWritePart, World, after, among-append_right, among-from_filter, among-map, among_from_list_all, and_from, apply, child_name, child_of, common_steps, filesystems_changed_by, finished_by, found_among, found_passes, judge_in, list_all_from_among, not-true, only_looks, policy, raised, raised_task, replaced_if_called, same_name, same_name_itself, same_task_name, some_from_is_some, task_called, ⊤}
+use Rattle.vt_spec.proofs.Common.{Allowed, Answer, Call, Child, Exit, Fresh, Judgement, Outcome, Permit, Task, TaskName, ToBind, ToChange, ToClose, ToEnterNamespace, ToExit, ToFork, ToList, ToListMounts, ToMake, ToMountOverlay, ToMountPlain, ToMove, ToOpen, ToOpenNew, ToPivot, ToRead, ToReadPart, ToRemoveDirectory, ToRename, ToSetCredentials, ToSetDirectory, ToSetFlags, ToSetRoot, ToSetType, ToSetUmask, ToStat, ToUnmount, ToUnmountLazily, ToUnshare, ToWritePart, World, after, among-append_right, among-from_filter, among-map, among_from_list_all, and_from, apply, cases_Bool, child_name, child_of, common_steps, filesystems_changed_by, finished_by, found_among, found_passes, judge_in, judging, list_all_from_among, not-true, only_looks, policy, raised, raised_task, replaced_if_called, same_name, same_name_itself, same_task_name, some_from_is_some, task_called, ⊤}
 use Rattle.vt_laws_containers.proofs.Common.{Deny, are_all_called, found_called, grown, left, ran}
 use Rattle.vt_laws_trees.proofs.calls.tasks.TasksLaws.{only_exit_leaves, other_tasks_stay}
 
@@ -151,6 +151,7 @@ module _ (world : World ℕ) (fresh : Fresh ℕ) (names : List TaskName) (name :
 
   exit_by : (o : Option (Task ℕ)) → task_called world name ≡ o
       → are_all_called ended (grown names name Exit (ran name Exit world fresh o).answer) ≡ true
+  unfolding judging
   exit_by None e =
       subst (λ w. are_all_called w names ≡ true) (sym (ap (λ o. (ran name Exit world fresh o).world) e)) there
   exit_by (Some task) e = rest_stay

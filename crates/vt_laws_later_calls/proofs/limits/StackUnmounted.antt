@@ -1,6 +1,6 @@
 -- The topmost mount of a stack, unmounted: the stack is as it was before that mount.
 use Rattle.std.proofs.Common.{◌≡◌, refl, sym, ap, subst, ◌∙◌, ℕ, suc, nat_eq, eq-eqb, false, not, ◌||◌, ◌<◌, List, [], ◌∷◌, Option, Some, Ok, is_some, map, map-id, arith}
-use Rattle.vt_spec.proofs.Common.{Done, Filesystem, Fresh, Here, Judgement, Location, Mount, MountFlags, Namespace, Permit, Serves, Task, TaskName, ToUnmount, Umount, World, all_locations, and_then, granted, holds_of, is_busy, judge_in, locations_of, looks_of, most_mounts, mount_at, mount_numbered, numbers_raised, policy, raised_task, settled, umount_permit, umount_rules, unless, unmounted, walk_end, common_steps}
+use Rattle.vt_spec.proofs.Common.{Done, Filesystem, Fresh, Here, Judgement, Location, Mount, MountFlags, Namespace, Permit, Serves, Task, TaskName, ToUnmount, Umount, World, all_locations, and_then, common_steps, granted, holds_of, is_busy, judge_in, judging, locations_of, looks_of, most_mounts, mount_at, mount_numbered, numbers_raised, policy, raised_task, settled, umount_rules, unless, unmounted, walk_end}
 use Rattle.vt_laws_later_calls.proofs.Common.{AllInUse, K1, M10, M2, M7, M8, all_in_use, counted, directory_walk, flat_map-map, in_use_later}
 use Rattle.vt_laws_later_calls.proofs.limits.AddedMount.{added_mount}
 use Rattle.vt_laws_later_calls.proofs.limits.PathWalks.{HasOneWord, directory_is_walked, end_of_one, one_word_leads}
@@ -78,7 +78,7 @@ module _ {world : World ℕ} {name : TaskName} {path word : List ℕ} (one : Has
 
   -- no rule refuses the unmount
   judged_unmount : judge_in nat_eq fresh stacked grown.task (Umount path) ≡ Ok permit
-  unfolding umount_permit
+  unfolding judging
   judged_unmount =
       ap (λ b. unless ((b, K1) ∷ []) (and_then (walk_end (directory_walk nat_eq stacked grown.task path)) judged_at))
       grown.admin ∙ ap (λ walk. and_then (walk_end walk) judged_at) (directory_is_walked grown.task path

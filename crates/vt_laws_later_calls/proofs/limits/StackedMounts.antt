@@ -1,6 +1,6 @@
 -- Mounts stacked on a place: each new mount comes onto the topmost one, while its namespace has room.
 use Rattle.std.proofs.Common.{◌≡◌, refl, ap, ◌∙◌, ℕ, suc, nat_eq, nat_lt, eq-eqb, true, false, not, ◌≤◌, ◌&&◌, List, [], ◌∷◌, ◌++◌, Some, Ok, length, arith}
-use Rattle.vt_spec.proofs.Common.{Fresh, Here, IsWorld, Judgement, Location, Mount, MountFlags, MountPlain, Permit, Private, Task, TaskName, ToMountPlain, World, among_from_list_all, and_then, apply, attach_permit, cap_sys_admin, common_steps, found_among, holds_of, is_listed, judge_in, lacks, list_all, looks_of, most_mounts, mount_at, mount_plain_permit, mounts_of, new_mount_rules, overfills, task_called, unless, walk_end, with_mounts}
+use Rattle.vt_spec.proofs.Common.{Fresh, Here, IsWorld, Judgement, Location, Mount, MountFlags, MountPlain, Permit, Private, Task, TaskName, ToMountPlain, World, among_from_list_all, and_then, apply, cap_sys_admin, common_steps, found_among, holds_of, is_listed, judge_in, judging, lacks, list_all, looks_of, most_mounts, mount_at, mounts_of, new_mount_rules, overfills, task_called, unless, walk_end, with_mounts}
 use Rattle.vt_laws_later_calls.proofs.Common.{IsPlain, K1, M2, M9, added_mounts_count, added_mounts_count_in_no_other, destination_walk, too_many_is_of_one}
 use Rattle.vt_laws_later_calls.proofs.limits.AddedMount.{added_mount, mounts-new_mount}
 use Rattle.vt_laws_later_calls.proofs.limits.PathWalks.{HasOneWord, IsDestination, WordLeads, destination_is_walked, end_of_one, one_word_leads}
@@ -77,7 +77,7 @@ module _ {world : World ℕ} {name : TaskName} {path word : List ℕ} (one : Has
   -- the judgement
   pub judged_by_room : judge_in nat_eq fresh world stack.task (MountPlain path flags)
       ≡ unless ((nat_lt most_mounts (suc count), M9) ∷ []) (Ok permit)
-  unfolding mount_plain_permit
+  unfolding judging
   judged_by_room =
       ap (λ b. unless ((b, K1) ∷ []) (and_then (walk_end (destination_walk nat_eq world stack.task path)) judged_at))
       stack.admin ∙ ap (λ walk. and_then (walk_end walk) judged_at) (destination_is_walked stack.task path
@@ -88,5 +88,5 @@ module _ {world : World ℕ} {name : TaskName} {path word : List ℕ} (one : Has
       ∷ (overfills_when_full i, M9) ∷ []) (Ok permit))
     where
       judged_at : Here ℕ → Judgement ℕ
-      judged_at here = attach_permit (new_mount_rules nat_eq (looks_of nat_eq world) stack.task here.location)
-          (overfills nat_eq fresh world stack.task) (ToMountPlain here.location flags)
+      judged_at here = unless (new_mount_rules nat_eq (looks_of nat_eq world) stack.task here.location
+          (overfills nat_eq fresh world stack.task (ToMountPlain here.location flags))) (Ok (ToMountPlain here.location flags))

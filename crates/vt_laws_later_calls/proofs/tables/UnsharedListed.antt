@@ -1,6 +1,6 @@
 -- What the list of mounts tells after an unshare.
 use Rattle.std.proofs.Common.{arith, ◌≡◌, refl, sym, ap, subst, ◌∙◌, inr, ⊎_elim, ℕ, nat_eq, eq-eqb, eqb-true, Bool, true, false, cond, List, [], ◌∷◌, ◌++◌, Option, Some, None, Ok, Err, Result, filter, find, flat_map, map, option_and_then, option_map, true≢false, unwrap_or}
-use Rattle.vt_spec.proofs.Common.{Answer, Done, Filesystem, Fresh, IsWorld, ListMounts, Location, Looks, Mount, MountInvariants, MountList, Namespace, Permit, Private, Propagation, Serves, Shared, Slave, Spot, Task, TaskName, ToUnshare, Unbindable, Unshare, World, bytes_decides, cases_Bool, common_steps, denial, evens, false_from_ne_true, filesystems_seen, groups_in_type, groups_seen, groups_shown, is_among_numbers, is_going, is_listed, is_member_of, is_overlay, map_alike, map_same, mount_line, mount_lines, mount_lives, mount_numbered, mount_point_left, mount_point_spot, mounts_of, no_filesystem, number_among, numbers_in_use, numbers_raised, path_down, policy, raised, raised_if_changed, raised_task, replaced_if_called, same_Some, same_name, same_task_name, spot_of, task_called, type_line, used_by_filesystem, used_by_mount, without_dead_groups}
+use Rattle.vt_spec.proofs.Common.{Answer, Done, Filesystem, Fresh, IsWorld, ListMounts, Location, Looks, Mount, MountInvariants, MountList, Namespace, Permit, Private, Propagation, Serves, Shared, Slave, Spot, Task, TaskName, ToUnshare, Unbindable, Unshare, World, bytes_decides, cases_Bool, common_steps, denial, evens, false_from_ne_true, filesystems_seen, groups_in_type, groups_seen, groups_shown, is_among_numbers, is_going, is_listed, is_member_of, is_overlay, judging, map_alike, map_same, mount_line, mount_lines, mount_lives, mount_numbered, mount_point_left, mount_point_spot, mounts_of, no_filesystem, number_among, numbers_in_use, numbers_raised, path_down, policy, raised, raised_if_changed, raised_task, replaced_if_called, same_Some, same_name, same_task_name, spot_of, task_called, type_line, used_by_filesystem, used_by_mount, without_dead_groups}
 use Rattle.vt_laws_later_calls.proofs.Common.{Among, Deny, IsGranted, IsListedIn, Parent, S2, UnshareListsOthersTheSame, UnshareListsTheSame, among-append_left, among-append_right, among-from_filter, among-map, any_from_among, called_there, filter_here, filter_skip, flat_map_alike, found_itself, is_in, is_mount, is_one_of, listed_in, name_found, number_of, parent_of, shared_member, unshares}
 use Rattle.vt_laws_mounts.proofs.letting_go.mounting.MountingTaken
 use Rattle.vt_laws_mounts.proofs.mounts.MountPointSpots.{numbered_found}
@@ -121,6 +121,7 @@ answer_by world (Some task) = Ok (MountList (mount_lines nat_eq world task.names
 
 told : (world : World ℕ) (fresh : Fresh ℕ) (name : TaskName) (o : Option (Task ℕ)) → task_called world name ≡ o
     → (policy nat_eq fresh world name ListMounts).answer ≡ answer_by world o
+unfolding judging
 told world fresh name o e = grind (arith, common_steps)
 
 -- an unshare is permitted as it is

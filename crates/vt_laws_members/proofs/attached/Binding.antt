@@ -1,6 +1,6 @@
 -- Each mount(2) with MS_BIND, recursive or not, ends in the part as in the world.
 use Rattle.std.proofs.Common.{arith, ◌≡◌, refl, sym, ap, subst, ◌∙◌, ⊎_elim, ℕ, zero, suc, nat_eq, Bool, true, false, List, [], Some, None, Ok, filter, length, not, IfOk}
-use Rattle.vt_spec.proofs.Common.{Among, Bind, Copies, Done, Filesystem, Fresh, IsWorld, Location, Mount, Permit, Serves, Task, TaskName, ToBind, World, among-filter, among-from_filter, among-from_flat_map, attached_by, bind_permit, bind_tree, bindable_children, bindable_tree, bound_at, children, common_steps, copies_from, granted, is_among, is_elsewhere, is_own_mount, is_unbindable, judge_in, list_any, members, mount_at, number-mount_in, numbers_raised, or_parts, overfills, part_of, policy, source_of, stands_under, task_called, used_directly, used_filesystems}
+use Rattle.vt_spec.proofs.Common.{Among, Bind, Copies, Done, Filesystem, Fresh, IsWorld, Location, Mount, Permit, Serves, Task, TaskName, ToBind, World, among-filter, among-from_filter, among-from_flat_map, attached_by, bind_tree, bindable_children, bindable_tree, bound_at, children, common_steps, copies_from, granted, is_among, is_elsewhere, is_own_mount, is_unbindable, judge, judge_in, judging, list_any, members, mount_at, number-mount_in, numbers_raised, or_parts, overfills, part_of, policy, source_of, stands_under, task_called, used_directly, used_filesystems}
 use Rattle.vt_laws_members.proofs.judging.Common.{IsMember, IsTheirs, bind_alike, caller_in, children_own, own_theirs, owned, sealing_of, theirs_directly, theirs_from}
 use Rattle.vt_laws_members.proofs.Common.{all_in_use, binds_keep_all, is_own, locations_of_worlds_stand, mounts_of_worlds_stand, numbered}
 use Rattle.vt_laws_members.specs.Judging.{is_theirs}
@@ -25,7 +25,8 @@ module _ {world : World ℕ} {names : List TaskName} {task : Task ℕ} (member :
       × own_at here
 
   pub binds_there : (fresh : Fresh ℕ) (source path : List ℕ) → IfOk
-      (bind_permit nat_eq (one member) (overfills nat_eq fresh world task) task source path recursive) Binds
+      (judge nat_eq (one member) (overfills nat_eq fresh world task) task (Bind source path recursive)) Binds
+  unfolding judging
   binds_there fresh source path = judged_so (one member) (overfills nat_eq fresh world task) task Binds
       (Bind source path recursive) (λ admin from from_end here end passed.
       let both = or_parts (is_elsewhere nat_eq (one member) task from.location)

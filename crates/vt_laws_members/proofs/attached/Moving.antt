@@ -1,6 +1,6 @@
 -- Each mount(2) with MS_MOVE ends in the part as in the world.
 use Rattle.std.proofs.Common.{arith, ◌≡◌, refl, sym, ap, subst, ◌∙◌, ℕ, nat_eq, true, false, List, [], Option, Some, None, Ok, is_some, not, eqb-true, IfOk}
-use Rattle.vt_spec.proofs.Common.{Among, Copies, Done, Fresh, Location, Mount, MountInvariants, MoveMount, Permit, Serves, Task, TaskName, ToMove, World, among-filter, among-map, attach, attached_by, common_steps, copies_from, granted, holds_of, is_among_numbers, is_elsewhere, is_own_mount, judge_in, members, mount_at, mount_tree, move_permit, moved_to, moved_tree, not-false, number-mount_in, numbers_raised, or_parts, overfills, part_of, policy, settled, task_called}
+use Rattle.vt_spec.proofs.Common.{Among, Copies, Done, Fresh, Location, Mount, MountInvariants, MoveMount, Permit, Serves, Task, TaskName, ToMove, World, among-filter, among-map, attach, attached_by, common_steps, copies_from, granted, holds_of, is_among_numbers, is_elsewhere, is_own_mount, judge, judge_in, judging, members, mount_at, mount_tree, moved_to, moved_tree, not-false, number-mount_in, numbers_raised, or_parts, overfills, part_of, policy, settled, task_called}
 use Rattle.vt_laws_members.proofs.judging.Common.{IsMember, IsTheirs, caller_in, own_theirs, owned, same_mount, sealing_of, theirs_from, tree_alike}
 use Rattle.vt_laws_members.proofs.Common.{all_live, is_attached, is_mount, is_own, numbers_of, tested_live}
 use Rattle.vt_laws_mounts.specs.Mounts.Moving.{CanMove}
@@ -40,7 +40,8 @@ module _ {world : World ℕ} {names : List TaskName} {task : Task ℕ} (member :
   in_it n (Some k) e = cc (eqb-true n k (not-false (nat_eq n k) e))
 
   pub moves_there : (fresh : Fresh ℕ) (source path : List ℕ) → IfOk
-      (move_permit nat_eq (one member) (overfills nat_eq fresh world task) task source path) Moves
+      (judge nat_eq (one member) (overfills nat_eq fresh world task) task (MoveMount source path)) Moves
+  unfolding judging
   moves_there fresh source path = judged_so (one member) (overfills nat_eq fresh world task) task Moves
       (MoveMount source path) (λ admin from from_end here end passed.
       let both = or_parts (is_elsewhere nat_eq (one member) task from.location)

@@ -1,6 +1,6 @@
 -- Each mount(2) of a new plain filesystem ends in the part as in the world.
 use Rattle.std.proofs.Common.{◌≡◌, refl, sym, ap, subst, ◌∙◌, inl, inr, ⊎_elim, ℕ, nat_eq, true, false, List, [], ◌∷◌, Some, None, Ok, ◌||◌, eq-eqb, IfOk}
-use Rattle.vt_spec.proofs.Common.{Among, Copies, Done, Filesystem, Fresh, Location, Mount, MountFlags, MountPlain, Permit, Serves, Task, TaskName, ToMountPlain, World, attached_by, copies_from, granted, is_among, judge_in, layers_of, list_any, members, mount_at, mount_plain_permit, mounted, new_mount, none_is_some, numbers_raised, odds, of_overlay, overfills, part_of, plain_filesystem, policy, source_of, task_called, used_filesystems}
+use Rattle.vt_spec.proofs.Common.{Among, Copies, Done, Filesystem, Fresh, Location, Mount, MountFlags, MountPlain, Permit, Serves, Task, TaskName, ToMountPlain, World, attached_by, copies_from, granted, is_among, judge, judge_in, judging, layers_of, list_any, members, mount_at, mounted, new_mount, none_is_some, numbers_raised, odds, of_overlay, overfills, part_of, plain_filesystem, policy, source_of, task_called, used_filesystems}
 use Rattle.vt_laws_members.proofs.judging.Common.{IsMember, IsTheirs, caller_in, owned, sealing_of, theirs_from}
 use Rattle.vt_laws_members.proofs.Common.{all_in_use, is_own, locations_of_worlds_stand, mounts_of_worlds_stand, new_mounts_of_trees_keep_all}
 use Rattle.vt_laws_members.specs.Judging.{is_theirs}
@@ -21,7 +21,8 @@ module _ {world : World ℕ} {names : List TaskName} {task : Task ℕ} (member :
       × (is_own world names (members world names) (mount_at nat_eq world here) ≡ true)
 
   pub mounts_there : (fresh : Fresh ℕ) (path : List ℕ) → IfOk
-      (mount_plain_permit nat_eq (one member) (overfills nat_eq fresh world task) task path flags) Mounts
+      (judge nat_eq (one member) (overfills nat_eq fresh world task) task (MountPlain path flags)) Mounts
+  unfolding judging
   mounts_there fresh path = judged_so (one member) (overfills nat_eq fresh world task) task Mounts
       (MountPlain path flags) (λ admin here end passed. (
         here.location,

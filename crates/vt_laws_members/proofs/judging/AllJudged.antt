@@ -8,8 +8,7 @@ use Rattle.vt_laws_members.proofs.judging.Busy.{busy_alike}
 use Rattle.vt_laws_members.proofs.judging.Grounds.{IsTheirs, its_mount, over_alike, same_mount, theirs_from, theirs_test}
 use Rattle.vt_laws_members.proofs.judging.Judged.{JudgesAlike, run_alike}
 use Rattle.vt_laws_members.proofs.judging.CallsAsked.{calls_asked}
-use Rattle.vt_laws_rules.proofs.given.Runs.{judge_is_the_run}
-use Rattle.vt_laws_rules.specs.Judging.{judging}
+use Rattle.vt_spec.specs.Machine.Judging.{judging}
 use Rattle.vt_laws_members.proofs.judging.JudgedMoves.{TreesAlike}
 use Rattle.vt_laws_members.proofs.judging.JudgedOverlays.{LayersAlike, any_same}
 use Rattle.vt_laws_members.proofs.judging.JudgedRemoving.{RenamesAlike}
@@ -163,11 +162,10 @@ module _ {world : World ℕ} {names : List TaskName} {task : Task ℕ} (member :
   pub judged : (overfills : Permit ℕ → Bool) (call : Call)
       → ((name : TaskName) → call ≡ Setns name → is_among same_name name names ≡ true)
       → judge nat_eq one overfills task call ≡ judge nat_eq other overfills task call
-  judged overfills call theirs = judge_is_the_run nat_eq one overfills task call
-      ∙ run_alike judges overfills (judging nat_eq one task call) (judging nat_eq other task call)
+  judged overfills call theirs =
+      run_alike judges overfills (judging nat_eq one task call) (judging nat_eq other task call)
       (calls_asked judges (points_alike world names member.is task member.among) renames parents trees layers
       descriptor_locked overfills call (λ name same. namespace_alike name (theirs name same)))
-      ∙ sym (judge_is_the_run nat_eq other overfills task call)
 
 pub members_are_judged_alike : MembersAreJudgedAlike
 members_are_judged_alike world names task call is overfills =

@@ -1,6 +1,7 @@
 -- Calls of theirs are judged by the part alone, with the limit of mounts.
-use Rattle.std.proofs.Common.{arith, ◌≡◌, refl, ap, ◌∙◌, ℕ, nat_eq, Bool, true, false, not, List, [], ◌∷◌, Option, Some, None, Ok, ◌&&◌, ◌||◌, is_some}
-use Rattle.vt_spec.proofs.Common.{Among, Call, Fresh, Here, Judgement, LayerLocations, Location, Looks, Mount, MountFlags, OverlayWords, Permit, Rules, Task, TaskName, ToBind, ToMountOverlay, ToMountPlain, ToMove, World, admin_rules, among_from_contains, and_then, attach_permit, bind_permit, bind_rules, common_steps, destination_walk, has_shared_parent, is_among, is_elsewhere, is_no_root, is_shared, is_unbindable, judge, layer_rules, layers_walked, list_any, looks_of, members, mount_numbered, mount_overlay_permit, mount_plain_permit, move_permit, move_rules, new_mount_rules, or_parts, overfills, overlay_at, overlay_permit_by, part_of, source_walk, unless, used_filesystems, walk_end}
+use Rattle.std.proofs.Common.{◌≡◌, refl, sym, ap, ◌∙◌, ℕ, nat_eq, Bool, true, false, not, List, [], ◌++◌, ◌∷◌, Option, Some, None, Ok, ◌&&◌, ◌||◌, is_some}
+use Rattle.vt_spec.proofs.Common.{Among, Bind, Call, Exclusive, Fresh, Here, Judgement, LayerLocations, Location, Looks, Mount, MountFlags, MountOverlay, MountPlain, MoveMount, NoCreation, OpenFile, OrCreate, OverlayWords, Permit, Rules, Task, TaskName, ToBind, ToMountOverlay, ToMountPlain, ToMove, World, admin_rules, among_from_contains, and_then, bind_rules, destination_walk, has_shared_parent, is_among, is_elsewhere, is_no_root, is_shared, is_unbindable, judge, judging, layer_rules, layers_walked, list_any, looks_of, members, mount_numbered, move_rules, new_mount_rules, or_parts, overfills, overlay_at, part_of, source_walk, unless, used_filesystems, walk_end}
+use Rattle.vt_spec.proofs.Given.{joined_tables}
 use Rattle.vt_laws_members.proofs.Common.{Agree, M10, M2, M3, M4, M5, M6, M7, M9, is_own, mount_at, sealed_by}
 use Rattle.vt_laws_members.proofs.judging.TheirCalls.{IsMember, a_member}
 use Rattle.vt_laws_members.specs.Judging.{MembersAreJudgedByTheirPart, is_theirs}
@@ -64,48 +65,55 @@ module _ {world : World ℕ} {names : List TaskName} {task : Task ℕ} (member :
   its here apart = owned member here apart
 
   plain_limited : (path : List ℕ) (flags : MountFlags)
-      → mount_plain_permit nat_eq one full task path flags ≡ mount_plain_permit nat_eq one full_too task path flags
-  unfolding mount_plain_permit
+      → judge nat_eq one full task (MountPlain path flags) ≡ judge nat_eq one full_too task (MountPlain path flags)
+  unfolding judging
   plain_limited path flags = cc (judged_alike StandsThere (destination_walk nat_eq one task path)
-      (destination_walk nat_eq one task path) (λ here. attach_permit
-      (new_mount_rules nat_eq one task here.location) full (ToMountPlain here.location flags))
-      (λ here. attach_permit (new_mount_rules nat_eq one task here.location) full_too
-      (ToMountPlain here.location flags)) (at_destination path) (λ here on. asked_later
+      (destination_walk nat_eq one task path) (λ here. unless
+      (new_mount_rules nat_eq one task here.location (full (ToMountPlain here.location flags)))
+      (Ok (ToMountPlain here.location flags)))
+      (λ here. unless (new_mount_rules nat_eq one task here.location (full_too (ToMountPlain here.location flags)))
+      (Ok (ToMountPlain here.location flags))) (at_destination path) (λ here on. asked_later
       (is_elsewhere nat_eq one task here.location) (full (ToMountPlain here.location flags)) (full_too
       (ToMountPlain here.location flags)) (λ b. (b, M9) ∷ []) (Ok (ToMountPlain here.location flags))
       (λ apart. plain_overfills member.sealing here.location (there here.location on)
       (its here.location apart) fresh other task flags)))
 
-  overlay_limited_by : (here : Location ℕ) → On here.mount → (options : Option OverlayWords) (flags : MountFlags)
-      → overlay_permit_by nat_eq one full task here options flags
-      ≡ overlay_permit_by nat_eq one full_too task here options flags
-  overlay_limited_by here on None flags = refl
-  overlay_limited_by here on (Some words) flags = λ i. and_then (layers_walked nat_eq one task words) (λ layers.
-      unless (layer_rules nat_eq one layers (overlay_at one task layers)) (same layers i))
-    where
-      same : (layers : LayerLocations ℕ) → attach_permit (new_mount_rules nat_eq one task here) full
-          (ToMountOverlay here (overlay_at one task layers) flags)
-          ≡ attach_permit (new_mount_rules nat_eq one task here) full_too
-          (ToMountOverlay here (overlay_at one task layers) flags)
-      same layers = asked_later (is_elsewhere nat_eq one task here)
-          (full (ToMountOverlay here (overlay_at one task layers) flags))
-          (full_too (ToMountOverlay here (overlay_at one task layers) flags)) (λ b. (b, M9) ∷ [])
-          (Ok (ToMountOverlay here (overlay_at one task layers) flags)) (λ apart. overlay_overfills member.sealing here
-          (there here on) (its here apart) fresh other task (overlay_at one task layers) flags)
+  overlay_limited_at : (here : Location ℕ) → On here.mount → (flags : MountFlags) (layers : LayerLocations ℕ)
+      → let permit = ToMountOverlay here (overlay_at one task layers) flags in
+      unless (layer_rules nat_eq one layers (overlay_at one task layers)
+      ++ new_mount_rules nat_eq one task here (full permit)) (Ok permit)
+      ≡ unless (layer_rules nat_eq one layers (overlay_at one task layers)
+      ++ new_mount_rules nat_eq one task here (full_too permit)) (Ok permit)
+  overlay_limited_at here on flags layers =
+      let permit = ToMountOverlay here (overlay_at one task layers) flags in
+      let rules = layer_rules nat_eq one layers (overlay_at one task layers) in
+      sym (joined_tables rules (new_mount_rules nat_eq one task here (full permit)) (Ok permit))
+      ∙ ap (unless rules) (asked_later (is_elsewhere nat_eq one task here) (full permit) (full_too permit)
+      (λ b. (b, M9) ∷ []) (Ok permit) (λ apart. overlay_overfills member.sealing here
+      (there here on) (its here apart) fresh other task (overlay_at one task layers) flags))
+      ∙ joined_tables rules (new_mount_rules nat_eq one task here (full_too permit)) (Ok permit)
 
   overlay_limited : (path : List ℕ) (options : Option OverlayWords) (flags : MountFlags)
-      → mount_overlay_permit nat_eq one full task path options flags
-      ≡ mount_overlay_permit nat_eq one full_too task path options flags
-  unfolding mount_overlay_permit
-  overlay_limited path options flags = ap (unless (admin_rules task))
+      → judge nat_eq one full task (MountOverlay path options flags)
+      ≡ judge nat_eq one full_too task (MountOverlay path options flags)
+  unfolding judging
+  overlay_limited path None flags = refl
+  overlay_limited path (Some words) flags = ap (unless (admin_rules task))
       (judged_alike StandsThere (destination_walk nat_eq one task path) (destination_walk nat_eq one task path)
-      (λ here. overlay_permit_by nat_eq one full task here.location options flags)
-      (λ here. overlay_permit_by nat_eq one full_too task here.location options flags)
-      (at_destination path) (λ here on. overlay_limited_by here.location on options flags))
+      (λ here. and_then (layers_walked nat_eq one task words) (laid_by full here))
+      (λ here. and_then (layers_walked nat_eq one task words) (laid_by full_too here)) (at_destination path)
+      (λ here on. λ i. and_then (layers_walked nat_eq one task words)
+      (λ layers. overlay_limited_at here.location on flags layers i)))
+    where
+      laid_by : (Permit ℕ → Bool) → Here ℕ → LayerLocations ℕ → Judgement ℕ
+      laid_by overfull here layers =
+          let permit = ToMountOverlay here.location (overlay_at one task layers) flags in
+          unless (layer_rules nat_eq one layers (overlay_at one task layers)
+          ++ new_mount_rules nat_eq one task here.location (overfull permit)) (Ok permit)
 
-  bind_limited : (source path : List ℕ) (recursive : Bool) → bind_permit nat_eq one full task source path recursive
-      ≡ bind_permit nat_eq one full_too task source path recursive
-  unfolding bind_permit
+  bind_limited : (source path : List ℕ) (recursive : Bool) → judge nat_eq one full task (Bind source path recursive)
+      ≡ judge nat_eq one full_too task (Bind source path recursive)
+  unfolding judging
   bind_limited source path recursive = ap (unless (admin_rules task))
       (judged_alike StandsThere (source_walk nat_eq one task source) (source_walk nat_eq one task source)
       (λ from. and_then (walk_end (destination_walk nat_eq one task path)) (bound_by full from))
@@ -122,12 +130,12 @@ module _ {world : World ℕ} {names : List TaskName} {task : Task ℕ} (member :
       (theirs from.location at)))))
     where
       bound_by : (Permit ℕ → Bool) → Here ℕ → Here ℕ → Judgement ℕ
-      bound_by overfull from here = attach_permit (bind_rules nat_eq one task from.location here.location) overfull
-          (ToBind from.location here.location recursive)
+      bound_by overfull from here = unless (bind_rules nat_eq one task from.location here.location
+          (overfull (ToBind from.location here.location recursive))) (Ok (ToBind from.location here.location recursive))
 
   move_limited : (source path : List ℕ)
-      → move_permit nat_eq one full task source path ≡ move_permit nat_eq one full_too task source path
-  unfolding move_permit
+      → judge nat_eq one full task (MoveMount source path) ≡ judge nat_eq one full_too task (MoveMount source path)
+  unfolding judging
   move_limited source path = ap (unless (admin_rules task))
       (judged_alike StandsThere (source_walk nat_eq one task source) (source_walk nat_eq one task source)
       (λ from. and_then (walk_end (destination_walk nat_eq one task path)) (moved_by full from))
@@ -153,12 +161,20 @@ module _ {world : World ℕ} {names : List TaskName} {task : Task ℕ} (member :
       from.location.mount (there from.location at) (its from.location both.0) fresh other task))))
     where
       moved_by : (Permit ℕ → Bool) → Here ℕ → Here ℕ → Judgement ℕ
-      moved_by overfull from here = attach_permit (move_rules nat_eq one task from.location here.location) overfull
-          (ToMove from.location.mount here.location)
+      moved_by overfull from here = unless (move_rules nat_eq one task from.location here.location
+          (overfull (ToMove from.location.mount here.location))) (Ok (ToMove from.location.mount here.location))
 
   -- the limit of mounts is the same, and no other call asks for it
   limited : (call : Call) → judge nat_eq one full task call ≡ judge nat_eq one full_too task call
-  limited call = grind (arith, common_steps, plain_limited, overlay_limited, bind_limited, move_limited)
+  unfolding judging
+  limited (MountPlain path flags) = plain_limited path flags
+  limited (MountOverlay path options flags) = overlay_limited path options flags
+  limited (Bind source path recursive) = bind_limited source path recursive
+  limited (MoveMount source path) = move_limited source path
+  limited (OpenFile path access NoCreation) = refl
+  limited (OpenFile path access (OrCreate mode)) = refl
+  limited (OpenFile path access (Exclusive mode)) = refl
+  limited call = refl
 
 pub members_are_judged_by_their_part : MembersAreJudgedByTheirPart
 members_are_judged_by_their_part world names task call is fresh other = limited

@@ -8,7 +8,7 @@ use Rattle.vt_laws_members.proofs.judging.JudgedOverlays.{LayersAlike, layers_ag
 use Rattle.vt_laws_members.proofs.judging.JudgedPivots.{ParentsAlike, flags_alike, pivot_alike}
 use Rattle.vt_laws_members.proofs.judging.JudgedRemoving.{PointsAlike, RenamesAlike, nothing_alike, one_object_alike, rename_alike, rmdir_alike}
 use Rattle.vt_laws_members.proofs.judging.WalksLead.{destination_agrees, directory_agrees, file_agrees, new_agrees, new_leaf_agrees, object_agrees, old_agrees, old_leaf_agrees, rename_new_agrees, same_directory_there, source_agrees, symlink_agrees, WalksAlike}
-use Rattle.vt_laws_rules.specs.Judging.{directory_made, judging, symlink_made, whiteout_made}
+use Rattle.vt_spec.specs.Machine.Judging.{directory_made, judging, symlink_made, whiteout_made}
 use Rattle.vt_laws_members.proofs.Common.{Agree, E6}
 use Rattle.vt_spec.specs.declared.errors.Rule.TheVariants.{E1}
 use Rattle.vt_spec.specs.Machine.Rules.Mounting.{lazy_rules}
@@ -36,6 +36,7 @@ module _ {one other : Looks ℕ} {task : Task ℕ} {own uses : ℕ → Bool} (al
   pub calls_asked : (call : Call)
       → ((name : TaskName) → call ≡ Setns name → one.namespace_called name ≡ other.namespace_called name)
       → AskedAlike alike overfills (judging nat_eq one task call) (judging nat_eq other task call)
+  unfolding judging
   calls_asked (Ls path) called = (
     directory_agrees leads path,
     λ here on. asked_alike alike

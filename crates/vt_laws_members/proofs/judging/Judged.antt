@@ -4,9 +4,9 @@ use Rattle.vt_spec.proofs.Common.{Among, Descriptor, Here, Judgement, LayerLocat
 use Rattle.vt_laws_members.proofs.Common.{Agree, Alike, Deny, Each}
 use Rattle.vt_laws_members.proofs.judging.Masks.{RulesSeeAlike}
 use Rattle.vt_laws_members.proofs.judging.WalksLead.{FoundAt, HereAt, PlaceAt, WalksAlike, judged_alike}
-use Rattle.vt_laws_rules.proofs.given.Runs.{same_then}
-use Rattle.vt_laws_rules.specs.Judging.{Judging, by_option, run, walk_to, walk_to_name}
-use Rattle.vt_laws_rules.specs.Judging.Judging.{Attaches, Checks, FindsFile, FindsTask, Grants, IfSo, IfThere, Layers, Names, Needs, Refuses, Walks, Words}
+use Rattle.vt_spec.proofs.Given.{same_then}
+use Rattle.vt_spec.specs.Machine.Judging.{Judging, by_option, run, walk_to, walk_to_name}
+use Rattle.vt_spec.specs.Machine.Judging.Judging.{Attaches, Checks, FindsFile, FindsTask, Grants, IfSo, IfThere, Layers, Names, Needs, Refuses, Walks, Words}
 use Rattle.vt_spec.specs.declared.errors.Rule.TheVariants.{S2}
 
 -- all that two worlds have to show alike, where calls of the task are judged alike

@@ -1,10 +1,10 @@
 -- What a granted pivot_root(2) has passed, in any world whose mounts have their invariants.
 use Rattle.std.proofs.Common.{arith, ◌≡◌, ℕ, nat_eq, Bool, true, false, true≢false, List, [], ◌∷◌, None, Ok, Err, Result, not, eqb-true, IfOk}
-use Rattle.vt_spec.proofs.Common.{Here, Location, Looks, MountInvariants, Permit, Stop, Task, ToPivot, World, at_topmost, child_at, common_steps, destination_walk, is_elsewhere, is_no_root, is_on_descendant, lies_under_location, looks_of, mount_at, mount_numbered, not-false, or_parts, pivot_permit, pivot_rules, source_walk, then_walk, walk_unless, NoneFails, PivotRoot}
+use Rattle.vt_spec.proofs.Common.{Here, Location, Looks, MountInvariants, NoneFails, Permit, PivotRoot, Stop, Task, ToPivot, World, at_topmost, child_at, common_steps, destination_walk, is_elsewhere, is_no_root, is_on_descendant, judge, judging, lies_under_location, looks_of, mount_at, mount_numbered, not-false, or_parts, pivot_rules, source_walk, then_walk, walk_unless}
 use Rattle.vt_laws_members.proofs.Common.{CanPivot, IsIn, W8, numbered_mounts_can_pivot, topmost}
 use Rattle.vt_laws_mounts.proofs.namespaces.Topmost.{topmost_is_free}
 use Rattle.vt_laws_worlds.proofs.worlds.FitPermits.{first_two}
-use Rattle.vt_laws_members.proofs.changes.Common.{any_answers, ends_so, judged_so}
+use Rattle.vt_laws_members.proofs.changes.Common.{ends_so, judged_so}
 
 module _ (w : World ℕ) (kept : MountInvariants nat_eq w) (task : Task ℕ) where
   abbrev looks : Looks ℕ
@@ -52,7 +52,8 @@ module _ (w : World ℕ) (kept : MountInvariants nat_eq w) (task : Task ℕ) whe
       (not-false (is_on_descendant nat_eq looks task.root.mount new) lie.0)
       (not-false (lies_under_location nat_eq looks new put) lie.1) free
 
-  pub pivots_there : (new put : List ℕ) → IfOk (pivot_permit nat_eq looks task new put) PivotsThere
-  pivots_there new put = judged_so looks any_answers task PivotsThere (PivotRoot new put)
+  pub pivots_there : {full : Permit ℕ → Bool} (new put : List ℕ) → IfOk (judge nat_eq looks full task (PivotRoot new put)) PivotsThere
+  unfolding judging
+  pivots_there {full} new put = judged_so looks full task PivotsThere (PivotRoot new put)
       (λ admin root root_end here end passed.
       passes root.location here.location (ends_so Free (destination_free put) end) passed)

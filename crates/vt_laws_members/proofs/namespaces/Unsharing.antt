@@ -1,12 +1,12 @@
 -- Each unshare(2) ends in the part as in the world.
 use Rattle.std.proofs.Common.{arith, ◌≡◌, refl, sym, ap, subst, ◌∙◌, ◌⊎◌, inl, inr, ⊎_elim, ℕ, nat_eq, Bool, true, false, cond, true≢false, List, [], ◌∷◌, Some, None, Ok, filter, map, not, ◌&&◌, ◌+◌, ◌*◌, eq-eqb, eqb-true, IfOk}
-use Rattle.vt_spec.proofs.Common.{Looks, looks_of, cases_Bool, Among, Done, Exit, Fresh, Location, Mount, MountInvariants, Namespace, Permit, Private, Serves, Task, TaskName, ToUnshare, Unshare, World, among-filter, among-flat_map, among-from_filter, among-from_flat_map, among-from_map, among-map, among_from_list_all, any_among, any_from_among, common_steps, detached, false_from_ne_true, granted, has_tasks, index_of, is_among, is_copied, is_listed, is_member_task, is_own_mount, is_own_namespace, judge_in, list_all_from_among, list_any, location_on_copy, locations, locations_of, members, mounts_of, moved_location, name-replaced_if_called, namespaces_ended, none_among, not-true, numbers_by, numbers_raised, odds, outsiders, part_of, policy, replaced_if_called, roots_and_directories, same_name, same_name_itself, same_task_name, seen_by_descriptor, settled, task_called, unshare_permit, unshared}
+use Rattle.vt_spec.proofs.Common.{Among, Done, Exit, Fresh, Location, Looks, Mount, MountInvariants, Namespace, Permit, Private, Serves, Task, TaskName, ToUnshare, Unshare, World, among-filter, among-flat_map, among-from_filter, among-from_flat_map, among-from_map, among-map, among_from_list_all, any_among, any_from_among, cases_Bool, common_steps, detached, false_from_ne_true, granted, has_tasks, index_of, is_among, is_copied, is_listed, is_member_task, is_own_mount, is_own_namespace, judge, judge_in, judging, list_all_from_among, list_any, location_on_copy, locations, locations_of, looks_of, members, mounts_of, moved_location, name-replaced_if_called, namespaces_ended, none_among, not-true, numbers_by, numbers_raised, odds, outsiders, part_of, policy, replaced_if_called, roots_and_directories, same_name, same_name_itself, same_task_name, seen_by_descriptor, settled, task_called, unshared}
 use Rattle.vt_laws_members.proofs.attached.PartServes.{serves_there}
 use Rattle.vt_laws_members.proofs.judging.Common.{IsMember, IsTheirs, caller_in, directory_theirs, root_theirs, sealing_of}
 use Rattle.vt_laws_members.proofs.Common.{ended_namespaces_keep_mounts, filter-map, is_own, namespace_outside, number_not_new, same_members, unshare_keeps_mounts}
 use Rattle.vt_laws_members.specs.Changes.Changes.{IsCallOfTheirs}
 use Rattle.vt_laws_members.specs.Changes.NameChanges.{EndsAlikeByOne}
-use Rattle.vt_laws_members.proofs.changes.Common.{KeepsShape, apart, by_known, ended_alike, in_space, any_answers, judged_so, only_task, own_in, part_mounts, ran, ran_there, run_by, same_caller, space_in_part}
+use Rattle.vt_laws_members.proofs.changes.Common.{KeepsShape, apart, by_known, ended_alike, in_space, judged_so, only_task, own_in, part_mounts, ran, ran_there, run_by, same_caller, space_in_part}
 use Rattle.vt_laws_members.proofs.changes.letting_go.Leaving.{part_listed}
 use Rattle.vt_laws_members.specs.Namespaces.NamespaceChanges.{UnsharesEndAlike}
 use Rattle.vt_laws_members.proofs.namespaces.Remade.{ChangesTheirs, IsNewSpace, MovesTheirs, Plan, Remaking, in_spaces, remade}
@@ -330,8 +330,9 @@ module _ {world : World ℕ} {names : List TaskName} {name : TaskName} (it : IsC
 abbrev pub Unshares : Permit ℕ → Type 0
 Unshares permit = permit ≡ ToUnshare
 
-pub unshares : (looks : Looks ℕ) (task : Task ℕ) → IfOk (unshare_permit task) Unshares
-unshares looks task = judged_so looks any_answers task Unshares Unshare (λ admin. refl)
+pub unshares : {full : Permit ℕ → Bool} (looks : Looks ℕ) (task : Task ℕ) → IfOk (judge nat_eq looks full task Unshare) Unshares
+unfolding judging
+unshares {full} looks task = judged_so looks full task Unshares Unshare (λ admin. refl)
 
 pub unshares_end_alike : UnsharesEndAlike
 unshares_end_alike world names name it fresh serves = by_known it fresh fresh refl (λ task e. Unshares)

@@ -1,11 +1,11 @@
 -- Each mount(2) that changes a propagation type ends in the part as in the world.
 use Rattle.std.proofs.Common.{◌≡◌, refl, sym, ap, subst, ◌∙◌, ⊎_elim, ℕ, zero, suc, nat_eq, Bool, true, false, List, [], Option, Some, Ok, map, IfOk}
-use Rattle.vt_spec.proofs.Common.{Among, Done, Fresh, IsWorld, Location, Mount, Permit, Propagation, Serves, SetType, Task, TaskName, ToSetType, TypeWord, World, among-filter, among-from_filter, among-from_flat_map, children, granted, holds_of, is_own_mount, judge_in, members, mount_at, mount_numbered, mount_tree, named_mounts, not-false, number-mount_in, numbers_by, numbers_raised, own_mounts, part_of, policy, regrouped, retyped, settled, task_called, tree_from, type_permit}
+use Rattle.vt_spec.proofs.Common.{Among, Done, Fresh, IsWorld, Location, Mount, Permit, Propagation, Serves, SetType, Task, TaskName, ToSetType, TypeWord, World, among-filter, among-from_filter, among-from_flat_map, children, granted, holds_of, is_own_mount, judge, judge_in, judging, members, mount_at, mount_numbered, mount_tree, named_mounts, not-false, number-mount_in, numbers_by, numbers_raised, own_mounts, part_of, policy, regrouped, retyped, settled, task_called, tree_from}
 use Rattle.vt_laws_members.proofs.judging.Common.{IsMember, IsTheirs, caller_in, children_own, in_own, its_mount, own_theirs, same_mount, sealing_of, theirs_from, tree_alike}
 use Rattle.vt_laws_members.proofs.Common.{AllInUse, all_in_use, is_own, with_changed}
 use Rattle.vt_laws_members.specs.Judging.{is_theirs}
 use Rattle.vt_laws_members.specs.Changes.Changes.{EndsAlike, IsCallOfTheirs}
-use Rattle.vt_laws_members.proofs.changes.Common.{StandsHere, at_directory, by_known, ended_alike, any_answers, ends_so, judged_so, one, part_in_use, ran, ran_there, run_by, same_caller}
+use Rattle.vt_laws_members.proofs.changes.Common.{StandsHere, at_directory, by_known, ended_alike, ends_so, judged_so, one, part_in_use, ran, ran_there, run_by, same_caller}
 use Rattle.vt_laws_members.specs.Types.TypeChanges.{OtherTypesEndAlike, TypesEndAlike, takes_groups}
 use Rattle.vt_laws_members.proofs.types.Inherited.{kind_left, master_left, settled_so}
 use Rattle.vt_laws_members.proofs.types.Retyped.{alike_by_any, alike_by_one, new_kind, new_masters, retyped_so, same_kind}
@@ -36,8 +36,9 @@ module _ {world : World ℕ} {names : List TaskName} {task : Task ℕ} (member :
   SetsType permit = (here : Location ℕ) × (permit ≡ ToSetType here.mount word recursive) × On here.mount
       × (is_own world names (members world names) (mount_at nat_eq world here) ≡ true)
 
-  pub sets_type : (path : List ℕ) → IfOk (type_permit nat_eq (one member) task path word recursive) SetsType
-  sets_type path = judged_so (one member) any_answers task SetsType (SetType path word recursive)
+  pub sets_type : {full : Permit ℕ → Bool} (path : List ℕ) → IfOk (judge nat_eq (one member) full task (SetType path word recursive)) SetsType
+  unfolding judging
+  sets_type {full} path = judged_so (one member) full task SetsType (SetType path word recursive)
       (λ admin here end passed. (
         here.location,
         refl,

@@ -5,7 +5,7 @@ use Rattle.vt_laws_mounts.specs.Mounts.FileCalls.{FileCallsLeaveMounts, is_of_no
 use Rattle.vt_laws_mounts.proofs.mounts.MountsGranted.{policy_leaves}
 use Rattle.vt_laws_rules.proofs.given.CallsGranted.{call_holds}
 use Rattle.vt_laws_rules.proofs.given.Ways.{IsGranted}
-use Rattle.vt_laws_rules.specs.Judging.{directory_made, symlink_made, whiteout_made}
+use Rattle.vt_spec.specs.Machine.Judging.{directory_made, symlink_made, whiteout_made}
 use Rattle.vt_laws_rules.proofs.given.Ways.IsGranted.{changes_mark, changes_mode, changes_owner, creates, creates_exclusively, makes_directory, makes_hard_link, makes_symlink, makes_whiteout, opens, opens_existing, overwrites_file, unlinks, writes_new_file, writes_part}
 
 module _ (world : World ℕ) where

@@ -1,11 +1,11 @@
 -- What `judge` permits is granted by what the call asks, and what is granted so, `judge` permits.
-use Rattle.std.proofs.Common.{◌≡◌, refl, sym, subst, ap, ◌∙◌, Bool, true, false, Result, Ok, Err, Some, None, ok_or, inl, inr, [], ◌∷◌}
+use Rattle.std.proofs.Common.{◌≡◌, refl, subst, ap, ◌∙◌, Bool, true, false, Result, Ok, Err, Some, None, ok_or, inl, inr, [], ◌∷◌}
 use Rattle.vt_spec.proofs.Common.{Call, Descriptor, Here, Judgement, LayerLocations, Location, Looks, Place, NoneFails, Permit, Rules, Stop, Task, and_then, denial, descriptor_at, judge, layers_walked, unless, walk_end, ⊤}
 use Rattle.vt_spec.proofs.Given.{by_rules, by_step, by_walk}
 use Rattle.vt_spec.specs.declared.errors.Deny.{Deny}
-use Rattle.vt_laws_rules.proofs.given.Runs.{judge_is_the_run}
-use Rattle.vt_laws_rules.specs.Judging.Judging.{Attaches, Checks, FindsFile, FindsTask, Grants, IfSo, IfThere, Layers, Names, Needs, Refuses, Walks, Words}
-use Rattle.vt_laws_rules.specs.Judging.{IsGrantedBy, Judging, judging, run, walk_to, walk_to_name}
+use Rattle.vt_spec.specs.Machine.Judging.Judging.{Attaches, Checks, FindsFile, FindsTask, Grants, IfSo, IfThere, Layers, Names, Needs, Refuses, Walks, Words}
+use Rattle.vt_laws_rules.specs.Granted.{IsGrantedBy}
+use Rattle.vt_spec.specs.Machine.Judging.{Judging, judging, run, walk_to, walk_to_name}
 use Rattle.vt_spec.specs.declared.errors.Rule.TheVariants.{S2}
 
 module _ {N : Type 0} where
@@ -142,9 +142,8 @@ module _ {N : Type 0} (eq : N → N → Bool) (looks : Looks N) (overfills : Per
 
   pub call_is_granted : (call : Call) (permit : Permit N) → judge eq looks overfills task call ≡ Ok permit
       → Granted (judging eq looks task call) permit
-  call_is_granted call permit e = run_granted (judging eq looks task call) permit (sym (judge_is_the_run eq looks overfills task call) ∙ e)
+  call_is_granted call permit e = run_granted (judging eq looks task call) permit e
 
   pub grant_is_judged : (call : Call) (permit : Permit N) → Granted (judging eq looks task call) permit
       → judge eq looks overfills task call ≡ Ok permit
-  grant_is_judged call permit given =
-      judge_is_the_run eq looks overfills task call ∙ granted_runs (judging eq looks task call) permit given
+  grant_is_judged call permit given = granted_runs (judging eq looks task call) permit given

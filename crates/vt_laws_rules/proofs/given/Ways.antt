@@ -1,13 +1,13 @@
 -- The ways in which a call is granted, for proofs by cases: where its walks end, that no rule of its tables fails, and
 -- its permit. `judge` permits nothing else.
-use Rattle.std.proofs.Common.{Bool, List, None, Ok, Option, Some, [], false, length, nat_lt, ok_or, true, ℕ, ◌++◌, ◌||◌, ◌∷◌, ◌≡◌}
+use Rattle.std.proofs.Common.{Bool, List, None, Ok, Option, Some, [], false, is_some, length, nat_lt, ok_or, true, ℕ, ◌++◌, ◌||◌, ◌∷◌, ◌≡◌}
 use Rattle.vt_spec.specs.Errors.{NoneFails, Rules, denial}
 use Rattle.vt_spec.specs.Language.Calls.{Access, Call, CapabilityWord, ForkWords, MountFlags, OverlayWords, TaskName, TypeWord}
 use Rattle.vt_spec.specs.Language.Calls.Call.{Bind, Chdir, Chmod, Chown, Chroot, Close, Drop, Exec, Exit, Fork, Lazy, LinkTo, ListMounts, Ls, Lstat, MakeWhiteout, Mkdir, MountOverlay, MountPlain, MoveMount, Opaque, OpenFile, PivotRoot, Pread, Pwrite, Read, Readlink, Remount, Rename, Rmdir, SetType, Setns, Stat, SymlinkAt, Umask, Umount, Unlink, Unshare, Write}
 use Rattle.vt_spec.specs.Language.Calls.Creation.{Exclusive, NoCreation, OrCreate}
 use Rattle.vt_spec.specs.Language.Changes.Change.{SetAttr, SetBytes, SetMark}
 use Rattle.vt_spec.specs.Language.Limits.{largest_file}
-use Rattle.vt_spec.specs.Machine.Judge.{make_permit, open_new_permit, unnumbered}
+use Rattle.vt_spec.specs.Machine.Judging.{make_permit, open_new_permit, unnumbered}
 use Rattle.vt_spec.specs.Machine.Looks.{Looks}
 use Rattle.vt_spec.specs.Machine.Mounts.{Location}
 use Rattle.vt_spec.specs.Machine.Permits.{Permit}
@@ -29,7 +29,7 @@ use Rattle.vt_spec.specs.Machine.Attributes.{attr_with_mode, attr_with_owner, ma
 use Rattle.vt_spec.specs.Machine.Tasks.{capabilities_of, child_credentials, permission_bits, with_dropped}
 use Rattle.vt_spec.proofs.Common.{judge}
 use Rattle.vt_laws_rules.proofs.given.Inversion.{IfGranted, call_is_granted, holds_of_granted}
-use Rattle.vt_laws_rules.specs.Judging.{directory_made, judging, symlink_made, whiteout_made}
+use Rattle.vt_spec.specs.Machine.Judging.{directory_made, judging, symlink_made, whiteout_made}
 
 -- where the two walks of rename(2) end, and that neither last word is special
 pub record AreNames {N : Type 0} (eq : N → N → Bool) (looks : Looks N) (task : Task N) (old new : List ℕ)
@@ -151,7 +151,7 @@ pub data IsGranted {N : Type 0} (eq : N → N → Bool) (looks : Looks N) (overf
   -- open(2) with O_CREAT and O_EXCL
   creates_exclusively : (path : List ℕ) (access : Access) (mode : ℕ) (place : Place N)
       → NoneFails (descriptor_rules task) → new_walk eq looks task path ≡ Ok place
-      → NoneFails (exclusive_word_rules place)
+      → NoneFails (exclusive_word_rules place ++ ((is_some place.object, E1) ∷ []))
       → NoneFails (make_rules looks task place (unnumbered place (new_file task mode [])))
       → IsGranted eq looks overfills task (OpenFile path access (Exclusive mode))
       (open_new_permit task place access mode)
@@ -253,6 +253,7 @@ none_of_both ((fails, rule) ∷ rows) more pass = let rest = none_of_both rows m
 module _ {N : Type 0} (eq : N → N → Bool) (looks : Looks N) (overfills : Permit N → Bool) (task : Task N) where
   -- the way of each call
   ways : (call : Call) → IfGranted eq looks overfills task (IsGranted eq looks overfills task call) (judging eq looks task call)
+  unfolding judging
   ways (Ls path) = lists_directory path
   ways (Stat path) = shows_object path
   ways (Lstat path) = shows_symlink path

@@ -4,9 +4,9 @@ use Rattle.std.proofs.Common.{arith, ◌≡◌, refl, ℕ, Bool, List, None, Som
 use Rattle.vt_spec.proofs.Common.{Call, common_steps, Bind, Change, Chdir, Chmod, Chown, Chroot, Close, Descriptor, Exclusive, Exec, Here, LayerLocations, Lazy, LinkTo, Location, Looks, Ls, Lstat, MakeWhiteout, Mkdir, MountOverlay, MountPlain, MoveMount, NoCreation, Opaque, OpenFile, OrCreate, PivotRoot, Place, Pread, Pwrite, Read, ReadOnly, ReadWrite, Readlink, Remount, Rename, Rmdir, Rules, SetBytes, SetType, Setns, Stat, SymlinkAt, Task, Umount, Unlink, World, Write, WriteOnly, file_mode, linking, looks_of, mounter_rules, moving, new_file, object_there, removing, unnumbered, ⊤, SetAttr, attr_at, attr_with_mode, attr_with_owner}
 use Rattle.vt_laws_rules.specs.RuleRanks.{is_among, is_in_order_from, rank}
 use Rattle.vt_laws_rules.proofs.rules.Outcomes.{among_more, are_own}
-use Rattle.vt_laws_rules.specs.Judging.Judging.{Attaches, Checks, FindsFile, FindsTask, Grants, IfSo, IfThere, Layers, Names, Needs, Refuses, Walks, Words}
+use Rattle.vt_spec.specs.Machine.Judging.Judging.{Attaches, Checks, FindsFile, FindsTask, Grants, IfSo, IfThere, Layers, Names, Needs, Refuses, Walks, Words}
 use Rattle.vt_spec.specs.declared.errors.Rule.TheVariants.{B1, B2, C2, S2, S4, W9}
-use Rattle.vt_laws_rules.specs.Judging.{Judging, judging, directory_made, symlink_made}
+use Rattle.vt_spec.specs.Machine.Judging.{Judging, judging, directory_made, symlink_made}
 use Rattle.vt_spec.specs.declared.errors.Rule.{Rule}
 use Rattle.vt_spec.specs.Machine.Rules.Descriptors.{copy_rules, is_copied_up}
 use Rattle.vt_laws_rules.specs.RuleOrder.{has_path, rules_of, walk_rules}
@@ -77,6 +77,7 @@ module _ (world : World ℕ) (task : Task ℕ) where
 
   pub call_tables : (call : Call)
       → Tabled (rules_of call) (last_word_rules call) (has_path call) true (judging nat_eq looks task call)
+  unfolding judging
   call_tables (Ls path) = λ here. refl
   call_tables (Stat path) = λ here. tt
   call_tables (Lstat path) = λ here. tt

@@ -1,20 +1,19 @@
 -- Each call is refused by its own rules, with the error of the rule, and leaves the world then.
-use Rattle.std.proofs.Common.{arith, ◌≡◌, refl, ℕ, nat_eq, Bool, true, false, List, [], ◌∷◌, Option, Some, None, ok_or, Result, Err, IfErr, Ok, subst, sym, ◌&&◌, ◌++◌}
+use Rattle.std.proofs.Common.{arith, ◌≡◌, refl, ℕ, nat_eq, Bool, true, false, List, [], ◌∷◌, Option, Some, None, ok_or, Result, Err, IfErr, Ok, ◌&&◌, ◌++◌}
 use Rattle.vt_spec.proofs.Common.{Allowed, Call, Fresh, Judgement, Looks, Permit, Stop, Task, TaskName, World, and_parts, and_then, apply, call_outcome, common_steps, denial, descriptor_at, judge_in, layers_walked, looks_of, only_looks, overfills, policy, task_called, walk_end}
-use Rattle.vt_laws_rules.proofs.given.Runs.{judge_is_the_run}
 use Rattle.vt_laws_rules.proofs.rules.CallTables.{Tabled, call_tables, if_true, walks_of}
 use Rattle.vt_laws_rules.proofs.rules.Outcomes.{DeniesOwn, IsOwn, RefusesOwn, after_own, and_then_own, are_own, error_is, finished_own, if_own, unless_own}
 use Rattle.vt_laws_rules.proofs.rules.WalkRules.{RefusesAsWalk, StopsAsWalk, destination_walks, directory_walks, file_walks, layer_walks, leaf_walks, new_leaf_walks, new_walks, object_walks, old_leaf_walks, old_walks, rename_new_walks, source_walks}
 use Rattle.vt_laws_rules.specs.Denials.{DenialChangesNothing}
-use Rattle.vt_laws_rules.specs.Judging.{Aim, Judging, NameAim, judging, run, walk_to, walk_to_name}
-use Rattle.vt_laws_rules.specs.Judging.Aim.{ADestination, ADirectory, ASource, ASymlink, AnObject}
-use Rattle.vt_laws_rules.specs.Judging.NameAim.{AFile, ANewLeaf, ANewName, ARenamed, AnOldLeaf, AnOldName}
+use Rattle.vt_spec.specs.Machine.Judging.{Aim, Judging, NameAim, judging, run, walk_to, walk_to_name}
+use Rattle.vt_spec.specs.Machine.Judging.Aim.{ADestination, ADirectory, ASource, ASymlink, AnObject}
+use Rattle.vt_spec.specs.Machine.Judging.NameAim.{AFile, ANewLeaf, ANewName, ARenamed, AnOldLeaf, AnOldName}
 use Rattle.vt_laws_rules.specs.RuleOrder.{DenialHasErrorOfRule, DenialIsOwn, has_path, rules_of, walk_rules}
 use Rattle.vt_laws_rules.specs.RuleRanks.{is_among}
 use Rattle.vt_spec.specs.declared.errors.Deny.{Deny}
 use Rattle.vt_spec.specs.declared.errors.Rule.{Rule}
 use Rattle.vt_spec.specs.declared.errors.Rule.TheVariants.{S2, S4}
-use Rattle.vt_laws_rules.specs.Judging.Judging.{Attaches, Checks, FindsFile, FindsTask, Grants, IfSo, IfThere, Layers, Names, Needs, Refuses, Walks, Words}
+use Rattle.vt_spec.specs.Machine.Judging.Judging.{Attaches, Checks, FindsFile, FindsTask, Grants, IfSo, IfThere, Layers, Names, Needs, Refuses, Walks, Words}
 use Rattle.vt_laws_rules.specs.Asked.{last_word_rules}
 
 found_own : {A : Type 0} (rules : List Rule) (rule : Rule) (object : Option A) → is_among rule rules ≡ true
@@ -100,10 +99,8 @@ module _ (own words : List Rule) (walks : Bool) (world : World ℕ) (task : Task
 call_own : (fresh : Fresh ℕ) (world : World ℕ) (task : Task ℕ) (call : Call)
     → RefusesOwn (rules_of call) (judge_in nat_eq fresh world task call)
 call_own fresh world task call =
-    subst (RefusesOwn (rules_of call))
-    (sym (judge_is_the_run nat_eq (looks_of nat_eq world) (overfills nat_eq fresh world task) task call))
-    (run_own (rules_of call) (last_word_rules call) (has_path call) world task (overfills nat_eq fresh world task)
-    (walks_of call) true (judging nat_eq (looks_of nat_eq world) task call) (call_tables world task call))
+    run_own (rules_of call) (last_word_rules call) (has_path call) world task (overfills nat_eq fresh world task)
+    (walks_of call) true (judging nat_eq (looks_of nat_eq world) task call) (call_tables world task call)
 
 -- a permit is applied, and refuses nothing
 applied_own : (rules : List Rule) (fresh : Fresh ℕ) (world : World ℕ) (task : Task ℕ) (permit : Permit ℕ)

@@ -6,13 +6,13 @@ use Rattle.vt_laws_rules.proofs.rules.Outcomes.{IsOwn, RefusesOwn, among_front, 
 use Rattle.vt_laws_rules.proofs.rules.OwnRules.{aims_walk, names_walk}
 use Rattle.vt_laws_rules.proofs.rules.WalkRules.{RefusesAsWalk, StopsAsWalk, layer_walks}
 use Rattle.vt_laws_rules.specs.Asked.{asked_last, failing, first_rules, last_rules, last_word_rules, rules_behind}
-use Rattle.vt_laws_rules.specs.Judging.{Judging, judging, walk_to, walk_to_name, by_option}
+use Rattle.vt_spec.specs.Machine.Judging.{Judging, judging, walk_to, walk_to_name, by_option}
 use Rattle.vt_laws_rules.specs.RuleOrder.{FirstTablesInOrder, LastTablesInOrder, WalksRefuseAsWalks, has_path, rules_of, walk_rules}
 use Rattle.vt_laws_rules.specs.RuleRanks.{IsInOrderAfterWalk, is_among}
 use Rattle.vt_spec.specs.declared.errors.Rule.{Rule}
 use Rattle.vt_spec.specs.declared.errors.Rule.TheVariants.{S2, S4}
 use Rattle.vt_spec.specs.declared.errors.Deny.{Deny}
-use Rattle.vt_laws_rules.specs.Judging.Judging.{Attaches, Checks, FindsFile, FindsTask, Grants, IfSo, IfThere, Layers, Names, Needs, Refuses, Walks, Words}
+use Rattle.vt_spec.specs.Machine.Judging.Judging.{Attaches, Checks, FindsFile, FindsTask, Grants, IfSo, IfThere, Layers, Names, Needs, Refuses, Walks, Words}
 
 -- a table that is asked after the walks, if they end well, is in order
 abbrev IsInOrderAtEnd : Result Rules Deny → Type 0
@@ -152,6 +152,7 @@ last_in_order fresh world task call =
     (judging nat_eq (looks_of nat_eq world) task call) (call_tables world task call)
 
 pub first_in_order : FirstTablesInOrder
+unfolding judging
 first_in_order world task call = grind (arith, common_steps)
 
 pub walks_refuse_as_walks : WalksRefuseAsWalks

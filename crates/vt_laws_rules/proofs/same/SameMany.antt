@@ -1,7 +1,7 @@
 -- Whether what is attached leaves a namespace with too many mounts, in worlds that are the same but for change numbers
 -- and the order of numbers beside trees.
-use Rattle.std.proofs.Common.{arith, ◌≡◌, refl, sym, ap, ◌∙◌, ℕ, nat_eq, nat_lt, Bool, true, false, ◌&&◌, ◌||◌, List, [], ◌∷◌, ◌++◌, length, map, filter, flat_map, Option}
-use Rattle.vt_spec.proofs.Common.{Call, Copies, Filesystem, Fresh, Graft, Layer, Location, Looks, Mount, MountFlags, Namespace, Overlay, Permit, Propagation, SameFilesystem, SameFilesystems, Task, ToBind, ToMountOverlay, ToMountPlain, ToMove, Twig, World, attach, attached_at, bind_permit, bindable_children, bindable_tree, bound, bound_at, common_steps, copies_at, copies_from, copy_at, copy_type, evens, filesystem_numbered, graft_of, has_too_many, holds_of, judge, list_any, looks_of, most_mounts, mount_numbered, mount_overlay_permit, mount_plain_permit, mount_tree, mounted, move_permit, new_mount, odds, open_layer, overfills, overlay_filesystem, parts_of, plain_filesystem, pushed_onto, stands_under, takes_part, with_new_filesystem}
+use Rattle.std.proofs.Common.{arith, ◌≡◌, refl, sym, ap, ◌∙◌, ℕ, nat_eq, nat_lt, Bool, true, false, ◌&&◌, ◌||◌, List, [], ◌∷◌, ◌++◌, length, map, filter, flat_map, None, Option, Some}
+use Rattle.vt_spec.proofs.Common.{Call, Copies, Filesystem, Fresh, Graft, Layer, Exclusive, Location, Looks, Mount, MountFlags, MountOverlay, Namespace, NoCreation, OpenFile, OrCreate, Overlay, Permit, Propagation, SameFilesystem, SameFilesystems, Task, ToBind, ToMountOverlay, ToMountPlain, ToMove, Twig, World, attach, attached_at, bindable_children, bindable_tree, bound, bound_at, common_steps, copies_at, copies_from, copy_at, copy_type, evens, filesystem_numbered, graft_of, has_too_many, holds_of, judge, judging, list_any, looks_of, most_mounts, mount_numbered, mount_tree, mounted, new_mount, odds, open_layer, overfills, overlay_filesystem, parts_of, plain_filesystem, pushed_onto, stands_under, takes_part, with_new_filesystem}
 use Rattle.vt_laws_rules.proofs.same.SameFiles.{as_many, directory_under_same}
 use Rattle.vt_laws_rules.proofs.same.SameJudged.{same_worlds_are_judged_alike}
 use Rattle.vt_laws_rules.proofs.same.SameLooks.{found_same}
@@ -18,8 +18,13 @@ attaches permit = false
 -- nothing else is asked whether it leaves a namespace with too many
 only_attaches : (looks : Looks ℕ) (many : Permit ℕ → Bool) (task : Task ℕ) (call : Call)
     → judge nat_eq looks many task call ≡ judge nat_eq looks (λ permit. attaches permit && many permit) task call
-unfolding mount_plain_permit mount_overlay_permit bind_permit move_permit
-only_attaches looks many task call = grind (arith, common_steps, many)
+unfolding judging
+only_attaches looks many task (OpenFile path access NoCreation) = refl
+only_attaches looks many task (OpenFile path access (OrCreate mode)) = refl
+only_attaches looks many task (OpenFile path access (Exclusive mode)) = refl
+only_attaches looks many task (MountOverlay path None flags) = refl
+only_attaches looks many task (MountOverlay path (Some words) flags) = refl
+only_attaches looks many task call = refl
 
 any_bare : (test : ℕ → Bool) (namespaces : List (Namespace ℕ))
     → list_any (λ (namespace : Namespace ℕ). test namespace.number)

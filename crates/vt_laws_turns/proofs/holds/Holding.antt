@@ -52,7 +52,7 @@ word_seen world is task called call met m f n =
     let found = of_route (routes nat_eq (looks_of nat_eq world) task call) met m in
     let steps : Way → List (List ℕ) =
     λ (w : Way). reverse (steps_of (whole_walk nat_eq w.aim (looks_of nat_eq world) task w.path)) in
-    let way = among-from_map steps (ways call) found.0.steps
+    let way = among-from_map steps (ways (looks_of nat_eq world) task call) found.0.steps
     (subst (Among found.0.steps) (routes_are_walks (looks_of nat_eq world) task call)
     (among-map (λ (route : Route ℕ). route.steps) (routes nat_eq (looks_of nat_eq world) task call) found.0 found.1)) in
     let walk = whole_walk nat_eq way.0.aim (looks_of nat_eq world) task way.0.path in

@@ -42,7 +42,7 @@ module _ (sched : Sched ℕ) (name : TaskName) (line : ℕ) (call : Call) (given
 
   first : (task : Task ℕ) (restarts : ℕ) → task.name ≡ name
       → Done (first_turn nat_eq sched task line call given restarts)
-  first task restarts e = first_by (unless (entry_rules task call) (Ok call)) task restarts e
+  first task restarts e = first_by (unless (entry_rules nat_eq (looks_of nat_eq sched.world) task call) (Ok call)) task restarts e
 
   again : (most : Bool) (task : Task ℕ) (progress : Progress ℕ) → task.name ≡ name
       → Done (restarted nat_eq most sched task line call given progress)

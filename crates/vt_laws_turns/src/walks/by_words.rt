@@ -1,5 +1,5 @@
 //! Walks by words lead where whole walks lead.
-ghost use Rattle.vt_laws_turns.specs.Walks.Asked.{TurnsCheckWhatIsAsked, TurnsWalkWhatIsAsked};
+ghost use Rattle.vt_laws_turns.specs.Walks.Asked.{TurnsCheckWhatIsAsked};
 ghost use Rattle.vt_laws_turns.specs.Walks.ByWords.{AllWordsAreTheWalk, FirstWordsAreOfTheWalk};
 ghost use Rattle.vt_laws_turns.specs.Walks.Routes.{RoutesAreWalks};
 
@@ -17,12 +17,7 @@ pub fn walks_go_word_by_word()
     ensures routes { RoutesAreWalks }
 {}
 
-/// The first turn of a call with a path checks the S and K rules that the call asks (`rules`). If the task's root and
-/// working directory are directories, turns walk the paths that the call asks, in its order (`paths`).
-///
-/// What a call asks is `judging` of `vt_laws_rules`, whose run is `judge`. Behind a path that is refused turns go on as
-/// behind `/`.
-pub fn turns_walk_what_calls_ask()
-    ensures rules { TurnsCheckWhatIsAsked }
-    ensures paths { TurnsWalkWhatIsAsked }
+/// The first turn of a call with a path checks the S and K rules that the call asks before it walks, and no others.
+pub fn turns_check_what_calls_ask()
+    ensures { TurnsCheckWhatIsAsked }
 {}

@@ -8,7 +8,8 @@ use Rattle.vt_spec.specs.Language.Calls.{Call, MountFlags, TaskName, same_name}
 use Rattle.vt_spec.specs.Language.Calls.Call.{Exec, ListMounts, Ls, Lstat, Pread, Read, Readlink, Stat}
 use Rattle.vt_spec.specs.Errors.{denial}
 use Rattle.vt_spec.specs.Machine.Filesystems.{filesystems_raised, raised}
-use Rattle.vt_spec.specs.Machine.Judge.{Judgement, judge_in}
+use Rattle.vt_spec.specs.Machine.Judge.{judge_in}
+use Rattle.vt_spec.specs.Machine.Judging.{Judgement}
 use Rattle.vt_spec.specs.Lists.{Fresh, same_list, same_option, then_some}
 use Rattle.vt_spec.specs.Machine.Mounts.{Mount, Propagation, same_location, source_of}
 use Rattle.vt_spec.specs.Machine.Mounts.Propagation.{Private, Shared, Slave, Unbindable}

@@ -3,7 +3,7 @@ use Rattle.std.specs.Prelude.{Bool, List, None, Option, Some, [], false, flat_ma
 use Rattle.std.specs.Fmt.{digits}
 use Rattle.vt_spec.specs.declared.errors.Rule.TheVariants.{S1, S5}
 use Rattle.vt_spec.specs.Errors.{denial}
-use Rattle.vt_spec.specs.Machine.Judge.{bind_permit, chdir_permit, chmod_permit, chown_permit, chroot_permit, close_permit, exec_permit, fork_permit, lazy_permit, hard_link_permit, list_permit, lstat_permit, mkdir_permit, mount_overlay_permit, mount_plain_permit, move_permit, opaque_permit, open_permit, pivot_permit, pread_permit, pwrite_permit, read_permit, readlink_permit, remount_permit, rename_permit, rmdir_permit, setns_permit, stat_permit, symlink_permit, type_permit, umount_permit, unlink_permit, unshare_permit, whiteout_permit, write_permit}
+use Rattle.vt_spec.specs.Machine.Judging.{judging}
 use Rattle.vt_spec.specs.Lists.{Fresh, is_among}
 use Rattle.vt_spec.specs.Machine.Mounts.{Mount, source_of}
 use Rattle.vt_spec.specs.Machine.Outcomes.{Outcome, denied}
@@ -142,10 +142,5 @@ machine_text version refused script = text_of (whole version) refused script
 
 -- what a proof by computation opens
 unfoldable pub everything : Unit {0}
-unfolding digits script_text_as machine_text request_of sealed list_permit stat_permit lstat_permit readlink_permit
-    read_permit exec_permit mkdir_permit symlink_permit whiteout_permit hard_link_permit write_permit
-    unlink_permit rmdir_permit rename_permit chmod_permit chown_permit opaque_permit open_permit pread_permit
-    pwrite_permit close_permit fork_permit chdir_permit chroot_permit unshare_permit setns_permit
-    mount_plain_permit mount_overlay_permit bind_permit move_permit umount_permit lazy_permit remount_permit
-    type_permit pivot_permit
+unfolding digits script_text_as machine_text request_of sealed judging
 everything = tt

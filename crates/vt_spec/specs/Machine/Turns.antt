@@ -3,21 +3,17 @@
 use Rattle.std.specs.Prelude.{Bool, Err, List, None, Ok, Option, Result, Some, [], false, filter, filter_map, find, if◌then◌else◌, length, map, nat_eq, nat_le, nat_lt, not, option_map, option_to_list, reverse, slice_get, true, unwrap_or, ℕ, ◌&&◌, ◌++◌, ◌+◌, ◌==◌, ◌||◌, ◌∷◌}
 use Rattle.std.specs.List.{list_any}
 use Rattle.vt_spec.specs.declared.errors.Deny.{Deny}
-use Rattle.vt_spec.specs.declared.errors.Rule.TheVariants.{K1, S1, S2, S5}
-use Rattle.vt_spec.specs.Language.Calls.{Call, Creation, Directive, OverlayWords, TaskName, same_name}
-use Rattle.vt_spec.specs.Language.Calls.Call.{Bind, Chdir, Chmod, Chown, Chroot, Exec, Lazy, LinkTo, Ls, Lstat, MakeWhiteout, Mkdir, MountOverlay, MountPlain, MoveMount, Opaque, OpenFile, PivotRoot, Read, Readlink, Remount, Rename, Rmdir, SetType, Stat, SymlinkAt, Umount, Unlink, Write}
-use Rattle.vt_spec.specs.Language.Calls.Creation.{Exclusive, NoCreation, OrCreate}
+use Rattle.vt_spec.specs.declared.errors.Rule.TheVariants.{S1, S2, S5}
+use Rattle.vt_spec.specs.Language.Calls.{Call, Directive, OverlayWords, TaskName, same_name}
 use Rattle.vt_spec.specs.Errors.{Rules, denial, unless}
 use Rattle.vt_spec.specs.Lists.{Fresh, counted_from, first_of_list, folded, is_empty_list, rest_of}
-use Rattle.vt_spec.specs.Machine.Rules.Descriptors.{descriptor_rules}
-use Rattle.vt_spec.specs.Machine.Rules.Mounting.{admin_rules, destination_walk, source_walk, work_walked}
-use Rattle.vt_spec.specs.Machine.Rules.Removing.{rename_new_walk}
+use Rattle.vt_spec.specs.Machine.Rules.Mounting.{source_walk, work_walked}
 use Rattle.vt_spec.specs.Language.Answers.{Answer}
 use Rattle.vt_spec.specs.Machine.Outcomes.{Outcome, denied}
 use Rattle.vt_spec.specs.Machine.Policy.{policy}
 use Rattle.vt_spec.specs.Language.Printed.{reply_line}
-use Rattle.vt_spec.specs.Rights.{cap_sys_chroot}
-use Rattle.vt_spec.specs.Machine.Rows.{lacks}
+use Rattle.vt_spec.specs.Machine.Judging.{Judging, judging, walk_to, walk_to_name}
+use Rattle.vt_spec.specs.Machine.Judging.Judging.{Layers, Names, Needs, Walks, Words}
 use Rattle.vt_spec.specs.Machine.Looks.{Looks, looks_of}
 use Rattle.vt_spec.specs.Machine.Run.{everything, first_world, handed, later}
 use Rattle.vt_spec.specs.Language.Script.{Grammar, Request, Version, Who, each_of, is_silent, lines_of, raw_tokens, request_of, token_text, who_of, whole}
@@ -25,7 +21,8 @@ use Rattle.vt_spec.specs.Language.Limits.{largest_change, longest_line, most_res
 use Rattle.vt_spec.specs.Language.Script.Request.{Asking, Calling}
 use Rattle.vt_spec.specs.Language.Script.Who.{Nobody, Someone}
 use Rattle.vt_spec.specs.Machine.Sealed.{directed}
-use Rattle.vt_spec.specs.Machine.Walking.{Here, Place, Stop, directory_walk, file_walk, is_directory_there, symlink_walk, new_leaf_walk, new_walk, object_walk, old_leaf_walk, old_walk}
+use Rattle.vt_spec.specs.Machine.Walking.{Here, Place, Stop}
+use Rattle.vt_spec.specs.Machine.Walking.LastWord.{NoWord}
 use Rattle.vt_spec.specs.Machine.World.{Task, World, task_called}
 
 -- what stands in a queue: a call, a directive, or a line that is refused
@@ -112,21 +109,10 @@ module _ {N : Type 0} where
   abbrev pub place_route : Result (Place N) (Stop N) → Route N
   place_route walk = route_of (λ place. place.steps) walk
 
-  -- the S and K rules of a call that walks a path
-  abbrev pub entry_rules : Task N → Call → Rules
-  entry_rules task (OpenFile path access how) = descriptor_rules task
-  entry_rules task (Opaque path mark) = admin_rules task
-  entry_rules task (Chroot path) = (lacks task cap_sys_chroot, K1) ∷ []
-  entry_rules task (MountPlain path given) = admin_rules task
-  entry_rules task (MountOverlay path options given) = admin_rules task
-  entry_rules task (Bind source path recursive) = admin_rules task
-  entry_rules task (MoveMount source path) = admin_rules task
-  entry_rules task (Umount path) = admin_rules task
-  entry_rules task (Lazy path) = admin_rules task
-  entry_rules task (Remount path given) = admin_rules task
-  entry_rules task (SetType path word recursive) = admin_rules task
-  entry_rules task (PivotRoot new put) = admin_rules task
-  entry_rules task call = []
+  -- the rules that are asked at once, before any path
+  abbrev pub rules_at_once : Judging N → Rules
+  rules_at_once (Needs rules next) = rules
+  rules_at_once asked = []
 
   -- the words of a call's paths in their order, as far as they go
   abbrev pub words_of : List (Route N) → List (List N)
@@ -164,68 +150,46 @@ module _ {N : Type 0} where
   abbrev pub is_failing : List (Route N) → ℕ → Bool
   is_failing ways walked = some_fails ways && length (words_of ways) == walked + 1
 
-module _ {N : Type 0} (eq : N → N → Bool) where
-  -- The paths of a call, in the order in which it walks them
+-- The paths of a call, in the order in which it walks them
+module _ {N : Type 0} (eq : N → N → Bool) (looks : Looks N) (task : Task N) where
+  -- where a path leads; behind one that is refused before its first word the others are walked as behind `/`
+  abbrev pub here_or_root : Result (Here N) (Stop N) → Here N
+  here_or_root (Ok here) = here
+  here_or_root (Err stop) = record { location = task.root; left = 0; steps = [] }
 
-  -- the old object of a rename is a directory, or its walk failed
-  abbrev pub rename_from_directory : Looks N → Result (Place N) (Stop N) → Bool
-  rename_from_directory looks (Ok place) = is_directory_there eq looks place
-  rename_from_directory looks (Err stop) = true
-
-  -- the route of the path of open(2)
-  abbrev pub open_route : Looks N → Task N → List ℕ → Creation → Route N
-  open_route looks task path NoCreation = here_route (object_walk eq looks task path)
-  open_route looks task path (OrCreate mode) = place_route (file_walk eq looks task path)
-  open_route looks task path (Exclusive mode) = place_route (new_walk eq looks task path)
+  -- the same of a path whose last word is a name
+  abbrev pub place_or_root : Result (Place N) (Stop N) → Place N
+  place_or_root (Ok place) = place
+  place_or_root (Err stop) =
+      record { parent = task.root; last = NoWord; object = Some task.root; slash = false; steps = [] }
 
   -- the routes of an overlay's layers, in the order in which they are walked
-  abbrev pub layer_routes : Looks N → Task N → Option OverlayWords → List (Route N)
-  layer_routes looks task None = []
-  layer_routes looks task (Some words) =
+  abbrev pub layer_routes : OverlayWords → List (Route N)
+  layer_routes words =
       map (λ path. here_route (source_walk eq looks task path))
       (words.lowers ++ option_to_list words.upper ++ option_to_list (work_walked words))
 
-  -- the routes of the paths of a call
-  abbrev pub routes : Looks N → Task N → Call → List (Route N)
-  routes looks task (Ls path) = here_route (directory_walk eq looks task path) ∷ []
-  routes looks task (Stat path) = here_route (object_walk eq looks task path) ∷ []
-  routes looks task (Lstat path) = here_route (symlink_walk eq looks task path) ∷ []
-  routes looks task (Readlink path) = here_route (symlink_walk eq looks task path) ∷ []
-  routes looks task (Read path) = here_route (object_walk eq looks task path) ∷ []
-  routes looks task (Write path bytes) = place_route (file_walk eq looks task path) ∷ []
-  routes looks task (Exec path) = here_route (object_walk eq looks task path) ∷ []
-  routes looks task (Mkdir path mode) = place_route (new_walk eq looks task path) ∷ []
-  routes looks task (SymlinkAt text path) = place_route (new_leaf_walk eq looks task path) ∷ []
-  routes looks task (MakeWhiteout path) = place_route (new_leaf_walk eq looks task path) ∷ []
-  routes looks task (LinkTo old new) =
-      here_route (symlink_walk eq looks task old) ∷ place_route (new_leaf_walk eq looks task new) ∷ []
-  routes looks task (Unlink path) = place_route (old_leaf_walk eq looks task path) ∷ []
-  routes looks task (Rmdir path) = place_route (old_walk eq looks task path) ∷ []
-  routes looks task (Rename old new) =
-      place_route (old_leaf_walk eq looks task old)
-      ∷ place_route (rename_new_walk eq looks task new (rename_from_directory looks (old_leaf_walk eq looks task old)))
-      ∷ []
-  routes looks task (Chmod path mode) = here_route (object_walk eq looks task path) ∷ []
-  routes looks task (Chown path uid gid) = here_route (object_walk eq looks task path) ∷ []
-  routes looks task (Opaque path mark) = here_route (directory_walk eq looks task path) ∷ []
-  routes looks task (OpenFile path access creation) = open_route looks task path creation ∷ []
-  routes looks task (Chdir path) = here_route (directory_walk eq looks task path) ∷ []
-  routes looks task (Chroot path) = here_route (directory_walk eq looks task path) ∷ []
-  routes looks task (MountPlain path given) = here_route (destination_walk eq looks task path) ∷ []
-  routes looks task (MountOverlay path options given) =
-      here_route (destination_walk eq looks task path) ∷ layer_routes looks task options
-  routes looks task (Bind source path recursive) =
-      here_route (source_walk eq looks task source) ∷ here_route (destination_walk eq looks task path) ∷ []
-  routes looks task (MoveMount source path) =
-      here_route (source_walk eq looks task source) ∷ here_route (destination_walk eq looks task path) ∷ []
-  routes looks task (Umount path) = here_route (directory_walk eq looks task path) ∷ []
-  routes looks task (Lazy path) = here_route (directory_walk eq looks task path) ∷ []
-  routes looks task (Remount path given) = here_route (directory_walk eq looks task path) ∷ []
-  routes looks task (SetType path word recursive) = here_route (directory_walk eq looks task path) ∷ []
-  routes looks task (PivotRoot new put) =
-      here_route (source_walk eq looks task new) ∷ here_route (destination_walk eq looks task put) ∷ []
-  routes looks task call = []
+  -- the routes of the paths that are asked
+  abbrev pub routes_of : Judging N → List (Route N)
+  routes_of (Needs rules next) = routes_of next
+  routes_of (Words rules next) = routes_of next
+  routes_of (Walks aim path next) =
+      here_route (walk_to eq looks task aim path) ∷ routes_of (next (here_or_root (walk_to eq looks task aim path)))
+  routes_of (Names aim path next) =
+      place_route (walk_to_name eq looks task aim path)
+      ∷ routes_of (next (place_or_root (walk_to_name eq looks task aim path)))
+  routes_of (Layers words next) = layer_routes words
+  routes_of asked = []
 
+  -- the routes of the paths of a call
+  abbrev pub routes : Call → List (Route N)
+  routes call = routes_of (judging eq looks task call)
+
+  -- the S and K rules of a call
+  abbrev pub entry_rules : Call → Rules
+  entry_rules call = rules_at_once (judging eq looks task call)
+
+module _ {N : Type 0} (eq : N → N → Bool) where
   -- Change numbers that are held
 
   -- the change number of a namespace; where there is none, the one that can rise no more
@@ -291,8 +255,8 @@ module _ {N : Type 0} (eq : N → N → Bool) where
   -- the next word of a call, in the world as it is now
   abbrev pub further : Sched N → Task N → ℕ → Call → Fresh N → Progress N → Turned N
   further sched task line call fresh progress =
-      next_word sched line call fresh progress (routes (looks_of eq sched.world) task call)
-      (slice_get (words_of (routes (looks_of eq sched.world) task call)) progress.walked)
+      next_word sched line call fresh progress (routes eq (looks_of eq sched.world) task call)
+      (slice_get (words_of (routes eq (looks_of eq sched.world) task call)) progress.walked)
 
   -- the first word is walked, unless an S or K rule refuses the call: then the turn is the last
   abbrev pub first_turn_by : Result Call Deny → Sched N → Task N → ℕ → Call → Fresh N → ℕ → Turned N
@@ -303,7 +267,7 @@ module _ {N : Type 0} (eq : N → N → Bool) where
   -- a first turn, or a restart, checks the S and K rules and walks the first word
   abbrev pub first_turn : Sched N → Task N → ℕ → Call → Fresh N → ℕ → Turned N
   first_turn sched task line call fresh restarts =
-      first_turn_by (unless (entry_rules task call) (Ok call)) sched task line call fresh restarts
+      first_turn_by (unless (entry_rules eq (looks_of eq sched.world) task call) (Ok call)) sched task line call fresh restarts
 
   -- a restart; where there were as many as may be, the call is run whole
   abbrev pub restarted : Bool → Sched N → Task N → ℕ → Call → Fresh N → Progress N → Turned N

@@ -1,6 +1,6 @@
 -- Turns of theirs that answer a fork or an exit are of their part, of the set that is left.
 use Rattle.std.proofs.Common.{inl, inr, ◌≡◌, refl, sym, ◌∙◌, ℕ, nat_eq, List, Option, Some, Ok, Err}
-use Rattle.vt_spec.proofs.Common.{Exit, Fork, ForkWords, Fresh, Judgement, Permit, Task, TaskName, ToFork, World, child_credentials, fork_permit, fork_rules, judge_in, passing, task_called}
+use Rattle.vt_spec.proofs.Common.{Exit, Fork, ForkWords, Fresh, Judgement, Permit, Task, TaskName, ToFork, World, child_credentials, fork_rules, judge_in, judging, passing, task_called}
 use Rattle.vt_laws_containers.proofs.Common.{cases_Option, EndsAlike, IsCallOfTheirs, denials_end_alike, unnamed_ends_alike}
 use Rattle.vt_laws_members.proofs.changes.tasks.Forking.{forks_end_alike}
 use Rattle.vt_laws_members.proofs.changes.letting_go.Exiting.{exits_end_alike}
@@ -11,7 +11,7 @@ use Rattle.vt_laws_containers.proofs.sealed_turns.members.Answering.{their_answe
 granted_fork : (fresh : Fresh ℕ) (world : World ℕ) (task : Task ℕ) (words : Option ForkWords) (permit : Permit ℕ)
     → judge_in nat_eq fresh world task (Fork words) ≡ Ok permit
     → judge_in nat_eq fresh world task (Fork words) ≡ Ok (ToFork (child_credentials task.credentials words))
-unfolding fork_permit
+unfolding judging
 granted_fork fresh world task words permit e =
     let credentials = child_credentials task.credentials words in
     e ∙ sym (passing (fork_rules task credentials) (Ok (ToFork credentials)) permit e).1

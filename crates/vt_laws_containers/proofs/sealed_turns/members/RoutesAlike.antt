@@ -1,7 +1,7 @@
 -- The paths of a call of theirs are walked alike in the world and in the part.
-use Rattle.std.proofs.Common.{arith, ◌≡◌, refl, ap, ℕ, nat_eq, List, [], ◌∷◌, Option, Some, None, Ok, Err, Result, IfOk}
-use Rattle.vt_spec.proofs.Common.{Bind, Call, Chdir, Chmod, Chown, Chroot, Creation, Exclusive, Exec, Here, Lazy, LinkTo, Location, Looks, Ls, Lstat, MakeWhiteout, Mkdir, MountOverlay, MountPlain, MoveMount, NoCreation, Opaque, OpenFile, OrCreate, OverlayWords, PivotRoot, Place, Read, Readlink, Remount, Rename, Rmdir, SetType, Stat, Stop, SymlinkAt, Task, Umount, Unlink, Write, common_steps, destination_walk, directory_walk, file_walk, map_alike, new_leaf_walk, new_walk, object_walk, old_leaf_walk, old_walk, routes, source_walk, symlink_walk}
-use Rattle.vt_laws_containers.proofs.Common.{here_route, layer_routes, open_route, place_route, rename_from_directory}
+use Rattle.std.proofs.Common.{arith, ◌≡◌, refl, ap, ℕ, nat_eq, List, [], ◌∷◌, Some, None, Ok, Err, Result, IfOk, subst}
+use Rattle.vt_spec.proofs.Common.{Bind, Call, Chdir, Chmod, Chown, Chroot, Exclusive, Exec, Here, Lazy, LinkTo, Location, Looks, Ls, Lstat, MakeWhiteout, Mkdir, MountOverlay, MountPlain, MoveMount, NoCreation, Opaque, OpenFile, OrCreate, OverlayWords, PivotRoot, Place, Read, Readlink, Remount, Rename, Rmdir, SetType, Stat, Stop, SymlinkAt, Task, Umount, Unlink, Write, common_steps, destination_walk, directory_walk, entry_rules, file_walk, is_directory_there, judging, map_alike, new_leaf_walk, new_walk, object_walk, old_leaf_walk, old_walk, routes, same_Some, source_walk, symlink_walk}
+use Rattle.vt_laws_containers.proofs.Common.{here_route, layer_routes, place_or_root, place_route}
 use Rattle.vt_laws_members.proofs.judging.WalksLead.{PlaceAt, WalksAlike, destination_agrees, directory_agrees, file_agrees, new_agrees, new_leaf_agrees, object_agrees, old_agrees, old_leaf_agrees, rename_new_agrees, same_directory_there, source_agrees, symlink_agrees}
 
 module _ {one other : Looks ℕ} {task : Task ℕ} {Own : ℕ → Type 0} (leads : WalksAlike one other task Own) where
@@ -51,33 +51,24 @@ module _ {one other : Looks ℕ} {task : Task ℕ} {Own : ℕ → Type 0} (leads
   old_leaf path = (old_leaf_agrees leads path).0
 
   -- the old object of a rename is a directory in both
-  from_directory : (path : List ℕ) → rename_from_directory nat_eq one (old_leaf_walk nat_eq one task path)
-      ≡ rename_from_directory nat_eq other (old_leaf_walk nat_eq other task path)
-  from_directory path = cc (by _ (old_leaf_agrees leads path).1, old_leaf path)
-    where
-      by : (a : Result (Place ℕ) (Stop ℕ)) → IfOk a (PlaceAt leads)
-          → rename_from_directory nat_eq one a ≡ rename_from_directory nat_eq other a
-      by (Ok place) at = same_directory_there leads place at
-      by (Err stop) at = refl
+  from_directory : (walk : Result (Place ℕ) (Stop ℕ)) → IfOk walk (PlaceAt leads)
+      → is_directory_there nat_eq one (place_or_root nat_eq one task walk)
+      ≡ is_directory_there nat_eq other (place_or_root nat_eq other task walk)
+  from_directory (Ok place) at = same_directory_there leads place at
+  from_directory (Err stop) at = same_directory_there leads (place_or_root nat_eq one task (Err stop))
+      (leads.walks.root, λ object e. subst (λ (o : Location ℕ). Own o.mount) (same_Some task.root object e) leads.walks.root)
 
   renamed : (old new : List ℕ) → routes nat_eq one task (Rename old new) ≡ routes nat_eq other task (Rename old new)
+  unfolding judging
   renamed old new = cc (
     old_leaf old,
-    from_directory old,
+    from_directory (old_leaf_walk nat_eq one task old) (old_leaf_agrees leads old).1,
     (rename_new_agrees leads new _).0,
   )
 
-  layers : (options : Option OverlayWords)
-      → layer_routes nat_eq one task options ≡ layer_routes nat_eq other task options
-  layers None = refl
-  layers (Some words) = map_alike (λ path. here_route (source_walk nat_eq one task path))
+  layers : (words : OverlayWords) → layer_routes nat_eq one task words ≡ layer_routes nat_eq other task words
+  layers words = map_alike (λ path. here_route (source_walk nat_eq one task path))
       (λ path. here_route (source_walk nat_eq other task path)) _ (λ path m. ap (λ w. here_route w) (source path))
-
-  opened_alike : (path : List ℕ) (how : Creation)
-      → (open_route nat_eq one task path how ∷ []) ≡ (open_route nat_eq other task path how ∷ [])
-  opened_alike path NoCreation = object path
-  opened_alike path (OrCreate mode) = file path
-  opened_alike path (Exclusive mode) = new path
 
   -- two mounts, or their places
   from_to : (source_path path : List ℕ) → (here_route (source_walk nat_eq one task source_path)
@@ -88,6 +79,7 @@ module _ {one other : Looks ℕ} {task : Task ℕ} {Own : ℕ → Type 0} (leads
       cc (source source_path, destination path)
 
   pub routes_alike : (call : Call) → routes nat_eq one task call ≡ routes nat_eq other task call
+  unfolding judging
   routes_alike (Ls path) = directories path
   routes_alike (Stat path) = object path
   routes_alike (Lstat path) = symlink path
@@ -105,11 +97,14 @@ module _ {one other : Looks ℕ} {task : Task ℕ} {Own : ℕ → Type 0} (leads
   routes_alike (Chmod path mode) = object path
   routes_alike (Chown path uid gid) = object path
   routes_alike (Opaque path mark) = directories path
-  routes_alike (OpenFile path access how) = opened_alike path how
+  routes_alike (OpenFile path access NoCreation) = object path
+  routes_alike (OpenFile path access (OrCreate mode)) = file path
+  routes_alike (OpenFile path access (Exclusive mode)) = new path
   routes_alike (Chdir path) = directories path
   routes_alike (Chroot path) = directories path
   routes_alike (MountPlain path given) = destination path
-  routes_alike (MountOverlay path options given) = grind (arith, common_steps, destination, layers)
+  routes_alike (MountOverlay path None given) = destination path
+  routes_alike (MountOverlay path (Some words) given) = cc (destination path, layers words)
   routes_alike (Bind from path recursive) = from_to from path
   routes_alike (MoveMount from path) = from_to from path
   routes_alike (Umount path) = directories path
@@ -118,3 +113,9 @@ module _ {one other : Looks ℕ} {task : Task ℕ} {Own : ℕ → Type 0} (leads
   routes_alike (SetType path word recursive) = directories path
   routes_alike (PivotRoot new_root put) = from_to new_root put
   routes_alike call = refl
+
+-- the S and K rules of a call do not go by what is looked at
+pub entry_same : (one other : Looks ℕ) (task : Task ℕ) (call : Call)
+    → entry_rules nat_eq one task call ≡ entry_rules nat_eq other task call
+unfolding judging
+entry_same one other task call = refl

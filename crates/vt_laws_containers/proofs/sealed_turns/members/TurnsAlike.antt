@@ -6,7 +6,7 @@ use Rattle.vt_laws_sealed.proofs.part.walks.WalksAgree.{Alike}
 use Rattle.vt_laws_containers.specs.SealedTurns.MembersTurns.{HasCallsUnderWay, TheirTurnsAnswerAlike, TheirWordsAreOfTheirPart, part_of_sched}
 use Rattle.vt_laws_containers.specs.SealedTurns.OutsidersTurns.{their_calls}
 use Rattle.vt_laws_containers.proofs.sealed_turns.members.Numbers.{filesystem_same, namespace_same, overtaken_alike, seen_used}
-use Rattle.vt_laws_containers.proofs.sealed_turns.members.RoutesAlike.{routes_alike}
+use Rattle.vt_laws_containers.proofs.sealed_turns.members.RoutesAlike.{entry_same, routes_alike}
 
 module _ (sched : Sched ℕ) (names : List TaskName) (has : HasCallsUnderWay sched) where
   abbrev world : World ℕ
@@ -119,7 +119,10 @@ module _ (sched : Sched ℕ) (names : List TaskName) (has : HasCallsUnderWay sch
 
     first_alike : (restarts : ℕ) → AlikeTurned (first_turn nat_eq sched task line call fresh restarts)
         (first_turn nat_eq part task line call fresh restarts)
-    first_alike restarts = entry_alike (unless (entry_rules task call) (Ok call)) restarts
+    first_alike restarts = subst (λ rules. AlikeTurned (first_turn nat_eq sched task line call fresh restarts)
+        (first_turn_by nat_eq (unless rules (Ok call)) part task line call fresh restarts))
+        (entry_same (looks_of nat_eq world) (looks_of nat_eq part.world) task call)
+        (entry_alike (unless (entry_rules nat_eq (looks_of nat_eq world) task call) (Ok call)) restarts)
 
     restart_alike : (most : Bool) (progress : Progress ℕ)
         → AlikeTurned (restarted nat_eq most sched task line call fresh progress)

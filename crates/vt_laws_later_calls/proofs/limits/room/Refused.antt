@@ -1,6 +1,6 @@
 -- An attachment without room is refused by M9, and one with room is granted, where no other rule refuses it.
 use Rattle.std.proofs.Common.{arith, ◌≡◌, refl, ap, subst, ◌∙◌, ℕ, nat_eq, Bool, true, false, [], ◌∷◌, ◌++◌, Some, Result, Ok, Err, length, drop, take}
-use Rattle.vt_spec.proofs.Common.{Bind, Call, Done, Fresh, Here, Judgement, MountPlain, MoveMount, Permit, Rules, Task, TaskName, ToBind, ToMountPlain, ToMove, World, and_then, answer-finished_by, apply, attach_permit, bind_permit, bind_rules, bind_tree, common_steps, denial, judge_in, looks_of, mount_plain_permit, move_permit, move_rules, new_mount_rules, only_looks, overfills, policy, task_called, unless, walk_end}
+use Rattle.vt_spec.proofs.Common.{Bind, Call, Done, Fresh, Here, Judgement, MountPlain, MoveMount, Permit, Rules, Task, TaskName, ToBind, ToMountPlain, ToMove, World, and_then, answer-finished_by, apply, bind_rules, bind_tree, common_steps, denial, judge_in, judging, looks_of, move_rules, new_mount_rules, only_looks, overfills, policy, task_called, unless, walk_end}
 use Rattle.vt_laws_later_calls.proofs.Common.{Deny, Ends, HereDirectory, K1, M9, destination_walk, is_mount, source_walk, source_walk_end}
 use Rattle.vt_laws_later_calls.specs.Limits.Room.{BindNeedsRoom, MoveNeedsRoom, NeedsRoom, NewMountNeedsRoom, lacks_room, lacks_room_for_moved, none_fails, tree_of}
 use Rattle.vt_laws_later_calls.proofs.limits.Outcomes.{policy_by_judgement, refused_call}
@@ -34,7 +34,7 @@ module _ {world : World ℕ} (fresh : Fresh ℕ) (name : TaskName) {task : Task 
 
 -- a new mount
 pub new_mount_needs_room : NewMountNeedsRoom
-unfolding mount_plain_permit
+unfolding judging
 new_mount_needs_room world fresh name task path flags here is called admin walk none =
     answered_by_table fresh name (MountPlain path flags) called refl (ToMountPlain here.location flags)
     (take 1 (new_mount_rules nat_eq (looks_of nat_eq world) task here.location false)) []
@@ -46,12 +46,12 @@ new_mount_needs_room world fresh name task path flags here is called admin walk 
     none refl
   where
     judged_at : Here ℕ → Judgement ℕ
-    judged_at place = attach_permit (new_mount_rules nat_eq (looks_of nat_eq world) task place.location)
-        (overfills nat_eq fresh world task) (ToMountPlain place.location flags)
+    judged_at place = unless (new_mount_rules nat_eq (looks_of nat_eq world) task place.location
+        (overfills nat_eq fresh world task (ToMountPlain place.location flags))) (Ok (ToMountPlain place.location flags))
 
 -- a bind
 pub bind_needs_room : BindNeedsRoom
-unfolding bind_permit
+unfolding judging
 bind_needs_room world fresh name task source path recursive from here called admin from_walk walk none =
     answered_by_table fresh name (Bind source path recursive) called refl (ToBind from.location here.location recursive)
     (take 2 (bind_rules nat_eq (looks_of nat_eq world) task from.location here.location false)) []
@@ -65,15 +65,15 @@ bind_needs_room world fresh name task source path recursive from here called adm
   where
     judged_at : Here ℕ → Here ℕ → Judgement ℕ
     judged_at origin place =
-        attach_permit (bind_rules nat_eq (looks_of nat_eq world) task origin.location place.location)
-        (overfills nat_eq fresh world task) (ToBind origin.location place.location recursive)
+        unless (bind_rules nat_eq (looks_of nat_eq world) task origin.location place.location
+        (overfills nat_eq fresh world task (ToBind origin.location place.location recursive))) (Ok (ToBind origin.location place.location recursive))
 
     judged_from : Here ℕ → Judgement ℕ
     judged_from origin = and_then (walk_end (destination_walk nat_eq world task path)) (judged_at origin)
 
 -- a move
 pub move_needs_room : MoveNeedsRoom
-unfolding move_permit
+unfolding judging
 move_needs_room world fresh name task source path from here is called admin from_walk walk none =
     answered_by_table fresh name (MoveMount source path) called refl (ToMove from.location.mount here.location)
     (take 5 (move_rules nat_eq (looks_of nat_eq world) task from.location here.location false))
@@ -88,8 +88,8 @@ move_needs_room world fresh name task source path from here is called admin from
   where
     judged_at : Here ℕ → Here ℕ → Judgement ℕ
     judged_at origin place =
-        attach_permit (move_rules nat_eq (looks_of nat_eq world) task origin.location place.location)
-        (overfills nat_eq fresh world task) (ToMove origin.location.mount place.location)
+        unless (move_rules nat_eq (looks_of nat_eq world) task origin.location place.location
+        (overfills nat_eq fresh world task (ToMove origin.location.mount place.location))) (Ok (ToMove origin.location.mount place.location))
 
     judged_from : Here ℕ → Judgement ℕ
     judged_from origin = and_then (walk_end (destination_walk nat_eq world task path)) (judged_at origin)

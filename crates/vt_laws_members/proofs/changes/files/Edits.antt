@@ -1,9 +1,9 @@
 -- What calls that write and that set attributes are granted: an edit of a file on a mount of theirs.
 use Rattle.std.proofs.Common.{arith, ◌≡◌, ℕ, nat_eq, eqb-true, Bool, true, List, Option, flat_map, IfOk}
-use Rattle.vt_spec.proofs.Common.{Change, FileTree, Here, Location, Looks, Node, Permit, Place, SetAttr, SetBytes, SetMark, Task, TaskName, ToChange, World, changed, changed_node, chmod_permit, chown_permit, common_steps, entries-node_with_attr, entries-node_with_bytes, entries-node_with_mark, entries_in, is_among, looks_of, named_in, opaque_permit, part_of, targets_in, used_filesystems, write_permit, ⊤, Chmod, Chown, Opaque, Write}
+use Rattle.vt_spec.proofs.Common.{Change, Chmod, Chown, FileTree, Here, Location, Looks, Node, Opaque, Permit, Place, SetAttr, SetBytes, SetMark, Task, TaskName, ToChange, World, Write, changed, changed_node, common_steps, entries-node_with_attr, entries-node_with_bytes, entries-node_with_mark, entries_in, is_among, judge, judging, looks_of, named_in, part_of, targets_in, used_filesystems, ⊤}
 use Rattle.vt_laws_members.proofs.judging.Common.{FoundAt, HereAt, IsMember, JudgesAlike, PlaceAt, directory_agrees, file_agrees, judges, leads_alike, object_agrees}
 use Rattle.vt_laws_members.specs.Judging.{is_theirs}
-use Rattle.vt_laws_members.proofs.changes.looks.Granted.{any_answers, ends_so, judged_so}
+use Rattle.vt_laws_members.proofs.changes.looks.Granted.{ends_so, judged_so}
 
 -- a change of bytes, attributes or the mark of an inode
 abbrev pub IsEdit : Change ℕ → Type 0
@@ -61,20 +61,24 @@ module _ {world : World ℕ} {names : List TaskName} {task : Task ℕ} (member :
   abbrev IsFound : Option (Location ℕ) → Type 0
   IsFound = FoundAt (leads_alike alike)
 
-  pub writes_edit : (path bytes : List ℕ) → IfOk (write_permit nat_eq one task path bytes) Edited
-  writes_edit path bytes = judged_so one any_answers task Edited (Write path bytes) (λ place end. (
+  pub writes_edit : {full : Permit ℕ → Bool} (path bytes : List ℕ) → IfOk (judge nat_eq one full task (Write path bytes)) Edited
+  unfolding judging
+  writes_edit {full} path bytes = judged_so one full task Edited (Write path bytes) (λ place end. (
     λ file there passed. ((ends_so IsPlaced (file_agrees (leads_alike alike) path).1 end).1 file there, tt),
     λ missing passed. tt,
   ))
 
-  pub chmods_edit : (path : List ℕ) (mode : ℕ) → IfOk (chmod_permit nat_eq one task path mode) Edited
-  chmods_edit path mode = judged_so one any_answers task Edited (Chmod path mode) (λ here end passed.
+  pub chmods_edit : {full : Permit ℕ → Bool} (path : List ℕ) (mode : ℕ) → IfOk (judge nat_eq one full task (Chmod path mode)) Edited
+  unfolding judging
+  chmods_edit {full} path mode = judged_so one full task Edited (Chmod path mode) (λ here end passed.
       (ends_so StandsHere (object_agrees (leads_alike alike) path).1 end, tt))
 
-  pub chowns_edit : (path : List ℕ) (uid gid : Option ℕ) → IfOk (chown_permit nat_eq one task path uid gid) Edited
-  chowns_edit path uid gid = judged_so one any_answers task Edited (Chown path uid gid) (λ here end passed.
+  pub chowns_edit : {full : Permit ℕ → Bool} (path : List ℕ) (uid gid : Option ℕ) → IfOk (judge nat_eq one full task (Chown path uid gid)) Edited
+  unfolding judging
+  chowns_edit {full} path uid gid = judged_so one full task Edited (Chown path uid gid) (λ here end passed.
       (ends_so StandsHere (object_agrees (leads_alike alike) path).1 end, tt))
 
-  pub opaques_edit : (path : List ℕ) (mark : Bool) → IfOk (opaque_permit nat_eq one task path mark) Edited
-  opaques_edit path mark = judged_so one any_answers task Edited (Opaque path mark) (λ admin here end passed.
+  pub opaques_edit : {full : Permit ℕ → Bool} (path : List ℕ) (mark : Bool) → IfOk (judge nat_eq one full task (Opaque path mark)) Edited
+  unfolding judging
+  opaques_edit {full} path mark = judged_so one full task Edited (Opaque path mark) (λ admin here end passed.
       (ends_so StandsHere (directory_agrees (leads_alike alike) path).1 end, tt))

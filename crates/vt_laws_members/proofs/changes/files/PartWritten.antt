@@ -1,11 +1,11 @@
 -- A write of bytes at an offset of an open file ends in the part as in the world.
 use Rattle.std.proofs.Common.{◌≡◌, refl, sym, ap, subst, ◌∙◌, ℕ, nat_eq, List, ◌∷◌, Ok, IfOk}
-use Rattle.vt_spec.proofs.Common.{Among, Call, Descriptor, Location, Looks, Permit, Pwrite, SetBytes, Task, TaskName, ToWritePart, World, bytes_in, filesystem_numbered, judge_in, locations, looks_of, members, mount_at, node_at, overwritten, part_of, pwrite_permit, ⊤}
+use Rattle.vt_spec.proofs.Common.{Among, Call, Descriptor, Location, Looks, Permit, Pwrite, SetBytes, Task, TaskName, ToWritePart, World, bytes_in, filesystem_numbered, judge, judge_in, judging, locations, looks_of, members, mount_at, node_at, overwritten, part_of, ⊤}
 use Rattle.vt_laws_members.proofs.Common.{found, located}
 use Rattle.vt_laws_members.proofs.judging.Common.{IsMember, caller_in, lasting, located_used, sealing_of}
 use Rattle.vt_laws_members.specs.Changes.Changes.{PartWritesEndAlike}
 use Rattle.vt_laws_members.proofs.changes.files.FilesEnding.{edit_ends}
-use Rattle.vt_laws_members.proofs.changes.looks.Granted.{any_answers, found_theirs, judged_so}
+use Rattle.vt_laws_members.proofs.changes.looks.Granted.{found_theirs, judged_so}
 use Rattle.vt_laws_members.proofs.changes.looks.Told.{open_file}
 use Rattle.vt_laws_members.proofs.changes.tasks.Denied.{ran_there, run_by}
 
@@ -22,8 +22,9 @@ module _ {world : World ℕ} {names : List TaskName} {task : Task ℕ} (member :
   abbrev Written : Permit ℕ → Type 0
   Written = Writes (locations (members world names)) bytes
 
-  pub writes_theirs : (number offset : ℕ) → IfOk (pwrite_permit one task number offset bytes) Written
-  writes_theirs number offset = judged_so one any_answers task Written (Pwrite number offset bytes)
+  pub writes_theirs : {full : Permit ℕ → Bool} (number offset : ℕ) → IfOk (judge nat_eq one full task (Pwrite number offset bytes)) Written
+  unfolding judging
+  writes_theirs {full} number offset = judged_so one full task Written (Pwrite number offset bytes)
       (λ descriptor found passed. (found_theirs member number (λ (d : Descriptor ℕ). d.writes) descriptor found, refl))
 
 pub part_writes_end_alike : PartWritesEndAlike

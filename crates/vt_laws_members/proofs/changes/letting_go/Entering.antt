@@ -1,11 +1,11 @@
 -- A setns(2) that ends no namespace ends in the part as in the world.
 use Rattle.std.proofs.Common.{arith, ◌≡◌, refl, sym, ap, ◌∙◌, ⊎_elim, ℕ, nat_eq, Bool, true, false, List, [], Option, Some, None, Ok, map, not, eq-eqb, IfOk, is_some, ok_or, option_map, unwrap_or}
-use Rattle.vt_spec.proofs.Common.{Among, Done, Exit, Fresh, Location, Mount, Namespace, Permit, Setns, Task, TaskName, ToEnterNamespace, World, among-from_filter, among-from_map, among-map, among_from_list_all, any_among, any_from_among, common_steps, denial, entered_at, found_among, granted, has_tasks, holds_of, is_among, is_own_namespace, judge_in, list_all_from_among, list_any, members, mounts_of, namespace_root, namespaces_ended, numbers_raised, part_of, replaced_if_called, root_mount, root_of, same_name, same_truth, setns_permit, settled, task_called, topmost}
+use Rattle.vt_spec.proofs.Common.{Among, Done, Exit, Fresh, Location, Mount, Namespace, Permit, Setns, Task, TaskName, ToEnterNamespace, World, among-from_filter, among-from_map, among-map, among_from_list_all, any_among, any_from_among, common_steps, denial, entered_at, found_among, granted, has_tasks, holds_of, is_among, is_own_namespace, judge, judge_in, judging, list_all_from_among, list_any, members, mounts_of, namespace_root, namespaces_ended, numbers_raised, part_of, replaced_if_called, root_mount, root_of, same_name, same_truth, settled, task_called, topmost}
 use Rattle.vt_laws_members.proofs.Common.{S2, none_lost, own_topmost, same_topmost}
 use Rattle.vt_laws_members.proofs.judging.Common.{IsMember, IsTheirs, caller_in, member_called, own_theirs, root_theirs, sealing_of, theirs_from, theirs_test}
 use Rattle.vt_laws_members.specs.Changes.Changes.{EndsAlike, IsCallOfTheirs}
 use Rattle.vt_laws_members.proofs.changes.letting_go.Callers.{StandsOnTheirs, moved_alike, replaced_how}
-use Rattle.vt_laws_members.proofs.changes.Common.{On, alike, in_old, none_ends, any_answers, judged_so, one, own_in, part_keeps, ran_there, run_by, space_in_part}
+use Rattle.vt_laws_members.proofs.changes.Common.{On, alike, in_old, none_ends, judged_so, one, own_in, part_keeps, ran_there, run_by, space_in_part}
 use Rattle.vt_laws_members.proofs.changes.letting_go.Leaving.{in_world, its_name, part_listed}
 
 -- The permit of setns(2)
@@ -21,9 +21,10 @@ module _ {world : World ℕ} {names : List TaskName} {task : Task ℕ} (member :
   enters_by called theirs (Some target) e namespace found =
       (target, (member_called member.sealing called theirs target e).among, cc)
 
-  pub enters : (called : TaskName) → is_among same_name called names ≡ true → IfOk
-      (setns_permit (one member) task called) Enters
-  enters called theirs = judged_so (one member) any_answers task Enters (Setns called) (λ namespace found capable.
+  pub enters : {full : Permit ℕ → Bool} (called : TaskName) → is_among same_name called names ≡ true → IfOk
+      (judge nat_eq (one member) full task (Setns called)) Enters
+  unfolding judging
+  enters {full} called theirs = judged_so (one member) full task Enters (Setns called) (λ namespace found capable.
       enters_by called theirs (task_called world called) refl namespace found)
 
 -- A call that enters the namespace of another task of theirs

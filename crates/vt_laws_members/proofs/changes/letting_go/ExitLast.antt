@@ -1,6 +1,6 @@
 -- An exit of the last task of its namespace ends in the part as in the world: the mounts of the namespace are detached.
 use Rattle.std.proofs.Common.{arith, ◌≡◌, refl, sym, ap, ◌∙◌, ℕ, nat_eq, Bool, true, false, true≢false, List, [], Option, Some, None, filter, map, not, ◌||◌, eq-eqb, eqb-true}
-use Rattle.vt_spec.proofs.Common.{Among, Done, Exit, Fresh, Mount, MountInvariants, Namespace, Task, TaskName, World, after_going, among-filter, among-from_filter, among_from_list_all, any_among, any_from_among, common_steps, granted, has_tasks, holds_of, is_going, is_member_task, is_own_namespace, list_all, list_all_from_among, list_any, lost_a_group, map_twice, members, namespaces_ended, none_among, none_from_among, numbers_raised, or_left, or_right, part_of, policy, regrouped_by, same_name, settled, taken_away, task_called}
+use Rattle.vt_spec.proofs.Common.{Among, Done, Exit, Fresh, Mount, MountInvariants, Namespace, Task, TaskName, World, after_going, among-filter, among-from_filter, among_from_list_all, any_among, any_from_among, common_steps, granted, has_tasks, holds_of, is_going, is_member_task, is_own_namespace, judging, list_all, list_all_from_among, list_any, lost_a_group, map_twice, members, namespaces_ended, none_among, none_from_among, numbers_raised, or_left, or_right, part_of, policy, regrouped_by, same_name, settled, taken_away, task_called}
 use Rattle.vt_laws_members.proofs.judging.Common.{sealing_of}
 use Rattle.vt_laws_members.proofs.Common.{MountsAreListed, ended_namespaces_keep_mounts, is_own, one_namespace_ends, same_mounts}
 use Rattle.vt_laws_members.specs.Changes.Changes.{EndsAlike, IsCallOfTheirs, left}
@@ -176,6 +176,7 @@ module _ {world : World ℕ} {names : List TaskName} {name : TaskName} (it : IsC
   left_too = numbers_raised nat_eq part name [] (settled nat_eq v_part)
 
   first : (fresh : Fresh ℕ) → policy nat_eq fresh world name Exit ≡ granted Done left_one
+  unfolding judging
   first fresh = ap (ran name Exit world fresh) called
       ∙ ap (λ n. granted Done (numbers_raised nat_eq world name []
       (settled nat_eq (namespaces_ended nat_eq (record world
@@ -183,6 +184,7 @@ module _ {world : World ℕ} {names : List TaskName} {name : TaskName} (it : IsC
       ∙ ap (λ w. granted Done (numbers_raised nat_eq world name [] (settled nat_eq w))) world_ends
 
   second : (other : Fresh ℕ) → policy nat_eq other part name Exit ≡ granted Done left_too
+  unfolding judging
   second other = ap (ran name Exit part other) (same_caller (sealing_of it) name it.theirs ∙ called)
       ∙ ap (λ n. granted Done (numbers_raised nat_eq part name []
       (settled nat_eq (namespaces_ended nat_eq (record part

@@ -1,12 +1,12 @@
 -- Calls of close(2), chdir(2) and chroot(2) end in the part as in the world.
 use Rattle.std.proofs.Common.{◌≡◌, refl, sym, ap, subst, ◌∙◌, inl, inr, ⊎_elim, ℕ, nat_eq, true, List, Some, Ok, Err, Result, filter, map, not, IfOk, ◌==◌}
-use Rattle.vt_spec.proofs.Common.{Among, Chdir, Chroot, Close, Descriptor, Here, Location, Looks, Permit, Task, TaskName, ToClose, ToSetDirectory, ToSetRoot, World, among-from_filter, among-from_map, among-map, and_then, chdir_permit, chroot_permit, close_permit, descriptor_at, directory_walk, is_among, judge_in, looks_of, part_of, task_called, used_filesystems}
+use Rattle.vt_spec.proofs.Common.{Among, Chdir, Chroot, Close, Descriptor, Here, Location, Looks, Permit, Task, TaskName, ToClose, ToSetDirectory, ToSetRoot, World, among-from_filter, among-from_map, among-map, and_then, descriptor_at, directory_walk, is_among, judge, judge_in, judging, looks_of, part_of, task_called, used_filesystems}
 use Rattle.vt_laws_members.proofs.Common.{Deny}
 use Rattle.vt_laws_members.proofs.judging.Common.{HereAt, IsMember, IsTheirs, JudgesAlike, caller_in, directory_agrees, directory_theirs, judges, leads_alike, root_theirs, theirs_from}
 use Rattle.vt_laws_members.specs.Judging.{is_theirs}
 use Rattle.vt_laws_members.specs.Changes.Changes.{EndsAlike}
 use Rattle.vt_laws_members.specs.Changes.LettingGo.{ChdirsEndAlike, ChrootsEndAlike, ClosesEndAlike}
-use Rattle.vt_laws_members.proofs.changes.looks.Granted.{any_answers, ends_so, judged_so}
+use Rattle.vt_laws_members.proofs.changes.looks.Granted.{ends_so, judged_so}
 use Rattle.vt_laws_members.proofs.changes.tasks.ByPermit.{by_known}
 use Rattle.vt_laws_members.proofs.changes.tasks.Denied.{ran_there, run_by}
 use Rattle.vt_laws_members.proofs.changes.letting_go.Callers.{moved_alike, spaces_kept}
@@ -20,8 +20,8 @@ closes_after : (number : ℕ) (r : Result (Descriptor ℕ) Deny) → IfOk
 closes_after number (Ok descriptor) = refl
 closes_after number (Err deny) = tt
 
-closes : (task : Task ℕ) (number : ℕ) → IfOk (close_permit task number) (Closes number)
-unfolding close_permit
+closes : {looks : Looks ℕ} {full : Permit ℕ → Bool} (task : Task ℕ) (number : ℕ) → IfOk (judge nat_eq looks full task (Close number)) (Closes number)
+unfolding judging
 closes task number = closes_after number (descriptor_at task number (λ descriptor. true))
 
 module _ {world : World ℕ} {names : List TaskName} {task : Task ℕ} (member : IsMember world names task) where
@@ -51,12 +51,14 @@ module _ {world : World ℕ} {names : List TaskName} {task : Task ℕ} (member :
   abbrev pub SetsRoot : Permit ℕ → Type 0
   SetsRoot permit = (l : Location ℕ) × (permit ≡ ToSetRoot l) × On l.mount
 
-  pub sets_directory : (path : List ℕ) → IfOk (chdir_permit nat_eq one task path) SetsDirectory
-  sets_directory path = judged_so one any_answers task SetsDirectory (Chdir path) (λ here end passed.
+  pub sets_directory : {full : Permit ℕ → Bool} (path : List ℕ) → IfOk (judge nat_eq one full task (Chdir path)) SetsDirectory
+  unfolding judging
+  sets_directory {full} path = judged_so one full task SetsDirectory (Chdir path) (λ here end passed.
       (here.location, refl, ends_so StandsHere (at_directory path) end))
 
-  pub sets_root : (path : List ℕ) → IfOk (chroot_permit nat_eq one task path) SetsRoot
-  sets_root path = judged_so one any_answers task SetsRoot (Chroot path) (λ capable here end passed.
+  pub sets_root : {full : Permit ℕ → Bool} (path : List ℕ) → IfOk (judge nat_eq one full task (Chroot path)) SetsRoot
+  unfolding judging
+  sets_root {full} path = judged_so one full task SetsRoot (Chroot path) (λ capable here end passed.
       (here.location, refl, ends_so StandsHere (at_directory path) end))
 
 pub closes_end_alike : ClosesEndAlike

@@ -1,13 +1,13 @@
 -- Each umount(2) ends in the part as in the world.
 use Rattle.std.proofs.Common.{arith, ◌≡◌, refl, sym, ap, ◌∙◌, ⊎_elim, ℕ, nat_eq, true, false, true≢false, List, [], Option, Some, None, Ok, is_some, IfOk}
-use Rattle.vt_spec.proofs.Common.{Among, Call, Done, Fresh, Location, Mount, MountInvariants, Outcome, Permit, Task, TaskName, ToUnmount, World, among-from_filter_map, among_numbers, common_steps, going, granted, has_child, members, mount_at, mount_numbered, none_among, none_from_among, not-false, numbers_raised, or_parts, part_of, policy, settled, stands_on, taken_away, task_called, umount_permit, unmounted, Umount}
+use Rattle.vt_spec.proofs.Common.{Among, Call, Done, Fresh, Location, Mount, MountInvariants, Outcome, Permit, Task, TaskName, ToUnmount, Umount, World, among-from_filter_map, among_numbers, common_steps, going, granted, has_child, judge, judging, members, mount_at, mount_numbered, none_among, none_from_among, not-false, numbers_raised, or_parts, part_of, policy, settled, stands_on, taken_away, task_called, unmounted}
 use Rattle.vt_laws_members.proofs.detached.lazily.GoingAlike.{going_alike, going_own}
 use Rattle.vt_laws_members.proofs.judging.Common.{IsMember, IsTheirs, caller_in, no_events, same_mount, sealing_of, theirs_from}
 use Rattle.vt_laws_members.proofs.Common.{IsSealed, is_own, keep, kept_how, nowhere_stands, numbered, unmount_keeps_mounts}
 use Rattle.vt_laws_members.specs.Judging.{is_theirs}
 use Rattle.vt_laws_members.specs.Changes.Changes.{EndsAlike, IsCallOfTheirs, grown}
 use Rattle.vt_laws_members.specs.Changes.LettingGo.{UmountsEndAlike}
-use Rattle.vt_laws_members.proofs.changes.looks.Granted.{any_answers, ends_so, judged_so}
+use Rattle.vt_laws_members.proofs.changes.looks.Granted.{ends_so, judged_so}
 use Rattle.vt_laws_members.proofs.changes.looks.Told.{ended_alike, ran, same_caller}
 use Rattle.vt_laws_members.proofs.changes.tasks.ByPermit.{by_known}
 use Rattle.vt_laws_members.proofs.changes.tasks.Denied.{ran_there, run_by}
@@ -25,8 +25,9 @@ module _ {world : World ℕ} {names : List TaskName} {task : Task ℕ} (member :
   Unmounts permit = (here : Location ℕ) × (permit ≡ ToUnmount here.mount) × On here.mount
       × (is_some (mount_at nat_eq world here).mount_point ≡ true) × (has_child nat_eq world here.mount ≡ false)
 
-  unmounts : (path : List ℕ) → IfOk (umount_permit nat_eq (one member) task path) Unmounts
-  unmounts path = judged_so (one member) any_answers task Unmounts (Umount path) (λ admin here end passed. (
+  unmounts : {full : Permit ℕ → Bool} (path : List ℕ) → IfOk (judge nat_eq (one member) full task (Umount path)) Unmounts
+  unfolding judging
+  unmounts {full} path = judged_so (one member) full task Unmounts (Umount path) (λ admin here end passed. (
     here.location,
     refl,
     ends_so (StandsHere member) (at_directory member path) end,

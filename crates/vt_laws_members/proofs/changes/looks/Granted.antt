@@ -5,7 +5,7 @@ use Rattle.vt_laws_members.proofs.judging.Common.{HereAt, IsMember, JudgesAlike,
 use Rattle.vt_laws_members.specs.Changes.Changes.{left}
 use Rattle.vt_laws_members.specs.Judging.{is_theirs}
 use Rattle.vt_laws_rules.proofs.given.Inversion.{IfGranted, call_is_granted, holds_of_granted}
-use Rattle.vt_laws_rules.specs.Judging.{judging}
+use Rattle.vt_spec.specs.Machine.Judging.{judging}
 
 -- any answers to M9, of a call that attaches no mount
 abbrev pub any_answers : Permit ℕ → Bool
@@ -76,6 +76,7 @@ module _ {world : World ℕ} {names : List TaskName} {task : Task ℕ} (member :
 
   looks_at : (overfills : Permit ℕ → Bool) (call : Call) → only_looks call ≡ true
       → IfGranted nat_eq one overfills task Looked (judging nat_eq one task call)
+  unfolding judging
   looks_at overfills (Ls path) e = λ here end passed. ends_so StandsHere (at_directory path) end
   looks_at overfills (Stat path) e = λ here end. ends_so StandsHere (at_object path) end
   looks_at overfills (Lstat path) e = λ here end. ends_so StandsHere (at_symlink path) end

@@ -1,12 +1,12 @@
 -- Each mount(2) with MS_REMOUNT and MS_BIND ends in the part as in the world.
 use Rattle.std.proofs.Common.{◌≡◌, refl, sym, ap, ◌∙◌, ℕ, nat_eq, Bool, true, false, List, [], Some, Ok, not, IfOk}
-use Rattle.vt_spec.proofs.Common.{Among, Done, Fresh, Location, Mount, MountFlags, Permit, Remount, Task, TaskName, ToSetFlags, World, granted, holds_of, judge_in, members, mount_at, mount_numbered, numbers_raised, part_of, policy, remount_permit, task_called, with_mount, with_mounts}
+use Rattle.vt_spec.proofs.Common.{Among, Done, Fresh, Location, Mount, MountFlags, Permit, Remount, Task, TaskName, ToSetFlags, World, granted, holds_of, judge, judge_in, judging, members, mount_at, mount_numbered, numbers_raised, part_of, policy, task_called, with_mount, with_mounts}
 use Rattle.vt_laws_members.proofs.judging.Common.{IsMember, IsTheirs, caller_in, in_own, its_mount, same_mount, sealing_of, theirs_from}
 use Rattle.vt_laws_members.proofs.Common.{all_in_use, is_own, set_flags_keep_all}
 use Rattle.vt_laws_members.specs.Judging.{is_theirs}
 use Rattle.vt_laws_members.specs.Changes.Changes.{EndsAlike, IsCallOfTheirs}
 use Rattle.vt_laws_members.specs.Changes.MountChanges.{RemountsEndAlike}
-use Rattle.vt_laws_members.proofs.changes.Common.{StandsHere, at_directory, by_known, ended_alike, any_answers, ends_so, judged_so, one, part_in_use, part_mounts, ran, ran_there, run_by, same_caller}
+use Rattle.vt_laws_members.proofs.changes.Common.{StandsHere, at_directory, by_known, ended_alike, ends_so, judged_so, one, part_in_use, part_mounts, ran, ran_there, run_by, same_caller}
 use Rattle.vt_laws_members.proofs.changes.mounts.FlagsLeft.{flags_left, later, later_part}
 
 -- What a granted remount sets
@@ -23,8 +23,9 @@ module _ {world : World ℕ} {names : List TaskName} {task : Task ℕ} (member :
   is_so true e = refl
   is_so false e = sym e
 
-  sets_flags : (path : List ℕ) → IfOk (remount_permit nat_eq (one member) task path flags) SetsFlags
-  sets_flags path = judged_so (one member) any_answers task SetsFlags (Remount path flags) (λ admin here end passed. (
+  sets_flags : {full : Permit ℕ → Bool} (path : List ℕ) → IfOk (judge nat_eq (one member) full task (Remount path flags)) SetsFlags
+  unfolding judging
+  sets_flags {full} path = judged_so (one member) full task SetsFlags (Remount path flags) (λ admin here end passed. (
     here.location,
     refl,
     ends_so (StandsHere member) (at_directory member path) end,

@@ -1,11 +1,11 @@
 -- An open of a file that is there, and is not copied up, ends in the part as in the world.
 use Rattle.std.proofs.Common.{arith, ◌≡◌, refl, sym, ap, subst, ◌∙◌, ◌⊎◌, inl, inr, ⊎_elim, ℕ, nat_eq, Bool, true, false, cond, List, [], ◌∷◌, ◌++◌, Option, Some, filter, map, ◌||◌, IfOk}
-use Rattle.vt_spec.proofs.Common.{Access, Among, Creation, Descriptor, Exclusive, Fresh, Here, IsWorld, Location, Looks, Mount, NoCreation, OpenFile, Opened, OrCreate, Outcome, Permit, Place, Task, TaskName, ToOpen, World, among-append, among-append_left, among-append_right, among-flat_map, among-from_filter, among-from_flat_map, among-from_map, among-map, any_among, any_from_among, changed_if, common_steps, finished, found_among, free_number, holds_of, inserted, is_among, is_at, is_copied_up, is_member_task, list_any, locations, locations_of, looks_of, map_twice, members, mount_at, name-replaced_if_called, open_permit, opened, opens_for_reading, opens_for_writing, part_of, raised, raised_task, replaced_if_called, roots_and_directories, same_name, same_task_name, same_truth, seen_by_descriptor, task_called, used_directly, used_filesystems, when, with_copy, with_descriptor, ⊤}
+use Rattle.vt_spec.proofs.Common.{Access, Among, Creation, Descriptor, Exclusive, Fresh, Here, IsWorld, Location, Looks, Mount, NoCreation, OpenFile, Opened, OrCreate, Outcome, Permit, Place, Task, TaskName, ToOpen, World, among-append, among-append_left, among-append_right, among-flat_map, among-from_filter, among-from_flat_map, among-from_map, among-map, any_among, any_from_among, changed_if, common_steps, finished, found_among, free_number, holds_of, inserted, is_among, is_at, is_copied_up, is_member_task, judge, judging, list_any, locations, locations_of, looks_of, map_twice, members, mount_at, name-replaced_if_called, opened, opens_for_reading, opens_for_writing, part_of, raised, raised_task, replaced_if_called, roots_and_directories, same_name, same_task_name, same_truth, seen_by_descriptor, task_called, used_directly, used_filesystems, when, with_copy, with_descriptor, ⊤}
 use Rattle.vt_laws_members.proofs.judging.Common.{FoundAt, HereAt, IsMember, IsTheirs, JudgesAlike, PlaceAt, caller_in, file_agrees, filesystem_alike, judges, leads_alike, object_agrees, theirs_directly, theirs_from}
 use Rattle.vt_laws_members.proofs.Common.{filter-map, is_own, keep, same_members}
 use Rattle.vt_laws_members.specs.Judging.{is_theirs}
 use Rattle.vt_laws_members.specs.Changes.Changes.{OpensEndAlike}
-use Rattle.vt_laws_members.proofs.changes.Common.{SeeAlike, members_changed, any_answers, ends_so, judged_so, only_task, own_alike, raised_is, ran_there, roots_alike, run_by}
+use Rattle.vt_laws_members.proofs.changes.Common.{SeeAlike, members_changed, ends_so, judged_so, only_task, own_alike, raised_is, ran_there, roots_alike, run_by}
 use Rattle.vt_laws_members.proofs.changes.tasks.Ending.{LeavesTasks, tasks_end_alike}
 use Rattle.vt_laws_members.proofs.changes.tasks.WholeMounts.{used_in_part, whole_in_part, whole_in_world}
 
@@ -40,16 +40,17 @@ module _ {world : World ℕ} {names : List TaskName} {task : Task ℕ} (member :
   abbrev IsFound : Option (Location ℕ) → Type 0
   IsFound = FoundAt (leads_alike alike)
 
-  pub opens_theirs : (path : List ℕ) (access : Access) (how : Creation)
-      → IfOk (open_permit nat_eq one task path access how) Opens
-  opens_theirs path access NoCreation = judged_so one any_answers task Opens (OpenFile path access NoCreation)
+  pub opens_theirs : {full : Permit ℕ → Bool} (path : List ℕ) (access : Access) (how : Creation)
+      → IfOk (judge nat_eq one full task (OpenFile path access how)) Opens
+  unfolding judging
+  opens_theirs {full} path access NoCreation = judged_so one full task Opens (OpenFile path access NoCreation)
       (λ room here end passed. ends_so StandsHere (object_agrees (leads_alike alike) path).1 end)
-  opens_theirs path access (OrCreate mode) = judged_so one any_answers task Opens (OpenFile path access (OrCreate mode))
+  opens_theirs {full} path access (OrCreate mode) = judged_so one full task Opens (OpenFile path access (OrCreate mode))
       (λ room place end. (
         λ file there passed. (ends_so IsPlaced (file_agrees (leads_alike alike) path).1 end).1 file there,
         λ missing passed. tt,
       ))
-  opens_theirs path access (Exclusive mode) = judged_so one any_answers task Opens
+  opens_theirs {full} path access (Exclusive mode) = judged_so one full task Opens
       (OpenFile path access (Exclusive mode)) (λ room place end named passed. tt)
 
 -- One more descriptor

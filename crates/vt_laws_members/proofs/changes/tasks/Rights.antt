@@ -1,6 +1,6 @@
 -- Calls that change a task's rights alone end in the part as in the world.
 use Rattle.std.proofs.Common.{◌≡◌, refl, sym, ap, subst, ◌∙◌, inl, inr, ⊎_elim, ℕ, nat_eq, Bool, true, false, cond, true≢false, List, [], ◌∷◌, ◌++◌, Some, Ok, filter, map, ◌||◌, arith}
-use Rattle.vt_spec.proofs.Common.{Among, Answer, Call, Done, Fresh, Location, Mount, Pwrite, Rename, Task, TaskName, World, among-from_filter, any_pair, common_steps, found_among, holds_of, is_among, is_at, is_member_task, list_any, locations, locations_of, map_same, map_twice, members, mount_at, name-replaced_if_called, none_among, or_parts, part_of, raised, raised_task, replaced_if_called, roots_and_directories, same_name, same_name_itself, same_task_name, seen_by_descriptor, task_called, when, with_dropped}
+use Rattle.vt_spec.proofs.Common.{Among, Answer, Call, Done, Fresh, Location, Mount, Pwrite, Rename, Task, TaskName, World, among-from_filter, any_pair, common_steps, found_among, holds_of, is_among, is_at, is_member_task, judging, list_any, locations, locations_of, map_same, map_twice, members, mount_at, name-replaced_if_called, none_among, or_parts, part_of, raised, raised_task, replaced_if_called, roots_and_directories, same_name, same_name_itself, same_task_name, seen_by_descriptor, task_called, when, with_dropped}
 use Rattle.vt_spec.specs.Machine.Tasks.{capabilities_of, permission_bits}
 use Rattle.vt_laws_members.proofs.Common.{cases_Option, filter-map, flat_map-step, same_members}
 use Rattle.vt_laws_members.specs.Changes.Changes.{DropsEndAlike, EmptyWritesEndAlike, EndsAlike, IsCallOfTheirs, RenamesOfOneEndAlike, UmasksEndAlike, grown}
@@ -148,6 +148,7 @@ module _ {world : World ℕ} {names : List TaskName} {name : TaskName} {call : C
       )
 
 pub umasks_end_alike : UmasksEndAlike
+unfolding judging
 umasks_end_alike world names name mode it fresh other = elim (cases_Option (task_called world name)) [
   | inl e ↦ unnamed_ends_alike it fresh other e
   | inr its ↦ rights_end it its.1 (record its.0 { umask = permission_bits mode }) refl refl refl refl Done
@@ -155,6 +156,7 @@ umasks_end_alike world names name mode it fresh other = elim (cases_Option (task
 ]
 
 pub drops_end_alike : DropsEndAlike
+unfolding judging
 drops_end_alike world names name which it fresh other = elim (cases_Option (task_called world name)) [
   | inl e ↦ unnamed_ends_alike it fresh other e
   | inr its ↦ rights_end it its.1 (record its.0

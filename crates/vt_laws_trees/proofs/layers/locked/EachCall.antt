@@ -8,7 +8,7 @@ use Rattle.vt_laws_trees.proofs.layers.layers.LowersCalls.{unlocked_differs}
 use Rattle.vt_laws_trees.proofs.layers.layers.LowersMounts.{same_filesystems_without, same_mounted_without}
 use Rattle.vt_spec.proofs.NodeChanges.{allowed_is_there}
 use Rattle.vt_laws_rules.proofs.given.Ways.{IsGranted}
-use Rattle.vt_laws_rules.specs.Judging.{directory_made, symlink_made, whiteout_made}
+use Rattle.vt_spec.specs.Machine.Judging.{directory_made, symlink_made, whiteout_made}
 use Rattle.vt_laws_rules.proofs.given.Ways.IsGranted.{changes_mark, changes_mode, changes_owner, creates, creates_exclusively, makes_directory, makes_hard_link, makes_symlink, makes_whiteout, mounts_overlayfs, mounts_tmpfs, opens, opens_existing, overwrites_file, removes_directory, renames, unlinks, writes_new_file, writes_part}
 use Rattle.vt_laws_trees.proofs.layers.locked.Walks.{descriptor_there, link_walk_there, object_walk_there}
 use Rattle.vt_laws_trees.specs.Layers.Layers.Untouched.{changes_no_mount, inodes_changed}

@@ -1,12 +1,12 @@
 -- The change number of a task is not looked at.
-use Rattle.std.proofs.Common.{◌≡◌, refl, ap, sym, ◌∙◌, ℕ, nat_eq, Bool, true, false, List, Some, None, ok_or}
-use Rattle.vt_spec.proofs.Common.{Call, Exclusive, Fresh, Looks, MountOverlay, NoCreation, OpenFile, OrCreate, Permit, Task, World, and_then, denial, descriptor_at, ends_in_slash, judge_in, layers_walked, looks_of, overfills, symlink_walk, symlink_walk_by, walk_end}
-use Rattle.vt_laws_rules.proofs.given.Runs.{judge_is_the_run, same_then, same_unless}
+use Rattle.std.proofs.Common.{◌≡◌, refl, ap, ◌∙◌, ℕ, nat_eq, Bool, true, false, List, Some, None, ok_or}
+use Rattle.vt_spec.proofs.Common.{Call, Exclusive, Fresh, Looks, MountOverlay, NoCreation, OpenFile, OrCreate, Permit, Task, World, and_then, denial, descriptor_at, ends_in_slash, judge_in, layers_walked, looks_of, overfills, symlink_walk, symlink_walk_by, unless, walk_end}
+use Rattle.vt_spec.proofs.Given.{same_then}
 use Rattle.vt_laws_rules.proofs.judged.NumbersRaised.{bare_task}
-use Rattle.vt_laws_rules.specs.Judging.{Aim, Judging, NameAim, judging, run, walk_to, walk_to_name}
-use Rattle.vt_laws_rules.specs.Judging.Aim.{ASymlink}
-use Rattle.vt_laws_rules.specs.Judging.Judging.{FindsFile, FindsTask, IfSo, IfThere, Layers, Names, Needs, Walks, Words}
-use Rattle.vt_laws_rules.specs.Judging.NameAim.{AFile}
+use Rattle.vt_spec.specs.Machine.Judging.{Aim, Judging, NameAim, judging, run, walk_to, walk_to_name}
+use Rattle.vt_spec.specs.Machine.Judging.Aim.{ASymlink}
+use Rattle.vt_spec.specs.Machine.Judging.Judging.{FindsFile, FindsTask, IfSo, IfThere, Layers, Names, Needs, Walks, Words}
+use Rattle.vt_spec.specs.Machine.Judging.NameAim.{AFile}
 use Rattle.vt_spec.specs.declared.errors.Rule.TheVariants.{S2}
 
 module _ (looks : Looks ℕ) (task : Task ℕ) where
@@ -30,6 +30,7 @@ module _ (looks : Looks ℕ) (task : Task ℕ) where
 
   -- what a call asks is the same
   asked_bare : (call : Call) → judging nat_eq looks (bare_task task) call ≡ judging nat_eq looks task call
+  unfolding judging
   asked_bare (OpenFile path access NoCreation) = refl
   asked_bare (OpenFile path access (OrCreate mode)) = refl
   asked_bare (OpenFile path access (Exclusive mode)) = refl
@@ -41,7 +42,7 @@ module _ (looks : Looks ℕ) (task : Task ℕ) where
     -- and its run
     run_bare : (asked : Judging ℕ)
         → run nat_eq looks (bare_task task) overfills asked ≡ run nat_eq looks task overfills asked
-    run_bare (Needs rules next) = same_unless rules _ _ (run_bare next)
+    run_bare (Needs rules next) = ap (unless rules) (run_bare next)
     run_bare (FindsFile number fits next) =
         same_then (descriptor_at task number fits) _ _ (λ descriptor. run_bare (next descriptor))
     run_bare (FindsTask name next) = same_then (ok_or (looks.namespace_called name) (denial S2)) _ _
@@ -54,7 +55,7 @@ module _ (looks : Looks ℕ) (task : Task ℕ) where
         ∙ same_then (walk_end (walk_to_name nat_eq looks task aim path)) _ _ (λ place. run_bare (next place))
     run_bare (Layers words next) =
         same_then (layers_walked nat_eq looks task words) _ _ (λ layers. run_bare (next layers))
-    run_bare (Words rules next) = same_unless rules _ _ (run_bare next)
+    run_bare (Words rules next) = ap (unless rules) (run_bare next)
     run_bare (IfThere (Some file) there missing) = run_bare (there file)
     run_bare (IfThere None there missing) = run_bare missing
     run_bare (IfSo true so otherwise) = run_bare so
@@ -69,6 +70,7 @@ module _ (fresh : Fresh ℕ) (world : World ℕ) (task : Task ℕ) where
   full_bare : (call : Call)
       → run nat_eq looks task (overfills nat_eq fresh world (bare_task task)) (judging nat_eq looks task call)
       ≡ run nat_eq looks task (overfills nat_eq fresh world task) (judging nat_eq looks task call)
+  unfolding judging
   full_bare (OpenFile path access NoCreation) = refl
   full_bare (OpenFile path access (OrCreate mode)) = refl
   full_bare (OpenFile path access (Exclusive mode)) = refl
@@ -79,8 +81,7 @@ module _ (fresh : Fresh ℕ) (world : World ℕ) (task : Task ℕ) where
   pub judged_bare : (call : Call)
       → judge_in nat_eq fresh world (bare_task task) call ≡ judge_in nat_eq fresh world task call
   judged_bare call =
-      judge_is_the_run nat_eq looks (overfills nat_eq fresh world (bare_task task)) (bare_task task) call
-      ∙ run_bare looks task (overfills nat_eq fresh world (bare_task task))
+      run_bare looks task (overfills nat_eq fresh world (bare_task task))
       (judging nat_eq looks (bare_task task) call)
       ∙ ap (run nat_eq looks task (overfills nat_eq fresh world (bare_task task))) (asked_bare looks task call)
-      ∙ full_bare call ∙ sym (judge_is_the_run nat_eq looks (overfills nat_eq fresh world task) task call)
+      ∙ full_bare call

@@ -1,10 +1,15 @@
 -- The rules that a call asks of where a walk ends add no word to it.
-use Rattle.std.proofs.Common.{◌≡◌, refl, ap, ◌∙◌, ℕ, nat_eq, Bool, true, false, not, List, [], ◌∷◌, ◌&&◌, Option, Some, None, Ok, Err, Result, map, reverse, is_some, arith}
-use Rattle.vt_spec.proofs.Common.{Bind, Chdir, Chmod, Chown, Chroot, Creation, Exclusive, Exec, Here, Lazy, LinkTo, Looks, Ls, Lstat, MakeWhiteout, Mkdir, MountOverlay, MountPlain, MoveMount, NoCreation, Opaque, OpenFile, OrCreate, OverlayWords, PivotRoot, Place, Read, Readlink, Remount, Rename, Rmdir, Route, Rules, SetType, Stat, Stop, SymlinkAt, Task, Umount, Unlink, Write, common_steps, destination_walk, directory_walk, file_walk, is_directory_there, new_leaf_walk, new_walk, object_walk, old_leaf_walk, old_walk, place_walk, rename_new_walk, source_walk, symlink_walk, then_walk, walk_unless}
-use Rattle.vt_laws_turns.proofs.Common.{W3, W6, here_route, is_directory_at, layer_routes, new_name_rules, open_route, path_walked, place_route}
+use Rattle.std.proofs.Common.{◌≡◌, refl, ap, ◌∙◌, ℕ, nat_eq, Bool, true, false, not, List, [], ◌∷◌, ◌&&◌, Ok, Err, Result, map, reverse, is_some, arith}
+use Rattle.vt_spec.proofs.Common.{Here, Looks, Place, Route, Rules, Stop, Task, common_steps, destination_walk, directory_walk, file_walk, is_directory_there, new_leaf_walk, new_walk, object_walk, old_leaf_walk, old_walk, place_walk, rename_new_walk, source_walk, symlink_walk, then_walk, walk_unless}
+use Rattle.vt_laws_turns.proofs.Common.{W3, W6, here_route, is_directory_at, new_name_rules, path_walked, place_route}
 use Rattle.vt_laws_turns.specs.Walks.ByWords.{Aim, names, reaches, steps_of, whole_walk}
 use Rattle.vt_laws_turns.specs.Walks.ByWords.Aim.{File, InDirectory, Object, Symlink, Words}
-use Rattle.vt_laws_turns.specs.Walks.Routes.{RoutesAreWalks, Way, layer_ways, way}
+use Rattle.vt_laws_turns.specs.Walks.Routes.{RoutesAreWalks, Way, aim_of, name_aim_of, way, ways_of}
+use Rattle.vt_spec.specs.Machine.Judging.{Aim as Leads, Judging, NameAim, judging, walk_to, walk_to_name}
+use Rattle.vt_spec.specs.Machine.Judging.Aim.{ADestination, ADirectory, ASource, ASymlink, AnObject}
+use Rattle.vt_spec.specs.Machine.Judging.Judging.{Layers, Names, Needs, Walks, Words as LastWords}
+use Rattle.vt_spec.specs.Machine.Judging.NameAim.{AFile, ANewLeaf, ANewName, ARenamed, AnOldLeaf, AnOldName}
+use Rattle.vt_spec.specs.Machine.Turns.{here_or_root, place_or_root, routes_of}
 use Rattle.vt_laws_turns.proofs.walks.by_words.Depths.{then_then}
 
 here_route_steps : (a : Result (Here ℕ) (Stop ℕ)) → (here_route a).steps ≡ reverse (steps_of (reaches nat_eq a))
@@ -107,54 +112,35 @@ module _ (looks : Looks ℕ) (task : Task ℕ) where
   layers_met [] = refl
   layers_met (path ∷ paths) = cc (source_met path, layers_met paths)
 
-  options_met : (options : Option OverlayWords)
-      → map (λ (route : Route ℕ). route.steps) (layer_routes nat_eq looks task options)
-      ≡ map (λ (w : Way). met_for w.aim w.path) (layer_ways options)
-  options_met None = refl
-  options_met (Some words) = layers_met _
+  -- each path that is asked is walked so
+  walk_met : (aim : Leads) (path : List ℕ)
+      → (here_route (walk_to nat_eq looks task aim path)).steps ≡ met_for (aim_of aim) path
+  walk_met AnObject path = object_met path
+  walk_met ASymlink path = symlink_met path
+  walk_met ADirectory path = directory_met path
+  walk_met ASource path = source_met path
+  walk_met ADestination path = destination_met path
 
-  single : {a b : List (List ℕ)} → a ≡ b → a ∷ [] ≡ b ∷ []
-  single e = ap (λ s. s ∷ []) e
+  name_met : (aim : NameAim) (path : List ℕ)
+      → (place_route (walk_to_name nat_eq looks task aim path)).steps ≡ met_for (name_aim_of aim) path
+  name_met AFile path = file_met path
+  name_met ANewName path = new_met path
+  name_met ANewLeaf path = new_leaf_met path
+  name_met AnOldName path = old_met path
+  name_met AnOldLeaf path = old_leaf_met path
+  name_met (ARenamed directory) path = rename_new_met path directory
 
-  both : {a b c d : List (List ℕ)} → a ≡ b → c ≡ d → a ∷ c ∷ [] ≡ b ∷ d ∷ []
-  both {b = b} {c = c} e f = cc (e, f)
-
-  open_met : (path : List ℕ) (creation : Creation) → (open_route nat_eq looks task path creation).steps
-      ≡ met_for (Rattle.vt_laws_turns.specs.Walks.Routes.open_aim creation) path
-  open_met path NoCreation = object_met path
-  open_met path (OrCreate mode) = file_met path
-  open_met path (Exclusive mode) = new_met path
+  asked_met : (asked : Judging ℕ)
+      → map (λ (route : Route ℕ). route.steps) (routes_of nat_eq looks task asked)
+      ≡ map (λ (w : Way). met_for w.aim w.path) (ways_of looks task asked)
+  asked_met (Needs rules next) = asked_met next
+  asked_met (LastWords rules next) = asked_met next
+  asked_met (Walks aim path next) = λ i. walk_met aim path i
+      ∷ asked_met (next (here_or_root nat_eq looks task (walk_to nat_eq looks task aim path))) i
+  asked_met (Names aim path next) = λ i. name_met aim path i
+      ∷ asked_met (next (place_or_root nat_eq looks task (walk_to_name nat_eq looks task aim path))) i
+  asked_met (Layers words next) = layers_met _
+  asked_met asked = refl
 
 pub routes_are_walks : RoutesAreWalks
-routes_are_walks looks task (Ls path) = single looks task (directory_met looks task path)
-routes_are_walks looks task (Stat path) = single looks task (object_met looks task path)
-routes_are_walks looks task (Lstat path) = single looks task (symlink_met looks task path)
-routes_are_walks looks task (Readlink path) = single looks task (symlink_met looks task path)
-routes_are_walks looks task (Read path) = single looks task (object_met looks task path)
-routes_are_walks looks task (Write path bytes) = single looks task (file_met looks task path)
-routes_are_walks looks task (Exec path) = single looks task (object_met looks task path)
-routes_are_walks looks task (Mkdir path mode) = single looks task (new_met looks task path)
-routes_are_walks looks task (SymlinkAt text path) = single looks task (new_leaf_met looks task path)
-routes_are_walks looks task (MakeWhiteout path) = single looks task (new_leaf_met looks task path)
-routes_are_walks looks task (LinkTo old new) = grind (arith, common_steps, both, symlink_met, new_leaf_met)
-routes_are_walks looks task (Unlink path) = single looks task (old_leaf_met looks task path)
-routes_are_walks looks task (Rmdir path) = single looks task (old_met looks task path)
-routes_are_walks looks task (Rename old new) = grind (arith, common_steps, both, old_leaf_met, rename_new_met)
-routes_are_walks looks task (Chmod path mode) = single looks task (object_met looks task path)
-routes_are_walks looks task (Chown path uid gid) = single looks task (object_met looks task path)
-routes_are_walks looks task (Opaque path mark) = single looks task (directory_met looks task path)
-routes_are_walks looks task (OpenFile path access creation) = single looks task (open_met looks task path creation)
-routes_are_walks looks task (Chdir path) = single looks task (directory_met looks task path)
-routes_are_walks looks task (Chroot path) = single looks task (directory_met looks task path)
-routes_are_walks looks task (MountPlain path given) = single looks task (destination_met looks task path)
-routes_are_walks looks task (MountOverlay path options given) =
-    grind (arith, common_steps, destination_met, options_met)
-routes_are_walks looks task (Bind source path recursive) =
-    grind (arith, common_steps, both, source_met, destination_met)
-routes_are_walks looks task (MoveMount source path) = grind (arith, common_steps, both, source_met, destination_met)
-routes_are_walks looks task (Umount path) = single looks task (directory_met looks task path)
-routes_are_walks looks task (Lazy path) = single looks task (directory_met looks task path)
-routes_are_walks looks task (Remount path given) = single looks task (directory_met looks task path)
-routes_are_walks looks task (SetType path word recursive) = single looks task (directory_met looks task path)
-routes_are_walks looks task (PivotRoot new put) = grind (arith, common_steps, both, source_met, destination_met)
-routes_are_walks looks task call = refl
+routes_are_walks looks task call = asked_met looks task (judging nat_eq looks task call)

@@ -4,7 +4,7 @@ use Rattle.vt_spec.proofs.Common.{Access, Call, Fresh, Location, Looks, Node, Pe
 use Rattle.vt_laws_trees.specs.Calls.Inodes.{written_if_some}
 use Rattle.vt_laws_rules.proofs.given.Ways.{calls_are_granted}
 use Rattle.vt_laws_rules.proofs.given.Ways.{IsGranted}
-use Rattle.vt_laws_rules.specs.Judging.{directory_made, symlink_made, whiteout_made}
+use Rattle.vt_spec.specs.Machine.Judging.{directory_made, symlink_made, whiteout_made}
 use Rattle.vt_laws_rules.proofs.given.Ways.IsGranted.{changes_mark, changes_mode, changes_owner, creates, creates_exclusively, makes_directory, makes_hard_link, makes_symlink, makes_whiteout, opens, opens_existing, overwrites_file, removes_directory, renames, unlinks, writes_new_file, writes_part}
 use Rattle.vt_laws_worlds.specs.OverlayPermits.Asked.{change_asked}
 use Rattle.vt_laws_worlds.specs.OverlayPermits.Unlocked.{PermitsSpareWhatIsLocked, SparesLocked, SparesLockedIf}

@@ -4,7 +4,7 @@ use Rattle.vt_spec.proofs.Common.{Call, Fresh, Here, IsWorld, Looks, Node, Permi
 use Rattle.std.proofs.Math.Nat.{mod-lt}
 use Rattle.vt_laws_rules.proofs.given.Ways.{calls_are_granted}
 use Rattle.vt_laws_rules.proofs.given.Ways.{IsGranted}
-use Rattle.vt_laws_rules.specs.Judging.{directory_made, symlink_made, whiteout_made}
+use Rattle.vt_spec.specs.Machine.Judging.{directory_made, symlink_made, whiteout_made}
 use Rattle.vt_laws_rules.proofs.given.Ways.IsGranted.{changes_mark, changes_mode, changes_owner, changes_umask, closes, creates, creates_exclusively, drops_capabilities, forks, lists_directory, makes_directory, makes_hard_link, makes_symlink, makes_whiteout, mounts_overlayfs, opens, opens_existing, overwrites_file, reads_file, reads_part, reads_symlink, removes_directory, renames, unlinks, writes_new_file, writes_part}
 use Rattle.vt_laws_worlds.proofs.permits.sees.SeesNames.{made_as_file, made_at_new, old_mount, same_kind, tree_here}
 use Rattle.vt_laws_worlds.specs.Permits.Sees.{GivenPermitsAreSeenTo, SeesTo}

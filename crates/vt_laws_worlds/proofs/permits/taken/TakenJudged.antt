@@ -1,6 +1,6 @@
 -- A judgement does not go by the numbers handed in.
 use Rattle.std.proofs.Common.{arith, ◌≡◌, refl, sym, ◌∙◌, true≢false, ℕ, nat_eq, nat_lt, Bool, true, false, List, [], ◌∷◌, length, map, filter, Ok}
-use Rattle.vt_spec.proofs.Common.{Call, Copies, Fresh, IsWorld, Location, Looks, Mount, MountFlags, Namespace, Task, ToBind, ToMountPlain, ToMove, World, admin_rules, and_then, apply, bind_permit, bind_rules, bind_tree, common_steps, copies_from, destination_walk, has_too_many, holds_of, judge_in, length-map, list_any, looks_of, most_mounts, mount_at, mount_numbered, mount_plain_permit, mount_tree, move_permit, move_rules, new_mount, new_mount_rules, odds, overfills, parts_of, plain_filesystem, rest_of, source_walk, unless, walk_end, with_new_filesystem}
+use Rattle.vt_spec.proofs.Common.{Bind, Call, Copies, Exclusive, Fresh, IsWorld, Location, Looks, Mount, MountFlags, MountOverlay, MountPlain, MoveMount, Namespace, NoCreation, OpenFile, OrCreate, Task, ToBind, ToMountPlain, ToMove, World, admin_rules, and_then, apply, bind_rules, bind_tree, common_steps, copies_from, destination_walk, has_too_many, holds_of, judge, judge_in, judging, length-map, list_any, looks_of, most_mounts, mount_at, mount_numbered, mount_tree, move_rules, new_mount, new_mount_rules, odds, overfills, parts_of, plain_filesystem, rest_of, source_walk, unless, walk_end, with_new_filesystem}
 use Rattle.vt_laws_mounts.proofs.letting_go.Lists.{filter-map}
 use Rattle.vt_laws_worlds.proofs.permits.taken.AttachedNamespaces.{attached_namespaces, namespaces_after, namespaces_in}
 use Rattle.vt_laws_worlds.proofs.permits.taken.PartsKept.{same_parts}
@@ -75,27 +75,27 @@ module _ (world : World ℕ) (whole : IsWorld nat_eq world) (task : Task ℕ) (f
       ∙ sym (attached_namespaces world place true tree (supplied again place tree)))
 
   mount_judged : (path : List ℕ) (flags : MountFlags)
-      → mount_plain_permit nat_eq looks (overfills nat_eq fresh world task) task path flags
-      ≡ mount_plain_permit nat_eq looks (overfills nat_eq again world task) task path flags
-  unfolding mount_plain_permit
+      → judge nat_eq looks (overfills nat_eq fresh world task) task (MountPlain path flags)
+      ≡ judge nat_eq looks (overfills nat_eq again world task) task (MountPlain path flags)
+  unfolding judging
   mount_judged path flags = λ i. unless (admin_rules task)
       (and_then (walk_end (destination_walk nat_eq looks task path)) (λ here.
       unless (new_mount_rules nat_eq looks task here.location (mount_many here.location flags i))
       (Ok (ToMountPlain here.location flags))))
 
   bind_judged : (source path : List ℕ) (recursive : Bool)
-      → bind_permit nat_eq looks (overfills nat_eq fresh world task) task source path recursive
-      ≡ bind_permit nat_eq looks (overfills nat_eq again world task) task source path recursive
-  unfolding bind_permit
+      → judge nat_eq looks (overfills nat_eq fresh world task) task (Bind source path recursive)
+      ≡ judge nat_eq looks (overfills nat_eq again world task) task (Bind source path recursive)
+  unfolding judging
   bind_judged source path recursive = λ i. unless (admin_rules task)
       (and_then (walk_end (source_walk nat_eq looks task source)) (λ from.
       and_then (walk_end (destination_walk nat_eq looks task path)) (λ here.
       unless (bind_rules nat_eq looks task from.location here.location
       (bind_many from.location here.location recursive i)) (Ok (ToBind from.location here.location recursive)))))
 
-  move_judged : (source path : List ℕ) → move_permit nat_eq looks (overfills nat_eq fresh world task) task source path
-      ≡ move_permit nat_eq looks (overfills nat_eq again world task) task source path
-  unfolding move_permit
+  move_judged : (source path : List ℕ) → judge nat_eq looks (overfills nat_eq fresh world task) task (MoveMount source path)
+      ≡ judge nat_eq looks (overfills nat_eq again world task) task (MoveMount source path)
+  unfolding judging
   move_judged source path = λ i. unless (admin_rules task)
       (and_then (walk_end (source_walk nat_eq looks task source)) (λ from.
       and_then (walk_end (destination_walk nat_eq looks task path)) (λ here.
@@ -104,7 +104,15 @@ module _ (world : World ℕ) (whole : IsWorld nat_eq world) (task : Task ℕ) (f
 
   call_judged : (call : Call) → mounts_overlay call ≡ false
       → judge_in nat_eq fresh world task call ≡ judge_in nat_eq again world task call
-  call_judged call other = grind (arith, common_steps, mount_judged, true≢false, bind_judged, move_judged)
+  unfolding judging
+  call_judged (MountPlain path flags) other = mount_judged path flags
+  call_judged (MountOverlay path options flags) other = absurd (true≢false other)
+  call_judged (Bind source path recursive) other = bind_judged source path recursive
+  call_judged (MoveMount source path) other = move_judged source path
+  call_judged (OpenFile path access NoCreation) other = refl
+  call_judged (OpenFile path access (OrCreate mode)) other = refl
+  call_judged (OpenFile path access (Exclusive mode)) other = refl
+  call_judged call other = refl
 
 pub judgements_do_not_see_supplies : JudgementsDoNotSeeSupplies
 judgements_do_not_see_supplies world task call fresh again whole other =

@@ -1,5 +1,5 @@
 use Rattle.std.proofs.Common.{Err, Ok, ap, map, nat_eq, refl, sym, ◌∙◌}
-use Rattle.vt_spec.proofs.Common.{MountOverlay, ToMountOverlay, err_from_is_err_and, layer_at, mount_overlay_permit, overlay_at}
+use Rattle.vt_spec.proofs.Common.{MountOverlay, ToMountOverlay, err_from_is_err_and, judge, layer_at, overlay_at}
 use Rattle.vt_spec.specs.declared.errors.Rule.TheVariants.{M2, M9}
 use Rattle.vt_cred.specs.MountFlags.{flags_of}
 use Rattle.vt_location.specs.Locations.{location_of}
@@ -20,7 +20,7 @@ returns-then-lacks g c =
     let task = task_of c.args.who.now in
     let options = options_named c.args.options.now in
     let flags = flags_of c.args.flags in
-    refused_before (MountOverlay c.args.path.now options flags) task (mount_overlay_permit nat_eq looks overfills task c.args.path.now options flags) _
+    refused_before (MountOverlay c.args.path.now options flags) task (judge nat_eq looks overfills task (MountOverlay c.args.path.now options flags)) _
     (without_capability looks task overfills c.args.path.now options flags (sym c.lacks.ensures ∙ c.if-lacks.true)
     ∙ ap Err (sym c.denial.ensures))
 
@@ -32,7 +32,7 @@ returns-in_err-destination g c =
     let options = options_named c.args.options.now in
     let flags = flags_of c.args.flags in
     let p = err_from_is_err_and c.from_residual.result c.from_residual.ensures.1 in
-    rw (p.1, p.2) (refused_before (MountOverlay c.args.path.now options flags) task (mount_overlay_permit nat_eq looks overfills task c.args.path.now options flags) _
+    rw (p.1, p.2) (refused_before (MountOverlay c.args.path.now options flags) task (judge nat_eq looks overfills task (MountOverlay c.args.path.now options flags)) _
     (nowhere looks task overfills c.args.path.now options flags _ (sym c.lacks.ensures ∙ c.if-lacks.false)
     c.in_err-destination.ensures))
 
@@ -44,7 +44,7 @@ returns-in_err-layers g c =
     let options = options_named c.args.options.now in
     let flags = flags_of c.args.flags in
     let p = err_from_is_err_and c.from_residual-in_err-layers.result c.from_residual-in_err-layers.ensures.1 in
-    rw (p.1, p.2) (refused_before (MountOverlay c.args.path.now options flags) task (mount_overlay_permit nat_eq looks overfills task c.args.path.now options flags) _
+    rw (p.1, p.2) (refused_before (MountOverlay c.args.path.now options flags) task (judge nat_eq looks overfills task (MountOverlay c.args.path.now options flags)) _
     (without_layers looks task overfills c.args.path.now options flags (location_of c.in_ok-destination.destination) _
     (sym c.lacks.ensures ∙ c.if-lacks.false) c.in_ok-destination.ensures c.in_err-layers.ensures.err))
 
@@ -55,7 +55,7 @@ returns-then-is_elsewhere g c =
     let task = task_of c.args.who.now in
     let options = options_named c.args.options.now in
     let flags = flags_of c.args.flags in
-    refused_before (MountOverlay c.args.path.now options flags) task (mount_overlay_permit nat_eq looks overfills task c.args.path.now options flags) _
+    refused_before (MountOverlay c.args.path.now options flags) task (judge nat_eq looks overfills task (MountOverlay c.args.path.now options flags)) _
     (left looks task overfills c.args.path.now options flags (location_of c.in_ok-destination.destination)
     (lowers_alone (lowers_of c.in_ok-layers.layers.items)) (sym c.lacks.ensures ∙ c.if-lacks.false) c.in_ok-destination.ensures
     c.in_ok-layers.ensures.ok ∙ stopped _ M2 _ _ (sym c.is_elsewhere.ensures ∙ c.if-is_elsewhere.true)
@@ -74,7 +74,7 @@ returns-in_err-overfills_with_overlay g c =
     let p = err_from_is_err_and c.from_residual-in_err-overfills_with_overlay.result
     c.from_residual-in_err-overfills_with_overlay.ensures.1 in
     rw (p.1, p.2) (no_receivers (MountOverlay c.args.path.now options flags) task
-    (mount_overlay_permit nat_eq looks overfills task c.args.path.now options flags) (overfills permit) permit _ refl
+    (judge nat_eq looks overfills task (MountOverlay c.args.path.now options flags)) (overfills permit) permit _ refl
     (left looks task overfills c.args.path.now options flags place
     (lowers_alone (lowers_of c.in_ok-layers.layers.items)) (sym c.lacks.ensures ∙ c.if-lacks.false) c.in_ok-destination.ensures
     c.in_ok-layers.ensures.ok ∙ skipped _ M2 _ _ (sym c.is_elsewhere.ensures ∙ c.if-is_elsewhere.false))
@@ -88,7 +88,7 @@ returns-then-branch g c =
     let options = options_named c.args.options.now in
     let flags = flags_of c.args.flags in
     let overlay = overlay_at looks task (lowers_alone (lowers_of c.in_ok-layers.layers.items)) in
-    refused_before (MountOverlay c.args.path.now options flags) task (mount_overlay_permit nat_eq looks overfills task c.args.path.now options flags) _
+    refused_before (MountOverlay c.args.path.now options flags) task (judge nat_eq looks overfills task (MountOverlay c.args.path.now options flags)) _
     (left looks task overfills c.args.path.now options flags (location_of c.in_ok-destination.destination)
     (lowers_alone (lowers_of c.in_ok-layers.layers.items)) (sym c.lacks.ensures ∙ c.if-lacks.false) c.in_ok-destination.ensures
     c.in_ok-layers.ensures.ok ∙ skipped _ M2 _ _ (sym c.is_elsewhere.ensures ∙ c.if-is_elsewhere.false)
@@ -106,7 +106,7 @@ returns-in_err-lowers g c =
     let overlay = overlay_at looks task (lowers_alone (lowers_of c.in_ok-layers.layers.items)) in
     let p = err_from_is_err_and c.from_residual-in_err-lowers.result c.from_residual-in_err-lowers.ensures.1 in
     rw (p.1) (no_list (MountOverlay c.args.path.now options flags) task
-    (mount_overlay_permit nat_eq looks overfills task c.args.path.now options flags)
+    (judge nat_eq looks overfills task (MountOverlay c.args.path.now options flags))
     (ToMountOverlay place overlay flags) _ (left looks task overfills c.args.path.now options flags place
     (lowers_alone (lowers_of c.in_ok-layers.layers.items)) (sym c.lacks.ensures ∙ c.if-lacks.false) c.in_ok-destination.ensures
     c.in_ok-layers.ensures.ok ∙ skipped _ M2 _ _ (sym c.is_elsewhere.ensures ∙ c.if-is_elsewhere.false)

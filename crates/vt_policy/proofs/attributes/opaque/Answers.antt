@@ -1,5 +1,5 @@
 use Rattle.std.proofs.Common.{[], Ok, nat_eq, sym, ◌∙◌}
-use Rattle.vt_spec.proofs.Common.{SetMark, ToChange, directory_walk, err_from_is_err_and, opaque_permit, opaque_rules, unless, unless-let_through, walk_end}
+use Rattle.vt_spec.proofs.Common.{SetMark, ToChange, directory_walk, err_from_is_err_and, judging, opaque_rules, unless, unless-let_through, walk_end}
 use Rattle.vt_spec.specs.declared.errors.Rule.TheVariants.{K1}
 use Rattle.vt_location.specs.Locations.{location_of}
 use Rattle.vt_tasks.specs.TaskValue.{task_of}
@@ -9,7 +9,7 @@ use Rattle.vt_rules.proofs.Rows.{skipped}
 use Rattle.vt_policy.proofs.attributes.opaque.Goals as goal
 
 pub returns-in_err-may_mark : goal.returns-in_err-may_mark
-unfolding opaque_permit
+unfolding judging
 returns-in_err-may_mark g c =
     let looks = g.L.Look.looks c.args.world.now in
     let task = task_of c.args.who.now in
@@ -22,7 +22,7 @@ returns-in_err-may_mark g c =
     c.in_err-may_mark.ensures)
 
 pub returns : goal.returns
-unfolding opaque_permit
+unfolding judging
 returns g c =
     let looks = g.L.Look.looks c.args.world.now in
     let task = task_of c.args.who.now in

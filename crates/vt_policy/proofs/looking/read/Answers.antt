@@ -1,5 +1,5 @@
 use Rattle.std.proofs.Common.{Ok, nat_eq, ◌∙◌}
-use Rattle.vt_spec.proofs.Common.{ToRead, err_from_is_err_and, object_walk, read_permit, read_rules, unless, walk_end}
+use Rattle.vt_spec.proofs.Common.{ToRead, err_from_is_err_and, judging, object_walk, read_rules, unless, walk_end}
 use Rattle.vt_location.specs.Locations.{location_of}
 use Rattle.vt_tasks.specs.TaskValue.{task_of}
 use Rattle.vt_policy.proofs.MountLemmas.{reached}
@@ -7,7 +7,7 @@ use Rattle.vt_rules.proofs.Refusals.{unless-stopped}
 use Rattle.vt_policy.proofs.looking.read.Goals as goal
 
 pub returns-in_err-may_read : goal.returns-in_err-may_read
-unfolding read_permit
+unfolding judging
 returns-in_err-may_read g c =
     let looks = g.L.Look.looks c.args.world.now in
     let task = task_of c.args.who.now in

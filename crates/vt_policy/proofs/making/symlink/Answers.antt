@@ -1,8 +1,9 @@
 use Rattle.std.proofs.Common.{[], ℕ, Ok, ap, arith, is_some, le-ltb, length, nat_eq, rules, sym, ◌≡◌, ◌∙◌}
-use Rattle.vt_spec.proofs.Common.{Node, Place, Symlink, ToMake, err_from_is_err_and, exact_attr, is_empty, is_special, make_permit, make_rules, name_of, new_leaf_walk, symlink_mode, symlink_permit, unless-let_through, unnumbered, walk_end}
+use Rattle.vt_spec.proofs.Common.{Node, Place, Symlink, SymlinkAt, ToMake, err_from_is_err_and, exact_attr, is_empty, is_special, judging, make_permit, make_rules, name_of, new_leaf_walk, symlink_mode, unless-let_through, unnumbered, walk_end}
 use Rattle.vt_permits.specs.GrantValue.{node_in}
 use Rattle.vt_tasks.specs.TaskValue.{task_of}
 use Rattle.vt_rules.proofs.Judged.{refused, without_memory}
+use Rattle.vt_policy.specs.Judged.{judge_by_looks}
 use Rattle.vt_policy.proofs.PlaceLemmas.{is_some_mapped, made_asked}
 use Rattle.vt_rules.proofs.Refusals.{unless-stopped}
 use Rattle.vt_spec.specs.declared.errors.Rule.TheVariants.{W1, W2}
@@ -10,7 +11,7 @@ use Rattle.vt_rules.proofs.Rows.{skipped}
 use Rattle.vt_policy.proofs.making.symlink.Goals as goal
 
 pub returns-in_err-may_make : goal.returns-in_err-may_make
-unfolding symlink_permit
+unfolding judging
 returns-in_err-may_make g c =
     let looks = g.L.Look.looks c.args.world.now in
     let task = task_of c.args.who.now in
@@ -23,14 +24,14 @@ returns-in_err-may_make g c =
     let missing = ap is_some at.2.object ∙ is_some_mapped c.in_ok-place.place.object ∙ sym c.is_some.ensures
     ∙ c.if-is_some.false in
     let p = err_from_is_err_and c.from_residual-in_err-may_make.result c.from_residual-in_err-may_make.ensures.1 in
-    rw (p.1, p.2) (refused task (symlink_permit nat_eq looks task c.args.text.now c.args.path.now) _
+    rw (p.1, p.2) (refused task (judge_by_looks looks task (SymlinkAt c.args.text.now c.args.path.now)) _
     (skipped (is_empty c.args.text.now) W1 _ _ (search rules)
     ∙ skipped _ W2 [] _ (le-ltb 4095 (length c.args.text.now) (omega arith))
     ∙ made_asked looks task (walk_end (new_leaf_walk nat_eq looks task c.args.path.now)) at.0 node at.1 special missing
     ∙ unless-stopped rows (Ok permit) _ (c.in_err-may_make.ensures at.0 (node at.0) at.2.parent)))
 
 pub returns-in_err-name_at : goal.returns-in_err-name_at
-unfolding symlink_permit
+unfolding judging
 returns-in_err-name_at g c =
     let looks = g.L.Look.looks c.args.world.now in
     let task = task_of c.args.who.now in
@@ -43,7 +44,7 @@ returns-in_err-name_at g c =
     let missing = ap is_some at.2.object ∙ is_some_mapped c.in_ok-place.place.object ∙ sym c.is_some.ensures
     ∙ c.if-is_some.false in
     let p = err_from_is_err_and c.from_residual-in_err-name_at.result c.from_residual-in_err-name_at.ensures.1 in
-    rw (p.1, p.2) (without_memory task (symlink_permit nat_eq looks task c.args.text.now c.args.path.now) permit _
+    rw (p.1, p.2) (without_memory task (judge_by_looks looks task (SymlinkAt c.args.text.now c.args.path.now)) permit _
     (skipped (is_empty c.args.text.now) W1 _ _ (search rules)
     ∙ skipped _ W2 [] _ (le-ltb 4095 (length c.args.text.now) (omega arith))
     ∙ made_asked looks task (walk_end (new_leaf_walk nat_eq looks task c.args.path.now)) at.0 node at.1 special missing
@@ -51,7 +52,7 @@ returns-in_err-name_at g c =
     c.in_err-name_at.ensures.memory)
 
 pub returns-in_err-text_of : goal.returns-in_err-text_of
-unfolding symlink_permit
+unfolding judging
 returns-in_err-text_of g c =
     let looks = g.L.Look.looks c.args.world.now in
     let task = task_of c.args.who.now in
@@ -64,7 +65,7 @@ returns-in_err-text_of g c =
     let missing = ap is_some at.2.object ∙ is_some_mapped c.in_ok-place.place.object ∙ sym c.is_some.ensures
     ∙ c.if-is_some.false in
     let p = err_from_is_err_and c.from_residual-in_err-text_of.result c.from_residual-in_err-text_of.ensures.1 in
-    rw (p.1, p.2) (without_memory task (symlink_permit nat_eq looks task c.args.text.now c.args.path.now) permit _
+    rw (p.1, p.2) (without_memory task (judge_by_looks looks task (SymlinkAt c.args.text.now c.args.path.now)) permit _
     (skipped (is_empty c.args.text.now) W1 _ _ (search rules)
     ∙ skipped _ W2 [] _ (le-ltb 4095 (length c.args.text.now) (omega arith))
     ∙ made_asked looks task (walk_end (new_leaf_walk nat_eq looks task c.args.path.now)) at.0 node at.1 special missing
@@ -72,7 +73,7 @@ returns-in_err-text_of g c =
     c.in_err-text_of.ensures.memory)
 
 pub returns : goal.returns
-unfolding symlink_permit
+unfolding judging
 returns g c =
     let looks = g.L.Look.looks c.args.world.now in
     let task = task_of c.args.who.now in

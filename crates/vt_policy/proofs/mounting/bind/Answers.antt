@@ -1,5 +1,5 @@
 use Rattle.std.proofs.Common.{nat_eq, refl, sym, ◌∙◌}
-use Rattle.vt_spec.proofs.Common.{Bind, ToBind, bind_permit, err_from_is_err_and, or_from}
+use Rattle.vt_spec.proofs.Common.{Bind, ToBind, err_from_is_err_and, judge, or_from}
 use Rattle.vt_spec.specs.declared.errors.Rule.TheVariants.{M2, M3}
 use Rattle.vt_location.specs.Locations.{location_of}
 use Rattle.vt_tasks.specs.TaskValue.{task_of}
@@ -18,7 +18,7 @@ returns-in_err-overfills g c =
     let permit = ToBind source destination c.args.recursive in
     let p = err_from_is_err_and c.from_residual-in_err-overfills.result c.from_residual-in_err-overfills.ensures.1 in
     rw (p.1, p.2) (no_receivers (Bind c.args.source.now c.args.path.now c.args.recursive) task
-    (bind_permit nat_eq looks overfills task c.args.source.now c.args.path.now c.args.recursive)
+    (judge nat_eq looks overfills task (Bind c.args.source.now c.args.path.now c.args.recursive))
     (overfills permit) permit _ refl
     (bind_asked looks overfills task c.args.source.now c.args.path.now c.args.recursive source destination
     (sym c.lacks.ensures ∙ c.if-lacks.false) c.in_ok-source.ensures.ok c.in_ok-destination.ensures.ok

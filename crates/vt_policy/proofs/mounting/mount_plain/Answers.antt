@@ -1,5 +1,5 @@
 use Rattle.std.proofs.Common.{nat_eq, refl, sym, ◌∙◌}
-use Rattle.vt_spec.proofs.Common.{MountPlain, ToMountPlain, err_from_is_err_and, mount_plain_permit}
+use Rattle.vt_spec.proofs.Common.{MountPlain, ToMountPlain, err_from_is_err_and, judge}
 use Rattle.vt_spec.specs.declared.errors.Rule.TheVariants.{M2}
 use Rattle.vt_cred.specs.MountFlags.{flags_of}
 use Rattle.vt_location.specs.Locations.{location_of}
@@ -19,7 +19,7 @@ returns-in_err-overfills g c =
     let permit = ToMountPlain destination flags in
     let p = err_from_is_err_and c.from_residual-in_err-overfills.result c.from_residual-in_err-overfills.ensures.1 in
     rw (p.1, p.2) (no_receivers (MountPlain c.args.path.now flags) task
-    (mount_plain_permit nat_eq looks overfills task c.args.path.now flags) (overfills permit) permit _ refl
+    (judge nat_eq looks overfills task (MountPlain c.args.path.now flags)) (overfills permit) permit _ refl
     (mount_plain_asked looks overfills task c.args.path.now flags destination
     (sym c.lacks.ensures ∙ c.if-lacks.false) c.in_ok-destination.ensures.ok
     ∙ skipped _ M2 _ _ (sym c.is_elsewhere.ensures ∙ c.if-is_elsewhere.false)) c.in_err-overfills.ensures.memory)

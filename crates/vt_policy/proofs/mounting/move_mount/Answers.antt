@@ -1,5 +1,5 @@
 use Rattle.std.proofs.Common.{Err, nat_eq, ap, is_some, not, sym, ◌∙◌}
-use Rattle.vt_spec.proofs.Common.{MoveMount, ToMove, err_from_is_err_and, move_permit}
+use Rattle.vt_spec.proofs.Common.{MoveMount, ToMove, err_from_is_err_and, judge}
 use Rattle.vt_spec.specs.declared.errors.Rule.TheVariants.{M10, M9}
 use Rattle.vt_spec.specs.Machine.Looks.{mount_at}
 use Rattle.vt_location.specs.Locations.{location_of}
@@ -18,7 +18,7 @@ returns-in_err-may_move g c =
     let destination = location_of c.in_ok-destination.destination in
     let p = err_from_is_err_and c.from_residual-in_err-may_move.result c.from_residual-in_err-may_move.ensures.1 in
     rw (p.1, p.2) (refused_before (MoveMount c.args.source.now c.args.path.now) task
-    (move_permit nat_eq looks overfills task c.args.source.now c.args.path.now) _
+    (judge nat_eq looks overfills task (MoveMount c.args.source.now c.args.path.now)) _
     (move_refused looks overfills task c.args.source.now c.args.path.now source destination
     (sym c.lacks.ensures ∙ c.if-lacks.false) c.in_ok-source.ensures.ok c.in_ok-destination.ensures.ok _ c.in_err-may_move.ensures))
 
@@ -32,7 +32,7 @@ returns-in_err-overfills g c =
     let permit = ToMove source.mount destination in
     let p = err_from_is_err_and c.from_residual-in_err-overfills.result c.from_residual-in_err-overfills.ensures.1 in
     rw (p.1, p.2) (no_receivers_of_move c.args.source.now c.args.path.now task
-    (move_permit nat_eq looks overfills task c.args.source.now c.args.path.now)
+    (judge nat_eq looks overfills task (MoveMount c.args.source.now c.args.path.now))
     (overfills permit) (not (is_some (mount_at looks source).mount_point)) permit _
     (move_left looks overfills task c.args.source.now c.args.path.now source destination
     (sym c.lacks.ensures ∙ c.if-lacks.false) c.in_ok-source.ensures.ok c.in_ok-destination.ensures.ok c.in_ok-may_move.ensures)
@@ -46,7 +46,7 @@ returns-then-branch g c =
     let source = location_of c.in_ok-source.source in
     let destination = location_of c.in_ok-destination.destination in
     refused_before (MoveMount c.args.source.now c.args.path.now) task
-    (move_permit nat_eq looks overfills task c.args.source.now c.args.path.now) _
+    (judge nat_eq looks overfills task (MoveMount c.args.source.now c.args.path.now)) _
     (move_left looks overfills task c.args.source.now c.args.path.now source destination
     (sym c.lacks.ensures ∙ c.if-lacks.false) c.in_ok-source.ensures.ok c.in_ok-destination.ensures.ok c.in_ok-may_move.ensures
     ∙ stopped _ M9 _ _ (sym c.in_ok-overfills.ensures.ok ∙ c.if-branch.true)
@@ -60,7 +60,7 @@ returns-then-not-is_attached_somewhere g c =
     let source = location_of c.in_ok-source.source in
     let destination = location_of c.in_ok-destination.destination in
     refused_before (MoveMount c.args.source.now c.args.path.now) task
-    (move_permit nat_eq looks overfills task c.args.source.now c.args.path.now) _
+    (judge nat_eq looks overfills task (MoveMount c.args.source.now c.args.path.now)) _
     (move_left looks overfills task c.args.source.now c.args.path.now source destination
     (sym c.lacks.ensures ∙ c.if-lacks.false) c.in_ok-source.ensures.ok c.in_ok-destination.ensures.ok c.in_ok-may_move.ensures
     ∙ skipped _ M9 _ _ (sym c.in_ok-overfills.ensures.ok ∙ c.if-branch.false)

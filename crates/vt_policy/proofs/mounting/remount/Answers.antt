@@ -1,5 +1,5 @@
 use Rattle.std.proofs.Common.{[], ◌∷◌, ◌&&◌, Ok}
-use Rattle.vt_spec.proofs.Common.{ToSetFlags, err_from_is_err_and, remount_permit}
+use Rattle.vt_spec.proofs.Common.{ToSetFlags, err_from_is_err_and, judging}
 use Rattle.vt_spec.specs.declared.errors.Rule.TheVariants.{M8}
 use Rattle.vt_cred.specs.MountFlags.{flags_of}
 use Rattle.vt_tasks.specs.TaskValue.{task_of}
@@ -7,7 +7,7 @@ use Rattle.vt_policy.proofs.MountLemmas.{root_refused}
 use Rattle.vt_policy.proofs.mounting.remount.Goals as goal
 
 pub returns-in_err-here : goal.returns-in_err-here
-unfolding remount_permit
+unfolding judging
 returns-in_err-here g c =
     let looks = g.L.Look.looks c.args.world.now in
     let flags = flags_of c.args.flags in

@@ -1,19 +1,20 @@
-use Rattle.std.proofs.Common.{[], ◌∷◌, is_some, nat_eq, not, Ok}
-use Rattle.vt_spec.proofs.Common.{ToUnmount, Umount, err_from_is_err_and, umount_permit}
+use Rattle.std.proofs.Common.{[], ◌∷◌, is_some, not, Ok}
+use Rattle.vt_spec.proofs.Common.{ToUnmount, Umount, err_from_is_err_and, judging}
 use Rattle.vt_spec.specs.declared.errors.Rule.TheVariants.{M10, M8}
 use Rattle.vt_spec.specs.Machine.Looks.{mount_at}
 use Rattle.vt_tasks.specs.TaskValue.{task_of}
 use Rattle.vt_rules.proofs.Judged.{refused_before}
+use Rattle.vt_policy.specs.Judged.{judge_by_looks}
 use Rattle.vt_policy.proofs.MountLemmas.{root_refused}
 use Rattle.vt_policy.proofs.mounting.umount.Goals as goal
 
 pub returns-in_err-here : goal.returns-in_err-here
-unfolding umount_permit
+unfolding judging
 returns-in_err-here g c =
     let looks = g.L.Look.looks c.args.world.now in
     let task = task_of c.args.who.now in
     let p = err_from_is_err_and c.from_residual.result c.from_residual.ensures.1 in
-    rw (p.1, p.2) (refused_before (Umount c.args.path.now) task (umount_permit nat_eq looks task c.args.path.now) _
+    rw (p.1, p.2) (refused_before (Umount c.args.path.now) task (judge_by_looks looks task (Umount c.args.path.now)) _
     (root_refused looks task c.args.path.now
     (λ at. (looks.is_busy at.mount, M8) ∷ (not (is_some (mount_at looks at).mount_point), M10) ∷ [])
     (λ at. Ok (ToUnmount at.mount)) _ c.in_err-here.ensures.err))

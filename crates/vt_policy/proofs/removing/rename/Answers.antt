@@ -1,10 +1,11 @@
 use Rattle.std.proofs.Common.{Ok, ap, false, nat_eq, sym, true, unwrap_or, ◌∙◌}
-use Rattle.vt_spec.proofs.Common.{Allowed, ToRename, err_from_is_err_and, holds_of, is_one_object, is_special, name_of, rename_new_walk, rename_permit, rename_rules, same_object_rules, unless-let_through, walk_end}
+use Rattle.vt_spec.proofs.Common.{Allowed, Rename, ToRename, err_from_is_err_and, holds_of, is_one_object, is_special, name_of, rename_new_walk, rename_rules, same_object_rules, unless-let_through, walk_end}
 use Rattle.vt_spec.specs.Machine.Looks.{is_directory_at}
 use Rattle.vt_location.specs.Locations.{location_of}
 use Rattle.vt_permits.specs.GrantValue.{rename_permit as granted_permit}
 use Rattle.vt_tasks.specs.TaskValue.{task_of}
 use Rattle.vt_rules.proofs.Judged.{refused, without_memory}
+use Rattle.vt_policy.specs.Judged.{judge_by_looks}
 use Rattle.vt_policy.proofs.PlaceLemmas.{rename_asked}
 use Rattle.vt_rules.proofs.Refusals.{unless-stopped}
 use Rattle.vt_policy.proofs.removing.rename.Goals as goal
@@ -25,7 +26,7 @@ returns-in_err-may_stay g c =
     (ap is_special to.2.last ∙ sym c.is_special-2.ensures ∙ c.if-is_special-2.false)
     (ap (is_one_object nat_eq looks object) to.2.object ∙ sym c.is_name_of.ensures ∙ c.if-is_name_of.true) in
     let p = err_from_is_err_and c.from_residual-in_err-may_stay.result c.from_residual-in_err-may_stay.ensures.1 in
-    rw (p.1, p.2) (refused task (rename_permit nat_eq looks task c.args.old.now c.args.new.now) _
+    rw (p.1, p.2) (refused task (judge_by_looks looks task (Rename c.args.old.now c.args.new.now)) _
     (asked ∙ unless-stopped (same_object_rules nat_eq looks from.0 to.0) (Ok Allowed) _
     (c.in_err-may_stay.ensures from.0 to.0 from.2 to.2)))
 
@@ -47,7 +48,7 @@ returns-in_err-may_rename g c =
     let rows = rename_rules nat_eq looks task from.0 to.0 object in
     let permit = ToRename from.0.parent (name_of from.0.last) to.0.parent (name_of to.0.last) object to.0.object in
     let p = err_from_is_err_and c.from_residual-in_err-may_rename.result c.from_residual-in_err-may_rename.ensures.1 in
-    rw (p.1, p.2) (refused task (rename_permit nat_eq looks task c.args.old.now c.args.new.now) _
+    rw (p.1, p.2) (refused task (judge_by_looks looks task (Rename c.args.old.now c.args.new.now)) _
     (asked ∙ unless-stopped rows (Ok permit) _ (c.in_err-may_rename.ensures from.0 to.0 from.2 to.2)))
 
 pub returns-in_err-name_at : goal.returns-in_err-name_at
@@ -68,7 +69,7 @@ returns-in_err-name_at g c =
     let rows = rename_rules nat_eq looks task from.0 to.0 object in
     let permit = ToRename from.0.parent (name_of from.0.last) to.0.parent (name_of to.0.last) object to.0.object in
     let p = err_from_is_err_and c.from_residual-in_err-name_at.result c.from_residual-in_err-name_at.ensures.1 in
-    rw (p.1, p.2) (without_memory task (rename_permit nat_eq looks task c.args.old.now c.args.new.now) permit _
+    rw (p.1, p.2) (without_memory task (judge_by_looks looks task (Rename c.args.old.now c.args.new.now)) permit _
     (asked ∙ unless-let_through rows (Ok permit)
     (c.in_ok-may_rename.ensures from.0 to.0 from.2 to.2)) c.in_err-name_at.ensures.memory)
 
@@ -90,7 +91,7 @@ returns-in_err-name_at-2 g c =
     let rows = rename_rules nat_eq looks task from.0 to.0 object in
     let permit = ToRename from.0.parent (name_of from.0.last) to.0.parent (name_of to.0.last) object to.0.object in
     let p = err_from_is_err_and c.from_residual-in_err-name_at-2.result c.from_residual-in_err-name_at-2.ensures.1 in
-    rw (p.1, p.2) (without_memory task (rename_permit nat_eq looks task c.args.old.now c.args.new.now) permit _
+    rw (p.1, p.2) (without_memory task (judge_by_looks looks task (Rename c.args.old.now c.args.new.now)) permit _
     (asked ∙ unless-let_through rows (Ok permit)
     (c.in_ok-may_rename.ensures from.0 to.0 from.2 to.2)) c.in_err-name_at-2.ensures.memory)
 
@@ -112,7 +113,7 @@ returns-in_err-boxed g c =
     let rows = rename_rules nat_eq looks task from.0 to.0 object in
     let permit = ToRename from.0.parent (name_of from.0.last) to.0.parent (name_of to.0.last) object to.0.object in
     let p = err_from_is_err_and c.from_residual-in_err-boxed.result c.from_residual-in_err-boxed.ensures.1 in
-    rw (p.1, p.2) (without_memory task (rename_permit nat_eq looks task c.args.old.now c.args.new.now) permit _
+    rw (p.1, p.2) (without_memory task (judge_by_looks looks task (Rename c.args.old.now c.args.new.now)) permit _
     (asked ∙ unless-let_through rows (Ok permit)
     (c.in_ok-may_rename.ensures from.0 to.0 from.2 to.2)) c.in_err-boxed.ensures.memory)
 

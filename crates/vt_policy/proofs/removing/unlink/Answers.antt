@@ -1,8 +1,9 @@
-use Rattle.std.proofs.Common.{Ok, ap, nat_eq, sym, unwrap_or, ◌∙◌}
-use Rattle.vt_spec.proofs.Common.{Remove, ToChange, err_from_is_err_and, is_special, name_of, removing, unless-let_through, unlink_permit, unlink_rules}
+use Rattle.std.proofs.Common.{Ok, ap, sym, unwrap_or, ◌∙◌}
+use Rattle.vt_spec.proofs.Common.{Remove, ToChange, Unlink, err_from_is_err_and, is_special, name_of, removing, unless-let_through, unlink_rules}
 use Rattle.vt_location.specs.Locations.{location_of}
 use Rattle.vt_tasks.specs.TaskValue.{task_of}
 use Rattle.vt_rules.proofs.Judged.{refused, without_memory}
+use Rattle.vt_policy.specs.Judged.{judge_by_looks}
 use Rattle.vt_policy.proofs.PlaceLemmas.{unlink_asked}
 use Rattle.vt_rules.proofs.Refusals.{unless-stopped}
 use Rattle.vt_policy.proofs.removing.unlink.Goals as goal
@@ -18,7 +19,7 @@ returns-in_err-may_unlink g c =
     (ap is_special at.2.last ∙ sym c.is_special.ensures ∙ c.if-is_special.false)
     (ap (λ object. unwrap_or object at.0.parent) at.2.object) in
     let p = err_from_is_err_and c.from_residual-in_err-may_unlink.result c.from_residual-in_err-may_unlink.ensures.1 in
-    rw (p.1, p.2) (refused task (unlink_permit nat_eq looks task c.args.path.now) _
+    rw (p.1, p.2) (refused task (judge_by_looks looks task (Unlink c.args.path.now)) _
     (asked ∙ unless-stopped (unlink_rules looks task at.0 object) (Ok permit) _
     (c.in_err-may_unlink.ensures at.0 at.2)))
 
@@ -33,7 +34,7 @@ returns-in_err-name_at g c =
     (ap is_special at.2.last ∙ sym c.is_special.ensures ∙ c.if-is_special.false)
     (ap (λ object. unwrap_or object at.0.parent) at.2.object) in
     let p = err_from_is_err_and c.from_residual-in_err-name_at.result c.from_residual-in_err-name_at.ensures.1 in
-    rw (p.1, p.2) (without_memory task (unlink_permit nat_eq looks task c.args.path.now) permit _
+    rw (p.1, p.2) (without_memory task (judge_by_looks looks task (Unlink c.args.path.now)) permit _
     (asked ∙ unless-let_through (unlink_rules looks task at.0 object) (Ok permit)
     (c.in_ok-may_unlink.ensures at.0 at.2)) c.in_err-name_at.ensures.memory)
 

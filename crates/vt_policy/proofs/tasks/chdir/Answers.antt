@@ -1,5 +1,5 @@
 use Rattle.std.proofs.Common.{Ok, nat_eq, ◌∙◌}
-use Rattle.vt_spec.proofs.Common.{ToSetDirectory, chdir_permit, directory_walk, enter_rules, err_from_is_err_and, unless, unless-let_through, walk_end}
+use Rattle.vt_spec.proofs.Common.{ToSetDirectory, directory_walk, enter_rules, err_from_is_err_and, judging, unless, unless-let_through, walk_end}
 use Rattle.vt_location.specs.Locations.{location_of}
 use Rattle.vt_tasks.specs.TaskValue.{task_of}
 use Rattle.vt_policy.proofs.MountLemmas.{reached}
@@ -7,7 +7,7 @@ use Rattle.vt_rules.proofs.Refusals.{unless-stopped}
 use Rattle.vt_policy.proofs.tasks.chdir.Goals as goal
 
 pub returns-in_err-may_enter : goal.returns-in_err-may_enter
-unfolding chdir_permit
+unfolding judging
 returns-in_err-may_enter g c =
     let looks = g.L.Look.looks c.args.world.now in
     let task = task_of c.args.who.now in
@@ -18,7 +18,7 @@ returns-in_err-may_enter g c =
     ∙ unless-stopped (enter_rules looks task at) (Ok (ToSetDirectory at)) _ c.in_err-may_enter.ensures)
 
 pub returns : goal.returns
-unfolding chdir_permit
+unfolding judging
 returns g c =
     let looks = g.L.Look.looks c.args.world.now in
     let task = task_of c.args.who.now in

@@ -1,5 +1,5 @@
 use Rattle.std.proofs.Common.{[], Ok, nat_eq, sym, ◌∙◌}
-use Rattle.vt_spec.proofs.Common.{ToSetRoot, chroot_permit, directory_walk, enter_rules, err_from_is_err_and, unless, unless-let_through, walk_end}
+use Rattle.vt_spec.proofs.Common.{ToSetRoot, directory_walk, enter_rules, err_from_is_err_and, judging, unless, unless-let_through, walk_end}
 use Rattle.vt_spec.specs.declared.errors.Rule.TheVariants.{K1}
 use Rattle.vt_location.specs.Locations.{location_of}
 use Rattle.vt_tasks.specs.TaskValue.{task_of}
@@ -9,7 +9,7 @@ use Rattle.vt_rules.proofs.Rows.{skipped}
 use Rattle.vt_policy.proofs.tasks.chroot.Goals as goal
 
 pub returns-in_err-may_enter : goal.returns-in_err-may_enter
-unfolding chroot_permit
+unfolding judging
 returns-in_err-may_enter g c =
     let looks = g.L.Look.looks c.args.world.now in
     let task = task_of c.args.who.now in
@@ -21,7 +21,7 @@ returns-in_err-may_enter g c =
     ∙ unless-stopped (enter_rules looks task at) (Ok (ToSetRoot at)) _ c.in_err-may_enter.ensures)
 
 pub returns : goal.returns
-unfolding chroot_permit
+unfolding judging
 returns g c =
     let looks = g.L.Look.looks c.args.world.now in
     let task = task_of c.args.who.now in

@@ -1,7 +1,8 @@
-use Rattle.std.proofs.Common.{rules, Ok, [], nat_eq, ◌∙◌}
-use Rattle.vt_spec.proofs.Common.{create_file_permit, err_from_is_err_and, make_rules, new_file, open_new_permit, unless-let_through, unnumbered}
+use Rattle.std.proofs.Common.{rules, Ok, [], ◌∙◌}
+use Rattle.vt_spec.proofs.Common.{err_from_is_err_and, make_rules, new_file, open_new_permit, unless-let_through, unnumbered}
 use Rattle.vt_request.specs.Requests.{access_of}
 use Rattle.vt_tasks.specs.TaskValue.{task_of}
+use Rattle.vt_rules.specs.Permitted.{create_file_permit}
 use Rattle.vt_rules.proofs.Judged.{refused, without_memory}
 use Rattle.vt_rules.proofs.Refusals.{unless-stopped}
 use Rattle.vt_rules.proofs.descriptors.create_file_permit.Goals as goal
@@ -13,7 +14,7 @@ returns-in_err-may_make g c meant is =
     let access = access_of c.args.access in
     let change = unnumbered meant (new_file task c.args.mode []) in
     let p = err_from_is_err_and c.from_residual.result c.from_residual.ensures.1 in
-    rw (p.1, p.2) (refused task (create_file_permit nat_eq looks task meant access c.args.mode) _
+    rw (p.1, p.2) (refused task (create_file_permit looks task meant access c.args.mode) _
     (unless-stopped (make_rules looks task meant change) (Ok (open_new_permit task meant access c.args.mode)) _
     (c.in_err-may_make.ensures meant (new_file task c.args.mode []) is.parent)))
 
@@ -24,7 +25,7 @@ returns-in_err-name_at g c meant is =
     let access = access_of c.args.access in
     let change = unnumbered meant (new_file task c.args.mode []) in
     let p = err_from_is_err_and c.from_residual-in_err-name_at.result c.from_residual-in_err-name_at.ensures.1 in
-    rw (p.1, p.2) (without_memory task (create_file_permit nat_eq looks task meant access c.args.mode)
+    rw (p.1, p.2) (without_memory task (create_file_permit looks task meant access c.args.mode)
     (open_new_permit task meant access c.args.mode) _
     (unless-let_through (make_rules looks task meant change) (Ok (open_new_permit task meant access c.args.mode))
     (c.in_ok-may_make.ensures meant (new_file task c.args.mode []) is.parent)) c.in_err-name_at.ensures.memory)

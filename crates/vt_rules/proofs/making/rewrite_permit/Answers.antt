@@ -6,7 +6,7 @@ use Rattle.vt_rules.proofs.Refusals.{unless-stopped}
 use Rattle.vt_rules.proofs.making.rewrite_permit.Goals as goal
 
 pub returns-in_err-may_rewrite : goal.returns-in_err-may_rewrite
-returns-in_err-may_rewrite g c place =
+returns-in_err-may_rewrite g c =
     let file = location_of c.args.file in
     let rows = rewrite_rules (g.L.Look.looks c.args.world.now) (task_of c.args.who.now) file in
     let p = err_from_is_err_and c.from_residual.result c.from_residual.ensures.1 in
@@ -15,7 +15,7 @@ returns-in_err-may_rewrite g c place =
     (c.in_err-may_rewrite.ensures ∙ ap (λ bytes. unless (rows bytes) (Ok tt)) c.deref.ensures.value))
 
 pub returns : goal.returns
-returns g c place =
+returns g c =
     let file = location_of c.args.file in
     let rows = rewrite_rules (g.L.Look.looks c.args.world.now) (task_of c.args.who.now) file in
     unless-let_through (rows c.args.bytes.items) (Ok (ToChange file (SetBytes file.node c.args.bytes.items)))

@@ -1,5 +1,5 @@
 -- The rules of calls on open files.
-use Rattle.std.specs.Prelude.{Bool, List, Option, Result, [], false, find, if◌then◌else◌, is_some, length, nat_le, nat_lt, not, ok_or, option_to_list, true, ℕ, ◌&&◌, ◌+◌, ◌==◌, ◌∷◌}
+use Rattle.std.specs.Prelude.{Bool, List, Option, Result, [], false, find, if◌then◌else◌, length, nat_le, nat_lt, not, ok_or, option_to_list, true, ℕ, ◌&&◌, ◌+◌, ◌==◌, ◌∷◌}
 use Rattle.vt_spec.specs.Errors.{Rules, denial}
 use Rattle.vt_spec.specs.Language.Calls.{Access, opens_for_reading, opens_for_writing}
 use Rattle.vt_spec.specs.Language.Changes.Change.{CopyUp}
@@ -31,12 +31,12 @@ module _ {N : Type 0} where
   abbrev pub descriptor_rules : Task N → Rules
   descriptor_rules task = (nat_le most_descriptors (length task.descriptors), S3) ∷ []
 
-  -- open(2) with O_EXCL: EEXIST, and EISDIR behind a slash
+  -- the last word of open(2) with O_EXCL, before it is asked whether there is such a name: EEXIST, and EISDIR behind a
+  -- slash
   abbrev pub exclusive_word_rules : Place N → Rules
   exclusive_word_rules place =
       (is_special place.last, E1)
       ∷ (place.slash, E2)
-      ∷ (is_some place.object, E1)
       ∷ []
 
   -- EBADF of pread(2) and pwrite(2): no such descriptor, or not opened for this

@@ -1,6 +1,7 @@
 -- Bytes that were written at a path are read there.
-use Rattle.std.proofs.Common.{◌≡◌, refl, sym, ap, subst, ◌∙◌, inl, inr, ◌⊎◌, ℕ, nat_eq, Bool, true, false, cond, ◌||◌, List, [], ◌∷◌, length, reverse, Option, Some, None, is_some, ok_or, Ok, Err, nat_lt, arith}
-use Rattle.vt_spec.proofs.Common.{Bytes, Change, Content, Directory, Done, Fresh, IsWorld, Location, Looks, Node, Permit, Place, Read, Regular, SetBytes, Symlink, Task, TaskName, ToChange, Whiteout, World, Write, allows, and_then-Ok, changed, common_steps, denial, ends_in_slash, file_mode, file_walk, file_word_rules, files_at, is_absolute, is_directory_at, is_directory_node, is_kind, is_kind_in, is_special, kind_of, largest_file, looks_of, make_permit, make_rules, new_attr, new_file, node_at, node_with_bytes, object_walk, or_parts, passing, path_text, policy, raised_task, read_right, rewrite_rules, same_Some, same_ok, stepped, symlink_text, task_called, unnumbered, walk_end, walk_start, words, words_walked, write_permit, written_permit}
+use Rattle.std.proofs.Common.{◌≡◌, refl, sym, ap, subst, ◌∙◌, inl, inr, ◌⊎◌, ℕ, nat_eq, Bool, true, false, cond, ◌||◌, List, [], ◌∷◌, ◌++◌, length, reverse, Option, Some, None, is_some, ok_or, Ok, Err, nat_lt, arith}
+use Rattle.vt_spec.proofs.Common.{Bytes, Change, Content, Directory, Done, Fresh, IsWorld, Judgement, Location, Looks, Node, Permit, Place, Read, Regular, SetBytes, Symlink, Task, TaskName, ToChange, Whiteout, World, Write, allows, and_then-Ok, by_option, changed, common_steps, denial, ends_in_slash, file_mode, file_walk, file_word_rules, files_at, is_absolute, is_directory_at, is_directory_node, is_kind, is_kind_in, is_special, judge, judging, kind_of, largest_file, looks_of, make_permit, make_rules, new_attr, new_file, node_at, node_with_bytes, object_walk, or_parts, passing, path_text, policy, raised_task, read_right, rewrite_rules, same_Some, same_ok, stepped, symlink_text, task_called, unless, unnumbered, walk_end, walk_start, words, words_walked}
+use Rattle.vt_spec.proofs.Given.{by_rules}
 use Rattle.vt_laws_later_calls.proofs.Common.{cases_Option, Attr, C1, Deny, E6, Ends, File, IsEndPlace, IsPlain, W6, White, changed_node_there, file_walk_end, file_walked, new_name_rules, others_are_files, own_directory_found, root_found}
 use Rattle.vt_laws_later_calls.specs.LaterPaths.{IsAnsweredUnless, IsSeenByAll, WriteThenRead}
 use Rattle.vt_laws_later_calls.proofs.AfterChange.{ChangesTree, changes_there, all_stays, later_is}
@@ -187,31 +188,54 @@ module _ {world : World ℕ} {fresh : Fresh ℕ} {name : TaskName} {path bytes :
         (ap symlink_text seen) in
         read_of left later_fresh reader called path left_plain _ finds.1.1 old.0 bytes seen
 
+-- what a granted write is permitted, behind its last word: by whether the file was there
+abbrev written : Looks ℕ → Task ℕ → Place ℕ → List ℕ → Option (Location ℕ) → Judgement ℕ
+written looks task place bytes (Some file) =
+    unless (rewrite_rules looks task file bytes) (Ok (ToChange file (SetBytes file.node bytes)))
+written looks task place bytes None =
+    unless ((nat_lt largest_file (length bytes), E6)
+    ∷ make_rules looks task place (unnumbered place (new_file task file_mode bytes)))
+    (Ok (make_permit place (new_file task file_mode bytes)))
+
 -- what a granted write was permitted
-write_parts : (looks : Looks ℕ) (task : Task ℕ) (path bytes : List ℕ) (permit : Permit ℕ)
-    → write_permit nat_eq looks task path bytes ≡ Ok permit
+write_parts : (looks : Looks ℕ) {full : Permit ℕ → Bool} (task : Task ℕ) (path bytes : List ℕ) (permit : Permit ℕ)
+    → judge nat_eq looks full task (Write path bytes) ≡ Ok permit
     → (place : Place ℕ) × (file_walk nat_eq looks task path ≡ Ok place)
-    × ((is_special place.last || place.slash) ≡ false)
-    × (written_permit nat_eq looks task place bytes place.object ≡ Ok permit)
-unfolding write_permit
-write_parts looks task path bytes permit e =
+    × ((is_special place.last || place.slash) ≡ false) × (written looks task place bytes place.object ≡ Ok permit)
+unfolding judging
+write_parts looks {full} task path bytes permit e =
     let steps = and_then-Ok (walk_end (file_walk nat_eq looks task path)) _ permit e in
-    let parts = passing (file_word_rules steps.0)
-    (written_permit nat_eq looks task steps.0 bytes steps.0.object) permit steps.2 in
-    (steps.0, walk_ended (file_walk nat_eq looks task path) steps.0 steps.1, parts.0.0, parts.1)
+    let parts = by steps.0 steps.0.object steps.2 in
+    (steps.0, walk_ended (file_walk nat_eq looks task path) steps.0 steps.1, parts.0, parts.1)
+  where
+    by : (place : Place ℕ) (object : Option (Location ℕ)) → by_option
+        (λ file. unless (file_word_rules place ++ rewrite_rules looks task file bytes)
+        (Ok (ToChange file (SetBytes file.node bytes))))
+        (unless (file_word_rules place ++ ((nat_lt largest_file (length bytes), E6)
+        ∷ make_rules looks task place (unnumbered place (new_file task file_mode bytes))))
+        (Ok (make_permit place (new_file task file_mode bytes)))) object ≡ Ok permit
+        → ((is_special place.last || place.slash) ≡ false) × (written looks task place bytes object ≡ Ok permit)
+    by place (Some file) e =
+        let pass = passing (file_word_rules place ++ rewrite_rules looks task file bytes) _ permit e in
+        (pass.0.0, by_rules (rewrite_rules looks task file bytes) _ (Ok permit) pass.0.1 pass.1)
+    by place None e =
+        let rows = (nat_lt largest_file (length bytes), E6)
+        ∷ make_rules looks task place (unnumbered place (new_file task file_mode bytes)) in
+        let pass = passing (file_word_rules place ++ rows) _ permit e in
+        (pass.0.0, by_rules rows _ (Ok permit) pass.0.1 pass.1)
 
 pub write_then_read : WriteThenRead
 write_then_read path bytes world fresh name task is plain serves called granted = elim (cases_Option parts.0.object) [
-  | inl object ↦ let small = passing ((nat_lt largest_file (length bytes), E6) ∷ []) _ it.did.permit
-      (sym (ap (written_permit nat_eq (looks_of nat_eq world) it.did.task parts.0 bytes) object) ∙ parts.3) in
-      let rules = passing (make_rules (looks_of nat_eq world) it.did.task parts.0 (unnumbered parts.0
-      (new_file it.did.task file_mode bytes))) _ it.did.permit small.1 in
+  | inl object ↦ let rules = passing ((nat_lt largest_file (length bytes), E6)
+      ∷ make_rules (looks_of nat_eq world) it.did.task parts.0 (unnumbered parts.0
+      (new_file it.did.task file_mode bytes))) _ it.did.permit
+      (sym (ap (written (looks_of nat_eq world) it.did.task parts.0 bytes) object) ∙ parts.3) in
       let permit_is = sym (same_ok _ it.did.permit rules.1) in
       seen (new_attr it.did.task file_mode) (new_read it parts.1 words_pass.0 words_pass.1 permit_is)
       (new_maker it parts.1 words_pass.0 words_pass.1 permit_is)
   | inr its ↦ let rules = passing (rewrite_rules (looks_of nat_eq world) it.did.task its.0 bytes) (Ok (ToChange its.0
       (SetBytes its.0.node bytes))) it.did.permit
-      (sym (ap (written_permit nat_eq (looks_of nat_eq world) it.did.task parts.0 bytes) its.1) ∙ parts.3) in
+      (sym (ap (written (looks_of nat_eq world) it.did.task parts.0 bytes) its.1) ∙ parts.3) in
       let permit_is = sym (same_ok _ it.did.permit rules.1) in
       seen _ (old_read it parts.1 words_pass.0 words_pass.1 its.0 its.1 rules.0.0 rules.0.1.1.0 permit_is)
       (rewriter it parts.1 words_pass.0 words_pass.1 its.0 its.1 rules.0.0 rules.0.1.1.0 permit_is)
@@ -225,7 +249,7 @@ write_then_read path bytes world fresh name task is plain serves called granted 
 
     parts : (place : Place ℕ) × (file_walk nat_eq (looks_of nat_eq world) it.did.task path ≡ Ok place)
         × ((is_special place.last || place.slash) ≡ false)
-        × (written_permit nat_eq (looks_of nat_eq world) it.did.task place bytes place.object ≡ Ok it.did.permit)
+        × (written (looks_of nat_eq world) it.did.task place bytes place.object ≡ Ok it.did.permit)
     parts = write_parts (looks_of nat_eq world) it.did.task path bytes it.did.permit it.did.judged
 
     words_pass : (is_special parts.0.last ≡ false) × (parts.0.slash ≡ false)

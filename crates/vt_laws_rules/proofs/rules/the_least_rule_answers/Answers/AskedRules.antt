@@ -1,13 +1,12 @@
 -- Each call is answered by what it asks: its first rules, its walks, and its last table.
 use Rattle.std.proofs.Common.{arith, ◌≡◌, refl, ap, ◌∙◌, ℕ, nat_eq, Bool, true, false, not, List, [], ◌∷◌, ◌++◌, ◌||◌, Option, Some, None, ok_or, Result, Ok, Err, is_ok}
 use Rattle.vt_spec.proofs.Common.{Call, Fresh, Judgement, Outcome, Permit, Rules, Task, TaskName, World, after, and_then, apply, call_outcome, common_steps, denial, descriptor_at, finished_by, judge_in, layers_walked, looks_of, only_looks, overfills, policy, result_err, task_called, unless, walk_end, words}
-use Rattle.vt_laws_rules.proofs.given.Runs.{judge_is_the_run}
 use Rattle.vt_laws_rules.specs.Asked.{asked_first, asked_last, first_rules, last_rules, rules_behind}
-use Rattle.vt_laws_rules.specs.Judging.{Judging, by_option, judging, run, walk_to, walk_to_name}
+use Rattle.vt_spec.specs.Machine.Judging.{Judging, by_option, judging, run, walk_to, walk_to_name}
 use Rattle.vt_spec.specs.declared.errors.Deny.{Deny}
 use Rattle.vt_spec.specs.declared.errors.Rule.{Rule}
 use Rattle.vt_spec.specs.declared.errors.Rule.TheVariants.{S2, S4}
-use Rattle.vt_laws_rules.specs.Judging.Judging.{Attaches, Checks, FindsFile, FindsTask, Grants, IfSo, IfThere, Layers, Names, Needs, Refuses, Walks, Words}
+use Rattle.vt_spec.specs.Machine.Judging.Judging.{Attaches, Checks, FindsFile, FindsTask, Grants, IfSo, IfThere, Layers, Names, Needs, Refuses, Walks, Words}
 
 -- what is left of a call once its walks are done
 abbrev pub decided : Result Rules Deny → Result Bool Deny
@@ -109,7 +108,7 @@ call_asked : (fresh : Fresh ℕ) (world : World ℕ) (task : Task ℕ) (call : C
 call_asked fresh world task call =
     let value = judging nat_eq (looks_of nat_eq world) task call in
     let full = overfills nat_eq fresh world task in
-    ap result_err (judge_is_the_run nat_eq (looks_of nat_eq world) full task call ∙ run_first world task full value)
+    ap result_err (run_first world task full value)
     ∙ table_asked (asked_first world task call) (runs world task full value) _ (run_decided world task full value)
 
 -- a permit is applied, and change numbers do not change the answer

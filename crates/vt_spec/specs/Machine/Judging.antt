@@ -1,24 +1,26 @@
--- What each call asks, as one value: its walks and its tables of rules in their order, and then its permit.
-use Rattle.std.specs.Prelude.{Bool, Err, List, None, Ok, Option, Result, Some, [], cond, false, is_some, length, nat_lt, ok_or, true, unwrap_or, ℕ, ◌++◌, ◌||◌, ◌∷◌, ◌≡◌, ◌⊎◌}
+-- What each call asks, as one value: its walks and its tables of rules in their order, and then its permit. A call is
+-- judged as the run of what it asks.
+use Rattle.std.specs.Prelude.{Bool, List, None, Ok, Err, Option, Result, Some, [], cond, is_some, length, nat_lt, ok_or, true, unwrap_or, ℕ, ◌++◌, ◌||◌, ◌∷◌}
 use Rattle.vt_spec.specs.declared.attributes.Attr.{Attr}
+use Rattle.vt_spec.specs.declared.errors.Deny.{Deny}
 use Rattle.vt_spec.specs.declared.errors.Rule.{Rule}
 use Rattle.vt_spec.specs.declared.errors.Rule.TheVariants.{E1, E2, E6, K1, O2, S2}
-use Rattle.vt_spec.specs.Errors.{NoneFails, Rules, and_then, denial, unless}
-use Rattle.vt_spec.specs.Language.Calls.{Access, Call, OverlayWords, TaskName}
+use Rattle.vt_spec.specs.Errors.{Rules, and_then, denial, unless}
+use Rattle.vt_spec.specs.Language.Calls.{Access, Call, Creation, MountFlags, OverlayWords, TaskName}
 use Rattle.vt_spec.specs.Language.Calls.Call.{Bind, Chdir, Chmod, Chown, Chroot, Close, Drop, Exec, Exit, Fork, Lazy, LinkTo, ListMounts, Ls, Lstat, MakeWhiteout, Mkdir, MountOverlay, MountPlain, MoveMount, Opaque, OpenFile, PivotRoot, Pread, Pwrite, Read, Readlink, Remount, Rename, Rmdir, SetType, Setns, Stat, SymlinkAt, Umask, Umount, Unlink, Unshare, Write}
 use Rattle.vt_spec.specs.Language.Calls.Creation.{Exclusive, NoCreation, OrCreate}
+use Rattle.vt_spec.specs.Language.Changes.{Change}
 use Rattle.vt_spec.specs.Language.Changes.Change.{SetAttr, SetBytes, SetMark}
 use Rattle.vt_spec.specs.Language.Limits.{largest_file}
 use Rattle.vt_spec.specs.Machine.Attributes.{attr_with_mode, attr_with_owner, may_chown}
-use Rattle.vt_spec.specs.Machine.Judge.{Judgement, judge, make_permit, open_new_permit, unnumbered}
 use Rattle.vt_spec.specs.Machine.Looks.{Looks}
 use Rattle.vt_spec.specs.Machine.Mounts.{Location}
 use Rattle.vt_spec.specs.Machine.Permits.{Permit}
-use Rattle.vt_spec.specs.Machine.Permits.Permit.{Allowed, ToBind, ToChange, ToClose, ToEnterNamespace, ToExit, ToFork, ToList, ToListMounts, ToMountOverlay, ToMountPlain, ToMove, ToOpen, ToPivot, ToRead, ToReadPart, ToRemoveDirectory, ToRename, ToSetCredentials, ToSetDirectory, ToSetFlags, ToSetRoot, ToSetType, ToSetUmask, ToStat, ToUnmount, ToUnmountLazily, ToUnshare, ToWritePart}
-use Rattle.vt_spec.specs.Machine.Rows.{directory_mode, exact_attr, file_mode, linking, new_attr, new_file, symlink_mode}
+use Rattle.vt_spec.specs.Machine.Permits.Permit.{Allowed, ToBind, ToChange, ToClose, ToEnterNamespace, ToExit, ToFork, ToList, ToListMounts, ToMake, ToMountOverlay, ToMountPlain, ToMove, ToOpen, ToOpenNew, ToPivot, ToRead, ToReadPart, ToRemoveDirectory, ToRename, ToSetCredentials, ToSetDirectory, ToSetFlags, ToSetRoot, ToSetType, ToSetUmask, ToStat, ToUnmount, ToUnmountLazily, ToUnshare, ToWritePart}
+use Rattle.vt_spec.specs.Machine.Rows.{directory_mode, exact_attr, file_mode, linking, making, new_attr, new_file, symlink_mode}
 use Rattle.vt_spec.specs.Machine.Rules.Attributes.{attr_at, attr_rules, opaque_rules}
 use Rattle.vt_spec.specs.Machine.Rules.Conditions.{lacks}
-use Rattle.vt_spec.specs.Machine.Rules.Descriptors.{descriptor_at, descriptor_rules, open_rules, pwrite_rules}
+use Rattle.vt_spec.specs.Machine.Rules.Descriptors.{descriptor_at, descriptor_rules, exclusive_word_rules, open_rules, pwrite_rules}
 use Rattle.vt_spec.specs.Machine.Rules.Looking.{exec_rules, list_rules, read_rules, readlink_rules}
 use Rattle.vt_spec.specs.Machine.Rules.Making.{file_word_rules, hard_link_rules, make_rules, new_word_rules, rewrite_rules, symlink_text_rules, whiteout_rules}
 use Rattle.vt_spec.specs.Machine.Rules.Mounting.{LayerLocations, admin_rules, bind_rules, destination_walk, layer_rules, layers_walked, lazy_rules, move_rules, new_mount_rules, overlay_at, pivot_rules, remount_rules, source_walk, type_rules, umount_rules}
@@ -90,19 +92,28 @@ pub data Judging (N : Type 0) : Type 0 where
   -- by a test
   IfSo : (test : Bool) → (so : Judging N) → (otherwise : Judging N) → Judging N
 
+-- a permit, or the refusal by the first walk or rule that fails
+abbrev pub Judgement : Type 0 → Type 0
+Judgement N = Result (Permit N) Deny
+
 -- by whether a value is there
 abbrev pub by_option : {A B : Type 0} → (A → B) → B → Option A → B
 by_option some none (Some a) = some a
 by_option some none None = none
 
--- a last word that is not made new, and a slash behind a name: open(2) with O_EXCL
-abbrev pub exclusive_last_words : {N : Type 0} → Place N → Rules
-exclusive_last_words place =
-    (is_special place.last, E1)
-    ∷ (place.slash, E2)
-    ∷ []
-
 module _ {N : Type 0} where
+  -- the change as the mounter's rules see it; they do not use the new inode's number
+  abbrev pub unnumbered : Place N → Node N → Change N
+  unnumbered place node = making place place.parent.node node
+
+  -- the permit for a new inode at a place
+  abbrev pub make_permit : Place N → Node N → Permit N
+  make_permit place node = ToMake place.parent (name_of place.last) node
+
+  -- the permit for a new, empty file at a place, and a descriptor for it
+  abbrev pub open_new_permit : Task N → Place N → Access → ℕ → Permit N
+  open_new_permit task place access mode = ToOpenNew place.parent (name_of place.last) (new_file task mode []) access
+
   -- the inode of mkdir(2), in the directory where its walk ends
   abbrev pub directory_made : Task N → Place N → Option ℕ → Node N
   directory_made task place mode =
@@ -170,13 +181,34 @@ module _ {N : Type 0} (eq : N → N → Bool) (looks : Looks N) (task : Task N) 
       Checks (words ++ make_rules looks task place (unnumbered place (new_file task mode [])))
       (open_new_permit task place access mode)
 
+  -- open(2), by what it does where the name is missing
+  abbrev pub opens : List ℕ → Access → Creation → Judging N
+  opens path access NoCreation = Walks AnObject path (λ here. opens_at [] here.location access)
+  opens path access (OrCreate mode) =
+      Names AFile path (λ place.
+      IfThere place.object (λ file. opens_at (file_word_rules place) file access)
+      (creates_at (file_word_rules place) place access mode))
+  opens path access (Exclusive mode) =
+      Names ANewName path (λ place.
+      Words (exclusive_word_rules place)
+      (creates_at ((is_some place.object, E1) ∷ []) place access mode))
+
   -- other attributes of an object, by one who is allowed to set them
   abbrev pub sets_attr : Location N → (permitted : Bool) → Attr → Judging N
   sets_attr object permitted attr =
       Checks (attr_rules looks object permitted attr) (ToChange object (SetAttr object.node attr))
 
+  -- mount(2) of an overlay at a destination; ill-formed options are O2
+  abbrev pub mounts_overlay_at : Location N → Option OverlayWords → MountFlags → Judging N
+  mounts_overlay_at destination None flags = Refuses O2
+  mounts_overlay_at destination (Some words) flags =
+      Layers words (λ layers.
+      Attaches (λ overfull.
+      layer_rules eq looks layers (overlay_at looks task layers) ++ new_mount_rules eq looks task destination overfull)
+      (ToMountOverlay destination (overlay_at looks task layers) flags))
+
   -- What each call asks, by its man page
-  abbrev pub judging : Call → Judging N
+  unfoldable pub judging : Call → Judging N
   -- open(2) with O_DIRECTORY, then getdents(2)
   judging (Ls path) =
       Walks ADirectory path (λ here. Checks (list_rules looks task here.location) (ToList here.location))
@@ -256,20 +288,7 @@ module _ {N : Type 0} (eq : N → N → Bool) (looks : Looks N) (task : Task N) 
       (Walks ADirectory path (λ here.
       Checks (opaque_rules looks here.location) (ToChange here.location (SetMark here.location.node mark))))
   -- open(2): EMFILE first (profile)
-  judging (OpenFile path access NoCreation) =
-      Needs (descriptor_rules task) (Walks AnObject path (λ here. opens_at [] here.location access))
-  -- open(2) with O_CREAT
-  judging (OpenFile path access (OrCreate mode)) =
-      Needs (descriptor_rules task)
-      (Names AFile path (λ place.
-      IfThere place.object (λ file. opens_at (file_word_rules place) file access)
-      (creates_at (file_word_rules place) place access mode)))
-  -- open(2) with O_CREAT and O_EXCL
-  judging (OpenFile path access (Exclusive mode)) =
-      Needs (descriptor_rules task)
-      (Names ANewName path (λ place.
-      Words (exclusive_last_words place)
-      (creates_at ((is_some place.object, E1) ∷ []) place access mode)))
+  judging (OpenFile path access creation) = Needs (descriptor_rules task) (opens path access creation)
   -- pread(2)
   judging (Pread number offset size) =
       FindsFile number (λ descriptor. descriptor.reads) (λ descriptor.
@@ -309,15 +328,9 @@ module _ {N : Type 0} (eq : N → N → Bool) (looks : Looks N) (task : Task N) 
       Needs (admin_rules task)
       (Walks ADestination path (λ here.
       Attaches (new_mount_rules eq looks task here.location) (ToMountPlain here.location flags)))
-  -- mount(2) of an overlay; ill-formed options are O2
-  judging (MountOverlay path None flags) = Needs (admin_rules task) (Walks ADestination path (λ here. Refuses O2))
-  judging (MountOverlay path (Some words) flags) =
-      Needs (admin_rules task)
-      (Walks ADestination path (λ here.
-      Layers words (λ layers.
-      Attaches (λ overfull.
-      layer_rules eq looks layers (overlay_at looks task layers) ++ new_mount_rules eq looks task here.location overfull)
-      (ToMountOverlay here.location (overlay_at looks task layers) flags))))
+  -- mount(2) of an overlay
+  judging (MountOverlay path options flags) =
+      Needs (admin_rules task) (Walks ADestination path (λ here. mounts_overlay_at here.location options flags))
   -- mount(2) with MS_BIND, and with MS_REC
   judging (Bind source path recursive) =
       Needs (admin_rules task)
@@ -359,53 +372,3 @@ module _ {N : Type 0} (eq : N → N → Bool) (looks : Looks N) (task : Task N) 
       Checks (pivot_rules eq looks task root.location here.location) (ToPivot root.location.mount here.location))))
   -- mountinfo of proc(5)
   judging ListMounts = Grants ToListMounts
-
--- What is granted
-module _ {N : Type 0} (eq : N → N → Bool) (looks : Looks N) (overfills : Permit N → Bool) (task : Task N) where
-  -- a permit is granted: each walk ends somewhere, no rule fails, and the permit is that of the places where walks end
-  abbrev pub IsGrantedBy : Judging N → Permit N → Type 0
-  IsGrantedBy (Grants given) permit = given ≡ permit
-  IsGrantedBy (Checks rules given) permit = NoneFails rules × (given ≡ permit)
-  IsGrantedBy (Attaches rules given) permit = NoneFails (rules (overfills given)) × (given ≡ permit)
-  IsGrantedBy (Refuses rule) permit = ⊥
-  IsGrantedBy (Needs rules next) permit = NoneFails rules × IsGrantedBy next permit
-  IsGrantedBy (FindsFile number fits next) permit =
-      (descriptor : Descriptor N) × (descriptor_at task number fits ≡ Ok descriptor)
-      × IsGrantedBy (next descriptor) permit
-  IsGrantedBy (FindsTask name next) permit =
-      (namespace : N) × (ok_or (looks.namespace_called name) (denial S2) ≡ Ok namespace)
-      × IsGrantedBy (next namespace) permit
-  IsGrantedBy (Walks aim path next) permit =
-      (here : Here N) × (walk_to eq looks task aim path ≡ Ok here) × IsGrantedBy (next here) permit
-  IsGrantedBy (Names aim path next) permit =
-      (place : Place N) × (walk_to_name eq looks task aim path ≡ Ok place) × IsGrantedBy (next place) permit
-  IsGrantedBy (Layers words next) permit =
-      (layers : LayerLocations N) × (layers_walked eq looks task words ≡ Ok layers) × IsGrantedBy (next layers) permit
-  IsGrantedBy (Words rules next) permit = NoneFails rules × IsGrantedBy next permit
-  IsGrantedBy (IfThere object there missing) permit =
-      ((file : Location N) × (object ≡ Some file) × IsGrantedBy (there file) permit)
-      ⊎ ((object ≡ None) × IsGrantedBy missing permit)
-  IsGrantedBy (IfSo test so otherwise) permit =
-      ((test ≡ true) × IsGrantedBy so permit) ⊎ ((test ≡ false) × IsGrantedBy otherwise permit)
-
--- `judge` is the run of what the call asks.
-abbrev pub JudgeIsTheRun : Type 0
-JudgeIsTheRun =
-    (eq : ℕ → ℕ → Bool) (looks : Looks ℕ) (overfills : Permit ℕ → Bool) (task : Task ℕ) (call : Call)
-    → judge eq looks overfills task call ≡ run eq looks task overfills (judging eq looks task call)
-
--- What `judge` permits is granted by what the call asks.
-abbrev pub CallsAreGranted : Type 0
-CallsAreGranted =
-    (eq : ℕ → ℕ → Bool) (looks : Looks ℕ) (overfills : Permit ℕ → Bool) (task : Task ℕ) (call : Call)
-    (permit : Permit ℕ)
-    → judge eq looks overfills task call ≡ Ok permit
-    → IsGrantedBy eq looks overfills task (judging eq looks task call) permit
-
--- What is granted by what the call asks, `judge` permits.
-abbrev pub GrantsAreJudged : Type 0
-GrantsAreJudged =
-    (eq : ℕ → ℕ → Bool) (looks : Looks ℕ) (overfills : Permit ℕ → Bool) (task : Task ℕ) (call : Call)
-    (permit : Permit ℕ)
-    → IsGrantedBy eq looks overfills task (judging eq looks task call) permit
-    → judge eq looks overfills task call ≡ Ok permit
