@@ -6,7 +6,7 @@ use Rattle.vt_laws_sealed.proofs.part.part.MountsOver.{numbered}
 use Rattle.vt_laws_members.proofs.attached.Binding.{Binds, all_copied, binds_there}
 use Rattle.vt_laws_containers.specs.Footholds.{GivesNoFoothold}
 use Rattle.vt_laws_containers.proofs.footholds.AsBefore.{OthersAsBefore}
-use Rattle.vt_laws_containers.proofs.footholds.Granting.{refused_out}
+use Rattle.vt_laws_containers.proofs.footholds.Granting.{denied_out, refused_out}
 use Rattle.vt_laws_containers.proofs.footholds.TasksPermits.{permit_out}
 use Rattle.vt_laws_containers.specs.AttachedApart.AttachFootholds.{BindsGiveNoFoothold}
 use Rattle.vt_laws_containers.proofs.attached_apart.AttachedAsBefore.{copies_as_before}
@@ -82,4 +82,4 @@ binds_give_no_foothold world names name source path recursive it fresh serves = 
         permit_out (record { it = it; few = refl; serves = serves; called = e }) (ToBind its.0 its.1 recursive)
         (cc (its.2)) (λ ends. bound_as_before (sealing_of it) serves its.0 its.1 recursive its.3 its.4
         its.5 its.6)
-    judged_by task member e (Err deny) judged its = refused_out it fresh cc
+    judged_by task member e (Err deny) judged its = denied_out it fresh task deny e judged

@@ -7,7 +7,7 @@ use Rattle.vt_laws_members.proofs.attached.PlainMounting.{Mounts, mounts_there}
 use Rattle.vt_laws_members.proofs.new_overlays.NewFilesystem.{origins, shows}
 use Rattle.vt_laws_containers.specs.Footholds.{GivesNoFoothold}
 use Rattle.vt_laws_containers.proofs.footholds.AsBefore.{OthersAsBefore}
-use Rattle.vt_laws_containers.proofs.footholds.Granting.{refused_out}
+use Rattle.vt_laws_containers.proofs.footholds.Granting.{denied_out, refused_out}
 use Rattle.vt_laws_containers.proofs.footholds.TasksPermits.{permit_out}
 use Rattle.vt_laws_containers.specs.AttachedApart.AttachFootholds.{PlainMountsGiveNoFoothold}
 use Rattle.vt_laws_containers.proofs.attached_apart.AttachedAsBefore.{copies_as_before}
@@ -49,4 +49,4 @@ plain_mounts_give_no_foothold world names name path flags it fresh serves = elim
         (record { it = it; few = refl; serves = serves; called = e }) (ToMountPlain its.0 flags) (cc (its.1))
         (λ ends. mounted_as_before (sealing_of it) serves its.0 its.2 its.3 (plain_filesystem nat_eq fresh) refl
         (λ layer m. absurd m) (ap (λ b. b && true) (or_left _ _ (eq-eqb (evens fresh 1) _ refl))) flags)
-    judged_by task member e (Err deny) judged its = refused_out it fresh cc
+    judged_by task member e (Err deny) judged its = denied_out it fresh task deny e judged

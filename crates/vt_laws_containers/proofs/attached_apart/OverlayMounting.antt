@@ -5,7 +5,7 @@ use Rattle.vt_laws_containers.proofs.Common.{cases_Option, a_member, caller_in, 
 use Rattle.vt_laws_worlds.proofs.overlays_let_go.mounting.NewOverlays.{new_overlays_are_named}
 use Rattle.vt_laws_members.proofs.new_overlays.LayersTheirs.{MountsOverlay, all_used, mounts_overlay}
 use Rattle.vt_laws_containers.specs.Footholds.{GivesNoFoothold}
-use Rattle.vt_laws_containers.proofs.footholds.Granting.{refused_out}
+use Rattle.vt_laws_containers.proofs.footholds.Granting.{denied_out, refused_out}
 use Rattle.vt_laws_containers.proofs.footholds.TasksPermits.{permit_out}
 use Rattle.vt_laws_containers.specs.AttachedApart.AttachFootholds.{OverlayMountsGiveNoFoothold}
 use Rattle.vt_laws_containers.proofs.attached_apart.Mounting.{mounted_as_before}
@@ -35,4 +35,4 @@ overlay_mounts_give_no_foothold world names name path options flags it fresh ser
         → GivesNoFoothold world names name (MountOverlay path options flags) fresh
     judged_by task member e (Ok permit) judged = granted_out task _ e _ judged (mounts_overlay
         (a_member (sealing_of it) member) fresh path _ flags _ (calls_are_granted nat_eq _ _ task _ _ judged))
-    judged_by task member e (Err deny) judged = refused_out it fresh cc
+    judged_by task member e (Err deny) judged = denied_out it fresh task deny e judged

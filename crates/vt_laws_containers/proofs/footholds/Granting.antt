@@ -1,6 +1,6 @@
 -- A call of theirs gives others no foothold, if what it is permitted leaves others as they were.
-use Rattle.std.proofs.Common.{arith, ◌≡◌, refl, sym, ap, subst, ◌∙◌, inl, ℕ, nat_eq, true, false, true≢false, List, Option, Some, None, Result, Ok, Err, is_ok, IfOk}
-use Rattle.vt_spec.proofs.Common.{Answer, Call, Fresh, IsWorld, Judgement, Outcome, Permit, Serves, Task, TaskName, World, after, answer-finished_by, apply, common_steps, filesystems_changed, judge_in, locations, members, numbers_raised, only_looks, overfills, policy, same_Some, settled, task_called}
+use Rattle.std.proofs.Common.{arith, ◌≡◌, refl, sym, ap, subst, ◌∙◌, inl, ℕ, nat_eq, true, false, not, true≢false, List, Option, Some, None, Result, Ok, Err, is_ok, IfOk, ◌||◌}
+use Rattle.vt_spec.proofs.Common.{Answer, Call, Fresh, IsWorld, Judgement, Outcome, Permit, Serves, Task, TaskName, World, after, answer-finished_by, apply, common_steps, filesystems_changed, judge_in, locations, members, numbers_raised, only_looks, overfills, policy, same_Some, settled, task_called, filesystems_changed_by}
 use Rattle.vt_laws_containers.proofs.Common.{Deny, IsCallOfTheirs, IsSealed, caller_in, every_call_keeps_worlds, grown, is_theirs, left, names_few_groups, ran, sealing_of}
 use Rattle.vt_laws_rules.proofs.denials.Unchanged.{look_changes_nothing}
 use Rattle.vt_laws_rules.proofs.rules.OwnRules.{denial_changes_nothing}
@@ -10,6 +10,18 @@ use Rattle.vt_laws_containers.specs.Footholds.{GivesNoFoothold, LeavesOthersOut}
 use Rattle.vt_laws_containers.proofs.footholds.AsBefore.{OthersAsBefore, leaves_others_out}
 use Rattle.vt_laws_containers.proofs.footholds.EndsAsBefore.{raised_as_before}
 use Rattle.vt_laws_containers.proofs.footholds.TasksAsBefore.{tasks_as_before, tasks_beside}
+
+-- a call that a rule refuses is not answered by an ok
+pub denied_is_no_ok : (fresh : Fresh ℕ) (world : World ℕ) (name : TaskName) (call : Call) (task : Task ℕ) (deny : Deny)
+    → task_called world name ≡ Some task → judge_in nat_eq fresh world task call ≡ Err deny
+    → is_ok (policy nat_eq fresh world name call).answer ≡ false
+denied_is_no_ok fresh world name call task deny called judged =
+    let ended : Judgement ℕ → Outcome ℕ = λ j. after world j (apply nat_eq fresh world task) in
+    ap (λ o. is_ok (ran name call world fresh o).answer) called
+    ∙ ap is_ok (answer-finished_by (only_looks call || not (is_ok (ended (judge_in nat_eq fresh world task call)).answer))
+    world name (filesystems_changed_by nat_eq world (judge_in nat_eq fresh world task call))
+    (ended (judge_in nat_eq fresh world task call)))
+    ∙ ap (λ j. is_ok (ended j).answer) judged
 
 -- the world itself
 module _ {world : World ℕ} {names : List TaskName} (sealing : IsSealed world names) where
@@ -39,6 +51,11 @@ module _ {world : World ℕ} {names : List TaskName} {name : TaskName} {call : C
       by (Ok answer) e fails = absurd (true≢false fails)
       by (Err deny) e fails =
           unchanged_out (denial_changes_nothing fresh world name call deny e) (ap (grown names name call) e)
+
+  -- so does a call that a rule refuses
+  pub denied_out : (task : Task ℕ) (deny : Deny) → task_called world name ≡ Some task
+      → judge_in nat_eq fresh world task call ≡ Err deny → GivesNoFoothold world names name call fresh
+  denied_out task deny called judged = refused_out (denied_is_no_ok fresh world name call task deny called judged)
 
   -- an answer that tells what is there leaves the set
   looks_stay : (task : Task ℕ) → left names name call ≡ names → (permit : Permit ℕ)

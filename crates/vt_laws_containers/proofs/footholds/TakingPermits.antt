@@ -270,7 +270,7 @@ module _ {world : World ℕ} {names : List TaskName} {name : TaskName} {call : C
       enters_before n target_name its_call so ended =
           let target : Enters its_member (ToEnterNamespace n) =
           subst (λ j. IfOk j (Enters its_member)) so
-          (enters its_member target_name (its_call.among_them target_name refl)) in
+          (enters its_member _ target_name (its_call.among_them target_name refl)) in
           subst (λ k. IsWorld nat_eq (numbers_raised nat_eq world name []
           (settled nat_eq (apply nat_eq fresh world task (ToEnterNamespace k)).world))
           → OthersAsBefore world (apply nat_eq fresh world task (ToEnterNamespace k)).world names names)

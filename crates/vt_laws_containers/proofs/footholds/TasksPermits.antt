@@ -1,6 +1,6 @@
 -- Permits to look, to change tasks, and to change files leave others as they were.
 use Rattle.std.proofs.Common.{◌≡◌, refl, sym, ap, subst, ◌∙◌, inl, inr, ⊎_elim, ℕ, nat_eq, Bool, true, false, true≢false, List, Ok, map, not, arith, IfOk, ◌==◌}
-use Rattle.vt_spec.proofs.Common.{cases_Bool, Access, Allowed, Among, Call, Descriptor, Filesystem, Fresh, Location, Make, Permit, Task, TaskName, ToChange, ToClose, ToExit, ToFork, ToList, ToListMounts, ToMake, ToOpen, ToOpenNew, ToRead, ToReadPart, ToSetCredentials, ToSetDirectory, ToSetRoot, ToSetUmask, ToStat, ToWritePart, World, among-from_filter, among-from_map, among-map, apply, common_steps, evens, judge_in, odds, only_looks, replaced_if_called, settled, with_descriptor, without_descriptor}
+use Rattle.vt_spec.proofs.Common.{cases_Bool, Access, Allowed, Among, Call, Descriptor, Filesystem, Fresh, Location, Make, Permit, Task, TaskName, ToChange, ToClose, ToExit, ToFork, ToList, ToListMounts, ToMake, ToOpen, ToOpenNew, ToRead, ToReadPart, ToSetCredentials, ToSetDirectory, ToSetRoot, ToSetUmask, ToStat, ToWritePart, World, among-from_filter, among-from_map, among-map, apply, common_steps, evens, judge_in, odds, only_looks, replaced_if_called, settled, with_descriptor, without_descriptor, Exit, judging, same_ok}
 use Rattle.vt_laws_containers.proofs.footholds.ServedCalls.{IsServedCall}
 use Rattle.vt_laws_containers.proofs.Common.{IsMember, IsTheirs, StandsOnTheirs, caller_in, directory_theirs, granted_theirs, grown, is_theirs, left, permits_are_for_their_calls, root_theirs, sealing_of, theirs_from}
 use Rattle.vt_laws_sealed.proofs.outsiders.Opening.{inserted_at}
@@ -25,6 +25,12 @@ abbrev ends_task : Permit ℕ → Bool
 ends_task ToExit = true
 ends_task permit = false
 
+-- an exit is permitted as such
+exit_ends : (fresh : Fresh ℕ) (world : World ℕ) (task : Task ℕ) (permit : Permit ℕ)
+    → judge_in nat_eq fresh world task Exit ≡ Ok permit → ends_task permit ≡ true
+unfolding judging
+exit_ends fresh world task permit e = sym (ap ends_task (same_ok ToExit permit e))
+
 module _ {world : World ℕ} {names : List TaskName} {name : TaskName} {call : Call} {fresh : Fresh ℕ}
     {task : Task ℕ} (it : IsServedCall world names name call fresh task) where
   member : IsMember world names task
@@ -37,7 +43,11 @@ module _ {world : World ℕ} {names : List TaskName} {name : TaskName} {call : C
   -- a call that ends no task leaves the set
   no_exit : (permit : Permit ℕ) → judge_in nat_eq fresh world task call ≡ Ok permit → ends_task permit ≡ false
       → is_exit call ≡ false
-  no_exit permit judged other = grind (arith, common_steps, is_exit, exit_if, true≢false)
+  no_exit permit judged other = elim (cases_Bool (is_exit call)) [
+    | inl e ↦ absurd (true≢false (sym (exit_ends fresh world task permit
+        (sym (ap (judge_in nat_eq fresh world task) (exit_if call e)) ∙ judged)) ∙ other))
+    | inr e ↦ e
+  ]
 
   pub stays : (permit : Permit ℕ) → judge_in nat_eq fresh world task call ≡ Ok permit → ends_task permit ≡ false
       → left names name call ≡ names
@@ -110,7 +120,7 @@ module _ {world : World ℕ} {names : List TaskName} {name : TaskName} {call : C
       let for = permits_are_for_their_calls fresh world task call (ToSetDirectory place) judged in
       let its : SetsDirectory member (ToSetDirectory place) =
       subst (λ j. IfOk j (SetsDirectory member)) (sym (ap (judge_in nat_eq fresh world task) for.1) ∙ judged)
-      (sets_directory member for.0) in
+      (sets_directory member _ for.0) in
       theirs_from world names it.is.mounts place.mount
       (ap (λ (l : Location ℕ). is_theirs world names l.mount) (ap (place_of place) its.1) ∙ its.2)
 
@@ -119,7 +129,7 @@ module _ {world : World ℕ} {names : List TaskName} {name : TaskName} {call : C
       let for = permits_are_for_their_calls fresh world task call (ToSetRoot place) judged in
       let its : SetsRoot member (ToSetRoot place) =
       subst (λ j. IfOk j (SetsRoot member)) (sym (ap (judge_in nat_eq fresh world task) for.1) ∙ judged)
-      (sets_root member for.0) in
+      (sets_root member _ for.0) in
       theirs_from world names it.is.mounts place.mount
       (ap (λ (l : Location ℕ). is_theirs world names l.mount) (ap (place_of place) its.1) ∙ its.2)
 
@@ -181,7 +191,7 @@ module _ {world : World ℕ} {names : List TaskName} {name : TaskName} {call : C
   opened_there file access judged =
       let for = permits_are_for_their_calls fresh world task call (ToOpen file access) judged in
       theirs_from world names it.is.mounts file.mount (subst (λ j. IfOk j (OpensOn (is_theirs world names)))
-      (sym (ap (judge_in nat_eq fresh world task) for.2) ∙ judged) (opens_theirs member for.0 access for.1))
+      (sym (ap (judge_in nat_eq fresh world task) for.2) ∙ judged) (opens_theirs member _ for.0 access for.1))
 
   of_files : (permit : Permit ℕ) → judge_in nat_eq fresh world task call ≡ Ok permit → is_of_files permit ≡ true
       → Before permit

@@ -125,7 +125,8 @@ module _ (world : World ℕ) (fresh : Fresh ℕ) (names : List TaskName) (name :
       found : member ≡ name → (o : Option (Task ℕ)) → task_called later name ≡ o
           → is_some (task_called later member) ≡ true
       found same (Some t) e = ap (λ n. is_some (task_called later n)) same ∙ ap is_some e
-      found same None e = grind (arith, common_steps, only_exit_leaves, true≢false)
+      found same None e = absurd (true≢false (sym (ap is_exit
+          (only_exit_leaves fresh world name call was.0 (ap (task_called world) (sym same) ∙ was.1) e)) ∙ kept same))
 
   all_stay : is_exit call ≡ false → are_all_called later names ≡ true
   all_stay other = list_all_from_among (λ member. is_some (task_called later member)) names (λ member m.

@@ -5,7 +5,7 @@ use Rattle.vt_laws_containers.proofs.Common.{IsCallOfTheirs, IsMember, all_in_us
 use Rattle.vt_laws_members.proofs.types.Retyping.{SetsType, all_own, sets_type, types_settled}
 use Rattle.vt_laws_containers.specs.Footholds.{GivesNoFoothold}
 use Rattle.vt_laws_containers.proofs.footholds.AsBefore.{OthersAsBefore}
-use Rattle.vt_laws_containers.proofs.footholds.Granting.{refused_out}
+use Rattle.vt_laws_containers.proofs.footholds.Granting.{denied_out, refused_out}
 use Rattle.vt_laws_containers.proofs.footholds.TasksPermits.{swept_out}
 use Rattle.vt_laws_containers.specs.TypesApart.TypeFootholds.{TypesGiveNoFoothold}
 use Rattle.vt_laws_containers.proofs.types_apart.TypesAsBefore.{types_as_before}
@@ -24,14 +24,14 @@ module _ {world : World ℕ} {names : List TaskName} {name : TaskName} {path : L
       swept_out (record { it = it; few = refl; serves = serves; called = e }) _ granted (λ ends. subst
       (λ w. OthersAsBefore world w names names) (sym (types_settled world (all_in_use world it.is) fresh word _))
       (types_as_before (sealing_of it) serves word _ (all_own it e fresh fresh its.0 its.2 its.3 granted)))
-  judged_by task member e (Err deny) judged its = refused_out it fresh cc
+  judged_by task member e (Err deny) judged its = denied_out it fresh task deny e judged
 
   by_caller : (o : Option (Task ℕ)) → task_called world name ≡ o → NoneGiven
   by_caller None e = refused_out it fresh (ap (λ o. is_ok (ran name (SetType path word recursive) world fresh o).answer)
       e)
   by_caller (Some task) e =
       let member = caller_in it e in
-      judged_by task member e _ refl (sets_type member word _ path)
+      judged_by task member e _ refl (sets_type member word _ _ path)
 
 pub types_give_no_foothold : TypesGiveNoFoothold
 types_give_no_foothold world names name path word recursive it fresh serves = by_caller it fresh serves _ refl

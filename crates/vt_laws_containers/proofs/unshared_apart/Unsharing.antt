@@ -4,7 +4,7 @@ use Rattle.vt_spec.proofs.Common.{cases_Bool, Fresh, Judgement, Serves, Task, Ta
 use Rattle.vt_laws_containers.proofs.Common.{cases_Option, IsCallOfTheirs, Unshares, ran, unshares}
 use Rattle.vt_laws_containers.specs.Footholds.{GivesNoFoothold}
 use Rattle.vt_laws_containers.proofs.footholds.AsBefore.{OthersAsBefore}
-use Rattle.vt_laws_containers.proofs.footholds.Granting.{refused_out}
+use Rattle.vt_laws_containers.proofs.footholds.Granting.{denied_out, refused_out}
 use Rattle.vt_laws_containers.proofs.footholds.TasksPermits.{permit_out}
 use Rattle.vt_laws_containers.specs.UnsharedApart.UnshareFootholds.{UnsharesGiveNoFoothold}
 use Rattle.vt_laws_containers.proofs.unshared_apart.UnsharedAsBefore.{unshared_as_before}
@@ -35,7 +35,7 @@ pub unshares_give_no_foothold : UnsharesGiveNoFoothold
 unshares_give_no_foothold world names name it fresh serves = elim (cases_Option (task_called world name)) [
   | inl e ↦ refused_out it fresh (ap (λ o. is_ok (ran name Unshare world fresh o).answer) e)
   | inr its ↦ judged_by its.0 its.1 (judge_in nat_eq fresh world its.0 Unshare) refl
-      (unshares (looks_of nat_eq world) its.0)
+      (unshares _ (looks_of nat_eq world) its.0)
 ]
   where
     judged_by : (task : Task ℕ) → task_called world name ≡ Some task
@@ -44,4 +44,4 @@ unshares_give_no_foothold world names name it fresh serves = elim (cases_Option 
     judged_by task e (Ok permit) judged known =
         permit_out (record { it = it; few = refl; serves = serves; called = e }) ToUnshare (cc)
         (λ ends. either_as_before world names name it task e fresh serves)
-    judged_by task e (Err deny) judged known = refused_out it fresh cc
+    judged_by task e (Err deny) judged known = denied_out it fresh task deny e judged

@@ -362,10 +362,10 @@ module _ {world : World ℕ} {fresh : Fresh ℕ} {task : Task ℕ} (is : IsWorld
   mounting_goes : (path : List ℕ) (options : Option OverlayWords) (flags : MountFlags)
       → LetsGo (call_outcome nat_eq fresh world task (MountOverlay path options flags)).world
       (replaced_by fresh world task (MountOverlay path options flags))
-  mounting_goes path options flags = cc (
-    mounting_lets_nothing_go fresh world task path options flags is (are_new world is fresh serves task called),
-    none (judge_in nat_eq fresh world task (MountOverlay path options flags)) refl,
-  )
+  mounting_goes path options flags =
+      mounting_lets_nothing_go fresh world task path options flags is (are_new world is fresh serves task called)
+      ∙ ap (let_go_plain (call_outcome nat_eq fresh world task (MountOverlay path options flags)).world)
+      (sym (none (judge_in nat_eq fresh world task (MountOverlay path options flags)) refl))
     where
       none : (judgement : Judgement ℕ) → judge_in nat_eq fresh world task (MountOverlay path options flags) ≡ judgement
           → replaced_as fresh world judgement ≡ []

@@ -110,6 +110,7 @@ module _ {world : World ℕ} {name : TaskName} {path word : List ℕ} (one : Has
   -- the call is granted, and leaves the world before the mount, but for tasks and change numbers
   pub top_is_unmounted : (handed : Fresh ℕ)
       → policy nat_eq handed stacked name (Umount path) ≡ granted Done unmounted_world
+  unfolding judging
   top_is_unmounted handed =
       policy_by_judgement stacked handed name (Umount path) grown.called (Ok permit) judged_unmount
       ∙ ap (λ (w : World ℕ). granted Done (numbers_raised nat_eq stacked name [] (settled nat_eq

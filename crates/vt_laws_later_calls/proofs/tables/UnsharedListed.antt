@@ -310,7 +310,14 @@ module _ {world : World ℕ} {fresh : Fresh ℕ} {task : Task ℕ} (is : IsWorld
 
     told_alike : (later : Fresh ℕ) (other : TaskName)
         → (policy nat_eq later last other ListMounts).answer ≡ (policy nat_eq later world other ListMounts).answer
-    told_alike later other = grind (arith, common_steps, told, called_last, lines_stay, called_there)
+    told_alike later other =
+        told last later other (option_map after_it (task_called world other)) (called_last other)
+        ∙ by (task_called world other) refl ∙ sym (told world later other (task_called world other) refl)
+      where
+        by : (found : Option (Task ℕ)) → task_called world other ≡ found
+            → answer_by last (option_map after_it found) ≡ answer_by world found
+        by (Some t) called = ap (λ lines. Ok (MountList lines)) (lines_stay t (called_there world.tasks other t called))
+        by None called = refl
 
 -- What a granted unshare left
 module _ {world : World ℕ} {fresh : Fresh ℕ} {name : TaskName} (is : IsWorld nat_eq world)

@@ -27,7 +27,7 @@ pub use Rattle.vt_laws_members.proofs.changes.looks.Told.{ended_alike, looks_end
 pub use Rattle.vt_laws_members.proofs.changes.names.Elsewhere.{own_here, plain_points}
 pub use Rattle.vt_laws_members.proofs.changes.names.GrantedNames.{Names, NamingCall, naming_of, naming_theirs}
 pub use Rattle.vt_laws_members.proofs.changes.names.NamesEnding.{links_end_alike, mkdirs_end_alike, naming_alone, new_files_end_alike, symlinks_end_alike, unlinks_end_alike, unused_numbers, unused_serve, whiteouts_end_alike}
-pub use Rattle.vt_laws_members.proofs.changes.names.RemovalsEnding.{RemovingCall, removing_directory, renames_end_alike, replacing}
+pub use Rattle.vt_laws_members.proofs.changes.names.RemovalsEnding.{RemovingCall, removing_directory, rename_takes_no_numbers, renames_end_alike, replacing, rmdir_takes_no_numbers}
 pub use Rattle.vt_laws_members.proofs.changes.overlays.Copying.{OverlayChange, both_numbers, changes_in_part, changes_in_world, kept_on, layer_found, made_of, numbers_if_seen, numbers_in_part, numbers_in_world, ones_in_part, ones_in_world, overlays_stay, part_moved, step, step_kept, step_numbered, stepped_if_made, stepped_in_part, stepped_in_world, upper_in_use}
 pub use Rattle.vt_laws_members.proofs.changes.overlays.OverlayEdits.{overlay_chmods_end_alike, overlay_chowns_end_alike, overlay_part_writes_end_alike, overlay_writes_end_alike, unwritten_run}
 pub use Rattle.vt_laws_members.proofs.changes.part.SettledPart.{part_in_use, part_is_settled}

@@ -52,8 +52,8 @@ module _ (w : World ℕ) (kept : MountInvariants nat_eq w) (task : Task ℕ) whe
       (not-false (is_on_descendant nat_eq looks task.root.mount new) lie.0)
       (not-false (lies_under_location nat_eq looks new put) lie.1) free
 
-  pub pivots_there : {full : Permit ℕ → Bool} (new put : List ℕ) → IfOk (judge nat_eq looks full task (PivotRoot new put)) PivotsThere
+  pub pivots_there : (full : Permit ℕ → Bool) (new put : List ℕ) → IfOk (judge nat_eq looks full task (PivotRoot new put)) PivotsThere
   unfolding judging
-  pivots_there {full} new put = judged_so looks full task PivotsThere (PivotRoot new put)
+  pivots_there full new put = judged_so looks full task PivotsThere (PivotRoot new put)
       (λ admin root root_end here end passed.
       passes root.location here.location (ends_so Free (destination_free put) end) passed)

@@ -95,11 +95,11 @@ module _ {world : World ℕ} {names : List TaskName} {name : TaskName} {new_path
 
   may : CanPivot world space root new put
   may = subst (λ j. IfOk j (PivotsThere world it.is.mounts task)) judged
-      (pivots_there world it.is.mounts task new_path put_path)
+      (pivots_there world it.is.mounts task _ new_path put_path)
 
   may_there : CanPivot part space (mount_at nat_eq part task.root) (mount_numbered nat_eq part number) put
   may_there = subst (λ j. IfOk j (PivotsThere part (part_mounts (sealing_of it)) task)) judged_there
-      (pivots_there part (part_mounts (sealing_of it)) task new_path put_path)
+      (pivots_there part (part_mounts (sealing_of it)) task _ new_path put_path)
 
   -- both mounts are theirs
   owned : (m : Mount ℕ) → m.namespace ≡ Some space → is_own world names old m ≡ true
@@ -272,7 +272,7 @@ module _ {world : World ℕ} {names : List TaskName} {name : TaskName} {new_path
 
 pub pivots_end_alike : PivotsEndAlike
 pivots_end_alike world names name new put it fresh supply = by_known it fresh supply refl
-    (λ task e. PivotsThere world it.is.mounts task) (λ task e. pivots_there world it.is.mounts task new put) granted_so
+    (λ task e. PivotsThere world it.is.mounts task) (λ task e. pivots_there world it.is.mounts task _ new put) granted_so
   where
     granted_so : (task : Task ℕ) → task_called world name ≡ Some task → (permit : Permit ℕ)
         → judge_in nat_eq fresh world task (PivotRoot new put) ≡ Ok permit → PivotsThere world it.is.mounts task permit

@@ -330,10 +330,10 @@ module _ {world : World ℕ} {names : List TaskName} {name : TaskName} (it : IsC
 abbrev pub Unshares : Permit ℕ → Type 0
 Unshares permit = permit ≡ ToUnshare
 
-pub unshares : {full : Permit ℕ → Bool} (looks : Looks ℕ) (task : Task ℕ) → IfOk (judge nat_eq looks full task Unshare) Unshares
+pub unshares : (full : Permit ℕ → Bool) (looks : Looks ℕ) (task : Task ℕ) → IfOk (judge nat_eq looks full task Unshare) Unshares
 unfolding judging
-unshares {full} looks task = judged_so looks full task Unshares Unshare (λ admin. refl)
+unshares full looks task = judged_so looks full task Unshares Unshare (λ admin. refl)
 
 pub unshares_end_alike : UnsharesEndAlike
 unshares_end_alike world names name it fresh serves = by_known it fresh fresh refl (λ task e. Unshares)
-    (λ task e. unshares (looks_of nat_eq world) task) (λ task e permit judged known. granted_alike it task e fresh serves (cc) _ refl)
+    (λ task e. unshares _ (looks_of nat_eq world) task) (λ task e permit judged known. granted_alike it task e fresh serves (cc) _ refl)

@@ -36,9 +36,9 @@ module _ {world : World ℕ} {names : List TaskName} {task : Task ℕ} (member :
   SetsType permit = (here : Location ℕ) × (permit ≡ ToSetType here.mount word recursive) × On here.mount
       × (is_own world names (members world names) (mount_at nat_eq world here) ≡ true)
 
-  pub sets_type : {full : Permit ℕ → Bool} (path : List ℕ) → IfOk (judge nat_eq (one member) full task (SetType path word recursive)) SetsType
+  pub sets_type : (full : Permit ℕ → Bool) (path : List ℕ) → IfOk (judge nat_eq (one member) full task (SetType path word recursive)) SetsType
   unfolding judging
-  sets_type {full} path = judged_so (one member) full task SetsType (SetType path word recursive)
+  sets_type full path = judged_so (one member) full task SetsType (SetType path word recursive)
       (λ admin here end passed. (
         here.location,
         refl,
@@ -172,7 +172,7 @@ module _ {world : World ℕ} {names : List TaskName} {name : TaskName} {path : L
     → EndsAlike world names name (SetType path word recursive) fresh other) where
   all_end : EndsAlike world names name (SetType path word recursive) fresh other
   all_end = by_known it fresh other refl (λ task e. SetsType (caller_in it e) word recursive)
-      (λ task e. sets_type (caller_in it e) word recursive path)
+      (λ task e. sets_type (caller_in it e) word recursive _ path)
       (λ task e permit judged its. ends task e its.0 its.2 its.3 (judged ∙ ap Ok its.1))
 
 pub types_end_alike : TypesEndAlike

@@ -6,6 +6,7 @@ use Rattle.vt_laws_members.proofs.changes.tasks.Forking.{forks_end_alike}
 use Rattle.vt_laws_members.proofs.changes.letting_go.Exiting.{exits_end_alike}
 use Rattle.vt_laws_containers.specs.SealedTurns.MembersTurns.{TheirExitsAreOfTheGrownPart, TheirForksAreOfTheGrownPart}
 use Rattle.vt_laws_containers.proofs.sealed_turns.members.Answering.{their_answers_are_of_the_grown_part}
+use Rattle.vt_laws_containers.proofs.footholds.Granting.{denied_is_no_ok}
 
 -- a fork that is granted is a fork of the credentials that its words give
 granted_fork : (fresh : Fresh ℕ) (world : World ℕ) (task : Task ℕ) (words : Option ForkWords) (permit : Permit ℕ)
@@ -32,7 +33,7 @@ each_fork_ends_alike world names name words it fresh other = elim (cases_Option 
         forks_end_alike world names name words it task e fresh other (child_credentials task.credentials words)
         (granted_fork fresh world task words permit j)
     judged task e (Err deny) j = denials_end_alike world names name (Fork words) it fresh other
-        (cc)
+        (denied_is_no_ok fresh world name (Fork words) task deny e j)
 
 pub their_forks_are_of_the_grown_part : TheirForksAreOfTheGrownPart
 their_forks_are_of_the_grown_part sched names name words fresh turns theirs =

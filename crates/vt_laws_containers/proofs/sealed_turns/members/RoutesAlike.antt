@@ -118,4 +118,9 @@ module _ {one other : Looks ℕ} {task : Task ℕ} {Own : ℕ → Type 0} (leads
 pub entry_same : (one other : Looks ℕ) (task : Task ℕ) (call : Call)
     → entry_rules nat_eq one task call ≡ entry_rules nat_eq other task call
 unfolding judging
+entry_same one other task (OpenFile path access NoCreation) = refl
+entry_same one other task (OpenFile path access (OrCreate mode)) = refl
+entry_same one other task (OpenFile path access (Exclusive mode)) = refl
+entry_same one other task (MountOverlay path None given) = refl
+entry_same one other task (MountOverlay path (Some words) given) = refl
 entry_same one other task call = refl

@@ -61,24 +61,24 @@ module _ {world : World ℕ} {names : List TaskName} {task : Task ℕ} (member :
   abbrev IsFound : Option (Location ℕ) → Type 0
   IsFound = FoundAt (leads_alike alike)
 
-  pub writes_edit : {full : Permit ℕ → Bool} (path bytes : List ℕ) → IfOk (judge nat_eq one full task (Write path bytes)) Edited
+  pub writes_edit : (full : Permit ℕ → Bool) (path bytes : List ℕ) → IfOk (judge nat_eq one full task (Write path bytes)) Edited
   unfolding judging
-  writes_edit {full} path bytes = judged_so one full task Edited (Write path bytes) (λ place end. (
+  writes_edit full path bytes = judged_so one full task Edited (Write path bytes) (λ place end. (
     λ file there passed. ((ends_so IsPlaced (file_agrees (leads_alike alike) path).1 end).1 file there, tt),
     λ missing passed. tt,
   ))
 
-  pub chmods_edit : {full : Permit ℕ → Bool} (path : List ℕ) (mode : ℕ) → IfOk (judge nat_eq one full task (Chmod path mode)) Edited
+  pub chmods_edit : (full : Permit ℕ → Bool) (path : List ℕ) (mode : ℕ) → IfOk (judge nat_eq one full task (Chmod path mode)) Edited
   unfolding judging
-  chmods_edit {full} path mode = judged_so one full task Edited (Chmod path mode) (λ here end passed.
+  chmods_edit full path mode = judged_so one full task Edited (Chmod path mode) (λ here end passed.
       (ends_so StandsHere (object_agrees (leads_alike alike) path).1 end, tt))
 
-  pub chowns_edit : {full : Permit ℕ → Bool} (path : List ℕ) (uid gid : Option ℕ) → IfOk (judge nat_eq one full task (Chown path uid gid)) Edited
+  pub chowns_edit : (full : Permit ℕ → Bool) (path : List ℕ) (uid gid : Option ℕ) → IfOk (judge nat_eq one full task (Chown path uid gid)) Edited
   unfolding judging
-  chowns_edit {full} path uid gid = judged_so one full task Edited (Chown path uid gid) (λ here end passed.
+  chowns_edit full path uid gid = judged_so one full task Edited (Chown path uid gid) (λ here end passed.
       (ends_so StandsHere (object_agrees (leads_alike alike) path).1 end, tt))
 
-  pub opaques_edit : {full : Permit ℕ → Bool} (path : List ℕ) (mark : Bool) → IfOk (judge nat_eq one full task (Opaque path mark)) Edited
+  pub opaques_edit : (full : Permit ℕ → Bool) (path : List ℕ) (mark : Bool) → IfOk (judge nat_eq one full task (Opaque path mark)) Edited
   unfolding judging
-  opaques_edit {full} path mark = judged_so one full task Edited (Opaque path mark) (λ admin here end passed.
+  opaques_edit full path mark = judged_so one full task Edited (Opaque path mark) (λ admin here end passed.
       (ends_so StandsHere (directory_agrees (leads_alike alike) path).1 end, tt))

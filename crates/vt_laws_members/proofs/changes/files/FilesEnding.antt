@@ -117,19 +117,19 @@ module _ {world : World ℕ} {names : List TaskName} {name : TaskName} {call : C
 pub writes_end_alike : WritesEndAlike
 writes_end_alike world names name path bytes it task found fresh other location change granted_so plain =
     walked_edit_ends (lasting it found refl refl) fresh other granted_so plain
-    (writes_edit (caller_in it found) path bytes)
+    (writes_edit (caller_in it found) _ path bytes)
 
 pub chmods_end_alike : ChmodsEndAlike
 chmods_end_alike world names name path mode it task found fresh other location change granted_so plain =
     walked_edit_ends (lasting it found refl refl) fresh other granted_so plain
-    (chmods_edit (caller_in it found) path mode)
+    (chmods_edit (caller_in it found) _ path mode)
 
 pub chowns_end_alike : ChownsEndAlike
 chowns_end_alike world names name path uid gid it task found fresh other location change granted_so plain =
     walked_edit_ends (lasting it found refl refl) fresh other granted_so plain
-    (chowns_edit (caller_in it found) path uid gid)
+    (chowns_edit (caller_in it found) _ path uid gid)
 
 pub opaques_end_alike : OpaquesEndAlike
 opaques_end_alike world names name path mark it task found fresh other location change granted_so plain =
     walked_edit_ends (lasting it found refl refl) fresh other granted_so plain
-    (opaques_edit (caller_in it found) path mark)
+    (opaques_edit (caller_in it found) _ path mark)

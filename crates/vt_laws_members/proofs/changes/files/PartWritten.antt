@@ -1,5 +1,5 @@
 -- A write of bytes at an offset of an open file ends in the part as in the world.
-use Rattle.std.proofs.Common.{◌≡◌, refl, sym, ap, subst, ◌∙◌, ℕ, nat_eq, List, ◌∷◌, Ok, IfOk}
+use Rattle.std.proofs.Common.{Bool, ◌≡◌, refl, sym, ap, subst, ◌∙◌, ℕ, nat_eq, List, ◌∷◌, Ok, IfOk}
 use Rattle.vt_spec.proofs.Common.{Among, Call, Descriptor, Location, Looks, Permit, Pwrite, SetBytes, Task, TaskName, ToWritePart, World, bytes_in, filesystem_numbered, judge, judge_in, judging, locations, looks_of, members, mount_at, node_at, overwritten, part_of, ⊤}
 use Rattle.vt_laws_members.proofs.Common.{found, located}
 use Rattle.vt_laws_members.proofs.judging.Common.{IsMember, caller_in, lasting, located_used, sealing_of}
@@ -22,9 +22,9 @@ module _ {world : World ℕ} {names : List TaskName} {task : Task ℕ} (member :
   abbrev Written : Permit ℕ → Type 0
   Written = Writes (locations (members world names)) bytes
 
-  pub writes_theirs : {full : Permit ℕ → Bool} (number offset : ℕ) → IfOk (judge nat_eq one full task (Pwrite number offset bytes)) Written
+  pub writes_theirs : (full : Permit ℕ → Bool) (number offset : ℕ) → IfOk (judge nat_eq one full task (Pwrite number offset bytes)) Written
   unfolding judging
-  writes_theirs {full} number offset = judged_so one full task Written (Pwrite number offset bytes)
+  writes_theirs full number offset = judged_so one full task Written (Pwrite number offset bytes)
       (λ descriptor found passed. (found_theirs member number (λ (d : Descriptor ℕ). d.writes) descriptor found, refl))
 
 pub part_writes_end_alike : PartWritesEndAlike
@@ -45,7 +45,7 @@ part_writes_end_alike world names name descriptor offset byte bytes it task call
 
     theirs : Among file (locations (members world names)) × (written ≡ byte ∷ bytes)
     theirs = subst (λ j. IfOk j (Writes (locations (members world names)) (byte ∷ bytes))) granted_so
-        (writes_theirs (caller_in it called) (byte ∷ bytes) descriptor offset)
+        (writes_theirs (caller_in it called) (byte ∷ bytes) _ descriptor offset)
 
     judged : judge_in nat_eq fresh world task call ≡ Ok (ToWritePart file at (byte ∷ bytes))
     judged = cc theirs.1

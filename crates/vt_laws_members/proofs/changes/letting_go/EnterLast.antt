@@ -227,5 +227,5 @@ module _ {world : World ℕ} {names : List TaskName} {name called_so : TaskName}
 pub setns_ends_alike : SetnsEndsAlike
 setns_ends_alike world names name called_so it fresh supply = by_known it fresh supply refl
     (λ task e. Enters (caller_in it e))
-    (λ task e. enters (caller_in it e) called_so (it.among_them called_so refl))
+    (λ task e. enters (caller_in it e) _ called_so (it.among_them called_so refl))
     (λ task e permit judged its. permitted_alike it task e fresh supply permit judged its)

@@ -21,10 +21,10 @@ module _ {world : World ℕ} {names : List TaskName} {task : Task ℕ} (member :
   enters_by called theirs (Some target) e namespace found =
       (target, (member_called member.sealing called theirs target e).among, cc)
 
-  pub enters : {full : Permit ℕ → Bool} (called : TaskName) → is_among same_name called names ≡ true → IfOk
+  pub enters : (full : Permit ℕ → Bool) (called : TaskName) → is_among same_name called names ≡ true → IfOk
       (judge nat_eq (one member) full task (Setns called)) Enters
   unfolding judging
-  enters {full} called theirs = judged_so (one member) full task Enters (Setns called) (λ namespace found capable.
+  enters full called theirs = judged_so (one member) full task Enters (Setns called) (λ namespace found capable.
       enters_by called theirs (task_called world called) refl namespace found)
 
 -- A call that enters the namespace of another task of theirs

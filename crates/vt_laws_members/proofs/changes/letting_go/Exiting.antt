@@ -1,6 +1,6 @@
 -- Each exit ends in the part as in the world.
 use Rattle.std.proofs.Common.{inr, arith, ◌≡◌, refl, sym, ap, ◌∙◌, inl, ⊎_elim, ℕ, nat_eq, Bool, true, false, cond, true≢false, List, [], ◌∷◌, Option, Some, None, filter, not, ◌||◌, eq-eqb, eqb-true}
-use Rattle.vt_spec.proofs.Common.{Among, Done, Exit, Fresh, HasLivingGroups, Mount, Namespace, Propagation, Task, TaskName, World, among-filter, among-filter_map, among-flat_map, among-from_filter, among-from_flat_map, among_from_all, among_from_list_all, any_among, any_from_among, common_steps, granted, has_members, has_tasks, is_lost_group, is_member_of, is_member_task, is_own_mount, is_private, list_all, list_all_from_among, list_any, locations_of, lost_a_group, members, namespaces_ended, none_from_among, none_is_some, not-true, numbers_raised, own_mounts, part_of, same_name, same_truth, settled, source_of, task_called, then_some}
+use Rattle.vt_spec.proofs.Common.{Among, Done, Exit, Fresh, HasLivingGroups, Mount, Namespace, Propagation, Task, TaskName, World, among-filter, among-filter_map, among-flat_map, among-from_filter, among-from_flat_map, among_from_all, among_from_list_all, any_among, any_from_among, common_steps, granted, has_members, has_tasks, is_lost_group, is_member_of, is_member_task, is_own_mount, is_private, list_all, list_all_from_among, list_any, locations_of, lost_a_group, members, namespaces_ended, none_from_among, none_is_some, not-true, numbers_raised, own_mounts, part_of, same_name, same_truth, settled, source_of, task_called, then_some, judging}
 use Rattle.vt_laws_members.proofs.judging.Common.{directory_theirs, own_whole, root_theirs, sealing_of}
 use Rattle.vt_laws_members.proofs.Common.{cases_Option, Hears, IsApart, Living, MountsAreListed, apart_if_sealed, heard_above, is_own, keep, namespace_outside, no_namespace_ends, none_lost, own_member, start_hears}
 use Rattle.vt_laws_members.specs.Changes.Changes.{EndsAlike, IsCallOfTheirs, left}
@@ -155,6 +155,7 @@ module _ {world : World ℕ} {names : List TaskName} {name : TaskName} (it : IsC
       world.namespaces n m).1)) (part_keeps it task called)
 
   pub exit_alike : (fresh supply : Fresh ℕ) → EndsAlike world names name Exit fresh supply
+  unfolding judging
   exit_alike fresh supply = let_go_alike world names set name Exit it task called fresh supply Done refl rest rest_too
       (ap (λ n. granted Done (numbers_raised nat_eq world name []
       (settled nat_eq (namespaces_ended nat_eq (record world

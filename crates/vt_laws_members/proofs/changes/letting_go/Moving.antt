@@ -1,5 +1,5 @@
 -- Calls of close(2), chdir(2) and chroot(2) end in the part as in the world.
-use Rattle.std.proofs.Common.{◌≡◌, refl, sym, ap, subst, ◌∙◌, inl, inr, ⊎_elim, ℕ, nat_eq, true, List, Some, Ok, Err, Result, filter, map, not, IfOk, ◌==◌}
+use Rattle.std.proofs.Common.{Bool, ◌≡◌, refl, sym, ap, subst, ◌∙◌, inl, inr, ⊎_elim, ℕ, nat_eq, true, List, Some, Ok, Err, Result, filter, map, not, IfOk, ◌==◌}
 use Rattle.vt_spec.proofs.Common.{Among, Chdir, Chroot, Close, Descriptor, Here, Location, Looks, Permit, Task, TaskName, ToClose, ToSetDirectory, ToSetRoot, World, among-from_filter, among-from_map, among-map, and_then, descriptor_at, directory_walk, is_among, judge, judge_in, judging, looks_of, part_of, task_called, used_filesystems}
 use Rattle.vt_laws_members.proofs.Common.{Deny}
 use Rattle.vt_laws_members.proofs.judging.Common.{HereAt, IsMember, IsTheirs, JudgesAlike, caller_in, directory_agrees, directory_theirs, judges, leads_alike, root_theirs, theirs_from}
@@ -20,9 +20,9 @@ closes_after : (number : ℕ) (r : Result (Descriptor ℕ) Deny) → IfOk
 closes_after number (Ok descriptor) = refl
 closes_after number (Err deny) = tt
 
-closes : {looks : Looks ℕ} {full : Permit ℕ → Bool} (task : Task ℕ) (number : ℕ) → IfOk (judge nat_eq looks full task (Close number)) (Closes number)
+closes : (looks : Looks ℕ) (full : Permit ℕ → Bool) (task : Task ℕ) (number : ℕ) → IfOk (judge nat_eq looks full task (Close number)) (Closes number)
 unfolding judging
-closes task number = closes_after number (descriptor_at task number (λ descriptor. true))
+closes looks full task number = closes_after number (descriptor_at task number (λ descriptor. true))
 
 module _ {world : World ℕ} {names : List TaskName} {task : Task ℕ} (member : IsMember world names task) where
   abbrev pub one : Looks ℕ
@@ -51,19 +51,19 @@ module _ {world : World ℕ} {names : List TaskName} {task : Task ℕ} (member :
   abbrev pub SetsRoot : Permit ℕ → Type 0
   SetsRoot permit = (l : Location ℕ) × (permit ≡ ToSetRoot l) × On l.mount
 
-  pub sets_directory : {full : Permit ℕ → Bool} (path : List ℕ) → IfOk (judge nat_eq one full task (Chdir path)) SetsDirectory
+  pub sets_directory : (full : Permit ℕ → Bool) (path : List ℕ) → IfOk (judge nat_eq one full task (Chdir path)) SetsDirectory
   unfolding judging
-  sets_directory {full} path = judged_so one full task SetsDirectory (Chdir path) (λ here end passed.
+  sets_directory full path = judged_so one full task SetsDirectory (Chdir path) (λ here end passed.
       (here.location, refl, ends_so StandsHere (at_directory path) end))
 
-  pub sets_root : {full : Permit ℕ → Bool} (path : List ℕ) → IfOk (judge nat_eq one full task (Chroot path)) SetsRoot
+  pub sets_root : (full : Permit ℕ → Bool) (path : List ℕ) → IfOk (judge nat_eq one full task (Chroot path)) SetsRoot
   unfolding judging
-  sets_root {full} path = judged_so one full task SetsRoot (Chroot path) (λ capable here end passed.
+  sets_root full path = judged_so one full task SetsRoot (Chroot path) (λ capable here end passed.
       (here.location, refl, ends_so StandsHere (at_directory path) end))
 
 pub closes_end_alike : ClosesEndAlike
 closes_end_alike world names name number it fresh other = by_known it fresh other refl (λ task e. Closes number)
-    (λ task e. closes task number) (λ task e permit judged its. granted_so task e (judged ∙ ap Ok its))
+    (λ task e. closes _ _ task number) (λ task e permit judged its. granted_so task e (judged ∙ ap Ok its))
   where
     part : World ℕ
     part = part_of nat_eq world names
@@ -94,7 +94,7 @@ closes_end_alike world names name number it fresh other = by_known it fresh othe
 
 pub chdirs_end_alike : ChdirsEndAlike
 chdirs_end_alike world names name path it fresh other = by_known it fresh other refl
-    (λ task e. SetsDirectory (caller_in it e)) (λ task e. sets_directory (caller_in it e) path)
+    (λ task e. SetsDirectory (caller_in it e)) (λ task e. sets_directory (caller_in it e) _ path)
     (λ task e permit judged its. granted_so task (caller_in it e) e its.0
     (theirs_from world names it.is.mounts its.0.mount its.2) (judged ∙ ap Ok its.1))
   where
@@ -119,7 +119,7 @@ chdirs_end_alike world names name path it fresh other = by_known it fresh other 
 
 pub chroots_end_alike : ChrootsEndAlike
 chroots_end_alike world names name path it fresh other = by_known it fresh other refl
-    (λ task e. SetsRoot (caller_in it e)) (λ task e. sets_root (caller_in it e) path)
+    (λ task e. SetsRoot (caller_in it e)) (λ task e. sets_root (caller_in it e) _ path)
     (λ task e permit judged its. granted_so task (caller_in it e) e its.0
     (theirs_from world names it.is.mounts its.0.mount its.2) (judged ∙ ap Ok its.1))
   where

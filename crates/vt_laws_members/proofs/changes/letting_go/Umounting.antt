@@ -1,5 +1,5 @@
 -- Each umount(2) ends in the part as in the world.
-use Rattle.std.proofs.Common.{arith, ◌≡◌, refl, sym, ap, ◌∙◌, ⊎_elim, ℕ, nat_eq, true, false, true≢false, List, [], Option, Some, None, Ok, is_some, IfOk}
+use Rattle.std.proofs.Common.{Bool, arith, ◌≡◌, refl, sym, ap, ◌∙◌, ⊎_elim, ℕ, nat_eq, true, false, true≢false, List, [], Option, Some, None, Ok, is_some, IfOk}
 use Rattle.vt_spec.proofs.Common.{Among, Call, Done, Fresh, Location, Mount, MountInvariants, Outcome, Permit, Task, TaskName, ToUnmount, Umount, World, among-from_filter_map, among_numbers, common_steps, going, granted, has_child, judge, judging, members, mount_at, mount_numbered, none_among, none_from_among, not-false, numbers_raised, or_parts, part_of, policy, settled, stands_on, taken_away, task_called, unmounted}
 use Rattle.vt_laws_members.proofs.detached.lazily.GoingAlike.{going_alike, going_own}
 use Rattle.vt_laws_members.proofs.judging.Common.{IsMember, IsTheirs, caller_in, no_events, same_mount, sealing_of, theirs_from}
@@ -25,9 +25,9 @@ module _ {world : World ℕ} {names : List TaskName} {task : Task ℕ} (member :
   Unmounts permit = (here : Location ℕ) × (permit ≡ ToUnmount here.mount) × On here.mount
       × (is_some (mount_at nat_eq world here).mount_point ≡ true) × (has_child nat_eq world here.mount ≡ false)
 
-  unmounts : {full : Permit ℕ → Bool} (path : List ℕ) → IfOk (judge nat_eq (one member) full task (Umount path)) Unmounts
+  unmounts : (full : Permit ℕ → Bool) (path : List ℕ) → IfOk (judge nat_eq (one member) full task (Umount path)) Unmounts
   unfolding judging
-  unmounts {full} path = judged_so (one member) full task Unmounts (Umount path) (λ admin here end passed. (
+  unmounts full path = judged_so (one member) full task Unmounts (Umount path) (λ admin here end passed. (
     here.location,
     refl,
     ends_so (StandsHere member) (at_directory member path) end,
@@ -124,6 +124,6 @@ module _ {world : World ℕ} {names : List TaskName} {name : TaskName} {call : C
 
 pub umounts_end_alike : UmountsEndAlike
 umounts_end_alike world names name path it fresh other = by_known it fresh other refl
-    (λ task e. Unmounts (caller_in it e)) (λ task e. unmounts (caller_in it e) path) (λ task e permit judged its.
+    (λ task e. Unmounts (caller_in it e)) (λ task e. unmounts (caller_in it e) _ path) (λ task e permit judged its.
     detached_alike it e its.0.mount its.2 its.3 its.4 fresh other refl
     (ap (run_by it world fresh task) (judged ∙ ap Ok its.1)) (ran_there it fresh other task e (judged ∙ ap Ok its.1)))

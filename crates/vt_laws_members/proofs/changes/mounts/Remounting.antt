@@ -23,9 +23,9 @@ module _ {world : World ℕ} {names : List TaskName} {task : Task ℕ} (member :
   is_so true e = refl
   is_so false e = sym e
 
-  sets_flags : {full : Permit ℕ → Bool} (path : List ℕ) → IfOk (judge nat_eq (one member) full task (Remount path flags)) SetsFlags
+  sets_flags : (full : Permit ℕ → Bool) (path : List ℕ) → IfOk (judge nat_eq (one member) full task (Remount path flags)) SetsFlags
   unfolding judging
-  sets_flags {full} path = judged_so (one member) full task SetsFlags (Remount path flags) (λ admin here end passed. (
+  sets_flags full path = judged_so (one member) full task SetsFlags (Remount path flags) (λ admin here end passed. (
     here.location,
     refl,
     ends_so (StandsHere member) (at_directory member path) end,
@@ -80,5 +80,5 @@ module _ {world : World ℕ} {names : List TaskName} {name : TaskName} {path : L
 
 pub remounts_end_alike : RemountsEndAlike
 remounts_end_alike world names name path flags it fresh other = by_known it fresh other refl
-    (λ task e. SetsFlags (caller_in it e) flags) (λ task e. sets_flags (caller_in it e) flags path)
+    (λ task e. SetsFlags (caller_in it e) flags) (λ task e. sets_flags (caller_in it e) flags _ path)
     (λ task e permit judged its. remount_alike it e fresh other its.0 its.2 its.3 (judged ∙ ap Ok its.1))

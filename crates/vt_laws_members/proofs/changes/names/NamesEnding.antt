@@ -1,6 +1,6 @@
 -- Calls of theirs by which a name comes or goes on a plain filesystem end in the part as in the world.
 use Rattle.std.proofs.Common.{◌≡◌, refl, sym, subst, ◌∙◌, ℕ, suc, nat_eq, eqb-true, arith, true, false, List, [], ◌∷◌, Ok, ◌+◌, ◌≤◌}
-use Rattle.vt_spec.proofs.Common.{AddName, Call, Change, Done, Filesystem, Fresh, LinkTo, Location, Make, MakeWhiteout, Mkdir, Permit, Remove, Serves, SymlinkAt, TaskName, ToChange, ToMake, Unlink, World, Write, changed, common_steps, evens, filesystem_at, is_among, is_overlay, judge_in, linking, looks_of, mount_at, numbers_in_use, object_there, odds, only_looks, overfills, part_of, removing, used_alone, used_filesystems, ⊤, changed_at, finished, granted, with_change, Task}
+use Rattle.vt_spec.proofs.Common.{AddName, Call, Change, Done, Filesystem, Fresh, LinkTo, Location, Make, MakeWhiteout, Mkdir, Permit, Remove, Serves, SymlinkAt, TaskName, ToChange, ToMake, Unlink, World, Write, changed, common_steps, evens, filesystem_at, is_among, is_overlay, judge_in, linking, looks_of, mount_at, numbers_in_use, object_there, odds, only_looks, overfills, part_of, removing, used_alone, used_filesystems, ⊤, changed_at, finished, granted, with_change, Task, judging}
 use Rattle.vt_laws_members.proofs.Common.{IsGranted, calls_are_granted, makes_hard_link, unlinks}
 use Rattle.vt_laws_members.proofs.judging.Common.{filesystem_alike, theirs_used}
 use Rattle.vt_laws_members.specs.Changes.Changes.{EndsAlike, grown}
@@ -75,6 +75,7 @@ links_give world fresh task asked permit (makes_hard_link old new from place fro
 links_give world fresh task asked permit granted first second e location change f = absurd cc
 
 pub links_end_alike : LinksEndAlike
+unfolding judging
 links_end_alike world names name first second it task found fresh other location change judged plain =
     naming_ends (naming_of it task found (unused_numbers world) (unused_serve world) (ToChange location change) judged
     location change refl (by change (links_give world fresh task (LinkTo first second) (ToChange location change)
@@ -100,6 +101,7 @@ unlinks_take world fresh task asked permit (unlinks own_path place walk named pa
 unlinks_take world fresh task asked permit granted path e location change f = absurd cc
 
 pub unlinks_end_alike : UnlinksEndAlike
+unfolding judging
 unlinks_end_alike world names name path it task found fresh other location change judged plain =
     naming_ends (naming_of it task found (unused_numbers world) (unused_serve world) (ToChange location change) judged
     location change refl (by change (unlinks_take world fresh task (Unlink path) (ToChange location change)

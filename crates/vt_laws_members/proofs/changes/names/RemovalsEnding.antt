@@ -1,7 +1,7 @@
 -- A call of theirs that removes a directory, or that renames, ends in the part as in the world, if no mount of another
 -- namespace of theirs is on what goes.
 use Rattle.std.proofs.Common.{arith, ◌≡◌, refl, sym, subst, ◌∙◌, ℕ, nat_eq, eqb-true, true, false, List, Option, Some, None, Ok, IfOk, option_map, option_to_list}
-use Rattle.vt_spec.proofs.Common.{Call, Done, Fresh, Location, Looks, Move, Permit, Place, Remove, Rename, Rmdir, Serves, Task, TaskName, ToRemoveDirectory, ToRename, World, common_steps, entry_at, files_at, filesystem_at, holds_of, is_among, is_directory_there, is_locked_at, is_mount_point_anywhere, is_mount_point_in, is_overlay, judge_in, list_any, looks_of, name_of, none_is_some, object_there, only_looks, or_parts, overfills, part_of, same_Some, special_word, task_called, used_filesystems}
+use Rattle.vt_spec.proofs.Common.{Call, Done, Fresh, Location, Looks, Move, Permit, Place, Remove, Rename, Rmdir, Serves, Task, TaskName, ToRemoveDirectory, ToRename, World, common_steps, entry_at, files_at, filesystem_at, holds_of, is_among, is_directory_there, is_locked_at, is_mount_point_anywhere, is_mount_point_in, is_overlay, judge_in, list_any, looks_of, name_of, none_is_some, object_there, only_looks, or_parts, overfills, part_of, same_Some, special_word, task_called, used_filesystems, judging}
 use Rattle.vt_laws_members.proofs.judging.Common.{IsMember, JudgesAlike, PlaceAt, caller_in, judges, leads_alike, old_agrees, rename_new_agrees}
 use Rattle.vt_laws_members.proofs.Common.{IsGranted, all_permits_fit, calls_are_granted, name_found, removes_directory, renames}
 use Rattle.vt_laws_trees.proofs.trees.PlacesReached.{old_is, rename_new_is}
@@ -113,6 +113,17 @@ pub reached_from : {world : World ℕ} {names : List TaskName} {name : TaskName}
 reached_from {world} {names} {name} {call} it task found permit files judged = (all_permits_fit world (unused_numbers
     world) task call permit it.is (unused_serve world) (cc (name_found world name task found)) files judged).names
 
+-- these calls make nothing that is numbered
+pub rmdir_takes_no_numbers : (fresh other : Fresh ℕ) (world : World ℕ) (task : Task ℕ) (path : List ℕ)
+    → judge_in nat_eq fresh world task (Rmdir path) ≡ judge_in nat_eq other world task (Rmdir path)
+unfolding judging
+rmdir_takes_no_numbers fresh other world task path = refl
+
+pub rename_takes_no_numbers : (fresh other : Fresh ℕ) (world : World ℕ) (task : Task ℕ) (old new : List ℕ)
+    → judge_in nat_eq fresh world task (Rename old new) ≡ judge_in nat_eq other world task (Rename old new)
+unfolding judging
+rename_takes_no_numbers fresh other world task old new = refl
+
 module _ {world : World ℕ} {names : List TaskName} {name : TaskName} (task : Task ℕ)
     (found : task_called world name ≡ Some task) (fresh : Fresh ℕ) (serves : Serves nat_eq world fresh) where
   abbrev pub removing_directory : {path : List ℕ} (it : IsCallOfTheirs world names name (Rmdir path))
@@ -125,7 +136,8 @@ module _ {world : World ℕ} {names : List TaskName} {name : TaskName} (task : T
     looks = refl;
     stays = refl;
     gone = directory;
-    reached = (reached_from it task found (ToRemoveDirectory parent entry directory) refl judged).0.reached;
+    reached = (reached_from it task found (ToRemoveDirectory parent entry directory) refl
+        (rmdir_takes_no_numbers (unused_numbers world) fresh world task path ∙ judged)).0.reached;
     free = removed_free (caller_in it found) fresh (Rmdir path)
         (ToRemoveDirectory parent entry directory) (calls_are_granted nat_eq (looks_of nat_eq world)
         (overfills nat_eq fresh world task) task (Rmdir path)
@@ -142,7 +154,8 @@ module _ {world : World ℕ} {names : List TaskName} {name : TaskName} (task : T
     looks = refl;
     stays = refl;
     gone = gone;
-    reached = (reached_from it task found (ToRename from old to new object (Some gone)) refl judged).0.reached;
+    reached = (reached_from it task found (ToRename from old to new object (Some gone)) refl
+        (rename_takes_no_numbers (unused_numbers world) fresh world task first second ∙ judged)).0.reached;
     free = replaced_free (caller_in it found) fresh (Rename first second)
         (ToRename from old to new object (Some gone))
         (calls_are_granted nat_eq (looks_of nat_eq world) (overfills nat_eq fresh world task) task
@@ -158,5 +171,6 @@ pub renames_end_alike : (world : World ℕ) (names : List TaskName) (name : Task
     → EndsAlike world names name (Rename first second) fresh other
 renames_end_alike world names name first second it task found fresh other from old to new object judged plain =
     naming_ends (naming_of it task found (unused_numbers world) (unused_serve world)
-    (ToRename from old to new object None) judged from (Move from.node old to.node new object.node) refl tt) refl refl
+    (ToRename from old to new object None)
+    (rename_takes_no_numbers (unused_numbers world) fresh world task first second ∙ judged) from (Move from.node old to.node new object.node) refl tt) refl refl
     plain fresh other judged fresh other refl refl

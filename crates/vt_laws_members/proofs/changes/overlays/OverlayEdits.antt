@@ -108,17 +108,17 @@ module _ {world : World ℕ} {names : List TaskName} {name : TaskName} {call : C
 pub overlay_writes_end_alike : OverlayWritesEndAlike
 overlay_writes_end_alike world names name path bytes it task called fresh serves location change judged is =
     walked_copy_ends (lasting it called refl refl) serves judged is
-    (writes_edit (caller_in it called) path bytes)
+    (writes_edit (caller_in it called) _ path bytes)
 
 pub overlay_chmods_end_alike : OverlayChmodsEndAlike
 overlay_chmods_end_alike world names name path mode it task called fresh serves location change judged is =
     walked_copy_ends (lasting it called refl refl) serves judged is
-    (chmods_edit (caller_in it called) path mode)
+    (chmods_edit (caller_in it called) _ path mode)
 
 pub overlay_chowns_end_alike : OverlayChownsEndAlike
 overlay_chowns_end_alike world names name path uid gid it task called fresh serves location change judged is =
     walked_copy_ends (lasting it called refl refl) serves judged is
-    (chowns_edit (caller_in it called) path uid gid)
+    (chowns_edit (caller_in it called) _ path uid gid)
 
 pub overlay_part_writes_end_alike : OverlayPartWritesEndAlike
 overlay_part_writes_end_alike world names name descriptor offset byte bytes it task called fresh serves file at written
@@ -138,7 +138,7 @@ overlay_part_writes_end_alike world names name descriptor offset byte bytes it t
 
     theirs : Among file (locations (members world names)) × (written ≡ byte ∷ bytes)
     theirs = subst (λ j. IfOk j (Writes (locations (members world names)) (byte ∷ bytes))) granted_so
-        (writes_theirs (caller_in it called) (byte ∷ bytes) descriptor offset)
+        (writes_theirs (caller_in it called) (byte ∷ bytes) _ descriptor offset)
 
     judged : judge_in nat_eq fresh world task call ≡ Ok (ToWritePart file at (byte ∷ bytes))
     judged = granted_so ∙ ap (λ w. Ok (ToWritePart file at w)) theirs.1

@@ -125,7 +125,7 @@ overlay_opens_end_alike world names name path access how it task called fresh se
 
     ground : IsTheirs world names it.is.mounts file.mount
     ground = theirs_from world names it.is.mounts file.mount
-        (subst (λ j. IfOk j (OpensOn (is_theirs world names))) given (opens_theirs (caller_in it called) path
+        (subst (λ j. IfOk j (OpensOn (is_theirs world names))) given (opens_theirs (caller_in it called) _ path
         access how))
 
     asks : change_asked fresh world (ToOpen file wanted) ≡ Some (file, CopyUp file.node)

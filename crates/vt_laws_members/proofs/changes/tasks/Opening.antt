@@ -40,17 +40,17 @@ module _ {world : World ℕ} {names : List TaskName} {task : Task ℕ} (member :
   abbrev IsFound : Option (Location ℕ) → Type 0
   IsFound = FoundAt (leads_alike alike)
 
-  pub opens_theirs : {full : Permit ℕ → Bool} (path : List ℕ) (access : Access) (how : Creation)
+  pub opens_theirs : (full : Permit ℕ → Bool) (path : List ℕ) (access : Access) (how : Creation)
       → IfOk (judge nat_eq one full task (OpenFile path access how)) Opens
   unfolding judging
-  opens_theirs {full} path access NoCreation = judged_so one full task Opens (OpenFile path access NoCreation)
+  opens_theirs full path access NoCreation = judged_so one full task Opens (OpenFile path access NoCreation)
       (λ room here end passed. ends_so StandsHere (object_agrees (leads_alike alike) path).1 end)
-  opens_theirs {full} path access (OrCreate mode) = judged_so one full task Opens (OpenFile path access (OrCreate mode))
+  opens_theirs full path access (OrCreate mode) = judged_so one full task Opens (OpenFile path access (OrCreate mode))
       (λ room place end. (
         λ file there passed. (ends_so IsPlaced (file_agrees (leads_alike alike) path).1 end).1 file there,
         λ missing passed. tt,
       ))
-  opens_theirs {full} path access (Exclusive mode) = judged_so one full task Opens
+  opens_theirs full path access (Exclusive mode) = judged_so one full task Opens
       (OpenFile path access (Exclusive mode)) (λ room place end named passed. tt)
 
 -- One more descriptor
@@ -280,7 +280,7 @@ opens_end_alike world names name path access how it task called fresh other file
 
     ground : IsTheirs world names it.is.mounts file.mount
     ground = theirs_from world names it.is.mounts file.mount
-        (subst (λ j. IfOk j (OpensOn (is_theirs world names))) granted_so (opens_theirs member path access how))
+        (subst (λ j. IfOk j (OpensOn (is_theirs world names))) granted_so (opens_theirs member _ path access how))
 
     copied_alike : is_copied_up nat_eq part file wanted ≡ false
     copied_alike = cc (filesystem_alike world names it.is file ground, not_copied)

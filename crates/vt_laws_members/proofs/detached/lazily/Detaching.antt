@@ -1,6 +1,6 @@
 -- Each umount(2) with MNT_DETACH ends in the part as in the world.
 use Rattle.std.proofs.Common.{◌≡◌, refl, ap, ◌∙◌, ⊎_elim, ℕ, nat_eq, eq-eqb, true, List, [], Some, Ok}
-use Rattle.vt_spec.proofs.Common.{Among, Call, Done, Fresh, Lazy, Mount, MountInvariants, Outcome, Permit, Task, TaskName, ToUnmountLazily, World, folded, found_or_none, granted, judge_in, lazily_unmounted, looks_of, members, mount_numbered, none_is_some, numbers_raised, overfills, part_of, policy, settled, taken_away, task_called, unmounted_if_there}
+use Rattle.vt_spec.proofs.Common.{Among, Call, Done, Fresh, Lazy, Mount, MountInvariants, Outcome, Permit, Task, TaskName, ToUnmountLazily, World, folded, found_or_none, granted, judge_in, lazily_unmounted, looks_of, members, mount_numbered, none_is_some, numbers_raised, overfills, part_of, policy, settled, taken_away, task_called, unmounted_if_there, judging}
 use Rattle.vt_laws_members.proofs.judging.Common.{caller_in, in_own, sealing_of}
 use Rattle.vt_laws_members.proofs.Common.{IsGranted, IsSealed, all_permits_fit, begun, calls_are_granted, is_own, name_found, taken_in_turn, unmounts_lazily}
 use Rattle.vt_laws_mounts.proofs.letting_go.SweptBetween.{settled_without_groups}
@@ -80,6 +80,7 @@ module _ {world : World ℕ} {names : List TaskName} {name : TaskName} {path : L
 
   -- its mount is in the caller's namespace
   in_callers : (mount_numbered nat_eq world number).namespace ≡ Some task.namespace
+  unfolding judging
   in_callers = (all_permits_fit world (unused_numbers world) task (Lazy path) (ToUnmountLazily number) it.is
       (unused_serve world) (cc (name_found world name task found)) refl judged).names.0
 

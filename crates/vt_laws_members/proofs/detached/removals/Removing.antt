@@ -5,7 +5,7 @@ use Rattle.vt_spec.specs.Language.Changes
 use Rattle.vt_laws_members.proofs.judging.Common.{IsTheirs, its_mount, sealing_of, theirs_from, theirs_used}
 use Rattle.vt_laws_members.proofs.Common.{cases_Option, is_own, points_keep_mounts, with_filesystems}
 use Rattle.vt_laws_members.specs.Changes.Changes.{EndsAlike}
-use Rattle.vt_laws_members.proofs.changes.Common.{RemovingCall, TheirsGo, ended_alike, found_numbered, naming_alone, no_overlay, own_here, part_after, part_mounts, part_taken, plain_points, ran, ran_there, removing_directory, renames_end_alike, replacing, run_by, same_caller, swap, unused_numbers, unused_serve, world_after, world_taken}
+use Rattle.vt_laws_members.proofs.changes.Common.{RemovingCall, TheirsGo, ended_alike, found_numbered, naming_alone, no_overlay, own_here, part_after, part_mounts, part_taken, plain_points, ran, ran_there, removing_directory, rename_takes_no_numbers, renames_end_alike, replacing, rmdir_takes_no_numbers, run_by, same_caller, swap, unused_numbers, unused_serve, world_after, world_taken}
 use Rattle.vt_laws_members.proofs.changes.names.NamesEnding.{alike}
 use Rattle.vt_laws_members.specs.Detached.Removals.{RemovalsEndAlike, ReplacementsEndAlike}
 use Rattle.vt_laws_members.proofs.detached.removals.Going.{caller_stays, going_with, own_go, same_going}
@@ -132,7 +132,7 @@ module _ {world : World ℕ} {names : List TaskName} {name : TaskName} {call : C
 pub removals_end_alike : RemovalsEndAlike
 removals_end_alike world names name path it task found fresh other parent entry directory judged plain =
     removal_ends (removing_directory task found (unused_numbers world) (unused_serve world) it parent entry directory
-    judged) plain fresh other judged (λ w supply. refl)
+    (rmdir_takes_no_numbers (unused_numbers world) fresh world task path ∙ judged)) plain fresh other judged (λ w supply. refl)
 
 pub replacements_end_alike : ReplacementsEndAlike
 replacements_end_alike world names name one two it task found fresh other from old to new object over judged plain =
@@ -144,4 +144,4 @@ replacements_end_alike world names name one two it task found fresh other from o
     by None so = renames_end_alike world names name one two it task found fresh other from old to new object so plain
     by (Some gone) so =
         removal_ends (replacing task found (unused_numbers world) (unused_serve world) it from old to new object gone
-        so) plain fresh other so (λ w supply. refl)
+        (rename_takes_no_numbers (unused_numbers world) fresh world task one two ∙ so)) plain fresh other so (λ w supply. refl)

@@ -1,6 +1,6 @@
 -- Calls of theirs that set the opaque mark or make a whiteout end in the part as in the world.
 use Rattle.std.proofs.Common.{◌≡◌, refl, sym, ap, ◌∙◌, ℕ, nat_eq, Bool, true, false, List, Some, Ok}
-use Rattle.vt_spec.proofs.Common.{Call, Change, Fresh, Location, MakeWhiteout, Node, Opaque, Permit, SetMark, Task, ToChange, ToMake, World, filesystem_at, is_kind, is_overlay, judge_in, kind_of, looks_of, overfills, task_called, ⊤}
+use Rattle.vt_spec.proofs.Common.{Call, Change, Fresh, Location, MakeWhiteout, Node, Opaque, Permit, SetMark, Task, ToChange, ToMake, World, filesystem_at, is_kind, is_overlay, judge_in, kind_of, looks_of, overfills, task_called, ⊤, judging}
 use Rattle.vt_laws_members.proofs.Common.{AsksWell, IsGranted, White, calls_are_granted, changes_mark, makes_whiteout, name_found, permits_ask_well}
 use Rattle.vt_laws_members.specs.Changes.Changes.{EndsAlike}
 use Rattle.vt_laws_members.proofs.changes.Common.{by_permit, opaques_end_alike, unused_numbers, unused_serve, whiteouts_end_alike}
@@ -24,6 +24,7 @@ plain_mark world location (SetMark directory opaque) any asked = asked
 plain_mark world location change none asked = absurd none
 
 pub all_opaques_end_alike : AllOpaquesEndAlike
+unfolding judging
 all_opaques_end_alike world names name path mark it fresh other =
     by_permit it fresh other refl (λ task called permit judged. granted_so task called permit
     (opaques_mark world fresh task call permit (calls_are_granted nat_eq (looks_of nat_eq world)

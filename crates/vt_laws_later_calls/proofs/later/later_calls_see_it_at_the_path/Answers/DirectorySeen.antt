@@ -160,7 +160,7 @@ module _ {old new : List ℕ} {world : World ℕ} {fresh : Fresh ℕ} {name : Ta
   two = cc
 
   parts : NamesParts (looks_of nat_eq world) it.did.task old new from to it.did.permit
-  parts = names_parts (looks_of nat_eq world) it.did.task old new from to it.did.permit (cc task_is) to_here two
+  parts = names_parts (looks_of nat_eq world) _ it.did.task old new from to it.did.permit (cc task_is) to_here two
       it.did.judged
 
   permit_is : it.did.permit ≡ ToRename from.parent (name_of from.last) to.parent (name_of to.last) (object_there from)

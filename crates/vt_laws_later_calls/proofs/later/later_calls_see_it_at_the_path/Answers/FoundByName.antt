@@ -279,7 +279,7 @@ module _ {old new : List ℕ} (world : World ℕ) (fresh : Fresh ℕ) (name : Ta
   parts_of : NamesParts (looks_of nat_eq world) renamed.task old new from to renamed.permit
   parts_of =
       let task_is : renamed.task ≡ task = same_Some renamed.task task (cc renamed.called) in
-      names_parts (looks_of nat_eq world) renamed.task old new from to renamed.permit (cc) (cc) two renamed.judged
+      names_parts (looks_of nat_eq world) _ renamed.task old new from to renamed.permit (cc) (cc) two renamed.judged
 
 pub rename_then_found : RenameThenFound
 rename_then_found old new world fresh name task from to is plain serves called from_is to_is two granted =

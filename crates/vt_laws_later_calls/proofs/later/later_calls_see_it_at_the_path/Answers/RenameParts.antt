@@ -1,6 +1,6 @@
 -- What a granted rename was permitted.
 use Rattle.std.proofs.Common.{◌≡◌, refl, sym, ap, ◌∙◌, inl, ℕ, nat_eq, Bool, true, false, not, cond, ◌&&◌, List, [], ◌∷◌, Some, is_some, Ok}
-use Rattle.vt_spec.proofs.Common.{IsWorld, Looks, Permit, Place, Rename, Task, ToRename, World, and_then-Ok, is_directory_there, is_mount_point_anywhere, is_one_object, is_special, judge, judging, looks_of, mount_at, name_of, new_walk, object_there, old_leaf_walk, old_walk, old_word_rules, or_parts, passing, place_walk, rename_new_walk, rename_rules, same_ok, task_called, walk_end}
+use Rattle.vt_spec.proofs.Common.{Allowed, IsWorld, Judgement, Looks, Permit, Place, Rename, Task, ToRename, World, and_then-Ok, is_directory_there, is_mount_point_anywhere, is_one_object, is_special, judge, judging, looks_of, mount_at, name_of, new_walk, object_there, old_leaf_walk, old_walk, old_word_rules, or_parts, passing, place_walk, rename_new_walk, rename_rules, same_object_rules, same_ok, task_called, unless, walk_end}
 use Rattle.vt_laws_later_calls.proofs.Common.{IsFound, IsPlain, W3, Deny, directory_found, own_directory_found, plain_numbered, root_found, step_found}
 use Rattle.vt_laws_later_calls.proofs.MadeSeen.{new_parts}
 use Rattle.vt_laws_later_calls.proofs.Opened.{walk_ended}
@@ -27,12 +27,13 @@ asked true true e f = refl
 asked true false e f = cc
 asked false some e f = cc
 
-pub names_parts : (looks : Looks ℕ) {full : Permit ℕ → Bool} (task : Task ℕ) (old new : List ℕ) (from to : Place ℕ) (permit : Permit ℕ)
+pub names_parts : (looks : Looks ℕ) (full : Permit ℕ → Bool) (task : Task ℕ) (old new : List ℕ) (from to : Place ℕ)
+    (permit : Permit ℕ)
     → old_leaf_walk nat_eq looks task old ≡ Ok from → new_walk nat_eq looks task new ≡ Ok to
     → is_one_object nat_eq looks (object_there from) to.object ≡ false
     → judge nat_eq looks full task (Rename old new) ≡ Ok permit → NamesParts looks task old new from to permit
 unfolding judging
-names_parts looks task old new from to permit from_is to_is two e =
+names_parts looks full task old new from to permit from_is to_is two e =
     let olds = and_then-Ok (walk_end (old_leaf_walk nat_eq looks task old)) _ permit e in
     let same_from : olds.0 ≡ from = same_ok olds.0 from (sym olds.1 ∙ ap walk_end from_is) in
     let first = passing (old_word_rules olds.0) _ permit olds.2 in
@@ -51,8 +52,12 @@ names_parts looks task old new from to permit from_is to_is two e =
     let there = old_parts looks task old from (leaf.1 ∙ ap Ok leaf_slash.1) in
     let other : is_one_object nat_eq looks (object_there olds.0) news.0.object ≡ false =
     (λ i. is_one_object nat_eq looks (object_there (same_from i)) (same_to i).object) ∙ two in
+    let moved : Judgement ℕ = unless (rename_rules nat_eq looks task olds.0 news.0 (object_there olds.0)) (Ok
+    (ToRename olds.0.parent (name_of olds.0.last) news.0.parent (name_of news.0.last) (object_there olds.0)
+    news.0.object)) in
     let last = passing (rename_rules nat_eq looks task olds.0 news.0 (object_there olds.0)) _ permit
-    (sym (ap (λ b. cond b _ _) other) ∙ named.1) in
+    (sym (ap (λ b. cond b (unless (same_object_rules nat_eq looks olds.0 news.0) (Ok Allowed)) moved) other)
+    ∙ named.1) in
     record {
       from_walked = there.0;
       from_named = ap (λ (p : Place ℕ). is_special p.last) (sym same_from) ∙ first.0.0;

@@ -108,7 +108,7 @@ rename_then_lstat old new world fresh name task from to is plain serves called f
     task_is = same_Some it.did.task task (sym it.did.called ∙ called)
 
     parts : NamesParts (looks_of nat_eq world) it.did.task old new from to it.did.permit
-    parts = names_parts (looks_of nat_eq world) it.did.task old new from to it.did.permit (cc (task_is, from_is))
+    parts = names_parts (looks_of nat_eq world) _ it.did.task old new from to it.did.permit (cc (task_is, from_is))
         (cc (task_is, to_is)) (cc free) it.did.judged
 
     caller_here : task_called (policy nat_eq fresh world name (Rename old new)).world name

@@ -198,12 +198,12 @@ written looks task place bytes None =
     (Ok (make_permit place (new_file task file_mode bytes)))
 
 -- what a granted write was permitted
-write_parts : (looks : Looks ℕ) {full : Permit ℕ → Bool} (task : Task ℕ) (path bytes : List ℕ) (permit : Permit ℕ)
+write_parts : (looks : Looks ℕ) (full : Permit ℕ → Bool) (task : Task ℕ) (path bytes : List ℕ) (permit : Permit ℕ)
     → judge nat_eq looks full task (Write path bytes) ≡ Ok permit
     → (place : Place ℕ) × (file_walk nat_eq looks task path ≡ Ok place)
     × ((is_special place.last || place.slash) ≡ false) × (written looks task place bytes place.object ≡ Ok permit)
 unfolding judging
-write_parts looks {full} task path bytes permit e =
+write_parts looks full task path bytes permit e =
     let steps = and_then-Ok (walk_end (file_walk nat_eq looks task path)) _ permit e in
     let parts = by steps.0 steps.0.object steps.2 in
     (steps.0, walk_ended (file_walk nat_eq looks task path) steps.0 steps.1, parts.0, parts.1)
@@ -250,7 +250,7 @@ write_then_read path bytes world fresh name task is plain serves called granted 
     parts : (place : Place ℕ) × (file_walk nat_eq (looks_of nat_eq world) it.did.task path ≡ Ok place)
         × ((is_special place.last || place.slash) ≡ false)
         × (written (looks_of nat_eq world) it.did.task place bytes place.object ≡ Ok it.did.permit)
-    parts = write_parts (looks_of nat_eq world) it.did.task path bytes it.did.permit it.did.judged
+    parts = write_parts (looks_of nat_eq world) _ it.did.task path bytes it.did.permit it.did.judged
 
     words_pass : (is_special parts.0.last ≡ false) × (parts.0.slash ≡ false)
     words_pass = or_parts (is_special parts.0.last) parts.0.slash parts.2
