@@ -1,5 +1,5 @@
 //! Events that only look at files: readdir(3), stat(2), read(2), pread(2); and what is seen of a task.
-ghost use Rattle.std.specs.Prelude.{◌≡◌, IfOk, drop, map, nat_eq, option_copied, option_map, take, None, Some, ℕ};
+ghost use Rattle.std.specs.Prelude.{◌≡◌, ◌≤◌, IfOk, drop, length, map, nat_eq, option_copied, option_map, take, None, Some, ℕ};
 ghost use Rattle.vt_location.specs.Locations.{location_of};
 ghost use Rattle.vt_request.specs.Answers.{stat_line_of};
 ghost use Rattle.vt_spec.specs.Machine.Apply.{stat_line};
@@ -30,6 +30,7 @@ impl World {
     pub fn task(&self, name: &TaskName) -> Option<&Task>
         ensures found { option_map task_of (option_copied result) ≡ task_called (world_of self.now) name.now }
         ensures held { IsHeld self.now }
+        ensures born { length self.now.tasks ≤ self.now.births }
     {
         self.tasks.get(name)
     }

@@ -1,7 +1,8 @@
 //! Tasks get namespaces of their own: unshare(2) with `CLONE_NEWNS`.
-ghost use Rattle.std.specs.Prelude.{◌≡◌, ◌+◌, ◌*◌, ◌≤◌, OnErr, OnOk, length};
+ghost use Rattle.std.specs.Prelude.{◌≡◌, OnErr, OnOk};
 ghost use Rattle.vt_spec.specs.Machine.Permits.Permit.{ToUnshare};
 ghost use Rattle.vt_mounting.specs.Detach.Events.{Becomes, Permits};
+ghost use Rattle.vt_ns.specs.Counting.{CountsCopies};
 
 use crate::world::World;
 use std::alloc::AllocError;
@@ -20,7 +21,7 @@ impl World {
     pub fn unshare(&mut self, name: &TaskName) -> Result<(), AllocError>
         requires { Permits self.old name.now ToUnshare }
         ensures ok { OnOk result (Becomes self.old name.now ToUnshare self.new) }
-        ensures counts { OnOk result (self.new.next ≤ self.old.next + 2 * length self.old.mounts) }
+        ensures counts { OnOk result (CountsCopies self.old name.now self.new) }
         ensures births { self.new.births ≡ self.old.births }
         ensures err { OnErr result (self.new ≡ self.old) }
     {

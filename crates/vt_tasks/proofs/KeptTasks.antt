@@ -1,6 +1,8 @@
 -- Tasks as the map keeps them, in whatever order, and as contracts see them, in the order in which they were forked.
-use Rattle.std.proofs.Common.{◌≡◌, ℕ, ◌+◌, ◌≤◌, true, false, List, [], ◌∷◌, ◌++◌, ◌&&◌, map, nat_eq, nat_lt, Option, Some, None, option_map, refl, sym, ap, ◌∙◌, subst, IsPermutation}
-use Rattle.vt_spec.proofs.Common.{AllByRecursion, Credentials, IsEquivalence, IsPermutation-map, Location, Task, TaskName, child_name, child_of, keys_of, list_all, list_any, lookup, nat_list_eq_equiv, or_parts, pointwise, same_name, set_value}
+use Rattle.std.proofs.Common.{◌≡◌, ℕ, ◌+◌, ◌<◌, ◌≤◌, true, false, List, [], ◌∷◌, ◌++◌, ◌&&◌, arith, length, map, nat_eq, nat_lt, Option, Some, None, option_map, refl, sym, ap, ◌∙◌, subst, IsPermutation}
+use Rattle.vt_spec.proofs.Common.{AllByRecursion, Credentials, IsEquivalence, IsPermutation-map, Location, Task, TaskName, child_name, child_of, keys_of, length-map, list_all, list_any, lookup, nat_list_eq_equiv, or_parts, pointwise, same_name, set_value}
+use Rattle.std.proofs.lemmas.List.Sorted.{length_permutation}
+use Rattle.std.proofs.lemmas.Map.Steps.{length-le_from_distinct_below}
 use Rattle.std.specs.declared.vec.Vec.{Vec}
 use Rattle.std.specs.List.{IsDistinct}
 use Rattle.std.specs.Map.{IsKeyTest}
@@ -17,6 +19,11 @@ use Rattle.vt_tasks.proofs.TasksLemmas.{is_key, key_eq}
 
 abbrev birth : Held → ℕ
 birth task = task.birth
+
+born_before : (next birth : ℕ) (births : List ℕ) → list_all (λ birth. nat_lt birth next) births ≡ true
+    → list_any (nat_eq birth) births ≡ true → birth < next
+born_before next birth [] before here = cc
+born_before next birth (first ∷ rest) before here = grind (arith, born_before next birth rest)
 
 module _ {A : Type 0} where
   key_equivalence : IsEquivalence (key_eq {A = A})
@@ -281,3 +288,18 @@ module _ {A : Type 0} where
       → IsPermutation (map task_of (map (λ e. e.1) kept)) (tasks_of (in_order kept))
   kept-permuted kept apart = subst (λ l. IsPermutation l (tasks_of (in_order kept))) (sym (values-shown kept))
       (IsPermutation-map (λ e. task_of e.1) kept (in_order kept) (births.permuted (Vec ℕ A) Held birth kept apart))
+
+  -- each was born once, before the next one, so there are no more tasks than births
+  pub kept-few : (next : ℕ) (kept : List (Vec ℕ A × Held)) → AreKept next kept → length (tasks_of (in_order kept)) ≤ next
+  kept-few next kept are =
+      let few = length-le_from_distinct_below (births_of kept) next are.apart
+      (λ birth here. born_before next birth (births_of kept) are.before here) in
+      let same = length_permutation _ _ (kept-permuted kept are.apart) in
+      omega (
+        arith,
+        few,
+        same,
+        length-map (map (λ entry. entry.1) kept) task_of,
+        length-map kept (λ entry. entry.1),
+        length-map kept (λ entry. entry.1.birth),
+      )

@@ -1,5 +1,5 @@
 //! All tasks, by their names.
-ghost use Rattle.std.specs.Prelude.{◌+◌, ◌<◌, ◌≡◌, ◌⊎◌, [], ◌∷◌, Err, Ok, map, nat_eq, true, Some, IfOk, IfErr, IsPermutation, OnOk, OnErr, option_map, option_copied};
+ghost use Rattle.std.specs.Prelude.{◌+◌, ◌<◌, ◌≡◌, ◌≤◌, ◌⊎◌, [], ◌∷◌, Err, Ok, length, map, nat_eq, true, Some, IfOk, IfErr, IsPermutation, OnOk, OnErr, option_map, option_copied};
 ghost use Rattle.std.specs.Fn.{FnOnceReturnsAtMut, FnOnceTakesAtMut};
 ghost use Rattle.std.specs.Cmp.Lexicographic.{pointwise};
 ghost use Rattle.std.specs.List.{list_all};
@@ -86,7 +86,8 @@ impl Tasks {
 
     /// The task of this name.
     pub fn get(&self, name: &TaskName) -> Option<&Task>
-        ensures { option_map task_of (option_copied result) ≡ called name.now self.now.tasks }
+        ensures found { option_map task_of (option_copied result) ≡ called name.now self.now.tasks }
+        ensures born { length self.now.tasks ≤ self.now.births }
     {
         found_called(&self.by_name, name.numbers())
     }

@@ -43,7 +43,7 @@ done c =
     (c.hold_once_more-2.ensures.overlays ∙ c.hold_once_more.ensures.overlays) c.args.name.now (ToFork c.args.cred)
     permits (task_is_forked (the_view c.self.inside) c.self.invariant c.args.name.now c.args.cred permits
     c.unwrap-parent.result.now
-    (sym (ap (λ found. option_map task_of (option_copied found)) c.unwrap-parent.ensures) ∙ c.get.ensures)
+    (sym (ap (λ found. option_map task_of (option_copied found)) c.unwrap-parent.ensures) ∙ c.get.ensures.found)
     c.hold_once_more.ensures.slot c.hold_once_more-2.ensures.slot
     c.hold_once_more-2.new.mounts c.hold_once_more-2.new.store.plain
     (map merged_of c.hold_once_more-2.new.store.overlays)

@@ -52,7 +52,7 @@ mounts c =
       mounter = c.in_ok-mounter.mounter;
       mounter_is = c.in_ok-mounter.ensures.cases
           ∙ ap (λ (task : Task ℕ). task.credentials) (same_Some (task_of c.unwrap-2.result.now) allowed.task
-          (sym (ap (λ found. option_map task_of (option_copied found)) c.unwrap-2.ensures) ∙ c.get.ensures
+          (sym (ap (λ found. option_map task_of (option_copied found)) c.unwrap-2.ensures) ∙ c.get.ensures.found
           ∙ allowed.called));
       top = c.unwrap.result.now;
       top_is = ap (λ items. slice_get items 0) (sym c.as_slice-2.ensures.value) ∙ sym c.first.ensures.value

@@ -19,7 +19,7 @@ unwrap-root-requires c =
     sym (is_some_mapped mount_of c.get-2.result) ∙ ap is_some c.get-2.ensures
     ∙ root_is_found (the_view c.self.inside) c.self.invariant c.args.name.now (counted c.args.new.count) c.args.put
     permits c.unwrap-task.result.now
-    (sym (ap (λ found. option_map task_of (option_copied found)) c.unwrap-task.ensures) ∙ c.get.ensures)
+    (sym (ap (λ found. option_map task_of (option_copied found)) c.unwrap-task.ensures) ∙ c.get.ensures.found)
 
 pub unwrap-point-requires : goal.unwrap-point-requires
 unwrap-point-requires c =
@@ -44,7 +44,7 @@ hold_each-requires c =
     (λ full. absurd (omega (arith, c.if-uses.false, (rw c.plain.ensures at c.uses.ensures), full))) in
     room_to_enter (the_view c.self.inside) c.self.invariant c.args.name.now (counted c.args.new.count) c.args.put
     permits c.unwrap-task.result.now
-    (sym (ap (λ found. option_map task_of (option_copied found)) c.unwrap-task.ensures) ∙ c.get.ensures)
+    (sym (ap (λ found. option_map task_of (option_copied found)) c.unwrap-task.ensures) ∙ c.get.ensures.found)
     c.unwrap-root.result c.unwrap-new_root.result c.root_location-left.result c.root_location-entered.result
     c.unwrap-point.result (sym (ap (option_map mount_of) c.unwrap-root.ensures) ∙ c.get-2.ensures)
     (sym (ap (option_map mount_of) c.unwrap-new_root.ensures) ∙ c.get-3.ensures)
@@ -87,7 +87,7 @@ done c =
     (ToPivot (counted c.args.new.count) (location_of c.args.put)) permits
     (root_is_pivoted (the_view c.self.inside) c.self.invariant c.args.name.now (counted c.args.new.count) c.args.put
     permits c.unwrap-task.result.now
-    (sym (ap (λ found. option_map task_of (option_copied found)) c.unwrap-task.ensures) ∙ c.get.ensures)
+    (sym (ap (λ found. option_map task_of (option_copied found)) c.unwrap-task.ensures) ∙ c.get.ensures.found)
     c.unwrap-root.result c.unwrap-new_root.result c.root_location-left.result c.root_location-entered.result point
     (sym (ap (option_map mount_of) c.unwrap-root.ensures) ∙ c.get-2.ensures)
     (sym (ap (option_map mount_of) c.unwrap-new_root.ensures) ∙ c.get-3.ensures)

@@ -1,6 +1,7 @@
-use Rattle.std.proofs.Common.{Bool, ap, arith, length, nat_eq, not, option_copied, option_map, refl, subst, sym, ℕ, ◌*◌, ◌+◌, ◌≤◌, ◌∙◌, ◌≡◌, ◌++◌, ◌∷◌, [], map}
-use Rattle.vt_spec.proofs.Common.{Mount, ToUnshare, holds_of, length-filter_both, length-map}
-use Rattle.vt_ns.proofs.Common.{Becomes, IsDone, MountEntry, OverlaysLeft, Permits, WorldValue, changed_called, counted, done_in_store, entries_of, kept, kept_of, left_still, left_twice, location_of, merged_of, mounts_in, overlays_of_store, task_of}
+use Rattle.std.proofs.Common.{ap, length, nat_eq, option_copied, option_map, refl, subst, sym, ℕ, ◌*◌, ◌+◌, ◌∙◌, ◌≡◌, ◌++◌, ◌∷◌, [], map}
+use Rattle.vt_spec.proofs.Common.{Task, ToUnshare, mounts_of, same_Some}
+use Rattle.vt_ns.proofs.Common.{Becomes, IsDone, OverlaysLeft, Permits, WorldValue, changed_called, counted, done_in_store, entries_of, kept, kept_of, left_still, left_twice, location_of, merged_of, overlays_of_store, task_of, world_of}
+use Rattle.vt_ns.specs.Counting.{CountsCopies}
 use Rattle.vt_location.specs.declared.numbers.NamespaceId.{NamespaceId}
 use Rattle.vt_mount.proofs.KeptLemmas.{not-err, of-ok}
 use Rattle.vt_ns.specs.contracts.world.World.{the_view}
@@ -112,7 +113,7 @@ done c =
     done_in_store (the_view c.self.inside) (after c) c.self.inside.store c.leave_namespace.new.store c.self.invariant
     (overlays_so c) c.args.name.now ToUnshare (permitted c)
     (task_is_unshared (the_view c.self.inside) c.self.invariant c.args.name.now (permitted c) own
-    (sym (ap (λ found. option_map task_of (option_copied found)) c.unwrap-task.ensures) ∙ c.get.ensures)
+    (sym (ap (λ found. option_map task_of (option_copied found)) c.unwrap-task.ensures) ∙ c.get.ensures.found)
     root directory c.attach_copies.new.mounts c.attach_copies.new.groups c.attach_copies.new.store.plain
     (map merged_of c.attach_copies.new.store.overlays)
     c.move_use-2.new.mounts (map merged_of c.leave_namespace.new.store.overlays) (entries_of c.insert.new.self.entries)
@@ -144,16 +145,17 @@ invariant_of-self-2 c = held_with (done c).held c.move_root_and_directory.new.se
 pub returns-clause-ok : goal.returns-clause-ok
 returns-clause-ok c = subst (λ value. Becomes value c.args.name.now ToUnshare (after c)) c.self.view_is (done c).becomes
 
--- each copy counts two, and there are no more copies than mounts
+-- each copy counts two
 pub returns-clause-counts : goal.returns-clause-counts
-returns-clause-counts c =
-    let namespace = counted c.unwrap-task.result.now.namespace.count in
-    let own : Mount ℕ → Bool = λ mount. holds_of (nat_eq namespace) mount.namespace in
-    let many = as_many c.attached_in.result.now (attached_in namespace c.self.inside.mounts) c.attached_in.ensures.are in
-    let parted = length-filter_both own (λ mount. not (own mount)) (λ mount. refl) (mounts_in c.self.inside.mounts) in
-    let all = length-map c.self.inside.mounts (λ (entry : MountEntry). entry.mount) in
-    subst (λ (value : WorldValue). c.self.inside.next + 2 * length c.attached_in.result.now
-    ≤ value.next + 2 * length value.mounts) c.self.view_is (omega (arith, many, parted, all))
+returns-clause-counts c = subst (λ value. CountsCopies value c.args.name.now (after c)) c.self.view_is (λ task called.
+    let own = c.unwrap-task.result.now in
+    let many = as_many c.attached_in.result.now (attached_in (counted own.namespace.count) c.self.inside.mounts)
+    c.attached_in.ensures.are in
+    let same = same_Some _ _ (sym (ap (λ found. option_map task_of (option_copied found)) c.unwrap-task.ensures)
+    ∙ c.get.ensures.found ∙ called) in
+    ap (λ n. c.self.inside.next + 2 * n) many
+    ∙ ap (λ (one : Task ℕ). c.self.inside.next
+    + 2 * length (mounts_of nat_eq (world_of (the_view c.self.inside)) one.namespace)) same)
 
 pub returns-clause-births : goal.returns-clause-births
 returns-clause-births c =
