@@ -1,5 +1,5 @@
 //! The entries of a directory: a map from names, which contracts see in the order of the names' bytes.
-ghost use Rattle.std.specs.Prelude.{◌≡◌, [], find, map, nat_eq, true, IsSome, IsTrue, IsOk, IfOk, ◌↔◌, OnOk, OnErr, option_copied, option_map};
+ghost use Rattle.std.specs.Prelude.{◌≡◌, ◌<◌, [], find, length, map, nat_eq, true, IsSome, IsTrue, IsOk, IfOk, ◌↔◌, OnOk, OnErr, option_copied, option_map};
 ghost use Rattle.std.specs.FinMap.Entries.{is_sorted};
 ghost use Rattle.std.specs.List.Sorted.{IsPermutation};
 ghost use Rattle.vt_spec.specs.Tree.{name_cmp, entry_named, with_entry};
@@ -9,6 +9,7 @@ ghost use Rattle.vt_node.specs.Ranks.{name_ranked, rank_among};
 
 use crate::NodeId;
 use crate::copies::copied_names;
+use crate::rooms::EntryRoom;
 use indexmap::IndexMap;
 use std::alloc::{AllocError, Global};
 use std::marker::Model;
@@ -57,6 +58,17 @@ impl DirectoryEntries {
     {
         self.by_name.insert(name, id)?;
         Ok(())
+    }
+
+    /// Puts an entry in, for a caller that has made room for one more. It does not allocate.
+    pub fn place(&mut self, name: Vec<u8>, id: NodeId, room: &mut EntryRoom)
+        requires { length self.old < room.old }
+        ensures entry { self.new ≡ with_entry name.items id self.old }
+        ensures in_order { is_sorted name_cmp self.old ≡ true }
+    {
+        room.make_place(&mut self.by_name);
+        // It cannot fail.
+        let _ = self.by_name.insert(name, id);
     }
 
     /// Takes an entry out, if it exists. It does not allocate.
@@ -123,6 +135,13 @@ impl DirectoryEntries {
             }
         }
         None
+    }
+
+    /// How many entries there are.
+    pub fn len(&self) -> usize
+        ensures { result ≡ length self.now }
+    {
+        self.by_name.len()
     }
 
     /// Whether there are no entries.

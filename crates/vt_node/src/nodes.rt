@@ -13,7 +13,7 @@ ghost use Rattle.vt_spec.specs.Tree.Content.{Regular, Symlink, Whiteout};
 ghost use Rattle.vt_node.specs.Listed.{HasOneName};
 ghost use Rattle.vt_node.specs.Ranks.{name_ranked, rank_among};
 
-use crate::{Attr, DirectoryEntries, Kind, NodeId};
+use crate::{Attr, DirectoryEntries, EntryRoom, Kind, NodeId};
 use std::alloc::{AllocError, Global};
 use std::marker::Model;
 
@@ -180,6 +180,16 @@ impl Node {
         &rest[..most]
     }
 
+    /// How many entries a directory has; any other node has none.
+    pub fn entry_count(&self) -> usize
+        ensures { result ≡ length (entries_of self.now.content) }
+    {
+        match &self.content {
+            Content::Directory { entries, .. } => entries.len(),
+            _ => 0,
+        }
+    }
+
     /// Whether it is a directory with entries.
     pub fn is_nonempty(&self) -> bool
         ensures { result ≡ not (is_empty_list (entries_of self.now.content)) }
@@ -265,6 +275,21 @@ impl Node {
         match &mut self.content {
             Content::Directory { entries, .. } => entries.insert(name, id),
             _ => Ok(()),
+        }
+    }
+
+    /// Puts an entry into a directory, for a caller that has made room for one more; any other node stays as it is. It
+    /// does not allocate.
+    pub fn place_entry(&mut self, name: Vec<u8>, id: NodeId, room: &mut EntryRoom)
+        requires { length (entries_of self.old.content) < room.old }
+        ensures entry { self.new ≡ record {
+          attr = self.old.attr;
+          content = with_entries self.old.content (with_entry name.items id (entries_of self.old.content));
+        } }
+        ensures in_order { is_sorted name_cmp (entries_of self.old.content) ≡ true }
+    {
+        if let Content::Directory { entries, .. } = &mut self.content {
+            entries.place(name, id, room);
         }
     }
 
