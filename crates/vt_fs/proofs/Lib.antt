@@ -1,6 +1,7 @@
 pub mod PathLemmas
 pub mod Renamed
 pub mod Entries
+pub mod EntriesCounted
 pub mod Standing
 pub mod Parents
 pub mod Numbers

@@ -27,7 +27,7 @@ use indexmap::IndexMap;
 use std::alloc::{AllocError, Global};
 use std::marker::Model;
 use vt_location::{Birth, FilesystemId, NodeRef};
-use vt_node::{Attr, NewNode, Node, NodeId};
+use vt_node::{Attr, EntryRoom, NewNode, Node, NodeId};
 
 // A filesystem, and how many mounts show it.
 #[derive(Debug, Drop)]
@@ -557,6 +557,69 @@ impl Filesystems {
         let named = self.slot_of(object).unwrap();
         let tree = self.get_mut(from.filesystem).unwrap();
         tree.rename(was_in, old, goes_to, new, named)
+    }
+
+    /// How many names a directory has. What is no directory has none.
+    pub fn entry_count(&self, directory: NodeRef) -> usize
+        ensures { result ≡ length (entries_in
+            ((files_at self.now directory.filesystem.count).tree.node (number_of directory))) }
+    {
+        match self.node(directory) {
+            Some(node) => node.entry_count(),
+            None => 0,
+        }
+    }
+
+    /// Makes room for so many names more of a directory, for a caller that puts them in later, where nothing may fail.
+    pub fn make_room(
+        &self,
+        directory: NodeRef,
+        names: usize,
+        room: &mut EntryRoom,
+    ) -> Result<(), AllocError>
+        ensures ok { OnOk result (length (entries_in
+            ((files_at self.now directory.filesystem.count).tree.node (number_of directory))) + names ≤ room.new) }
+        ensures kept { room.old ≤ room.new }
+        ensures err { OnErr result (room.new ≡ room.old) }
+    {
+        let Some(entries) = self.entry_count(directory).checked_add(names) else {
+            return Err(AllocError);
+        };
+        room.reserve(entries)
+    }
+
+    /// As `rename`, for a caller that has made room for the new name. It does not allocate.
+    pub fn rename_promised(
+        &mut self,
+        from: NodeRef,
+        old: &[u8],
+        to: NodeRef,
+        new: Vec<u8>,
+        object: NodeRef,
+        room: &mut EntryRoom,
+    )
+        requires one_filesystem { to.filesystem ≡ from.filesystem }
+        requires of_object { object.filesystem ≡ from.filesystem }
+        requires named { number_at (files_at self.old from.filesystem.count).tree
+            (number_of from) old.now ≡ Some (number_of object) }
+        requires there { is_some
+            ((files_at self.old from.filesystem.count).tree.node (number_of object)) ≡ true }
+        requires directory { IsDirectory (files_at self.old from.filesystem.count).tree (number_of to) }
+        requires replaced { MayReplace (files_at self.old from.filesystem.count).tree (number_of object)
+            (number_at (files_at self.old from.filesystem.count).tree (number_of to) new.items) }
+        requires outside { StaysOutside (inodes_at self.old from.filesystem.count) (number_of object) (number_of to) }
+        requires room { length (entries_in ((files_at self.old from.filesystem.count).tree.node (number_of to)))
+            < room.old }
+        ensures { ChangesInodes from.filesystem.count
+            (λ inodes. changed nat_eq inodes
+            (Move (number_of from) old.now (number_of to) new.items (number_of object)))
+            self.old self.new }
+    {
+        let was_in = self.slot_of(from).unwrap();
+        let goes_to = self.slot_of(to).unwrap();
+        let named = self.slot_of(object).unwrap();
+        let tree = self.get_mut(from.filesystem).unwrap();
+        tree.rename_promised(was_in, old, goes_to, new, named, room);
     }
 
     /// Sets the whole content of a file: write(2) after open(2) with O_TRUNC. It does not allocate. A symlink, a

@@ -11,7 +11,7 @@ ghost use Rattle.vt_fs.specs.Trees.Slots.{inodes_in, node_at};
 
 use crate::tree::slots::Slots;
 use std::alloc::AllocError;
-use vt_node::{Attr, NodeId};
+use vt_node::{Attr, EntryRoom, NodeId};
 
 // Puts an entry into a directory. Only a name that is new allocates.
 pub(crate) fn insert_entry(
@@ -31,6 +31,26 @@ pub(crate) fn insert_entry(
     match slots.get_mut(directory) {
         Some(node) => node.insert_entry(name, id),
         None => Ok(()),
+    }
+}
+
+// Puts an entry into a directory that has room for it.
+pub(crate) fn place_entry(
+    slots: &mut Slots,
+    directory: NodeId,
+    name: Vec<u8>,
+    id: NodeId,
+    room: &mut EntryRoom,
+)
+    requires { length (entries_in (node_at slots.old directory)) < room.old }
+    ensures placed { (root : ℕ) → inodes_in root slots.new
+        ≡ with_changed nat_eq (inodes_in root slots.old) directory (node_with_entry name.items id) }
+    ensures in_order { is_sorted name_cmp (entries_in (node_at slots.old directory)) ≡ true }
+    ensures next { slots.new.next ≡ slots.old.next }
+    ensures room { slots.new.room ≡ slots.old.room }
+{
+    if let Some(node) = slots.get_mut(directory) {
+        node.place_entry(name, id, room);
     }
 }
 

@@ -15,14 +15,14 @@ ghost use Rattle.vt_fs.specs.Trees.Names.{HoldsNames};
 ghost use Rattle.vt_fs.specs.Trees.Slots.{most_uses};
 
 use crate::tree::changes::{
-    insert_entry, release, remove_entry, remove_object, set_attr, set_bytes, set_opaque,
-    set_parent, write_bytes,
+    insert_entry, place_entry, release, remove_entry, remove_object, set_attr, set_bytes,
+    set_opaque, set_parent, write_bytes,
 };
 use crate::tree::names::Names;
 use crate::tree::slots::Slots;
 use std::alloc::{AllocError, Global};
 use std::marker::Model;
-use vt_node::{Attr, NewNode, Node, NodeId, copied_bytes};
+use vt_node::{Attr, EntryRoom, NewNode, Node, NodeId, copied_bytes};
 
 /// A tree of directories, files, symlinks and whiteouts, each with a number, and with a count of its uses: the names
 /// that lead to it, and what a caller pins. An object is freed with its last use.
@@ -259,6 +259,34 @@ impl Tree {
             remove_object(&mut self.slots, *other);
         }
         Ok(())
+    }
+
+    /// As `rename`, for a caller that has made room for the new name. It does not allocate.
+    pub fn rename_promised(
+        &mut self,
+        from: NodeId,
+        old: &[u8],
+        to: NodeId,
+        new: Vec<u8>,
+        object: NodeId,
+        room: &mut EntryRoom,
+    )
+        requires named { entry_at (tree_of self.old) from old.now ≡ Some object }
+        requires directory { IsDirectory (tree_of self.old) to }
+        requires replaced { MayReplace (tree_of self.old) object (entry_at (tree_of self.old) to new.items) }
+        requires outside { StaysOutside (inodes_of self.old) object to }
+        requires room { length (entries_in ((tree_of self.old).node to)) < room.old }
+        ensures { inodes_of self.new ≡ changed nat_eq (inodes_of self.old) (Move from old.now to new.items object) }
+    {
+        let gone = self.look(to, &new);
+        place_entry(&mut self.slots, to, new, object, room);
+        remove_entry(&mut self.slots, from, old);
+        set_parent(&mut self.slots, object, to);
+        self.names.move_to(object, from, to);
+        if let Some(inode) = &gone {
+            self.names.take(*inode, to);
+            remove_object(&mut self.slots, *inode);
+        }
     }
 
     /// Sets the whole content of a file: write(2) after open(2) with O_TRUNC. It does not allocate. A symlink, a
