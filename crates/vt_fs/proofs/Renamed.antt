@@ -1,11 +1,12 @@
 -- A tree by the numbers of its inodes: whatever is made of it is what is made of it by slots, renamed.
 use Rattle.std.proofs.Common.{◌≡◌, refl, ℕ, nat_eq, Bool, List, Option, option_map}
-use Rattle.vt_spec.proofs.Common.{Change, Inodes, Node, entry_at, one_directory, parent_in, pinned, renamed_node, tree_of, unpinned, uses_in}
+use Rattle.vt_spec.proofs.Common.{Change, Inodes, Node, entry_at, has_entry_to, one_directory, parent_in, pinned, renamed_node, tree_of, unpinned, uses_in}
 use Rattle.vt_spec.specs.declared.attributes.Attr.{Attr}
 use Rattle.vt_spec.specs.Inodes.{changed, is_directory_under, renamed_inodes}
 use Rattle.vt_laws_rules.specs.Renaming.{Renaming, renamed_change}
 use Rattle.vt_laws_rules.proofs.numbers.Commuting.{Named, commutes_nat, node_itself, option_itself, inode_itself, change_itself}
 use Rattle.vt_fs.specs.Trees.Paths.{path_in}
+use Rattle.vt_fs.specs.Trees.TreeValue.{with_unnamed}
 use Rattle.vt_location.specs.Numbers.{exchanged}
 use Rattle.vt_location.proofs.NumberLemmas.{exchanged_back}
 
@@ -103,6 +104,22 @@ module _ (f : ℕ) (inodes : Inodes ℕ) where
   unpinned_by_numbers object = commutes_nat WithOne Inodes named_one named_inodes (λ A eq s. unpinned eq s.0 s.1)
       (exchange f) (inodes, object)
 
+-- An inode without a name
+abbrev WithNode : Type 0 → Type 0
+WithNode A = Inodes A × A × Node A
+
+abbrev named_new : Named WithNode
+named_new = record {
+  rename = λ A B there back s. (renamed_inodes there back s.0, there s.1, renamed_node there back s.2);
+  itself = λ A s i. (inodes_itself s.0 i, s.1, node_itself s.2 i);
+}
+
+pub unnamed_by_numbers : (f : ℕ) (inodes : Inodes ℕ) (number : ℕ) (node : Node ℕ)
+    → with_unnamed nat_eq (by_numbers f inodes) (exchanged f number) (renamed_node (exchanged f) (exchanged f) node)
+    ≡ by_numbers f (with_unnamed nat_eq inodes number node)
+unnamed_by_numbers f inodes number node = commutes_nat WithNode Inodes named_new named_inodes
+    (λ A eq s. with_unnamed eq s.0 s.1 s.2) (exchange f) (inodes, number, node)
+
 -- Looks
 module _ (f : ℕ) (inodes : Inodes ℕ) where
   pub node_by_numbers : (number : ℕ) → (tree_of (by_numbers f inodes)).node (exchanged f number)
@@ -135,6 +152,12 @@ module _ (f : ℕ) (inodes : Inodes ℕ) where
       ≡ is_directory_under nat_eq inodes top directory
   under_by_numbers top directory = commutes_nat WithTwo (λ (A : Type 0). Bool) named_two (named_nothing Bool)
       (λ A eq s. is_directory_under eq s.0 s.1 s.2) (exchange f) (inodes, top, directory)
+
+  pub names_by_numbers : (directory object : ℕ)
+      → has_entry_to nat_eq (tree_of (by_numbers f inodes)) (exchanged f directory) (exchanged f object)
+      ≡ has_entry_to nat_eq (tree_of inodes) directory object
+  names_by_numbers directory object = commutes_nat WithTwo (λ (A : Type 0). Bool) named_two (named_nothing Bool)
+      (λ A eq s. has_entry_to eq (tree_of s.0) s.1 s.2) (exchange f) (inodes, directory, object)
 
   pub path_by_numbers : (top directory : ℕ)
       → path_in nat_eq (by_numbers f inodes) (exchanged f top) (exchanged f directory)

@@ -1,14 +1,14 @@
 -- A filesystem that is there, with this tree; and what a change of that tree changes.
-use Rattle.std.proofs.Common.{◌≡◌, refl, sym, ap, subst, ◌∙◌, true≢false, ℕ, Bool, true, false, cond, nat_eq, List, [], ◌∷◌, not, Option, Some, None, option_map, unwrap_or, is_some, MutBor, IsSome, if◌then◌else◌, eqb-true}
-use Rattle.vt_spec.proofs.Common.{Change, Entries, Inode, Inodes, IsDirectory, MayReplace, Node, any_pair, entries_in, entry_at as number_at, is_directory_node, is_empty_list, list_any, node_in, option_copied_mut, or_false_left, or_false_right, parent_in, pinned, renamed_inode, tree_of as tree_of_inodes, unpinned, uses_in}
+use Rattle.std.proofs.Common.{arith, ◌<◌, ◌≡◌, refl, sym, ap, subst, ◌∙◌, true≢false, ℕ, Bool, true, false, cond, nat_eq, List, [], ◌∷◌, not, Option, Some, None, option_map, unwrap_or, is_some, MutBor, IsSome, if◌then◌else◌, eqb-true}
+use Rattle.vt_spec.proofs.Common.{Change, Entries, Inode, Inodes, IsDirectory, MayReplace, Node, any_pair, entries_in, entry_at as number_at, has_entry_to, is_directory_node, is_empty_list, list_any, node_in, option_copied_mut, or_false_left, or_false_right, parent_in, pinned, renamed_inode, tree_of as tree_of_inodes, unpinned, uses_in}
 use Rattle.vt_spec.specs.Inodes.{changed, is_directory_under}
 use Rattle.vt_spec.specs.Fits.{StaysOutside}
 use Rattle.vt_location.specs.Numbers.{exchanged}
 use Rattle.vt_fs.specs.Trees.Paths.{path_in}
 use Rattle.vt_fs.specs.Trees.TreeValue.{TreeValue, inodes_of, tree_of}
-use Rattle.vt_fs.specs.FilesystemsValue.{ChangesInodes, FilesystemEntry, Filesystems, entry_at, entry_of, files_at, files_seen, inodes_at, inodes_seen, no_entry, node_seen, seen_in, shown, shown_entry, shown_with, with_tree, without}
+use Rattle.vt_fs.specs.FilesystemsValue.{ChangesInodes, FilesystemEntry, Filesystems, entry_at, entry_of, files_at, files_seen, inodes_at, inodes_promised, inodes_seen, no_entry, node_seen, seen_in, shown, shown_entry, shown_with, with_changed, with_tree, without}
 use Rattle.vt_location.proofs.NumberLemmas.{exchanged_back}
-use Rattle.vt_fs.proofs.Renamed.{by_numbers, changed_by_numbers, entry_by_numbers, node_by_numbers, own_by_numbers, path_by_numbers, pinned_by_numbers, plain_by_numbers, root_by_numbers, under_by_numbers, unpinned_by_numbers, uses_by_numbers}
+use Rattle.vt_fs.proofs.Renamed.{by_numbers, changed_by_numbers, entry_by_numbers, names_by_numbers, node_by_numbers, own_by_numbers, path_by_numbers, pinned_by_numbers, plain_by_numbers, root_by_numbers, under_by_numbers, unpinned_by_numbers, uses_by_numbers}
 use Rattle.vt_laws_rules.specs.Renaming.{renamed_change}
 
 -- the filesystem of this count is there, with this tree, and no two have one count
@@ -92,6 +92,21 @@ module _ (fs : Filesystems) (f : ℕ) (lent : Option (MutBor TreeValue))
       by None e = absurd (true≢false (ap is_some (sym named)
           ∙ ap (λ entry. is_some (number_at (files_seen entry).tree number name)) (entry_nowhere fs f (sym e))))
       by (Some tree) e = refl
+
+-- and so does one with promised inodes
+pub promised_exists : (fs : Filesystems) (f : ℕ) (lent : Option (MutBor TreeValue))
+    → option_copied_mut lent ≡ option_map (λ (entry : FilesystemEntry). entry.tree) (entry_of fs f)
+    → 0 < inodes_promised fs f → IsSome lent
+promised_exists fs f lent value some = by lent value
+  where
+    by : (o : Option (MutBor TreeValue))
+        → option_copied_mut o ≡ option_map (λ (entry : FilesystemEntry). entry.tree) (entry_of fs f) → IsSome o
+    by None e = absurd (omega (
+      arith,
+      some,
+      ap (λ (entry : FilesystemEntry). entry.tree.promised) (entry_nowhere fs f (sym e)),
+    ))
+    by (Some tree) e = refl
 
 module _ (f : ℕ) (change : Inodes ℕ → Inodes ℕ) where
   -- where no filesystem has the count, none is shown changed
@@ -239,6 +254,12 @@ module _ (fs : Filesystems) (f : ℕ) (tree : TreeValue)
   path_there top_slot top slot number same_top same =
       (λ i. path_in nat_eq (is_seen i) (sym same_top i) (sym same i)) ∙ path_by_numbers f (inodes_of tree) top_slot slot
 
+  pub names_there : (slot number object_slot object : ℕ) → exchanged f slot ≡ number → exchanged f object_slot ≡ object
+      → has_entry_to nat_eq (files_at fs f).tree number object ≡ has_entry_to nat_eq (tree_of tree) slot object_slot
+  names_there slot number object_slot object same same_object =
+      (λ i. has_entry_to nat_eq (tree_of_inodes (is_seen i)) (sym same i) (sym same_object i))
+      ∙ names_by_numbers f (inodes_of tree) slot object_slot
+
   -- a slot without a node has no inode
   pub vacant_there : (slot number : ℕ) → exchanged f slot ≡ number → (tree_of tree).node slot ≡ None
       → (inodes_at fs f).inode number ≡ None
@@ -331,3 +352,73 @@ written_back (x ∷ fs) f tree apart found = by (nat_eq f x.count) (eqb-true f x
 pub kept : (fs : Filesystems) (f : ℕ) (new old : TreeValue) → Standing fs f old → new ≡ old → with_tree f new fs ≡ fs
 kept fs f new old standing is = ap (λ tree. with_tree f tree fs) is
     ∙ written_back fs f old standing.apart standing.found
+
+-- the tree of a filesystem is that which was written to it
+pub found_with : (fs : Filesystems) (f : ℕ) (new old : TreeValue)
+    → option_map (λ (entry : FilesystemEntry). entry.tree) (entry_of fs f) ≡ Some old
+    → option_map (λ (entry : FilesystemEntry). entry.tree) (entry_of (with_tree f new fs) f) ≡ Some new
+found_with [] f new old found = absurd cc
+found_with (x ∷ fs) f new old found = by (nat_eq f x.count) refl found (found_with fs f new old)
+  where
+    by : (b : Bool) → nat_eq f x.count ≡ b
+        → option_map (λ (entry : FilesystemEntry). entry.tree) (cond b (Some x) (entry_of fs f)) ≡ Some old
+        → (option_map (λ (entry : FilesystemEntry). entry.tree) (entry_of fs f) ≡ Some old
+        → option_map (λ (entry : FilesystemEntry). entry.tree) (entry_of (with_tree f new fs) f) ≡ Some new)
+        → option_map (λ (entry : FilesystemEntry). entry.tree)
+        (entry_of (cond b (record x { tree = new }) x ∷ with_tree f new fs) f) ≡ Some new
+    by true is found rest = ap (λ b. option_map (λ (entry : FilesystemEntry). entry.tree)
+        (cond b (Some (record x { tree = new })) (entry_of (with_tree f new fs) f))) is
+    by false is found rest = ap (λ b. option_map (λ (entry : FilesystemEntry). entry.tree)
+        (cond b (Some x) (entry_of (with_tree f new fs) f))) is ∙ rest found
+
+-- A tree that is changed changes its filesystem.
+module _ (f : ℕ) (change : TreeValue → TreeValue) where
+  abbrev changing : FilesystemEntry → FilesystemEntry
+  changing entry = record entry { tree = change entry.tree }
+
+  none_changed : (k : ℕ) (fs : Filesystems) → k ≡ f → list_any (λ other. nat_eq k other.count) fs ≡ false
+      → with_changed f changing fs ≡ fs
+  none_changed k [] is none = refl
+  none_changed k (x ∷ fs) is none =
+      let other = ap (λ n. nat_eq n x.count) (sym is) ∙ or_false_left _ _ none in
+      λ i. (ap (λ b. if b then changing x else x) other) i
+      ∷ none_changed k fs is (or_false_right (nat_eq k x.count) _ none) i
+
+  pub tree_changed : (fs : Filesystems) (tree : TreeValue) → Standing fs f tree
+      → with_tree f (change tree) fs ≡ with_changed f changing fs
+  tree_changed fs tree standing = by fs standing.apart standing.found
+    where
+      by : (fs : Filesystems) → any_pair (λ a b. nat_eq a.count b.count) fs ≡ false
+          → option_map (λ (entry : FilesystemEntry). entry.tree) (entry_of fs f) ≡ Some tree
+          → with_tree f (change tree) fs ≡ with_changed f changing fs
+      by [] apart found = refl
+      by (x ∷ fs) apart found = at (nat_eq f x.count) (eqb-true f x.count) found
+          (by fs (or_false_right (list_any (λ other. nat_eq x.count other.count) fs) _ apart))
+        where
+          at : (b : Bool) → (b ≡ true → f ≡ x.count)
+              → option_map (λ (entry : FilesystemEntry). entry.tree) (cond b (Some x) (entry_of fs f)) ≡ Some tree
+              → (option_map (λ (entry : FilesystemEntry). entry.tree) (entry_of fs f) ≡ Some tree
+              → with_tree f (change tree) fs ≡ with_changed f changing fs)
+              → cond b (record x { tree = change tree }) x ∷ with_tree f (change tree) fs
+              ≡ cond b (changing x) x ∷ with_changed f changing fs
+          at true here e rest =
+              let is : x.tree ≡ tree = cc in
+              let none = or_false_left (list_any (λ (other : FilesystemEntry). nat_eq x.count other.count) fs) _ apart in
+              λ i. record x { tree = change (sym is i) }
+              ∷ (none_with f (λ inodes. inodes) x.count (change tree) fs (sym (here refl)) none
+              ∙ sym (none_changed x.count fs (sym (here refl)) none)) i
+          at false here e rest = ap (λ l. x ∷ l) (rest e)
+
+  pub nowhere_changed : (fs : Filesystems)
+      → option_map (λ (entry : FilesystemEntry). entry.tree) (entry_of fs f) ≡ None → fs ≡ with_changed f changing fs
+  nowhere_changed fs absent = by fs (nowhere fs f absent)
+    where
+      by : (fs : Filesystems) → entry_of fs f ≡ None → fs ≡ with_changed f changing fs
+      by [] absent = refl
+      by (x ∷ fs) absent = at (nat_eq f x.count) absent (by fs)
+        where
+          at : (b : Bool) → cond b (Some x) (entry_of fs f) ≡ None
+              → (entry_of fs f ≡ None → fs ≡ with_changed f changing fs)
+              → x ∷ fs ≡ cond b (changing x) x ∷ with_changed f changing fs
+          at true found rest = absurd cc
+          at false absent rest = ap (λ l. x ∷ l) (rest absent)

@@ -4,3 +4,4 @@ pub mod SlotLemmas
 pub mod NameCounts
 pub mod NamesKept
 pub mod NamesListed
+pub mod PromisedKept

@@ -79,6 +79,7 @@ no_entry count = record {
         (counted count);
     slots = [];
     next = 0;
+    promised = 0;
   };
   mounts = 0;
 }
@@ -92,6 +93,17 @@ inodes_at filesystems count = inodes_seen (entry_at filesystems count)
 
 abbrev pub files_at : Filesystems → ℕ → FileTree ℕ
 files_at filesystems count = files_seen (entry_at filesystems count)
+
+-- how many inodes of a filesystem are promised to a plan
+abbrev pub inodes_promised : Filesystems → ℕ → ℕ
+inodes_promised filesystems count = (entry_at filesystems count).tree.promised
+
+-- a filesystem with so many more, and with so many less
+abbrev pub promising : ℕ → FilesystemEntry → FilesystemEntry
+promising inodes entry = record entry { tree = record entry.tree { promised = entry.tree.promised + inodes } }
+
+abbrev pub giving_back : ℕ → FilesystemEntry → FilesystemEntry
+giving_back inodes entry = record entry { tree = record entry.tree { promised = entry.tree.promised - inodes } }
 
 -- the filesystems with that of this count changed
 abbrev pub changed_if : ℕ → (FilesystemEntry → FilesystemEntry) → FilesystemEntry → FilesystemEntry

@@ -5,7 +5,7 @@ ghost use Rattle.std.specs.Borrow.{sem};
 ghost use Rattle.std.specs.List.{list_all};
 ghost use Rattle.std.specs.Map.{lookup};
 ghost use Rattle.vt_spec.specs.declared.attributes.Kind.TheVariants.{File};
-ghost use Rattle.vt_spec.specs.FileTree.{is_directory_under, is_kind_in, is_removed};
+ghost use Rattle.vt_spec.specs.FileTree.{has_entry_to, is_directory_under, is_kind_in, is_removed};
 ghost use Rattle.vt_spec.specs.Fits.{MayReplace, StaysOutside};
 ghost use Rattle.vt_spec.specs.Inodes.{changed, pinned, unpinned, uses_in};
 ghost use Rattle.vt_spec.specs.Language.Changes.Change.{AddName, Make, Move, Remove, SetAttr, SetBytes, SetMark};
@@ -17,7 +17,7 @@ ghost use Rattle.vt_spec.specs.Tree.{bytes_in, entries_in, is_directory_node, na
 ghost use Rattle.vt_spec.specs.TreeInvariant.{IsDirectory, entry_at as number_at};
 ghost use Rattle.vt_fs.specs.FilesystemsValue.{seen_in};
 ghost use Rattle.vt_fs.specs.Trees.Slots.{most_uses};
-ghost use Rattle.vt_fs.specs.Trees.TreeValue.{inodes_of};
+ghost use Rattle.vt_fs.specs.Trees.TreeValue.{inodes_of, with_unnamed};
 ghost use Rattle.vt_location.specs.Locations.{number_of};
 ghost use Rattle.vt_location.specs.declared.births.Birth.TheVariants.{Here};
 ghost use Rattle.vt_location.specs.Numbers.{exchanged};
@@ -131,7 +131,7 @@ impl Model for Filesystems {
 }
 
 impl Filesystems {
-    ghost use Rattle.vt_fs.specs.FilesystemsValue.{FilesystemEntry, ChangesInodes, HoldsRoot, IsNew, LeavesRoot, entry_at, entry_of, files_at, inodes_at, inodes_seen, next_seen, node_seen, with_changed, without};
+    ghost use Rattle.vt_fs.specs.FilesystemsValue.{FilesystemEntry, ChangesInodes, HoldsRoot, IsNew, LeavesRoot, entry_at, entry_of, files_at, giving_back, inodes_at, inodes_promised, inodes_seen, next_seen, node_seen, promising, with_changed, without};
     ghost use Rattle.vt_fs.specs.Laws.{LieUnderRoot, ParentsAreNamed, is_lost_under};
     ghost use Rattle.vt_fs.specs.Lends.{lends_tree};
 
@@ -448,6 +448,8 @@ impl Filesystems {
     }
 
     /// Makes an inode under a free name of a directory: mkdir(2), open(2) with O_CREAT, symlink(2), mknod(2).
+    ///
+    /// While inodes are promised it takes only room that is there beside them.
     pub fn create(
         &mut self,
         alloc: Global,
@@ -473,6 +475,87 @@ impl Filesystems {
         let tree = self.get_mut(directory.filesystem).unwrap();
         let slot = tree.create(alloc, parent, name, node)?;
         Ok(in_slot(directory.filesystem, slot))
+    }
+
+    /// Promises so many inodes of a filesystem to a plan, so that it can make them where nothing may fail. All that a plan
+    /// needs is promised at once: while some are promised no more are made to fit.
+    pub fn promise(&mut self, filesystem: FilesystemId, inodes: usize) -> Result<(), AllocError>
+        ensures ok { OnOk result (self.new ≡ with_changed filesystem.count (promising inodes) self.old) }
+        ensures err { OnErr result (self.new ≡ self.old) }
+    {
+        match self.get_mut(filesystem) {
+            Some(tree) => tree.promise(inodes),
+            None => Ok(()),
+        }
+    }
+
+    /// Takes back so many promised inodes, as of a plan that is refused. It does not allocate.
+    pub fn give_back(&mut self, filesystem: FilesystemId, inodes: usize)
+        ensures { self.new ≡ with_changed filesystem.count (giving_back inodes) self.old }
+    {
+        if let Some(tree) = self.get_mut(filesystem) {
+            tree.give_back(inodes);
+        }
+    }
+
+    /// As `create`, for a caller that was promised the inode and has made room for the name. It does not allocate.
+    ///
+    /// No name may lead to the number that the inode gets, as in a tree whose entries lead to what is there.
+    pub fn create_promised(
+        &mut self,
+        alloc: Global,
+        directory: NodeRef,
+        name: Vec<u8>,
+        node: NewNode,
+        room: &mut EntryRoom,
+    ) -> NodeRef
+        requires directory { IsDirectory (files_at self.old directory.filesystem.count).tree (number_of directory) }
+        requires free { number_at (files_at self.old directory.filesystem.count).tree
+            (number_of directory) name.items ≡ None }
+        requires node { IsNewIn directory.slot node }
+        requires promised { 0 < inodes_promised self.old directory.filesystem.count }
+        requires unnamed { (place : ℕ) → has_entry_to nat_eq (files_at self.old directory.filesystem.count).tree place
+            (next_seen (entry_at self.old directory.filesystem.count)) ≡ false }
+        requires room { length (entries_in
+            ((files_at self.old directory.filesystem.count).tree.node (number_of directory))) < room.old }
+        ensures made { ChangesInodes directory.filesystem.count
+            (λ inodes. changed nat_eq inodes
+            (Make (number_of directory) name.items (number_of result) (node_seen directory.filesystem.count node)))
+            self.old self.new }
+        ensures promised { inodes_promised self.new directory.filesystem.count + 1
+            ≡ inodes_promised self.old directory.filesystem.count }
+        ensures number { number_of result ≡ next_seen (entry_at self.old directory.filesystem.count) }
+        ensures filesystem { result.filesystem ≡ directory.filesystem }
+        ensures birth { result.birth ≡ Here }
+    {
+        let parent = self.slot_of(directory).unwrap();
+        let tree = self.get_mut(directory.filesystem).unwrap();
+        let slot = tree.create_promised(alloc, parent, name, node, room);
+        in_slot(directory.filesystem, slot)
+    }
+
+    /// Makes an inode without a name, with one use, for a caller that was promised it: a copy of what is in use and has lost
+    /// its names. A directory is its own parent. It does not allocate.
+    pub fn create_unnamed(
+        &mut self,
+        alloc: Global,
+        filesystem: FilesystemId,
+        node: NewNode,
+    ) -> NodeRef
+        requires node { IsNewIn (entry_at self.old filesystem.count).tree.next node }
+        requires promised { 0 < inodes_promised self.old filesystem.count }
+        ensures made { ChangesInodes filesystem.count
+            (λ inodes. with_unnamed nat_eq inodes (number_of result) (node_seen filesystem.count node))
+            self.old self.new }
+        ensures promised { inodes_promised self.new filesystem.count + 1
+            ≡ inodes_promised self.old filesystem.count }
+        ensures number { number_of result ≡ next_seen (entry_at self.old filesystem.count) }
+        ensures filesystem { result.filesystem ≡ filesystem }
+        ensures birth { result.birth ≡ Here }
+    {
+        let tree = self.get_mut(filesystem).unwrap();
+        let slot = tree.create_unnamed(alloc, node);
+        in_slot(filesystem, slot)
     }
 
     /// Makes another hard link to an inode of the same filesystem, under a free name: link(2).

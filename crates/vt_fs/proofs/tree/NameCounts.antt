@@ -1,6 +1,6 @@
 -- How many names lead to an object, once a directory has changed.
-use Rattle.std.proofs.Common.{◌≡◌, refl, sym, ap, subst, ℕ, ◌+◌, ◌≤◌, nat_eq, eq-eqb, Bool, true, false, true≢false, cond, not, ◌&&◌, ◌||◌, List, [], ◌∷◌, map, Option, Some, None, arith, is_eq, is_lt, bytes_eq, Ordering, Less, Equal, Greater, ◌∙◌}
-use Rattle.vt_spec.proofs.Common.{Content, Directory, Entries, Node, Regular, Symlink, Tree, Whiteout, and_parts, below_all, by_order, bytes_decides, entries-node_without_entry, entries_in, entries_of, entry_named, entry_named-below, entry_named-with_entry, eq_by_cmp, is_among, is_sorted, name_cmp, nat_list_cmp_total, node_with_entry, node_without_entry, targets_in, texts_ties, with_entries, with_entry, without_entry}
+use Rattle.std.proofs.Common.{◌≡◌, refl, sym, ap, subst, ℕ, ◌+◌, ◌≤◌, nat_eq, eq-eqb, Bool, true, false, true≢false, cond, not, ◌&&◌, ◌||◌, List, [], ◌∷◌, map, Option, Some, None, arith, is_eq, is_lt, bytes_eq, Ordering, Less, Equal, Greater, ⊎_elim, ◌∙◌}
+use Rattle.vt_spec.proofs.Common.{Content, Directory, Entries, Node, Regular, Symlink, Tree, Whiteout, and_parts, below_all, by_order, bytes_decides, cases_lt, entries-node_without_entry, entries_in, entries_of, entry_named, entry_named-below, entry_named-with_entry, eq_by_cmp, is_among, is_sorted, name_cmp, nat_list_cmp_total, node_with_entry, node_without_entry, targets_in, texts_ties, with_entries, with_entry, without_entry}
 use Rattle.vt_fs.specs.Trees.Names.{NamesAtMost, how_often, one_if}
 
 abbrev pub targets : Entries ℕ → List ℕ
@@ -135,6 +135,11 @@ often_among number (other ∷ rest) e = by (nat_eq number other) e (often_among 
         → (1 ≤ how_often number rest → is_among nat_eq number rest ≡ true) → (b || is_among nat_eq number rest) ≡ true
     by true e later = refl
     by false e later = later (omega (arith, e))
+
+pub among_never : (number : ℕ) (list : List ℕ) → is_among nat_eq number list ≡ false → how_often number list ≡ 0
+among_never number list none = ⊎_elim
+    (λ some. absurd (true≢false (sym (often_among number list (omega (arith, some))) ∙ none)))
+    (λ past. omega (arith, past)) (cases_lt 0 (how_often number list))
 
 -- what a name leads to
 pub named_often : (name : List ℕ) (object : ℕ) (node : Option (Node ℕ))

@@ -1,9 +1,9 @@
 -- What is listed for objects, once a tree has changed.
 use Rattle.std.proofs.Common.{◌≡◌, refl, sym, ap, subst, ◌⊎◌, inl, inr, ⊎_elim, ℕ, ◌+◌, ◌-◌, ◌≤◌, nat_eq, nat_le, eqb-true, Bool, true, false, cond, List, [], Option, Some, None, arith, Err, Ok, OnErr, OnOk, Result}
-use Rattle.vt_spec.proofs.Common.{Content, Directory, Inode, Inodes, Node, Regular, Symlink, Tree, Whiteout, entries-node_with_parent, entries_in, entries_of, entry_named, eqb_tells, inode_with_node, is_directory, is_sorted, kind_of, name_cmp, new_directory, node_in, node_with_entry, node_with_parent, node_without_entry, pinned, targets_in, tree_of, unpinned, used_once_less, used_once_more, with_changed}
+use Rattle.vt_spec.proofs.Common.{Content, Directory, Inode, Inodes, Node, Regular, Symlink, Tree, Whiteout, entries-node_with_parent, entries_in, entries_of, entry_named, eqb_tells, has_entry_to, inode_with_node, is_directory, is_sorted, kind_of, name_cmp, new_directory, node_in, node_with_entry, node_with_parent, node_without_entry, pinned, targets_in, tree_of, unpinned, used_once_less, used_once_more, with_changed}
 use Rattle.vt_spec.specs.Inodes.{with_inode, without_replaced}
-use Rattle.vt_fs.proofs.tree.NameCounts.{most_weaker, named_in_node, named_often, one_if_some, put_in_node, taken_from_node, targets}
-use Rattle.vt_fs.specs.Trees.Names.{NamesAtMost, at_place, how_often, less_at, more_at, names_at, one_if}
+use Rattle.vt_fs.proofs.tree.NameCounts.{among_never, most_weaker, named_in_node, named_often, one_if_some, put_in_node, taken_from_node, targets}
+use Rattle.vt_fs.specs.Trees.Names.{NamesAtMost, at_place, how_often, less_at, more_at, names_at, none_at, one_if}
 use Rattle.vt_fs.specs.Trees.Slots.{Slots, inodes_in, put_at}
 
 -- What is listed for the same inodes
@@ -260,3 +260,13 @@ no_entries directory (Directory parent entries opaque) (inr e) = cc
 no_entries directory (Regular bytes) e = refl
 no_entries directory (Symlink text) e = refl
 no_entries directory Whiteout e = refl
+
+-- nothing has to be listed for an object that no name leads to
+pub none_keeps : (tree : Tree ℕ) (object : ℕ) (most : ℕ → ℕ → ℕ)
+    → ((place : ℕ) → has_entry_to nat_eq tree place object ≡ false) → NamesAtMost tree most
+    → NamesAtMost tree (none_at object most)
+none_keeps tree object most unnamed counted other place = ⊎_elim (λ t. omega (
+  arith,
+  ap (λ n. names_at tree n place) t.1,
+  among_never object (targets_in (tree.node place)) (unnamed place),
+)) (λ t. omega (arith, ap (λ b. cond b 0 (most other place)) t.0, counted other place)) (eqb_tells other object)

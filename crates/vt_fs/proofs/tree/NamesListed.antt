@@ -6,7 +6,7 @@ use Rattle.std.proofs.lemmas.List.Sums.{sum_by-cons, sum_by-swap_remove}
 use Rattle.std.specs.List.{position, prefix_len, refill, sum_by}
 use Rattle.smallvec.specs.SmallVec.{SmallVec}
 use Rattle.vt_spec.proofs.Common.{cases_lt, common_steps, eqb_tells, get_or_past, nat_eq_equiv}
-use Rattle.vt_fs.specs.Trees.Names.{Lists, at_place, directories_for, how_often, less_at, list_for, listings, more_at, one_if}
+use Rattle.vt_fs.specs.Trees.Names.{Lists, at_place, directories_for, how_often, less_at, list_for, listings, more_at, none_at, one_if}
 
 -- One list
 
@@ -113,6 +113,20 @@ module _ (lists : Lists) (object : ℕ) (list : SmallVec ℕ) (within : object <
         often_pushed place (directories_for lists object) directory,
         one_here object directory place,
       )) (λ other place differ. omega (arith, one_elsewhere object directory other place differ))
+
+  pub listed_first : (directory : ℕ) → list.items ≡ directory ∷ []
+      → listings (slice_set lists object list) ≡ more_at object directory (none_at object (listings lists))
+  listed_first directory first = listings_at (more_at object directory (none_at object (listings lists)))
+      (λ place. omega (
+        arith,
+        ap (how_often place) first,
+        one_here object directory place,
+        ap (λ b. cond b 0 (listings lists object place)) (eq-eqb object object refl),
+      )) (λ other place differ. omega (
+        arith,
+        one_elsewhere object directory other place differ,
+        ap (λ b. cond b 0 (listings lists other place)) differ,
+      ))
 
   pub listed_less : (directory : ℕ)
       → ((place : ℕ) → how_often place list.items

@@ -4,6 +4,7 @@ use Rattle.smallvec.specs.SmallVec.{HasRoomFor, SmallVec}
 use Rattle.vt_spec.specs.FileTree.{has_entry_to, targets_in}
 use Rattle.vt_spec.specs.Lists.{is_among}
 use Rattle.vt_spec.specs.Tree.{Tree}
+use Rattle.vt_fs.specs.Trees.Slots.{Slots, slots_len}
 
 -- the lists of all objects, from the number 0 on
 abbrev pub Lists : Type 0
@@ -56,6 +57,15 @@ NamesAtMost tree most = (object directory : ℕ) → names_at tree object direct
 
 abbrev pub AreListed : Tree ℕ → Lists → Type 0
 AreListed tree lists = NamesAtMost tree (listings lists)
+
+-- so many inodes fit, and there is a list for each number that they may get
+pub record HasPromised (promised : ℕ) (slots : Slots) (lists : Lists) : Type 0 where
+  pub room : promised ≤ slots.room
+  pub reach : 0 < promised → slots_len slots + slots.room ≤ length lists
+
+-- with nothing listed for an object
+abbrev pub none_at : ℕ → (ℕ → ℕ → ℕ) → ℕ → ℕ → ℕ
+none_at object listed = λ other place. if nat_eq other object then 0 else listed other place
 
 -- each directory that has a name for an object is among these
 abbrev pub HoldsNames : Tree ℕ → ℕ → List ℕ → Type 0

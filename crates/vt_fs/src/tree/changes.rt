@@ -1,5 +1,5 @@
 //! Changes of one inode, as the calls of a tree are made of.
-ghost use Rattle.std.specs.Prelude.{◌≡◌, ℕ, true, ◌+◌, ◌<◌, ◌^◌, Some, length, nat_eq, IsSome, IsTrue, IsOk, OnOk, OnErr};
+ghost use Rattle.std.specs.Prelude.{◌≡◌, ℕ, true, ◌+◌, ◌<◌, ◌≤◌, ◌^◌, Some, length, nat_eq, IsSome, IsTrue, IsOk, OnOk, OnErr};
 ghost use Rattle.std.specs.FinMap.Entries.{is_sorted};
 ghost use Rattle.vt_spec.specs.declared.attributes.Kind.TheVariants.{File};
 ghost use Rattle.vt_spec.specs.FileTree.{is_kind_in};
@@ -7,7 +7,7 @@ ghost use Rattle.vt_spec.specs.Language.Changes.{node_with_attr, node_with_mark,
 ghost use Rattle.vt_spec.specs.Machine.Descriptors.{overwritten};
 ghost use Rattle.vt_spec.specs.Inodes.{with_changed, unpinned, without_replaced};
 ghost use Rattle.vt_spec.specs.Tree.{name_cmp, bytes_in, entries_in, entry_named, node_with_bytes, node_with_entry};
-ghost use Rattle.vt_fs.specs.Trees.Slots.{inodes_in, node_at};
+ghost use Rattle.vt_fs.specs.Trees.Slots.{inodes_in, node_at, slots_len};
 
 use crate::tree::slots::Slots;
 use std::alloc::AllocError;
@@ -58,6 +58,7 @@ pub(crate) fn place_entry(
 pub(crate) fn remove_entry(slots: &mut Slots, directory: NodeId, name: &[u8])
     ensures removed { (root : ℕ) → inodes_in root slots.new
         ≡ with_changed nat_eq (inodes_in root slots.old) directory (node_without_entry name.now) }
+    ensures room { slots.new.room ≡ slots.old.room }
 {
     if let Some(node) = slots.get_mut(directory) {
         node.remove_entry(name);
@@ -68,6 +69,7 @@ pub(crate) fn remove_entry(slots: &mut Slots, directory: NodeId, name: &[u8])
 pub(crate) fn set_parent(slots: &mut Slots, directory: NodeId, parent: NodeId)
     ensures set { (root : ℕ) → inodes_in root slots.new
         ≡ with_changed nat_eq (inodes_in root slots.old) directory (node_with_parent parent) }
+    ensures room { slots.new.room ≡ slots.old.room }
 {
     if let Some(node) = slots.get_mut(directory) {
         node.set_parent(parent);
@@ -78,6 +80,7 @@ pub(crate) fn set_parent(slots: &mut Slots, directory: NodeId, parent: NodeId)
 pub(crate) fn set_attr(slots: &mut Slots, object: NodeId, attr: Attr)
     ensures set { (root : ℕ) → inodes_in root slots.new
         ≡ with_changed nat_eq (inodes_in root slots.old) object (node_with_attr attr) }
+    ensures room { slots.new.room ≡ slots.old.room }
 {
     if let Some(node) = slots.get_mut(object) {
         node.set_attr(attr);
@@ -88,6 +91,7 @@ pub(crate) fn set_attr(slots: &mut Slots, object: NodeId, attr: Attr)
 pub(crate) fn set_opaque(slots: &mut Slots, directory: NodeId, opaque: bool)
     ensures set { (root : ℕ) → inodes_in root slots.new
         ≡ with_changed nat_eq (inodes_in root slots.old) directory (node_with_mark opaque) }
+    ensures room { slots.new.room ≡ slots.old.room }
 {
     if let Some(node) = slots.get_mut(directory) {
         node.set_opaque(opaque);
@@ -98,6 +102,7 @@ pub(crate) fn set_opaque(slots: &mut Slots, directory: NodeId, opaque: bool)
 pub(crate) fn set_bytes(slots: &mut Slots, file: NodeId, bytes: Vec<u8>)
     ensures set { (root : ℕ) → inodes_in root slots.new
         ≡ with_changed nat_eq (inodes_in root slots.old) file (node_with_bytes bytes.items) }
+    ensures room { slots.new.room ≡ slots.old.room }
 {
     if let Some(node) = slots.get_mut(file) {
         node.set_bytes(bytes);
@@ -117,6 +122,8 @@ pub(crate) fn write_bytes(
         (node_with_bytes (overwritten offset bytes.now (bytes_in (node_at slots.old file))))) }
     ensures file { OnErr result (IsTrue (is_kind_in File (node_at slots.old file))) }
     ensures longer { OnErr result (length (bytes_in (node_at slots.old file)) < offset + length bytes.now) }
+    ensures room { slots.new.room ≡ slots.old.room }
+    ensures len { slots_len slots.new ≡ slots_len slots.old }
     ensures err { OnErr result (slots.new ≡ slots.old) }
 {
     match slots.get_mut(file) {
@@ -130,6 +137,8 @@ pub(crate) fn write_bytes(
 pub(crate) fn remove_object(slots: &mut Slots, object: NodeId)
     ensures removed { (root : ℕ) → inodes_in root slots.new
         ≡ without_replaced nat_eq (inodes_in root slots.old) (Some object) }
+    ensures room { slots.old.room ≤ slots.new.room }
+    ensures total { slots_len slots.new + slots.new.room ≤ slots_len slots.old + slots.old.room }
 {
     set_parent(slots, object, object);
     release(slots, object);
@@ -138,6 +147,8 @@ pub(crate) fn remove_object(slots: &mut Slots, object: NodeId)
 // Takes back a use: an object is freed with its last use.
 pub(crate) fn release(slots: &mut Slots, object: NodeId)
     ensures released { (root : ℕ) → inodes_in root slots.new ≡ unpinned nat_eq (inodes_in root slots.old) object }
+    ensures room { slots.old.room ≤ slots.new.room }
+    ensures total { slots_len slots.new + slots.new.room ≤ slots_len slots.old + slots.old.room }
 {
     slots.release(object);
 }

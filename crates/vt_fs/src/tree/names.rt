@@ -1,7 +1,7 @@
 //! Which directories have names for each object.
-ghost use Rattle.std.specs.Prelude.{◌≡◌, ℕ, ◌+◌, ◌-◌, ◌<◌, [], OnOk, nat_eq};
+ghost use Rattle.std.specs.Prelude.{◌≡◌, ℕ, ◌+◌, ◌-◌, ◌<◌, ◌≤◌, [], length, OnOk, nat_eq};
 ghost use Rattle.std.specs.List.{position};
-ghost use Rattle.vt_fs.specs.Trees.Names.{HasRoom, directories_for, how_often, less_at, listings, more_at, one_if};
+ghost use Rattle.vt_fs.specs.Trees.Names.{HasRoom, directories_for, how_often, less_at, listings, more_at, none_at, one_if};
 
 use smallvec::SmallVec;
 use std::alloc::{AllocError, Global};
@@ -38,22 +38,45 @@ impl Names {
         }
     }
 
-    /// Makes room for one name more of an object.
-    pub fn reserve(&mut self, object: NodeId) -> Result<(), AllocError>
-        ensures ok { OnOk result (HasRoom self.new object) }
+    /// Makes lists for all objects up to this one. It changes none that is there.
+    pub fn lengthen(&mut self, last: usize) -> Result<(), AllocError>
+        ensures ok { OnOk result (last < length self.new) }
+        ensures longer { length self.old ≤ length self.new }
         ensures listings { listings self.new ≡ listings self.old }
     {
-        while self.lists.len() <= object.index() {
+        while self.lists.len() <= last {
             self.lists.push(SmallVec::new(*self.lists.allocator()))?;
         }
+        Ok(())
+    }
+
+    /// Makes room for one name more of an object that has a list.
+    pub fn reserve(&mut self, object: NodeId) -> Result<(), AllocError>
+        requires { object < length self.old }
+        ensures ok { OnOk result (HasRoom self.new object) }
+        ensures len { length self.new ≡ length self.old }
+        ensures listings { listings self.new ≡ listings self.old }
+    {
         let list = &mut self.lists[object.index()];
         list.reserve(1)
+    }
+
+    /// Lists the directory of the first name of an object that no name leads to yet. It does not allocate.
+    pub fn start(&mut self, object: NodeId, directory: NodeId)
+        requires { object < length self.old }
+        ensures listings { listings self.new ≡ more_at object directory (none_at object (listings self.old)) }
+        ensures len { length self.new ≡ length self.old }
+    {
+        let mut list = SmallVec::new(*self.lists.allocator());
+        list.push_reserved(directory);
+        self.lists[object.index()] = list;
     }
 
     /// Lists a directory that has one name more of an object, for a caller that has made room.
     pub fn add(&mut self, object: NodeId, directory: NodeId)
         requires { HasRoom self.old object }
-        ensures { listings self.new ≡ more_at object directory (listings self.old) }
+        ensures listings { listings self.new ≡ more_at object directory (listings self.old) }
+        ensures len { length self.new ≡ length self.old }
     {
         let list = &mut self.lists[object.index()];
         list.push_reserved(directory);
@@ -61,7 +84,8 @@ impl Names {
 
     /// Lists a directory that has one name less of an object once less, if it is listed. It does not allocate.
     pub fn take(&mut self, object: NodeId, directory: NodeId)
-        ensures { listings self.new ≡ less_at object directory (listings self.old) }
+        ensures listings { listings self.new ≡ less_at object directory (listings self.old) }
+        ensures len { length self.new ≡ length self.old }
     {
         if let Some(list) = self.lists.get_mut(object.index()) {
             list_once_less(list, directory);
@@ -71,7 +95,8 @@ impl Names {
     /// Lists another directory in the place of one, as a name of an object moves there. It does not allocate.
     pub fn move_to(&mut self, object: NodeId, from: NodeId, to: NodeId)
         requires { 0 < listings self.old object from }
-        ensures { listings self.new ≡ more_at object to (less_at object from (listings self.old)) }
+        ensures listings { listings self.new ≡ more_at object to (less_at object from (listings self.old)) }
+        ensures len { length self.new ≡ length self.old }
     {
         if let Some(list) = self.lists.get_mut(object.index()) {
             list_instead(list, from, to);

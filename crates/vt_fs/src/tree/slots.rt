@@ -120,9 +120,10 @@ impl Slots {
         self.slab.len()
     }
 
-    /// A number above those of all nodes.
+    /// A number above those of all nodes, and of all that fit.
     pub fn end(&self) -> usize
-        ensures { (id : ℕ) → result ≤ id → slot_at self.now id ≡ None }
+        ensures vacant { (id : ℕ) → result ≤ id → slot_at self.now id ≡ None }
+        ensures fits { slots_len self.now + self.now.room ≤ result }
     {
         self.slab.capacity()
     }
@@ -133,6 +134,13 @@ impl Slots {
         ensures vacant { slot_at self.now result ≡ None }
     {
         NodeId::new(self.slab.vacant_key())
+    }
+
+    /// How many more nodes fit.
+    pub fn room(&self) -> usize
+        ensures { result ≡ self.now.room }
+    {
+        self.slab.capacity() - self.slab.len()
     }
 
     /// Makes room for so many more nodes.
@@ -148,11 +156,29 @@ impl Slots {
         self.slab.reserve(additional)
     }
 
+    /// Makes room for so many more nodes beside some that are promised. While some are, no more are made to fit.
+    pub fn reserve_beside(&mut self, promised: usize, additional: usize) -> Result<(), AllocError>
+        requires { promised ≤ self.old.room }
+        ensures ok { OnOk result (promised + additional ≤ self.new.room) }
+        ensures still { 0 < promised → self.new.room ≡ self.old.room }
+        ensures room { self.old.room ≤ self.new.room }
+        ensures rest_kept { self.new ≡ record self.old { room = self.new.room } }
+    {
+        if additional <= self.room() - promised {
+            return Ok(());
+        }
+        if promised > 0 {
+            return Err(AllocError);
+        }
+        self.reserve(additional)
+    }
+
     /// Gives a node with one use the next number, for a caller that has made room.
     pub fn insert_reserved(&mut self, node: Node) -> NodeId
         requires { 0 < self.old.room }
         ensures number { result ≡ self.old.next }
         ensures vacant { slot_at self.old result ≡ None }
+        ensures below { result < slots_len self.old + self.old.room }
         ensures inserted { slot_at self.new
             ≡ put_at (slot_at self.old) result (Some (record { node = node; uses = 1 })) }
         ensures len { slots_len self.new ≡ slots_len self.old + 1 }
@@ -200,6 +226,7 @@ impl Slots {
         ensures len { slots_len self.new
             ≡ (if goes (slot_at self.old id) then slots_len self.old - 1 else slots_len self.old) }
         ensures room { self.old.room ≤ self.new.room }
+        ensures total { slots_len self.new + self.new.room ≤ slots_len self.old + self.old.room }
     {
         let uses = self.uses(id);
         if uses <= 1 {

@@ -1,7 +1,7 @@
 //! `Tree`, and what its calls change.
-ghost use Rattle.std.specs.Prelude.{◌≡◌, ℕ, ◌^◌, ◌≤◌, ◌+◌, ◌<◌, ◌↔◌, nat_eq, false, [], map, length, drop, take, None, Some, IfOk, OnOk, OnErr, IsOk, IsTrue, option_copied, IsErr};
+ghost use Rattle.std.specs.Prelude.{◌≡◌, ℕ, ◌^◌, ◌≤◌, ◌+◌, ◌-◌, ◌<◌, ◌↔◌, nat_eq, false, [], map, length, drop, take, None, Some, IfOk, OnOk, OnErr, IsOk, IsTrue, option_copied, IsErr};
 ghost use Rattle.vt_spec.specs.declared.attributes.Kind.TheVariants.{File};
-ghost use Rattle.vt_spec.specs.FileTree.{is_kind_in};
+ghost use Rattle.vt_spec.specs.FileTree.{has_entry_to, is_kind_in};
 ghost use Rattle.vt_spec.specs.Fits.{MayReplace, StaysOutside};
 ghost use Rattle.vt_spec.specs.Inodes.{changed, is_directory_under, one_directory, pinned, unpinned, uses_in};
 ghost use Rattle.vt_spec.specs.Laws.Trees.{IsNewIn};
@@ -10,7 +10,7 @@ ghost use Rattle.vt_spec.specs.Language.Limits.{largest_file};
 ghost use Rattle.vt_spec.specs.Machine.Descriptors.{overwritten};
 ghost use Rattle.vt_spec.specs.Tree.{is_directory_node, parent_in, entries_in, names_in, bytes_in};
 ghost use Rattle.vt_spec.specs.TreeInvariant.{IsDirectory, entry_at};
-ghost use Rattle.vt_fs.specs.Trees.TreeValue.{inodes_of, tree_of, next_number};
+ghost use Rattle.vt_fs.specs.Trees.TreeValue.{inodes_of, tree_of, next_number, with_unnamed};
 ghost use Rattle.vt_fs.specs.Trees.Names.{HoldsNames};
 ghost use Rattle.vt_fs.specs.Trees.Slots.{most_uses};
 
@@ -31,6 +31,8 @@ pub struct Tree {
     slots: Slots,
     names: Names,
     root: NodeId,
+    // How many inodes are promised to a plan.
+    promised: usize,
     alloc: Global,
 }
 
@@ -39,13 +41,19 @@ impl Model for Tree {
 
     ghost Value = { TreeValue };
 
-    ghost view = { λ t. record { root = t.root; slots = t.slots.slots; next = t.slots.next } };
+    ghost view = { λ t. record {
+      root = t.root;
+      slots = t.slots.slots;
+      next = t.slots.next;
+      promised = t.promised;
+    } };
 
     ghost use Rattle.vt_spec.specs.Inodes.{tree_of as nodes_of};
-    ghost use Rattle.vt_fs.specs.Trees.Names.{AreListed};
+    ghost use Rattle.vt_fs.specs.Trees.Names.{AreListed, HasPromised};
     ghost use Rattle.vt_fs.specs.Trees.Slots.{inodes_in};
 
-    ghost invariant = { λ t. AreListed (nodes_of (inodes_in t.root t.slots)) t.names };
+    ghost invariant = { λ t. AreListed (nodes_of (inodes_in t.root t.slots)) t.names
+        × HasPromised t.promised t.slots t.names };
 }
 
 impl Tree {
@@ -61,6 +69,7 @@ impl Tree {
             slots,
             names: Names::new(alloc),
             root,
+            promised: 0,
             alloc,
         })
     }
@@ -167,6 +176,8 @@ impl Tree {
     }
 
     /// Makes an object under a free name of a directory: mkdir(2), open(2) with O_CREAT, symlink(2), mknod(2).
+    ///
+    /// While inodes are promised it takes only room that is there beside them.
     pub fn create(
         &mut self,
         alloc: Global,
@@ -182,12 +193,75 @@ impl Tree {
         ensures number { IfOk result (λ id. id ≡ next_number self.old) }
         ensures err { OnErr result (self.new ≡ self.old) }
     {
-        self.slots.reserve(1)?;
+        self.slots.reserve_beside(self.promised, 1)?;
         let id = self.slots.next();
+        self.names.lengthen(id.index())?;
         self.names.reserve(id)?;
         insert_entry(&mut self.slots, directory, name, id)?;
         self.names.add(id, directory);
         Ok(self.slots.insert_reserved(node.into_node(alloc)))
+    }
+
+    /// Promises so many inodes to a plan, so that it can make them where nothing may fail. All that a plan needs is
+    /// promised at once: while some are promised no more are made to fit.
+    pub fn promise(&mut self, inodes: usize) -> Result<(), AllocError>
+        ensures ok { OnOk result (self.new ≡ record self.old { promised = self.old.promised + inodes }) }
+        ensures err { OnErr result (self.new ≡ self.old) }
+    {
+        self.slots.reserve_beside(self.promised, inodes)?;
+        self.names.lengthen(self.slots.end())?;
+        self.promised += inodes;
+        Ok(())
+    }
+
+    /// Takes back so many promised inodes, as of a plan that is refused. It does not allocate.
+    pub fn give_back(&mut self, inodes: usize)
+        ensures { self.new ≡ record self.old { promised = self.old.promised - inodes } }
+    {
+        self.promised = self.promised.saturating_sub(inodes);
+    }
+
+    /// As `create`, for a caller that was promised the inode and has made room for the name. It does not allocate.
+    ///
+    /// No name may lead to the number that the inode gets, as in a tree whose entries lead to what is there.
+    pub fn create_promised(
+        &mut self,
+        alloc: Global,
+        directory: NodeId,
+        name: Vec<u8>,
+        node: NewNode,
+        room: &mut EntryRoom,
+    ) -> NodeId
+        requires directory { IsDirectory (tree_of self.old) directory }
+        requires free { entry_at (tree_of self.old) directory name.items ≡ None }
+        requires node { IsNewIn directory node }
+        requires promised { 0 < self.old.promised }
+        requires unnamed { (place : ℕ) → has_entry_to nat_eq (tree_of self.old) place (next_number self.old) ≡ false }
+        requires room { length (entries_in ((tree_of self.old).node directory)) < room.old }
+        ensures made { inodes_of self.new
+            ≡ changed nat_eq (inodes_of self.old) (Make directory name.items result node) }
+        ensures number { result ≡ next_number self.old }
+        ensures promised { self.new.promised + 1 ≡ self.old.promised }
+    {
+        let id = self.slots.next();
+        place_entry(&mut self.slots, directory, name, id, room);
+        self.slots.insert_reserved(node.into_node(alloc));
+        self.names.start(id, directory);
+        self.promised -= 1;
+        id
+    }
+
+    /// Makes an object without a name, with one use, for a caller that was promised it: a copy of what is in use and has lost
+    /// its names. A directory is its own parent. It does not allocate.
+    pub fn create_unnamed(&mut self, alloc: Global, node: NewNode) -> NodeId
+        requires node { IsNewIn (next_number self.old) node }
+        requires promised { 0 < self.old.promised }
+        ensures made { inodes_of self.new ≡ with_unnamed nat_eq (inodes_of self.old) result node }
+        ensures number { result ≡ next_number self.old }
+        ensures promised { self.new.promised + 1 ≡ self.old.promised }
+    {
+        self.promised -= 1;
+        self.slots.insert_reserved(node.into_node(alloc))
     }
 
     /// Makes a further hard link to an object, under a free name: link(2).
@@ -209,6 +283,7 @@ impl Tree {
         if self.slots.uses(object) == u64::MAX {
             return Err(AllocError);
         }
+        self.names.lengthen(object.index())?;
         self.names.reserve(object)?;
         insert_entry(&mut self.slots, directory, name, object)?;
         self.names.add(object, directory);

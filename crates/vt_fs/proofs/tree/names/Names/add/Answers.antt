@@ -19,9 +19,9 @@ push_reserved-requires c = (
       (subst (λ (lists : Lists). HasRoomFor (list_for lists c.args.object) 1) (sym c.self.view_is) c.requires.1),
 )
 
-pub returns : goal.returns
-returns c =
-    let path = (goal.at.returns c).After-index_mut-list in
+pub returns-clause-listings : goal.returns-clause-listings
+returns-clause-listings c =
+    let path = (goal.at.returns-clause-listings c).After-index_mut-list in
     let items = c.self.inside.lists.items in
     ap (λ slot. listings (slice_set items slot c.push_reserved.new.self)) c.index.ensures
     ∙ listed_more items c.args.object c.push_reserved.new.self (within path) c.args.directory

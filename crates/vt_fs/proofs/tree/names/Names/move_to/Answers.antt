@@ -1,4 +1,5 @@
 use Rattle.std.proofs.Common.{ap, arith, length, refl, slice_set, sym, true≢false, ⊎_elim, ℕ, ◌+◌, ◌-◌, ◌<◌, ◌∙◌, ◌≡◌}
+use Rattle.std.proofs.lemmas.List.{length-set}
 use Rattle.smallvec.specs.SmallVec.{SmallVec}
 use Rattle.vt_spec.proofs.Common.{cases_lt}
 use Rattle.vt_fs.proofs.tree.NamesListed.{list_lent, listed_instead, none_absent}
@@ -21,8 +22,8 @@ list_instead-requires c =
       ap (λ (lists : Lists). listings lists c.args.object c.args.from) c.self.view_is,
     )
 
-pub returns : goal.returns
-returns c =
+pub returns-clause-listings : goal.returns-clause-listings
+returns-clause-listings c =
     let items = c.self.inside.lists.items in
     let moved : listings c.match-get_mut.self-inside.lists.items
     ≡ more_at c.args.object c.args.to (less_at c.args.object c.args.from (listings items)) =
@@ -49,3 +50,13 @@ returns c =
     ] in
     moved ∙ ap (λ (lists : Lists). more_at c.args.object c.args.to
     (less_at c.args.object c.args.from (listings lists))) c.self.view_is
+
+-- there are as many lists
+pub returns-clause-len : goal.returns-clause-len
+returns-clause-len c = elim c.match-get_mut.branch [
+  | in-Some w ↦ ap (λ inside. length inside.lists.items) w.self-inside-is
+      ∙ length-set c.self.inside.lists.items c.index.result w.list_instead.new.list
+      ∙ ap (λ (lists : Lists). length lists) c.self.view_is
+  | in_default w ↦ ap (λ inside. length inside.lists.items) w.self-inside-is
+      ∙ ap (λ (lists : Lists). length lists) c.self.view_is
+]

@@ -1,4 +1,5 @@
 use Rattle.std.proofs.Common.{ap, arith, length, refl, slice_set, sym, true≢false, ⊎_elim, ℕ, ◌-◌, ◌<◌, ◌∙◌, ◌≡◌}
+use Rattle.std.proofs.lemmas.List.{length-set}
 use Rattle.smallvec.specs.SmallVec.{SmallVec}
 use Rattle.vt_spec.proofs.Common.{cases_lt}
 use Rattle.vt_fs.proofs.tree.NamesListed.{list_lent, listed_absent, listed_less}
@@ -6,8 +7,8 @@ use Rattle.vt_fs.proofs.tree.names.Names.take.Goals as goal
 use Rattle.vt_fs.proofs.tree.names.Names.take.Goals.{in-Some, in_default}
 use Rattle.vt_fs.specs.Trees.Names.{Lists, how_often, less_at, listings, one_if}
 
-pub returns : goal.returns
-returns c =
+pub returns-clause-listings : goal.returns-clause-listings
+returns-clause-listings c =
     let items = c.self.inside.lists.items in
     let taken : listings c.match-get_mut.self-inside.lists.items
     ≡ less_at c.args.object c.args.directory (listings items) =
@@ -29,3 +30,13 @@ returns c =
           (λ past. past) (cases_lt c.args.object (length items)))
     ] in
     taken ∙ ap (λ (lists : Lists). less_at c.args.object c.args.directory (listings lists)) c.self.view_is
+
+-- there are as many lists
+pub returns-clause-len : goal.returns-clause-len
+returns-clause-len c = elim c.match-get_mut.branch [
+  | in-Some w ↦ ap (λ inside. length inside.lists.items) w.self-inside-is
+      ∙ length-set c.self.inside.lists.items c.index.result w.list_once_less.new.list
+      ∙ ap (λ (lists : Lists). length lists) c.self.view_is
+  | in_default w ↦ ap (λ inside. length inside.lists.items) w.self-inside-is
+      ∙ ap (λ (lists : Lists). length lists) c.self.view_is
+]

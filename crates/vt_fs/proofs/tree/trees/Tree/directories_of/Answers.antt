@@ -16,5 +16,5 @@ returns c =
     (often_among directory (directories_for c.self.inside.names object) (omega (
       arith,
       among_often object (targets_in (tree.node directory)) named,
-      c.self.invariant object directory,
+      c.self.invariant.0 object directory,
     ))))

@@ -1,4 +1,4 @@
-use Rattle.std.proofs.Common.{◌≡◌, ap, nat_eq, ℕ, ◌∙◌}
+use Rattle.std.proofs.Common.{arith, ◌≡◌, ap, nat_eq, ℕ, ◌∙◌}
 use Rattle.vt_spec.proofs.Common.{Node, entries_of, node_in, one_directory, tree_of}
 use Rattle.vt_fs.specs.Trees.Slots.{Slots, slot_at, slots_len}
 use Rattle.vt_fs.proofs.tree.InodeLemmas.{inodes-root}
@@ -25,9 +25,11 @@ pub invariant_of-result : goal.invariant_of-result
 invariant_of-result c =
     let empty = c.in_ok-reserve.ensures.rest_kept
     ∙ ap (λ (slots : Slots). record slots { room = c.reserve.new.self.room }) c.new-slots.ensures in
-    let inodes = inodes_in c.next-root.result in
-    new_keeps (inodes c.reserve.new.self) (inodes c.insert_reserved.new.self)
-    c.insert_reserved.result c.new_directory.result _ c.insert_reserved.ensures.inserted
-    (ap (λ (node : Node ℕ). entries_of node.content) c.new_directory.ensures)
-    (none_named (tree_of (inodes c.reserve.new.self)) _
-    (λ number. ap (λ (slots : Slots). node_in (slot_at slots number)) empty))
+    let inodes = inodes_in c.next-root.result in (
+      new_keeps (inodes c.reserve.new.self) (inodes c.insert_reserved.new.self)
+          c.insert_reserved.result c.new_directory.result _ c.insert_reserved.ensures.inserted
+          (ap (λ (node : Node ℕ). entries_of node.content) c.new_directory.ensures)
+          (none_named (tree_of (inodes c.reserve.new.self)) _
+          (λ number. ap (λ (slots : Slots). node_in (slot_at slots number)) empty)),
+      record { room = omega arith; reach = λ some. absurd (omega (arith, some)) },
+    )

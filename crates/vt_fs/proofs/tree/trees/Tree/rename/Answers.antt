@@ -1,12 +1,13 @@
-use Rattle.std.proofs.Common.{◌≡◌, ℕ, Some, arith, nat_eq, ap, subst, sym, ◌-◌, ◌∙◌, refl}
+use Rattle.std.proofs.Common.{◌≡◌, ℕ, Some, arith, nat_eq, ap, subst, sym, ◌-◌, ◌∙◌, refl, ◌+◌, ◌≤◌}
 use Rattle.vt_spec.proofs.Common.{Inodes, entries_in, entry_at, is_sorted, name_cmp, node_with_entry, node_with_parent, node_without_entry, tree_of as nodes_of, with_changed}
 use Rattle.vt_spec.specs.Inodes.{without_replaced}
-use Rattle.vt_fs.specs.Trees.Slots.{inodes_in}
+use Rattle.vt_fs.specs.Trees.Slots.{inodes_in, slots_len}
 use Rattle.vt_fs.specs.Trees.TreeValue.{inodes_of, tree_of}
 use Rattle.vt_fs.proofs.tree.MoveLemmas.{moved, replaced_other}
 use Rattle.vt_fs.proofs.tree.NamesKept.{counted_as, name_moved, named_listed, replaced_keeps}
 use Rattle.vt_fs.proofs.tree.NameCounts.{most_weaker, one_if_some}
 use Rattle.vt_fs.specs.Trees.Names.{NamesAtMost, at_place, less_at, listings, more_at}
+use Rattle.vt_fs.proofs.tree.PromisedKept.{promised_kept}
 use Rattle.vt_fs.proofs.tree.trees.Tree.rename.Goals as goal
 use Rattle.vt_fs.proofs.tree.trees.Tree.rename.Goals.{After-set_parent}
 
@@ -56,7 +57,7 @@ pub move_to-requires : goal.move_to-requires
 move_to-requires c =
     let named = ap (λ value. entry_at (tree_of value) c.args.from c.args.old.now) c.self.view_is ∙ c.requires.named in
     let listed = named_listed (inodes_in c.self.inside.root c.self.inside.slots) c.args.from c.args.old.now
-    c.args.object (listings c.self.inside.names) named c.self.invariant in
+    c.args.object (listings c.self.inside.names) named c.self.invariant.0 in
     omega (arith, listed)
 
 -- the object has the new directory in the place of the old one, and what had the new name has one less
@@ -82,24 +83,51 @@ counted c =
     (λ number. one_if_some number (entry_at (tree_of value) c.args.to c.args.new.items)) number place)
     (sym c.self.view_is))
     (name_moved before c.args.from c.args.to c.args.old.now c.args.new.items c.args.object
-    (listings c.self.inside.names) c.insert_entry.ensures.in_order named c.self.invariant)
+    (listings c.self.inside.names) c.insert_entry.ensures.in_order named c.self.invariant.0)
+
+-- there is as much room, and as many lists
+room_kept : (c : After-set_parent) → (c.self.inside.slots.room ≤ c.set_parent.new.slots.room)
+    × (slots_len c.set_parent.new.slots + c.set_parent.new.slots.room
+    ≤ slots_len c.self.inside.slots + c.self.inside.slots.room)
+room_kept c =
+    let root = c.self.inside.root in (
+      omega (arith, c.insert_entry.ensures.room, c.remove_entry.ensures.room, c.set_parent.ensures.room),
+      omega (
+        arith,
+        c.insert_entry.ensures.room,
+        c.remove_entry.ensures.room,
+        c.set_parent.ensures.room,
+        ap (λ (inodes : Inodes ℕ). inodes.count) (c.in_ok-insert_entry.ensures.ok root),
+        ap (λ (inodes : Inodes ℕ). inodes.count) (c.remove_entry.ensures.removed root),
+        ap (λ (inodes : Inodes ℕ). inodes.count) (c.set_parent.ensures.set root),
+      ),
+    )
 
 pub invariant_of-self-in-Some : goal.invariant_of-self-in-Some
 invariant_of-self-in-Some c =
     let path = (goal.at.invariant_of-self-in-Some c).After-set_parent in
     let root = c.self.inside.root in
     let moved = more_at c.args.object c.args.to
-    (less_at c.args.object c.args.from (listings c.self.inside.names)) in
-    counted_as _ _ _ _ (c.remove_object.ensures.removed root)
-    (c.take.ensures ∙ ap (less_at c.in-Some.other c.args.to) c.move_to.ensures)
-    (replaced_keeps (inodes_in root c.set_parent.new.slots) c.in-Some.other _
-    (subst (λ found. NamesAtMost (nodes_of (inodes_in root c.set_parent.new.slots)) (λ number place. moved number place
-    - at_place c.args.to (λ number. one_if_some number found) number place)) (sym (replaced path) ∙ c.in-Some.is)
-    (counted path)))
+    (less_at c.args.object c.args.from (listings c.self.inside.names)) in (
+      counted_as _ _ _ _ (c.remove_object.ensures.removed root)
+          (c.take.ensures.listings ∙ ap (less_at c.in-Some.other c.args.to) c.move_to.ensures.listings)
+          (replaced_keeps (inodes_in root c.set_parent.new.slots) c.in-Some.other _
+          (subst (λ found. NamesAtMost (nodes_of (inodes_in root c.set_parent.new.slots)) (λ number place. moved number place
+          - at_place c.args.to (λ number. one_if_some number found) number place)) (sym (replaced path) ∙ c.in-Some.is)
+          (counted path))),
+      promised_kept c.self.inside.promised c.self.inside.slots c.remove_object.new.slots c.self.inside.names
+          c.take.new.self (omega (arith, c.move_to.ensures.len, c.take.ensures.len)) c.self.invariant.1
+          (omega (arith, (room_kept path).0, c.remove_object.ensures.room))
+          (omega (arith, (room_kept path).1, c.remove_object.ensures.total)),
+    )
 
 pub invariant_of-self-in_default : goal.invariant_of-self-in_default
 invariant_of-self-in_default c =
-    let path = (goal.at.invariant_of-self-in_default c).After-set_parent in
-    counted_as (inodes_in c.self.inside.root c.set_parent.new.slots) _ _ _ refl c.move_to.ensures
-    (most_weaker (nodes_of (inodes_in c.self.inside.root c.set_parent.new.slots)) _ _ (counted path)
-    (λ number place. omega arith))
+    let path = (goal.at.invariant_of-self-in_default c).After-set_parent in (
+      counted_as (inodes_in c.self.inside.root c.set_parent.new.slots) _ _ _ refl c.move_to.ensures.listings
+          (most_weaker (nodes_of (inodes_in c.self.inside.root c.set_parent.new.slots)) _ _ (counted path)
+          (λ number place. omega arith)),
+      promised_kept c.self.inside.promised c.self.inside.slots c.set_parent.new.slots c.self.inside.names
+          c.move_to.new.self (omega (arith, c.move_to.ensures.len)) c.self.invariant.1 (room_kept path).0
+          (room_kept path).1,
+    )

@@ -1,9 +1,0 @@
-use Rattle.std.proofs.Common.{length, ◌+◌, ◌-◌, ◌≡◌}
-use Rattle.vt_fs.proofs.tree.names.Names.reserve.Given as goal
-use Rattle.vt_fs.specs.Trees.Names.{listings}
-
-abbrev pub invariant-loop-self : goal.invariant-loop-self
-invariant-loop-self l = listings l.self-inside.lists.items ≡ listings l.fn.self
-
-abbrev pub decreases-loop-self : goal.decreases-loop-self
-decreases-loop-self l = l.object + 1 - length l.self-inside.lists.items
