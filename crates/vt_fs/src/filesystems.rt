@@ -5,7 +5,7 @@ ghost use Rattle.std.specs.Borrow.{sem};
 ghost use Rattle.std.specs.List.{list_all};
 ghost use Rattle.std.specs.Map.{lookup};
 ghost use Rattle.vt_spec.specs.declared.attributes.Kind.TheVariants.{File};
-ghost use Rattle.vt_spec.specs.FileTree.{has_entry_to, is_directory_under, is_kind_in, is_removed};
+ghost use Rattle.vt_spec.specs.FileTree.{is_directory_under, is_kind_in, is_removed};
 ghost use Rattle.vt_spec.specs.Fits.{MayReplace, StaysOutside};
 ghost use Rattle.vt_spec.specs.Inodes.{changed, pinned, unpinned, uses_in};
 ghost use Rattle.vt_spec.specs.Language.Changes.Change.{AddName, Make, Move, Remove, SetAttr, SetBytes, SetMark};
@@ -17,7 +17,7 @@ ghost use Rattle.vt_spec.specs.Tree.{bytes_in, entries_in, is_directory_node, na
 ghost use Rattle.vt_spec.specs.TreeInvariant.{IsDirectory, entry_at as number_at};
 ghost use Rattle.vt_fs.specs.FilesystemsValue.{seen_in};
 ghost use Rattle.vt_fs.specs.Trees.Slots.{most_uses};
-ghost use Rattle.vt_fs.specs.Trees.TreeValue.{inodes_of, with_unnamed};
+ghost use Rattle.vt_fs.specs.Trees.TreeValue.{inodes_of};
 ghost use Rattle.vt_location.specs.Locations.{number_of};
 ghost use Rattle.vt_location.specs.declared.births.Birth.TheVariants.{Here};
 ghost use Rattle.vt_location.specs.Numbers.{exchanged};
@@ -27,7 +27,7 @@ use indexmap::IndexMap;
 use std::alloc::{AllocError, Global};
 use std::marker::Model;
 use vt_location::{Birth, FilesystemId, NodeRef};
-use vt_node::{Attr, EntryRoom, NewNode, Node, NodeId};
+use vt_node::{Attr, NewNode, Node, NodeId};
 
 // A filesystem, and how many mounts show it.
 #[derive(Debug, Drop)]
@@ -131,7 +131,7 @@ impl Model for Filesystems {
 }
 
 impl Filesystems {
-    ghost use Rattle.vt_fs.specs.FilesystemsValue.{FilesystemEntry, ChangesInodes, HoldsRoot, IsNew, LeavesRoot, entry_at, entry_of, files_at, giving_back, inodes_at, inodes_promised, inodes_seen, next_seen, node_seen, promising, with_changed, without};
+    ghost use Rattle.vt_fs.specs.FilesystemsValue.{FilesystemEntry, ChangesInodes, HoldsRoot, IsNew, LeavesRoot, entry_at, entry_of, files_at, inodes_at, inodes_seen, next_seen, node_seen, with_changed, without};
     ghost use Rattle.vt_fs.specs.Laws.{LieUnderRoot, ParentsAreNamed, is_lost_under};
     ghost use Rattle.vt_fs.specs.Lends.{lends_tree};
 
@@ -162,7 +162,7 @@ impl Filesystems {
 
     // The tree of a filesystem, to be changed. The first one is compared before a hash is taken, as in `found_under`. No
     // two filesystems have one number (`apart`).
-    fn get_mut(&mut self, filesystem: FilesystemId) -> Option<&mut Tree>
+    pub(crate) fn get_mut(&mut self, filesystem: FilesystemId) -> Option<&mut Tree>
         ensures* writes_back { sem 𝓛 (lends_tree self.entry filesystem.count result) }
         ensures value { option_copied_mut result
             ≡ option_map (λ entry. entry.tree) (entry_of self.old filesystem.count) }
@@ -181,7 +181,7 @@ impl Filesystems {
     }
 
     // The slot of a node in the tree of its filesystem.
-    fn slot_of(&self, node: NodeRef) -> Option<NodeId>
+    pub(crate) fn slot_of(&self, node: NodeRef) -> Option<NodeId>
         ensures value { IfSome result (λ slot. slot ≡ node.slot) }
         ensures number { IfSome result (λ slot. exchanged node.filesystem.count slot ≡ number_of node) }
         ensures nowhere { result ≡ None
@@ -477,87 +477,6 @@ impl Filesystems {
         Ok(in_slot(directory.filesystem, slot))
     }
 
-    /// Promises so many inodes of a filesystem to a plan, so that it can make them where nothing may fail. All that a plan
-    /// needs is promised at once: while some are promised no more are made to fit.
-    pub fn promise(&mut self, filesystem: FilesystemId, inodes: usize) -> Result<(), AllocError>
-        ensures ok { OnOk result (self.new ≡ with_changed filesystem.count (promising inodes) self.old) }
-        ensures err { OnErr result (self.new ≡ self.old) }
-    {
-        match self.get_mut(filesystem) {
-            Some(tree) => tree.promise(inodes),
-            None => Ok(()),
-        }
-    }
-
-    /// Takes back so many promised inodes, as of a plan that is refused. It does not allocate.
-    pub fn give_back(&mut self, filesystem: FilesystemId, inodes: usize)
-        ensures { self.new ≡ with_changed filesystem.count (giving_back inodes) self.old }
-    {
-        if let Some(tree) = self.get_mut(filesystem) {
-            tree.give_back(inodes);
-        }
-    }
-
-    /// As `create`, for a caller that was promised the inode and has made room for the name. It does not allocate.
-    ///
-    /// No name may lead to the number that the inode gets, as in a tree whose entries lead to what is there.
-    pub fn create_promised(
-        &mut self,
-        alloc: Global,
-        directory: NodeRef,
-        name: Vec<u8>,
-        node: NewNode,
-        room: &mut EntryRoom,
-    ) -> NodeRef
-        requires directory { IsDirectory (files_at self.old directory.filesystem.count).tree (number_of directory) }
-        requires free { number_at (files_at self.old directory.filesystem.count).tree
-            (number_of directory) name.items ≡ None }
-        requires node { IsNewIn directory.slot node }
-        requires promised { 0 < inodes_promised self.old directory.filesystem.count }
-        requires unnamed { (place : ℕ) → has_entry_to nat_eq (files_at self.old directory.filesystem.count).tree place
-            (next_seen (entry_at self.old directory.filesystem.count)) ≡ false }
-        requires room { length (entries_in
-            ((files_at self.old directory.filesystem.count).tree.node (number_of directory))) < room.old }
-        ensures made { ChangesInodes directory.filesystem.count
-            (λ inodes. changed nat_eq inodes
-            (Make (number_of directory) name.items (number_of result) (node_seen directory.filesystem.count node)))
-            self.old self.new }
-        ensures promised { inodes_promised self.new directory.filesystem.count + 1
-            ≡ inodes_promised self.old directory.filesystem.count }
-        ensures number { number_of result ≡ next_seen (entry_at self.old directory.filesystem.count) }
-        ensures filesystem { result.filesystem ≡ directory.filesystem }
-        ensures birth { result.birth ≡ Here }
-    {
-        let parent = self.slot_of(directory).unwrap();
-        let tree = self.get_mut(directory.filesystem).unwrap();
-        let slot = tree.create_promised(alloc, parent, name, node, room);
-        in_slot(directory.filesystem, slot)
-    }
-
-    /// Makes an inode without a name, with one use, for a caller that was promised it: a copy of what is in use and has lost
-    /// its names. A directory is its own parent. It does not allocate.
-    pub fn create_unnamed(
-        &mut self,
-        alloc: Global,
-        filesystem: FilesystemId,
-        node: NewNode,
-    ) -> NodeRef
-        requires node { IsNewIn (entry_at self.old filesystem.count).tree.next node }
-        requires promised { 0 < inodes_promised self.old filesystem.count }
-        ensures made { ChangesInodes filesystem.count
-            (λ inodes. with_unnamed nat_eq inodes (number_of result) (node_seen filesystem.count node))
-            self.old self.new }
-        ensures promised { inodes_promised self.new filesystem.count + 1
-            ≡ inodes_promised self.old filesystem.count }
-        ensures number { number_of result ≡ next_seen (entry_at self.old filesystem.count) }
-        ensures filesystem { result.filesystem ≡ filesystem }
-        ensures birth { result.birth ≡ Here }
-    {
-        let tree = self.get_mut(filesystem).unwrap();
-        let slot = tree.create_unnamed(alloc, node);
-        in_slot(filesystem, slot)
-    }
-
     /// Makes another hard link to an inode of the same filesystem, under a free name: link(2).
     ///
     /// It fails too where the inode has 2^64 - 1 uses.
@@ -640,69 +559,6 @@ impl Filesystems {
         let named = self.slot_of(object).unwrap();
         let tree = self.get_mut(from.filesystem).unwrap();
         tree.rename(was_in, old, goes_to, new, named)
-    }
-
-    /// How many names a directory has. What is no directory has none.
-    pub fn entry_count(&self, directory: NodeRef) -> usize
-        ensures { result ≡ length (entries_in
-            ((files_at self.now directory.filesystem.count).tree.node (number_of directory))) }
-    {
-        match self.node(directory) {
-            Some(node) => node.entry_count(),
-            None => 0,
-        }
-    }
-
-    /// Makes room for so many names more of a directory, for a caller that puts them in later, where nothing may fail.
-    pub fn make_room(
-        &self,
-        directory: NodeRef,
-        names: usize,
-        room: &mut EntryRoom,
-    ) -> Result<(), AllocError>
-        ensures ok { OnOk result (length (entries_in
-            ((files_at self.now directory.filesystem.count).tree.node (number_of directory))) + names ≤ room.new) }
-        ensures kept { room.old ≤ room.new }
-        ensures err { OnErr result (room.new ≡ room.old) }
-    {
-        let Some(entries) = self.entry_count(directory).checked_add(names) else {
-            return Err(AllocError);
-        };
-        room.reserve(entries)
-    }
-
-    /// As `rename`, for a caller that has made room for the new name. It does not allocate.
-    pub fn rename_promised(
-        &mut self,
-        from: NodeRef,
-        old: &[u8],
-        to: NodeRef,
-        new: Vec<u8>,
-        object: NodeRef,
-        room: &mut EntryRoom,
-    )
-        requires one_filesystem { to.filesystem ≡ from.filesystem }
-        requires of_object { object.filesystem ≡ from.filesystem }
-        requires named { number_at (files_at self.old from.filesystem.count).tree
-            (number_of from) old.now ≡ Some (number_of object) }
-        requires there { is_some
-            ((files_at self.old from.filesystem.count).tree.node (number_of object)) ≡ true }
-        requires directory { IsDirectory (files_at self.old from.filesystem.count).tree (number_of to) }
-        requires replaced { MayReplace (files_at self.old from.filesystem.count).tree (number_of object)
-            (number_at (files_at self.old from.filesystem.count).tree (number_of to) new.items) }
-        requires outside { StaysOutside (inodes_at self.old from.filesystem.count) (number_of object) (number_of to) }
-        requires room { length (entries_in ((files_at self.old from.filesystem.count).tree.node (number_of to)))
-            < room.old }
-        ensures { ChangesInodes from.filesystem.count
-            (λ inodes. changed nat_eq inodes
-            (Move (number_of from) old.now (number_of to) new.items (number_of object)))
-            self.old self.new }
-    {
-        let was_in = self.slot_of(from).unwrap();
-        let goes_to = self.slot_of(to).unwrap();
-        let named = self.slot_of(object).unwrap();
-        let tree = self.get_mut(from.filesystem).unwrap();
-        tree.rename_promised(was_in, old, goes_to, new, named, room);
     }
 
     /// Sets the whole content of a file: write(2) after open(2) with O_TRUNC. It does not allocate. A symlink, a
@@ -842,7 +698,7 @@ pub(crate) fn slot_in(tree: &Tree, filesystem: FilesystemId, node: NodeRef) -> O
 }
 
 // The inode of this number in the tree of a filesystem.
-fn in_slot(filesystem: FilesystemId, slot: NodeId) -> NodeRef
+pub(crate) fn in_slot(filesystem: FilesystemId, slot: NodeId) -> NodeRef
     ensures value { result ≡ record { filesystem = filesystem; slot = slot; birth = Here } }
     ensures number { number_of result ≡ exchanged filesystem.count slot }
 {

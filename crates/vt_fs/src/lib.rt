@@ -4,6 +4,7 @@
 mod filesystems;
 mod laws;
 mod paths;
+mod promised;
 mod tree;
 
 pub use filesystems::Filesystems;

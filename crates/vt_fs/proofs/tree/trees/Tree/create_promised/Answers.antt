@@ -1,7 +1,7 @@
 use Rattle.std.proofs.Common.{arith, ◌≡◌, length, false, nat_eq, ap, subst, sym, ℕ, ◌<◌, ◌∙◌, refl}
-use Rattle.vt_spec.proofs.Common.{Inodes, entries_in, has_entry_to, node_with_entry, tree_of as nodes_of, with_changed}
+use Rattle.vt_spec.proofs.Common.{Inodes, entries_in, has_entry_to, tree_of as nodes_of}
 use Rattle.vt_spec.specs.Inodes.{with_new}
-use Rattle.vt_fs.specs.Trees.Slots.{inodes_in, slots_len}
+use Rattle.vt_fs.specs.Trees.Slots.{inodes_in}
 use Rattle.vt_fs.specs.Trees.TreeValue.{TreeValue, inodes_of, next_number, tree_of}
 use Rattle.vt_fs.proofs.tree.InodeLemmas.{inodes-created}
 use Rattle.vt_fs.proofs.tree.NamesKept.{counted_as, name_more, new_keeps, no_entries, none_keeps}

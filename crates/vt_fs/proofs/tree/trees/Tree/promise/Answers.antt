@@ -1,5 +1,5 @@
-use Rattle.std.proofs.Common.{arith, ap, refl, ◌∙◌}
-use Rattle.vt_fs.specs.Trees.Slots.{inodes_in, slots_len}
+use Rattle.std.proofs.Common.{arith, ap, refl}
+use Rattle.vt_fs.specs.Trees.Slots.{inodes_in}
 use Rattle.vt_fs.proofs.tree.NamesKept.{counted_as}
 use Rattle.vt_fs.proofs.tree.PromisedKept.{promised_beside}
 use Rattle.vt_fs.proofs.tree.trees.Tree.promise.Goals as goal
