@@ -1,0 +1,4 @@
+pub mod Nodes
+pub mod NodesAbove
+pub mod OneToOne
+pub mod Uses

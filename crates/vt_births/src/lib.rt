@@ -1,0 +1,11 @@
+//! What an overlay keeps beside its layers: whose copies the inodes of its upper layer are, and the nodes that have lost
+//! their names while they are in use.
+#![tactic(auto)]
+
+mod births;
+mod kept;
+mod laws;
+
+pub use births::Births;
+pub use kept::Kept;
+pub use laws::{nodes_above_are_apart, nodes_above_find_their_slots};
