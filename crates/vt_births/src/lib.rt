@@ -5,6 +5,8 @@
 mod births;
 mod kept;
 mod laws;
+#[cfg(test)]
+mod tests;
 
 pub use births::Births;
 pub use kept::Kept;
