@@ -1,13 +1,16 @@
 -- The nodes that have their objects in the upper layer.
-use Rattle.std.proofs.Common.{◌≡◌, ◌<◌, ◌^◌, ℕ, true, Option, None, Some, ap, refl, sym, unwrap_or, ◌∙◌, true≢false}
+use Rattle.std.proofs.Common.{◌≡◌, ◌<◌, ◌^◌, ℕ, true, Option, None, Some, ap, option_map, refl, sym, unwrap_or, ◌∙◌, true≢false}
 use Rattle.std.proofs.lemmas.Option.{same_Some}
 use Rattle.vt_location.specs.declared.births.Birth.{Birth}
 use Rattle.vt_location.specs.declared.births.Birth.TheVariants.{Below, Here}
 use Rattle.vt_location.specs.declared.locations.NodeRef.{NodeRef}
 use Rattle.vt_location.specs.declared.numbers.FilesystemId.{FilesystemId}
+use Rattle.vt_location.specs.Locations.{number_of}
 use Rattle.vt_location.specs.NodeNumbers.{IsSmall}
+use Rattle.vt_location.specs.Numbers.{inode_number}
 use Rattle.vt_location.proofs.NodeLemmas.{one_to_one, small_parts}
-use Rattle.vt_births.specs.Births.{AreOneToOne, BirthsValue, NodesAboveAreApart, NodesAboveFindTheirSlots, copy_of, is_below, node_above, node_of, slot_above, slot_by}
+use Rattle.vt_location.proofs.NumberLemmas.{exchanged_number}
+use Rattle.vt_births.specs.Births.{AreOneToOne, BirthsValue, NodesAboveAreApart, NodesAboveFindTheirSlots, NumbersAboveAreByBirths, copy_of, is_below, node_above, node_of, slot_above, slot_by}
 
 abbrev born_here : FilesystemId → ℕ → NodeRef
 born_here overlay slot = record { filesystem = overlay; slot = slot; birth = Here }
@@ -39,3 +42,13 @@ numbers_apart births overlay a b one count a_small b_small same =
     (small_above births overlay a one count a_small) (small_above births overlay b one count b_small) same in
     same_Some a b (sym (slots_found births overlay a one) ∙ ap (slot_above births) nodes
     ∙ slots_found births overlay b one)
+
+pub numbers_by_births : NumbersAboveAreByBirths
+numbers_by_births births overlay upper slot small = by (node_of births slot)
+    ∙ ap (λ own. unwrap_or (option_map number_of (node_of births own)) (inode_number overlay.count slot))
+    (sym (exchanged_number upper slot small))
+  where
+    by : (found : Option NodeRef) → number_of (unwrap_or found (born_here overlay slot))
+        ≡ unwrap_or (option_map number_of found) (inode_number overlay.count slot)
+    by None = refl
+    by (Some node) = refl

@@ -1,6 +1,6 @@
 -- The births that an overlay keeps: which node each inode of its upper layer is. The inode of the merged tree stays the
 -- same when it is copied up: the kernel's overlayfs document, "upper and lower" (copy_up), "inode properties".
-use Rattle.std.specs.Prelude.{Bool, List, Option, Some, [], false, nat_eq, true, unwrap_or, ℕ, ◌<◌, ◌^◌, ◌≡◌, ◌≤◌}
+use Rattle.std.specs.Prelude.{Bool, List, Option, Some, [], false, nat_eq, option_map, true, unwrap_or, ℕ, ◌<◌, ◌^◌, ◌≡◌, ◌≤◌}
 use Rattle.std.specs.Map.{lookup}
 use Rattle.indexmap.specs.IndexMap.{IndexMap, spare}
 use Rattle.vt_location.specs.declared.births.Birth.{Birth}
@@ -8,6 +8,7 @@ use Rattle.vt_location.specs.declared.births.Birth.TheVariants.{Below, Here}
 use Rattle.vt_location.specs.declared.locations.NodeRef.{NodeRef}
 use Rattle.vt_location.specs.declared.numbers.FilesystemId.{FilesystemId}
 use Rattle.vt_location.specs.Locations.{is_small_node, number_of}
+use Rattle.vt_location.specs.Numbers.{exchanged, inode_number}
 use Rattle.vt_location.specs.SameNodes.{same_node}
 
 -- the slots of the upper layer that have copies, each with the node whose copy it has; these nodes with their slots; and
@@ -83,3 +84,14 @@ NodesAboveAreApart =
     (births : BirthsValue) (overlay : FilesystemId) (one other : ℕ) → AreOneToOne births
     → overlay.count < 2 ^ 64 → one < 2 ^ 64 → other < 2 ^ 64
     → number_of (node_above births overlay one) ≡ number_of (node_above births overlay other) → one ≡ other
+
+-- the births by numbers: of each inode of the upper layer's tree the number of the node whose copy it is
+abbrev pub births_by : ℕ → BirthsValue → ℕ → Option ℕ
+births_by upper births object = option_map number_of (node_of births (exchanged upper object))
+
+-- A node has the number of its object in the upper layer, which a copy has by its birth.
+abbrev pub NumbersAboveAreByBirths : Type 0
+NumbersAboveAreByBirths =
+    (births : BirthsValue) (overlay : FilesystemId) (upper slot : ℕ) → slot < 2 ^ 64
+    → number_of (node_above births overlay slot)
+    ≡ unwrap_or (births_by upper births (inode_number upper slot)) (inode_number overlay.count slot)

@@ -7,7 +7,9 @@ mod kept;
 mod laws;
 #[cfg(test)]
 mod tests;
+mod upper_nodes;
 
 pub use births::Births;
 pub use kept::Kept;
-pub use laws::{nodes_above_are_apart, nodes_above_find_their_slots};
+pub use laws::{nodes_above_are_apart, nodes_above_find_their_slots, numbers_above_are_by_births};
+pub use upper_nodes::UpperNodes;
