@@ -1,3 +1,4 @@
+pub mod KeptObjects
 pub mod Nodes
 pub mod NodesAbove
 pub mod OneToOne

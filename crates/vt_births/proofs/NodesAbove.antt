@@ -12,7 +12,7 @@ use Rattle.vt_location.proofs.NodeLemmas.{one_to_one, small_parts}
 use Rattle.vt_location.proofs.NumberLemmas.{exchanged_number}
 use Rattle.vt_births.specs.Births.{AreOneToOne, BirthsValue, NodesAboveAreApart, NodesAboveFindTheirSlots, NumbersAboveAreByBirths, copy_of, is_below, node_above, node_of, slot_above, slot_by}
 
-abbrev born_here : FilesystemId → ℕ → NodeRef
+abbrev pub born_here : FilesystemId → ℕ → NodeRef
 born_here overlay slot = record { filesystem = overlay; slot = slot; birth = Here }
 
 slot-below : (births : BirthsValue) (node : NodeRef) (birth : Birth) → is_below birth ≡ true

@@ -1,6 +1,7 @@
 -- The nodes that an overlay keeps without a name, and their uses: unlink(2) and rmdir(2) of what is in use.
-use Rattle.std.specs.Prelude.{List, Some, [], if◌then◌else◌, nat_lt, unwrap_or, ℕ, ◌+◌, ◌<◌, ◌≡◌, ◌≤◌}
-use Rattle.std.specs.Map.{lookup}
+use Rattle.std.specs.Prelude.{Bool, List, Some, [], if◌then◌else◌, nat_lt, unwrap_or, ℕ, ◌+◌, ◌<◌, ◌≡◌, ◌≤◌}
+use Rattle.std.specs.List.{list_any}
+use Rattle.std.specs.Map.{keys_of, lookup}
 use Rattle.indexmap.specs.IndexMap.{IndexMap, spare}
 use Rattle.vt_location.specs.declared.locations.NodeRef.{NodeRef}
 use Rattle.vt_location.specs.SameNodes.{same_node}
@@ -17,6 +18,10 @@ none_kept = record { by_node = []; promised = 0 }
 -- the uses of a node; what is not kept has none here
 abbrev pub uses_of : KeptValue → NodeRef → ℕ
 uses_of kept node = unwrap_or (lookup (same_node node) kept.by_node) 0
+
+-- a node is kept
+abbrev pub is_kept : KeptValue → NodeRef → Bool
+is_kept kept node = list_any (same_node node) (keys_of kept.by_node)
 
 -- one use more of a node that is kept
 abbrev pub one_more : ℕ → ℕ

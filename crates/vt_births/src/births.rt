@@ -63,7 +63,8 @@ impl Births {
     /// The node that has its object in a slot of the upper layer: the one that was copied there, else the one that was
     /// born there.
     pub fn node_above(&self, overlay: FilesystemId, slot: usize) -> NodeRef
-        ensures { result ≡ node_above self.now overlay slot }
+        ensures node { result ≡ node_above self.now overlay slot }
+        ensures one_to_one { AreOneToOne self.now }
     {
         match self.node_of(slot) {
             Some(node) => node,

@@ -30,7 +30,7 @@ impl Model for Kept {
 }
 
 impl Kept {
-    ghost use Rattle.vt_births.specs.Kept.{none_kept, one_more, uses_of};
+    ghost use Rattle.vt_births.specs.Kept.{is_kept, none_kept, one_more, uses_of};
 
     /// No nodes. It does not allocate.
     pub fn new(alloc: Global) -> Self
@@ -50,6 +50,14 @@ impl Kept {
             Some(uses) => *uses,
             None => 0,
         }
+    }
+
+    /// Whether a node is kept.
+    pub fn has(&self, node: NodeRef) -> bool
+        ensures kept { result ≡ is_kept self.now node }
+        ensures uses { result ≡ nat_lt 0 (uses_of self.now node) }
+    {
+        self.by_node.contains_key(&node)
     }
 
     /// The nodes that are kept, in no order.

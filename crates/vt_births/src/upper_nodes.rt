@@ -5,11 +5,12 @@ ghost use Rattle.vt_location.specs.SameNodes.{same_node};
 ghost use Rattle.vt_location.specs.declared.locations.NodeRef.{NodeRef as Node};
 ghost use Rattle.vt_births.specs.Births.{copy_of, no_births, node_of, slot_above};
 ghost use Rattle.vt_births.specs.Kept.{none_kept, uses_of};
+ghost use Rattle.vt_births.specs.KeptObjects.{AreOf, has_kept_object};
 
 use crate::births::Births;
 use crate::kept::Kept;
 use std::alloc::{AllocError, Global};
-use vt_location::NodeRef;
+use vt_location::{FilesystemId, NodeRef};
 
 /// The births of copies, and the nodes that are kept without a name.
 #[derive(Debug, Drop)]
@@ -69,5 +70,15 @@ impl UpperNodes {
         let slot = self.births.slot_above(node);
         self.births.forget(node);
         slot
+    }
+
+    /// Whether an inode of the upper layer is the object of a node that is kept. It costs two look-ups, however many are
+    /// kept. The kept nodes must be of this overlay.
+    pub fn keep_object_in(&self, overlay: FilesystemId, slot: usize) -> bool
+        requires { AreOf overlay self.now }
+        ensures { result ≡ has_kept_object self.now slot }
+    {
+        let node = self.births.node_above(overlay, slot);
+        self.kept.has(node)
     }
 }
