@@ -8,6 +8,7 @@ ghost use Rattle.vt_location.specs.declared.births.Birth.TheVariants.{Below};
 
 use crate::births::Births;
 use crate::kept::Kept;
+use crate::upper_nodes::UpperNodes;
 use std::process::Abort;
 use std::test::Fail;
 use vt_location::{Birth, FilesystemId, NodeRef};
@@ -78,5 +79,26 @@ fn see_uses(rt: &impl Abort, kept: &mut Kept) -> Result<(), Fail>
     assert!(rt; kept.unpin(lower(3)));
     assert_eq!(rt; kept.uses(lower(3)), 0);
     assert!(rt; kept.nodes().is_empty());
+    Ok(())
+}
+
+#[test]
+fn a_birth_goes_with_the_last_use(rt: HostRuntime) -> Result<(), Fail> {
+    let mut nodes = UpperNodes::new(rt.alloc());
+    let outcome = see_end(&rt, &mut nodes);
+    drop(nodes);
+    outcome
+}
+
+fn see_end(rt: &impl Abort, nodes: &mut UpperNodes) -> Result<(), Fail>
+    requires { nodes.old ≡ record { births = no_births; kept = none_kept } }
+{
+    nodes.promise(1, 1)?;
+    nodes.births.add(lower(3), 9);
+    nodes.kept.keep(lower(3), 2);
+    assert_eq!(rt; nodes.unpin(lower(3)), None);
+    assert_eq!(rt; nodes.births.node_of(9), Some(lower(3)));
+    assert_eq!(rt; nodes.unpin(lower(3)), Some(9));
+    assert_eq!(rt; nodes.births.node_of(9), None);
     Ok(())
 }
