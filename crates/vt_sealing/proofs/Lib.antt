@@ -1,3 +1,4 @@
 pub mod Lists
 pub mod Looked
 pub mod Shown
+pub mod Sources

@@ -1,8 +1,8 @@
 //! Whether mounts of members share events with others: the kernel's document sharedsubtree.
-ghost use Rattle.std.specs.Prelude.{◌≡◌, ◌&&◌, find, nat_eq, option_map};
+ghost use Rattle.std.specs.Prelude.{◌≡◌, ◌&&◌, find, is_some, nat_eq, option_map};
 ghost use Rattle.std.specs.List.{list_any};
 ghost use Rattle.vt_spec.specs.Lists.{holds_of};
-ghost use Rattle.vt_spec.specs.Machine.Mounts.{group_of};
+ghost use Rattle.vt_spec.specs.Machine.Mounts.{group_of, source_of};
 ghost use Rattle.vt_spec.specs.Machine.Receives.{is_member_of};
 ghost use Rattle.vt_spec.specs.Machine.Sealed.{is_own_mount, master_of, other_mounts, receives_events_of, share_events, shares_no_events};
 ghost use Rattle.vt_location.specs.MountValue.{mount_of, propagation_of};
@@ -38,8 +38,17 @@ impl Sealing<'_> {
         }
     }
 
-    // Whether a mount shares events with a mount of another namespace than those of members.
+    // Whether a mount shares events with a mount of another namespace than those of members. One in no group that is no
+    // slave shares none: so mostly the others are not looked at.
     fn shares_events(&self, own: &Mount) -> bool
+        ensures { result ≡ list_any (share_events nat_eq (world_seen self.now) (mount_of own.now))
+            (other_mounts nat_eq (world_seen self.now) self.now.names.now) }
+    {
+        has_source(own.propagation) && self.shares_with_others(own)
+    }
+
+    // The same of any mount, by all others.
+    fn shares_with_others(&self, own: &Mount) -> bool
         ensures { result ≡ list_any (share_events nat_eq (world_seen self.now) (mount_of own.now))
             (other_mounts nat_eq (world_seen self.now) self.now.names.now) }
     {
@@ -88,6 +97,16 @@ impl Sealing<'_> {
             Propagation::Slave(master) => Some(master),
             Propagation::Private | Propagation::Unbindable => None,
         }
+    }
+}
+
+// Whether a mount is in a peer group, or a slave.
+fn has_source(kind: Propagation) -> bool
+    ensures { result ≡ is_some (source_of (propagation_of kind)) }
+{
+    match kind {
+        Propagation::Shared(_) | Propagation::Slave(_) => true,
+        Propagation::Private | Propagation::Unbindable => false,
     }
 }
 

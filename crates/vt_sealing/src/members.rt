@@ -1,7 +1,8 @@
 //! Members, their namespaces, and the mounts in these: mount_namespaces(7).
+ghost use Rattle.std.specs.List.{list_any};
 ghost use Rattle.std.specs.Prelude.{◌≡◌, ◌&&◌, nat_eq, not};
 ghost use Rattle.vt_spec.specs.Language.Calls.{same_name};
-ghost use Rattle.vt_spec.specs.Machine.Sealed.{holds_all_tasks, is_member_task, is_own_mount, is_own_namespace};
+ghost use Rattle.vt_spec.specs.Machine.Sealed.{holds_all_tasks, is_member_task, is_own_mount, is_own_namespace, no_such_task};
 ghost use Rattle.vt_location.specs.MountValue.{mount_of};
 ghost use Rattle.vt_location.specs.Numbers.{namespace_number};
 ghost use Rattle.vt_tasks.specs.TaskValue.{task_of};
@@ -13,6 +14,20 @@ use vt_request::TaskName;
 use vt_tasks::Task;
 
 impl Sealing<'_> {
+    /// Whether one of the names is no task's.
+    pub(crate) fn lacks_a_member(&self) -> bool
+        ensures { result ≡ list_any (no_such_task (world_seen self.now)) self.now.names.now }
+    {
+        self.names.iter().any(|name| self.is_missing(name))
+    }
+
+    // Whether no task has this name.
+    fn is_missing(&self, name: &TaskName) -> bool
+        ensures { result ≡ no_such_task (world_seen self.now) name.now }
+    {
+        self.tasks.get(name).is_none()
+    }
+
     /// Whether no outsider is in a namespace of members.
     pub(crate) fn holds_all_tasks(&self) -> bool
         ensures { result ≡ holds_all_tasks nat_eq (world_seen self.now) self.now.names.now }
