@@ -1,0 +1,10 @@
+pub mod Ways
+pub mod Under
+pub mod Shown
+pub mod Named
+pub mod Through
+pub mod Objects
+pub mod Deep
+pub mod Entries
+pub mod TreesSame
+pub mod StandingSo

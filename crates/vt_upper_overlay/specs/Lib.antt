@@ -1,0 +1,5 @@
+pub mod Naming
+pub mod UpperValue
+pub mod MergedAbove
+pub mod Standing
+pub mod Laws

@@ -1,0 +1,12 @@
+//! Overlays with an upper layer: the kernel's overlayfs document. No merged tree is kept: a node is named by where it was
+//! born, also after it was copied up, and what it is is looked up in the trees of the layers.
+#![tactic(auto)]
+
+mod laws;
+mod looking;
+mod nodes;
+mod overlay;
+mod paths;
+
+pub use laws::{looks_see_merged_trees, merged_trees_stand_above};
+pub use overlay::UpperOverlay;
