@@ -1,0 +1,10 @@
+pub mod Changed
+pub mod Copies
+pub mod Making
+pub mod Next
+pub mod Pieces
+pub mod PlansReady
+pub mod Ready
+pub mod Seen
+pub mod Stepping
+pub mod Ways

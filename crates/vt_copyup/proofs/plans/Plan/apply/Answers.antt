@@ -1,0 +1,123 @@
+use Rattle.std.proofs.Common.{rules, ◌≡◌, ◌++◌, ◌∷◌, ◌∙◌, [], ap, append_assoc, List, None, reverse, subst, sym, true}
+use Rattle.vt_spec.proofs.Common.{All-head, reverse-append}
+use Rattle.vt_births.specs.Births.{copy_of, is_born_below}
+use Rattle.vt_copyup.specs.Made.{AreMade}
+use Rattle.vt_copyup.specs.Plans.{AreReady, FirstFits, copies_of, in_turn}
+use Rattle.vt_copyup.specs.declared.plans.Piece.{Piece}
+use Rattle.vt_copyup.proofs.Stepping.{IsStep, OwnFits, fits_next, none_made, one_more, ready_next}
+use Rattle.vt_copyup.proofs.plans.Plan.apply.Goals as goal
+
+pub returns-in_default : goal.returns-in_default
+returns-in_default c =
+    let none : c.args.self.pieces.items ≡ [] = search rules in
+    subst (λ items. AreMade c.args.self.directory (copies_of (reverse items)) c.args.trees.now c.args.births.now
+    c.args.trees.now c.args.births.now c.args.self.directory) (sym none)
+    (none_made c.args.self.directory c.args.trees.now c.args.births.now)
+
+pub make-here-requires-clause-below : goal.make-here-requires-clause-below
+make-here-requires-clause-below c =
+    let rest = reverse c.pop.new.self.items in
+    let popped : c.args.self.pieces.items ≡ c.pop.new.self.items ++ c.in-Some.first ∷ [] = search rules in
+    let turned : in_turn c.args.self ≡ c.in-Some.first ∷ rest =
+    ap reverse popped ∙ reverse-append c.pop.new.self.items (c.in-Some.first ∷ []) in
+    let ready = subst (λ l. AreReady l c.args.self.directory c.args.trees.now c.args.births.now) turned c.requires.all in
+    All-head (λ (one : Piece). is_born_below one.copy.born ≡ true) c.in-Some.first rest ready.below
+
+pub make-here-requires-clause-new : goal.make-here-requires-clause-new
+make-here-requires-clause-new c =
+    let rest = reverse c.pop.new.self.items in
+    let popped : c.args.self.pieces.items ≡ c.pop.new.self.items ++ c.in-Some.first ∷ [] = search rules in
+    let turned : in_turn c.args.self ≡ c.in-Some.first ∷ rest =
+    ap reverse popped ∙ reverse-append c.pop.new.self.items (c.in-Some.first ∷ []) in
+    let ready = subst (λ l. AreReady l c.args.self.directory c.args.trees.now c.args.births.now) turned c.requires.all in
+    All-head (λ (one : Piece). copy_of c.args.births.now one.copy.born ≡ None) c.in-Some.first rest ready.new
+
+pub loop-piece-init : goal.loop-piece-init
+loop-piece-init c =
+    let directory = c.args.self.directory in
+    let trees = c.args.trees.now in
+    let births = c.args.births.now in
+    let first = c.in-Some.first in
+    let rest = reverse c.pop.new.self.items in
+    let popped : c.args.self.pieces.items ≡ c.pop.new.self.items ++ first ∷ [] = search rules in
+    let turned : in_turn c.args.self ≡ first ∷ rest =
+    ap reverse popped ∙ reverse-append c.pop.new.self.items (first ∷ []) in
+    let ready = subst (λ l. AreReady l directory trees births) turned c.requires.all in
+    let fits = subst (λ l. FirstFits l c.args.room.now directory trees) turned c.requires.first in
+    let step : IsStep first.copy directory trees births c.make-here.new.trees c.make-here.new.births c.make-here.result =
+    record {
+      made = c.make-here.ensures.made;
+      vacant = c.make-here.ensures.vacant;
+      filesystem = c.make-here.ensures.filesystem;
+      nodes = c.make-here.ensures.nodes;
+      slots = c.make-here.ensures.slots;
+      inodes_left = c.make-here.ensures.inodes_left;
+      births_left = c.make-here.ensures.births_left;
+    } in
+    record {
+      done = first.copy ∷ [];
+      split = ap copies_of (sym turned);
+      made = one_more directory [] first.copy trees births trees births c.make-here.new.trees c.make-here.new.births
+          directory c.make-here.result (none_made directory trees births) step fits.there;
+      ready = ready_next first rest directory trees births c.make-here.new.trees c.make-here.new.births
+          c.make-here.result step fits.there ready;
+      fits = fits_next first rest directory trees births c.make-here.new.trees c.make-here.new.births
+          c.make-here.result step fits.there ready;
+    }
+
+pub make-here-requires-in-Some-pop-clause-below : goal.make-here-requires-in-Some-pop-clause-below
+make-here-requires-in-Some-pop-clause-below c =
+    let items = c.pop-in-loop-piece.new.self.items in
+    let piece = c.in-Some-pop.piece in
+    let popped : c.loop-piece.pieces.items ≡ items ++ piece ∷ [] = search rules in
+    let turned : reverse c.loop-piece.pieces.items ≡ piece ∷ reverse items =
+    ap reverse popped ∙ reverse-append items (piece ∷ []) in
+    let ready = subst (λ l. AreReady l c.loop-piece.here c.loop-piece.trees c.loop-piece.births) turned
+    c.loop-piece.invariant.ready in
+    All-head (λ (one : Piece). is_born_below one.copy.born ≡ true) piece (reverse items) ready.below
+
+pub make-here-requires-in-Some-pop-clause-new : goal.make-here-requires-in-Some-pop-clause-new
+make-here-requires-in-Some-pop-clause-new c =
+    let items = c.pop-in-loop-piece.new.self.items in
+    let piece = c.in-Some-pop.piece in
+    let popped : c.loop-piece.pieces.items ≡ items ++ piece ∷ [] = search rules in
+    let turned : reverse c.loop-piece.pieces.items ≡ piece ∷ reverse items =
+    ap reverse popped ∙ reverse-append items (piece ∷ []) in
+    let ready = subst (λ l. AreReady l c.loop-piece.here c.loop-piece.trees c.loop-piece.births) turned
+    c.loop-piece.invariant.ready in
+    All-head (λ (one : Piece). copy_of c.loop-piece.births one.copy.born ≡ None) piece (reverse items) ready.new
+
+pub loop-piece-preserved : goal.loop-piece-preserved
+loop-piece-preserved c =
+    let here = c.loop-piece.here in
+    let trees = c.loop-piece.trees in
+    let births = c.loop-piece.births in
+    let was = c.loop-piece.invariant in
+    let items = c.pop-in-loop-piece.new.self.items in
+    let piece = c.in-Some-pop.piece in
+    let made = c.make-here-in-Some-pop in
+    let popped : c.loop-piece.pieces.items ≡ items ++ piece ∷ [] = search rules in
+    let turned : reverse c.loop-piece.pieces.items ≡ piece ∷ reverse items =
+    ap reverse popped ∙ reverse-append items (piece ∷ []) in
+    let ready = subst (λ l. AreReady l here trees births) turned was.ready in
+    let fits = subst (λ l. OwnFits l here trees) turned was.fits in
+    let step : IsStep piece.copy here trees births made.new.trees made.new.births made.result = record {
+      made = made.ensures.made;
+      vacant = made.ensures.vacant;
+      filesystem = made.ensures.filesystem;
+      nodes = made.ensures.nodes;
+      slots = made.ensures.slots;
+      inodes_left = made.ensures.inodes_left;
+      births_left = made.ensures.births_left;
+    } in
+    record {
+      done = was.done ++ piece.copy ∷ [];
+      split = append_assoc was.done (piece.copy ∷ []) (copies_of (reverse items))
+          ∙ ap (λ l. was.done ++ copies_of l) (sym turned) ∙ was.split;
+      made = one_more c.args.self.directory was.done piece.copy c.args.trees.now c.args.births.now trees births
+          made.new.trees made.new.births here made.result was.made step fits.there;
+      ready = ready_next piece (reverse items) here trees births made.new.trees made.new.births made.result step
+          fits.there ready;
+      fits = fits_next piece (reverse items) here trees births made.new.trees made.new.births made.result step
+          fits.there ready;
+    }

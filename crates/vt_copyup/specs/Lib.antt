@@ -1,0 +1,6 @@
+pub mod Copied
+pub mod CopiedView
+pub mod Laws
+pub mod Made
+pub mod Planned
+pub mod Plans

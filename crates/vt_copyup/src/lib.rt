@@ -1,0 +1,13 @@
+//! Copy-up: what an overlay's upper layer lacks of an object and of the directories above it is copied there. A copy is
+//! planned with all its memory, and then made where nothing may fail.
+#![tactic(auto)]
+
+mod copied;
+mod laws;
+mod planning;
+mod plans;
+
+pub use copied::CopiedNode;
+pub use laws::{plans_make_copies, promises_are_given_back};
+pub use planning::plan;
+pub use plans::{Plan, PlannedCopy};

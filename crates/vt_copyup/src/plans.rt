@@ -1,0 +1,129 @@
+//! Copies that are planned, and how they are made: the kernel's overlayfs document, "upper and lower" (copy_up).
+ghost use Rattle.std.specs.Prelude.{◌≡◌, ◌+◌, ◌-◌, ◌<◌, None, Some, if◌then◌else◌, length, nat_eq, true, ℕ};
+ghost use Rattle.vt_spec.specs.Inodes.{changed};
+ghost use Rattle.vt_spec.specs.Language.Changes.Change.{Make};
+ghost use Rattle.vt_location.specs.Locations.{inode_of};
+ghost use Rattle.vt_location.specs.SameNodes.{same_node};
+ghost use Rattle.vt_location.specs.declared.locations.NodeRef.{NodeRef as Node};
+ghost use Rattle.vt_fs.specs.FilesystemsValue.{ChangesInodes, files_at, giving_back, inodes_promised, with_changed};
+ghost use Rattle.vt_laws_worlds.specs.Merging.UpperChanges.{copy_node};
+ghost use Rattle.vt_births.specs.Births.{copy_of, is_born_below, node_of};
+ghost use Rattle.vt_copyup.specs.Made.{AreMade};
+ghost use Rattle.vt_copyup.specs.Plans.{CopiesAreThere, EntriesAreThere, Fits, IsReady, copies_of, in_turn};
+
+use crate::copied::CopiedNode;
+use std::alloc::Global;
+use vt_births::Births;
+use vt_fs::Filesystems;
+use vt_location::{InodeRef, NodeRef};
+use vt_node::EntryRoom;
+
+/// A copy that is planned: its name, the inode that is copied, and the node of the overlay that is shown there.
+#[derive(Debug, Drop)]
+pub struct PlannedCopy {
+    pub name: Vec<u8>,
+    pub node: CopiedNode,
+    pub born: NodeRef,
+}
+
+// A copy, and room for its name in the directory that is copied before it. The first has none: it goes into a directory
+// that is there.
+#[derive(Debug, Drop)]
+pub(crate) struct Piece {
+    pub(crate) copy: PlannedCopy,
+    pub(crate) room: EntryRoom,
+}
+
+/// What is copied for one object: each front of its path that the upper layer lacks. It owns all memory that the copies
+/// take, and inodes and births are promised to it. It must be applied or given back.
+#[derive(Debug)]
+pub struct Plan {
+    // The upper layer's directory for the first copy; where nothing is planned, the object itself.
+    pub(crate) directory: InodeRef,
+    // The last copy first.
+    pub(crate) pieces: Vec<Piece>,
+}
+
+impl Plan {
+    /// Makes the copies, each in the one before, and their births. It gives the object's inode in the upper layer. It
+    /// does not allocate.
+    pub fn apply(
+        self,
+        alloc: Global,
+        trees: &mut Filesystems,
+        births: &mut Births,
+        room: &mut EntryRoom,
+    ) -> InodeRef
+        requires { IsReady self trees.old births.old room.old }
+        ensures { AreMade self.directory (copies_of (in_turn self)) trees.old births.old trees.new births.new result }
+    {
+        let Plan {
+            directory,
+            mut pieces,
+        } = self;
+        let Some(first) = pieces.pop() else {
+            return directory;
+        };
+        let mut here = first.copy.make(alloc, trees, births, directory, room);
+        while let Some(piece) = pieces.pop() {
+            let Piece { copy, mut room } = piece;
+            here = copy.make(alloc, trees, births, here, &mut room);
+        }
+        here
+    }
+
+    /// Gives back what was promised: nothing is copied. It does not allocate.
+    pub fn give_back(self, trees: &mut Filesystems, births: &mut Births)
+        ensures trees { trees.new
+            ≡ with_changed self.directory.filesystem.count (giving_back (length self.pieces.items)) trees.old }
+        ensures births { births.new ≡ record births.old {
+          promised = births.old.promised - length self.pieces.items;
+        } }
+    {
+        let Plan { directory, pieces } = self;
+        trees.give_back(directory.filesystem, pieces.len());
+        births.give_back(pieces.len());
+    }
+}
+
+impl PlannedCopy {
+    // Makes the copy in a directory, and gives its inode. It does not allocate.
+    fn make(
+        self,
+        alloc: Global,
+        trees: &mut Filesystems,
+        births: &mut Births,
+        directory: InodeRef,
+        room: &mut EntryRoom,
+    ) -> InodeRef
+        requires fits { Fits self room.old directory trees.old }
+        requires entries { EntriesAreThere (files_at trees.old directory.filesystem.count).tree }
+        requires there { CopiesAreThere trees.old directory.filesystem.count births.old }
+        requires inode { 0 < inodes_promised trees.old directory.filesystem.count }
+        requires birth { 0 < births.old.promised }
+        requires below { is_born_below self.born ≡ true }
+        requires new { copy_of births.old self.born ≡ None }
+        ensures made { ChangesInodes directory.filesystem.count (λ inodes. changed nat_eq inodes
+            (Make (inode_of directory) self.name.items (inode_of result) (copy_node (inode_of directory) self.node)))
+            trees.old trees.new }
+        ensures vacant { (files_at trees.old directory.filesystem.count).tree.node (inode_of result) ≡ None }
+        ensures filesystem { result.filesystem ≡ directory.filesystem }
+        ensures nodes { (slot : ℕ) → node_of births.new slot
+            ≡ (if nat_eq result.slot slot then Some self.born else node_of births.old slot) }
+        ensures slots { (node : Node) → copy_of births.new node
+            ≡ (if same_node self.born node then Some result.slot else copy_of births.old node) }
+        ensures inodes_left { inodes_promised trees.new directory.filesystem.count + 1
+            ≡ inodes_promised trees.old directory.filesystem.count }
+        ensures births_left { births.new.promised + 1 ≡ births.old.promised }
+    {
+        let PlannedCopy { name, node, born } = self;
+        let next = trees.next_number(directory.filesystem).unwrap();
+        births.add(born, next.slot);
+        let node = node.under(directory.node());
+        trees.create_promised(alloc, directory.node_ref(), name, node, room);
+        InodeRef {
+            filesystem: directory.filesystem,
+            slot: next.slot,
+        }
+    }
+}
