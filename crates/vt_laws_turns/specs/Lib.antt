@@ -3,3 +3,4 @@ pub mod Restarts
 pub mod Frames
 pub mod Walks
 pub mod Holds
+pub mod Dated

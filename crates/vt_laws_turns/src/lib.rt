@@ -7,6 +7,7 @@
 //! Each public function is a theorem of the written policy, and does nothing.
 #![tactic(auto)]
 
+pub mod dated;
 pub mod frames;
 pub mod holds;
 pub mod played;

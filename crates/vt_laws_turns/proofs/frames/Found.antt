@@ -1,5 +1,5 @@
 -- What is found by its number, in lists in which each number is there once.
-use Rattle.std.proofs.Common.{arith, ◌≡◌, refl, sym, ◌∙◌, ⊎_elim, ℕ, nat_eq, Bool, true, false, true≢false, cond, List, [], ◌∷◌, Option, Some, find, map, eqb-true, eq-eqb, option_map}
+use Rattle.std.proofs.Common.{arith, ◌≡◌, refl, sym, ◌∙◌, ⊎_elim, ℕ, nat_eq, Bool, true, false, true≢false, cond, List, [], ◌∷◌, Option, Some, None, find, map, eqb-true, eq-eqb, option_map}
 use Rattle.vt_spec.proofs.Common.{Among, any_pair, common_steps, list_any, or_parts}
 
 module _ {A : Type 0} (number_of : A → ℕ) where
@@ -27,6 +27,19 @@ module _ {A : Type 0} (number_of : A → ℕ) where
       by true f none n found = absurd (true≢false (sym (eq-eqb (number_of first) (number_of a)
           (sym (eqb-true number (number_of first) f) ∙ eqb-true number (number_of a) e)) ∙ clash rest none n))
       by false f none n found = found
+
+  -- where something of a number is there, something is found
+  pub found_there : (number : ℕ) (list : List A) (a : A) → Among a list → number_of a ≡ number
+      → numbered number list ≡ None → ⊥
+  found_there number [] a m e none = absurd m
+  found_there number (first ∷ rest) a m e none =
+      by (nat_eq number (number_of first)) refl none (found_there number rest a)
+    where
+      by : (b : Bool) → nat_eq number (number_of first) ≡ b → cond b (Some first) (numbered number rest) ≡ None
+          → (Among a rest → number_of a ≡ number → numbered number rest ≡ None → ⊥) → ⊥
+      by true f none next = cc
+      by false f none next = ⊎_elim (λ same. true≢false (sym (eq-eqb number (number_of first) (cc)) ∙ f))
+          (λ later. next later e none) m
 
   -- what is found among changed ones is what is found, changed
   pub found_map : (change : A → A) (number : ℕ) (list : List A) → ((a : A) → number_of (change a) ≡ number_of a)

@@ -1,22 +1,24 @@
 -- The filesystems after a permit are those before it, but for those that it changes, or new.
-use Rattle.std.proofs.Common.{arith, ◌≡◌, refl, sym, ap, subst, ◌∙◌, ◌⊎◌, ⊎_elim, ℕ, nat_eq, Bool, true, false, cond, List, [], ◌∷◌, ◌++◌, ◌*◌, map, not, eqb-true}
-use Rattle.vt_spec.proofs.Common.{Among, Change, CopyUp, Filesystem, Fresh, Location, Make, Move, Permit, Remove, Task, ToChange, ToEnterNamespace, ToExit, ToMake, ToMountOverlay, ToMountPlain, ToOpen, ToOpenNew, ToRemoveDirectory, ToRename, ToSetType, ToUnmount, ToUnmountLazily, ToUnshare, ToWritePart, World, among-append, among-from_map, apply, changed_at, changed_if, common_steps, evens, filesystem_numbered, filesystems-taken_away, filesystems-without_replaced, filesystems_changed, going, is_copied_up, is_empty, list_any, mount_numbered, namespace_entered, nat_eq_itself, odds, overlay_filesystem, plain_filesystem, pwritten, replaced_if_numbered, unshared, with_change, with_copy, without_mounts_on, without_replaced, without_task}
+use Rattle.std.proofs.Common.{arith, ◌≡◌, refl, sym, ap, subst, ◌∙◌, ◌⊎◌, ⊎_elim, ℕ, nat_eq, Bool, true, false, cond, List, [], ◌∷◌, ◌++◌, ◌*◌, ◌||◌, map, not, Option, Some, None, eqb-true}
+use Rattle.vt_spec.proofs.Common.{Among, Change, CopyUp, Filesystem, Fresh, Layer, Location, Make, Merge, Move, Overlay, Permit, Remove, Task, ToChange, ToEnterNamespace, ToExit, ToMake, ToMountOverlay, ToMountPlain, ToOpen, ToOpenNew, ToRemoveDirectory, ToRename, ToSetType, ToUnmount, ToUnmountLazily, ToUnshare, ToWritePart, World, among-append, among-from_map, apply, changed, changed_at, changed_if, common_steps, evens, filesystem_at, filesystem_changed, filesystem_numbered, filesystems-taken_away, filesystems-without_replaced, filesystems_changed, going, is_copied_up, is_empty, list_any, merge_changed, merge_of, mount_at, mount_numbered, namespace_entered, nat_eq_itself, numbers_of_change, odds, overlay_changed, overlay_filesystem, plain_filesystem, pwritten, replaced_if_numbered, stack_of, unshared, with_change, with_copy, with_files, without_mounts_on, without_replaced, without_task}
 use Rattle.vt_laws_trees.proofs.layers.layers.LowersCalls.{same_filesystem}
 use Rattle.vt_laws_trees.proofs.layers.layers.LowersWorld.{number_of_filesystem}
 use Rattle.vt_laws_turns.proofs.Common.{lazy_is_of_mounts, types_are_of_mounts}
+use Rattle.vt_spec.specs.Machine.Filesystems.{numbers_over}
 
 -- a filesystem of a list has this number
 abbrev pub Has : List (Filesystem ℕ) → ℕ → Type 0
 Has list number = (was : Filesystem ℕ) × Among was list × (was.number ≡ number)
 
--- It is one of a world's, or is in the place of one whose number is to be raised, or has a number that was handed in.
+-- It is one of a world's, or is in the place of one whose number is to be raised, or has a number that was handed in, and
+-- the change number 0.
 pub data GoesOn (world : World ℕ) (changed : List ℕ) (new : ℕ) (filesystem : Filesystem ℕ) : Type 0 where
   Old : Among filesystem world.filesystems → GoesOn world changed new filesystem
   Changed : list_any (λ number. nat_eq number filesystem.number) changed ≡ true
       → Has world.filesystems filesystem.number
       → filesystem.change ≡ (filesystem_numbered nat_eq world filesystem.number).change
       → GoesOn world changed new filesystem
-  New : filesystem.number ≡ new → GoesOn world changed new filesystem
+  New : filesystem.number ≡ new → filesystem.change ≡ 0 → GoesOn world changed new filesystem
 
 -- one in the place of another
 in_replaced : (new : Filesystem ℕ) (list : List (Filesystem ℕ)) (f : Filesystem ℕ)
@@ -51,10 +53,60 @@ module _ (world middle : World ℕ) (same : middle.filesystems ≡ world.filesys
       (sym (ap (filesystem_numbered nat_eq middle) (number ∙ number_of_filesystem middle n))
       ∙ same_filesystem world middle f.number same))
 
-  pub change_goes_on : (fresh : Fresh ℕ) (location : Location ℕ) (change : Change ℕ) (f : Filesystem ℕ)
-      → Among f (with_change nat_eq fresh middle location change).filesystems
-      → GoesOn world (changed_at nat_eq middle location) new f
-  change_goes_on fresh location change f m = search (arith, common_steps, like, has_before, nat_eq_itself, in_replaced)
+  -- a change of one filesystem, and of an overlay its upper layer's
+  module _ (fresh : Fresh ℕ) (location : Location ℕ) (change : Change ℕ) (f : Filesystem ℕ) where
+    abbrev here : Filesystem ℕ
+    here = filesystem_at nat_eq middle location
+
+    abbrev its_number : ℕ
+    its_number = (mount_at nat_eq middle location).filesystem
+
+    here_raised : (rest : List ℕ) → list_any (λ number. nat_eq number here.number) (here.number ∷ rest) ≡ true
+    here_raised rest = ap (λ b. b || list_any (λ number. nat_eq number here.number) rest) (nat_eq_itself here.number)
+
+    below_raised : (below : ℕ) → list_any (λ number. nat_eq number below) (here.number ∷ below ∷ []) ≡ true
+    below_raised below = grind (arith, common_steps, nat_eq_itself)
+
+    old : {changed : List ℕ} → Among f middle.filesystems → GoesOn world changed new f
+    old m = Old (subst (Among f) same m)
+
+    -- what is in the place of another, with a number that is raised
+    placed : (one : Filesystem ℕ) (n : ℕ) (changed : List ℕ) → one.number ≡ (filesystem_numbered nat_eq middle n).number
+        → one.change ≡ (filesystem_numbered nat_eq middle n).change
+        → list_any (λ number. nat_eq number (filesystem_numbered nat_eq middle n).number) changed ≡ true
+        → f ≡ one → Has middle.filesystems f.number → GoesOn world changed new f
+    placed one n changed number of_change raised is has =
+        like n changed f has (ap (λ (g : Filesystem ℕ). g.number) is ∙ number)
+        (ap (λ (g : Filesystem ℕ). g.change) is ∙ of_change) raised
+
+    by_upper : (overlay : Overlay ℕ) (upper : Option (Layer ℕ))
+        → Among f (overlay_changed nat_eq fresh middle here overlay upper change).filesystems
+        → GoesOn world (numbers_over nat_eq middle here upper) new f
+    by_upper overlay None m = old m
+    by_upper overlay (Some upper) m =
+        let below : Filesystem ℕ = filesystem_numbered nat_eq middle upper.filesystem in
+        let merged : Merge ℕ = merge_changed nat_eq fresh (stack_of nat_eq middle overlay upper)
+        (merge_of nat_eq middle here overlay upper) change in
+        let one : Filesystem ℕ =
+        record here { files = merged.files; overlay = Some (record overlay { real = merged.real }) } in
+        ⊎_elim (λ at. placed (with_files below merged.upper) upper.filesystem (here.number ∷ below.number ∷ []) refl refl
+        (below_raised below.number) at.0 (has_before one middle.filesystems f.number at.1))
+        (λ kept. ⊎_elim (λ at. placed one its_number (here.number ∷ below.number ∷ []) refl refl
+        (here_raised (below.number ∷ [])) at.0 at.1) old (in_replaced one middle.filesystems f kept))
+        (in_replaced (with_files below merged.upper) (map (replaced_if_numbered nat_eq one) middle.filesystems) f m)
+
+    by_overlay : (overlay : Option (Overlay ℕ))
+        → Among f (filesystem_changed nat_eq fresh middle here overlay change).filesystems
+        → GoesOn world (numbers_of_change nat_eq middle here overlay) new f
+    by_overlay None m =
+        let one : Filesystem ℕ = with_files here (changed nat_eq here.files change) in
+        ⊎_elim (λ at. placed one its_number (here.number ∷ []) refl refl (here_raised []) at.0 at.1) old
+        (in_replaced one middle.filesystems f m)
+    by_overlay (Some overlay) m = by_upper overlay overlay.upper m
+
+    pub change_goes_on : Among f (with_change nat_eq fresh middle location change).filesystems
+        → GoesOn world (changed_at nat_eq middle location) new f
+    change_goes_on m = by_overlay here.overlay m
 
 module _ (world : World ℕ) (fresh : Fresh ℕ) (task : Task ℕ) where
   abbrev after : Permit ℕ → World ℕ
@@ -78,10 +130,10 @@ module _ (world : World ℕ) (fresh : Fresh ℕ) (task : Task ℕ) where
   writes file offset [] f m = Old m
   writes file offset (byte ∷ bytes) f m = change_goes_on world world refl (fresh (2 * 0)) fresh file _ f m
 
-  more : (changed : List ℕ) (added : Filesystem ℕ) → added.number ≡ fresh (2 * 0) → (f : Filesystem ℕ)
-      → Among f (world.filesystems ++ (added ∷ [])) → GoesOn world changed (fresh (2 * 0)) f
-  more changed added number f m = ⊎_elim Old
-      (λ last. ⊎_elim (λ e. New (cc)) (λ none. absurd none) last)
+  more : (changed : List ℕ) (added : Filesystem ℕ) → added.number ≡ fresh (2 * 0) → added.change ≡ 0
+      → (f : Filesystem ℕ) → Among f (world.filesystems ++ (added ∷ [])) → GoesOn world changed (fresh (2 * 0)) f
+  more changed added number change f m = ⊎_elim Old
+      (λ last. ⊎_elim (λ e. New (cc) (cc)) (λ none. absurd none) last)
       (among-append world.filesystems (added ∷ []) f m)
 
   pub filesystems_go_on : (permit : Permit ℕ) → AllGoOn permit
@@ -104,9 +156,9 @@ module _ (world : World ℕ) (fresh : Fresh ℕ) (task : Task ℕ) where
   filesystems_go_on ToUnshare = stay ToUnshare (filesystems-taken_away (unshared nat_eq world fresh task) _)
   filesystems_go_on (ToEnterNamespace namespace) =
       stay (ToEnterNamespace namespace) (filesystems-taken_away (namespace_entered nat_eq world task namespace) _)
-  filesystems_go_on (ToMountPlain place flags) = more [] (plain_filesystem nat_eq fresh) refl
+  filesystems_go_on (ToMountPlain place flags) = more [] (plain_filesystem nat_eq fresh) refl refl
   filesystems_go_on (ToMountOverlay place overlay flags) =
-      more [] (overlay_filesystem nat_eq (evens fresh) world overlay) refl
+      more [] (overlay_filesystem nat_eq (evens fresh) world overlay) refl refl
   filesystems_go_on (ToUnmount mount) =
       stay (ToUnmount mount) (filesystems-taken_away world (going nat_eq world (mount_numbered nat_eq world mount)))
   filesystems_go_on (ToUnmountLazily mount) = stay (ToUnmountLazily mount) (lazy_is_of_mounts world mount).filesystems

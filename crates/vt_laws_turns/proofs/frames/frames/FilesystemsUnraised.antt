@@ -101,7 +101,7 @@ module _ {world : World ℕ} {fresh : Fresh ℕ} (given : IsCallIn world fresh) 
           raised_now : (raise left).change ≡ raised left.change
           raised_now = ap (λ b. (cond b (record left { change = raised left.change }) left).change)
               (ap (λ n. list_any (λ k. nat_eq k n) changed) swept.2.number ∙ raises)
-      keeps (New new) = absurd (true≢false (sym (eq-eqb (fresh (2 * 0)) was.0.number
+      keeps (New new zero) = absurd (true≢false (sym (eq-eqb (fresh (2 * 0)) was.0.number
           (sym new ∙ number_is ∙ eqb-true number was.0.number
           (found_passes (λ (f : Filesystem ℕ). nat_eq number f.number) world.filesystems was.0 was.1)))
           ∙ unused_by_filesystem world fresh given.serves (2 * 0) was.0

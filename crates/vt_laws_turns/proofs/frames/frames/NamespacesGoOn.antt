@@ -1,5 +1,5 @@
 -- The namespaces after a permit are those before it, or new.
-use Rattle.std.proofs.Common.{◌≡◌, refl, ap, subst, ◌∙◌, ◌⊎◌, inl, inr, ⊎_elim, ℕ, nat_eq, Bool, true, false, List, [], ◌∷◌, ◌*◌, Option, Some, None, filter, find, arith}
+use Rattle.std.proofs.Common.{◌≡◌, refl, sym, ap, subst, ◌∙◌, ◌⊎◌, inl, inr, ⊎_elim, ℕ, nat_eq, Bool, true, false, List, [], ◌∷◌, ◌++◌, ◌*◌, Option, Some, None, filter, find, arith}
 use Rattle.vt_spec.proofs.Common.{Among, Fresh, Location, Make, Move, Namespace, Permit, Remove, Task, ToChange, ToEnterNamespace, ToExit, ToMake, ToOpen, ToOpenNew, ToRemoveDirectory, ToRename, ToSetType, ToUnmount, ToUnmountLazily, ToUnshare, ToWritePart, World, among-append, among-from_filter, any_pair, apply, common_steps, evens, has_tasks, is_copied_up, odds, unshared, without_mounts_on, without_replaced, without_task}
 use Rattle.vt_laws_turns.proofs.Common.{change_of_files, copy_of_files, lazy_is_of_mounts, types_are_of_mounts, writing_of_files}
 use Rattle.vt_laws_mounts.proofs.ends.Unmounting.{all_but_mounts, unmount_is_of_mounts}
@@ -16,18 +16,9 @@ module _ (world : World ℕ) (fresh : Fresh ℕ) (task : Task ℕ) where
   abbrev after : Permit ℕ → World ℕ
   after permit = (apply nat_eq fresh world task permit).world
 
-  -- it is one of these, or has a number that was handed in
-  abbrev pub IsOldOrNew : Namespace ℕ → Type 0
-  IsOldOrNew namespace = Among namespace world.namespaces ⊎ (namespace.number ≡ fresh (2 * 0))
-
-  abbrev pub GoOn : List (Namespace ℕ) → Type 0
-  GoOn later = (namespace : Namespace ℕ) → Among namespace later → IsOldOrNew namespace
-
-  same : (later : List (Namespace ℕ)) → later ≡ world.namespaces → GoOn later
-  same later e namespace m = inl (subst (Among namespace) e m)
-
-  some : (keeps : Namespace ℕ → Bool) → GoOn (filter keeps world.namespaces)
-  some keeps namespace m = inl (among-from_filter keeps world.namespaces namespace m).0
+  -- a new namespace
+  abbrev new_one : Namespace ℕ
+  new_one = record { number = evens fresh 0; change = 0 }
 
   removed : (location : Location ℕ) → (without_mounts_on nat_eq world location).namespaces ≡ world.namespaces
   removed location = grind (arith, common_steps, all_but_mounts)
@@ -36,38 +27,57 @@ module _ (world : World ℕ) (fresh : Fresh ℕ) (task : Task ℕ) where
   replaced_same None = refl
   replaced_same (Some object) = removed object
 
+  module _ (P : List (Namespace ℕ) → Type 0) (whole : P world.namespaces)
+      (some : (keeps : Namespace ℕ → Bool) → P (filter keeps world.namespaces))
+      (more : (keeps : Namespace ℕ → Bool) → P (filter keeps (world.namespaces ++ (new_one ∷ [])))) where
+    same : (later : List (Namespace ℕ)) → later ≡ world.namespaces → P later
+    same later e = subst P (sym e) whole
+
+    -- What holds of the namespaces, of some of them, and of some of them with a new one, holds of what a permit leaves.
+    namespaces_after : (permit : Permit ℕ) → P (after permit).namespaces
+    namespaces_after (ToChange location change) =
+        same (after (ToChange location change)).namespaces (change_of_files fresh world location change).namespaces
+    namespaces_after (ToMake directory name node) = same (after (ToMake directory name node)).namespaces
+        (change_of_files (odds fresh) world directory (Make directory.node name (evens fresh 0) node)).namespaces
+    namespaces_after (ToRemoveDirectory parent name directory) =
+        same (after (ToRemoveDirectory parent name directory)).namespaces
+        ((change_of_files fresh (without_mounts_on nat_eq world directory) parent
+        (Remove parent.node name directory.node)).namespaces ∙ removed directory)
+    namespaces_after (ToRename from old to new object replaced) =
+        same (after (ToRename from old to new object replaced)).namespaces
+        ((change_of_files fresh (without_replaced nat_eq world replaced) from
+        (Move from.node old to.node new object.node)).namespaces ∙ replaced_same replaced)
+    namespaces_after (ToOpen file access) = same (after (ToOpen file access)).namespaces
+        (copy_of_files fresh world (is_copied_up nat_eq world file access) file).namespaces
+    namespaces_after (ToOpenNew directory name node access) =
+        same (after (ToOpenNew directory name node access)).namespaces
+        (change_of_files (odds fresh) world directory (Make directory.node name (evens fresh 0) node)).namespaces
+    namespaces_after (ToWritePart file offset bytes) = same (after (ToWritePart file offset bytes)).namespaces
+        (writing_of_files fresh world file offset bytes).namespaces
+    namespaces_after ToExit = some (has_tasks nat_eq (without_task world task.name))
+    namespaces_after ToUnshare = more (has_tasks nat_eq (unshared nat_eq world fresh task))
+    namespaces_after (ToEnterNamespace namespace) = some _
+    namespaces_after (ToUnmount mount) =
+        same (after (ToUnmount mount)).namespaces (unmount_is_of_mounts world mount).namespaces
+    namespaces_after (ToUnmountLazily mount) =
+        same (after (ToUnmountLazily mount)).namespaces (lazy_is_of_mounts world mount).namespaces
+    namespaces_after (ToSetType mount word recursive) = same (after (ToSetType mount word recursive)).namespaces
+        (types_are_of_mounts world fresh mount word recursive).namespaces
+    namespaces_after permit = same world.namespaces refl
+
+  -- it is one of these, or has a number that was handed in, and the change number 0
+  abbrev pub IsOldOrNew : Namespace ℕ → Type 0
+  IsOldOrNew namespace =
+      Among namespace world.namespaces ⊎ ((namespace.number ≡ fresh (2 * 0)) × (namespace.change ≡ 0))
+
+  abbrev pub GoOn : List (Namespace ℕ) → Type 0
+  GoOn later = (namespace : Namespace ℕ) → Among namespace later → IsOldOrNew namespace
+
   pub namespaces_go_on : (permit : Permit ℕ) → GoOn (after permit).namespaces
-  namespaces_go_on (ToChange location change) =
-      same (after (ToChange location change)).namespaces (change_of_files fresh world location change).namespaces
-  namespaces_go_on (ToMake directory name node) = same (after (ToMake directory name node)).namespaces
-      (change_of_files (odds fresh) world directory (Make directory.node name (evens fresh 0) node)).namespaces
-  namespaces_go_on (ToRemoveDirectory parent name directory) =
-      same (after (ToRemoveDirectory parent name directory)).namespaces
-      ((change_of_files fresh (without_mounts_on nat_eq world directory) parent
-      (Remove parent.node name directory.node)).namespaces ∙ removed directory)
-  namespaces_go_on (ToRename from old to new object replaced) =
-      same (after (ToRename from old to new object replaced)).namespaces
-      ((change_of_files fresh (without_replaced nat_eq world replaced) from
-      (Move from.node old to.node new object.node)).namespaces ∙ replaced_same replaced)
-  namespaces_go_on (ToOpen file access) = same (after (ToOpen file access)).namespaces
-      (copy_of_files fresh world (is_copied_up nat_eq world file access) file).namespaces
-  namespaces_go_on (ToOpenNew directory name node access) =
-      same (after (ToOpenNew directory name node access)).namespaces
-      (change_of_files (odds fresh) world directory (Make directory.node name (evens fresh 0) node)).namespaces
-  namespaces_go_on (ToWritePart file offset bytes) = same (after (ToWritePart file offset bytes)).namespaces
-      (writing_of_files fresh world file offset bytes).namespaces
-  namespaces_go_on ToExit = some (has_tasks nat_eq (without_task world task.name))
-  namespaces_go_on ToUnshare = λ namespace m.
-      let from = (among-from_filter (has_tasks nat_eq (unshared nat_eq world fresh task))
-      (unshared nat_eq world fresh task).namespaces namespace m).0 in
-      ⊎_elim (λ old. inl old)
-      (λ last. ⊎_elim (λ e. inr (ap (λ (n : Namespace ℕ). n.number) e)) (λ none. absurd none) last)
-      (among-append world.namespaces (record { number = evens fresh 0; change = 0 } ∷ []) namespace from)
-  namespaces_go_on (ToEnterNamespace namespace) = λ one m. inl (among-from_filter _ world.namespaces one m).0
-  namespaces_go_on (ToUnmount mount) =
-      same (after (ToUnmount mount)).namespaces (unmount_is_of_mounts world mount).namespaces
-  namespaces_go_on (ToUnmountLazily mount) =
-      same (after (ToUnmountLazily mount)).namespaces (lazy_is_of_mounts world mount).namespaces
-  namespaces_go_on (ToSetType mount word recursive) = same (after (ToSetType mount word recursive)).namespaces
-      (types_are_of_mounts world fresh mount word recursive).namespaces
-  namespaces_go_on permit = same world.namespaces refl
+  namespaces_go_on = namespaces_after GoOn (λ namespace m. inl m)
+      (λ keeps namespace m. inl (among-from_filter keeps world.namespaces namespace m).0)
+      (λ keeps namespace m. ⊎_elim (λ old. inl old)
+      (λ last. ⊎_elim (λ e. inr (ap (λ (n : Namespace ℕ). n.number) e, ap (λ (n : Namespace ℕ). n.change) e))
+      (λ none. absurd none) last)
+      (among-append world.namespaces (new_one ∷ []) namespace
+      (among-from_filter keeps (world.namespaces ++ (new_one ∷ [])) namespace m).0))

@@ -43,7 +43,7 @@ module _ (world : World ℕ) (fresh : Fresh ℕ) (given : IsCallIn world fresh) 
           found_passes (λ (m : Namespace ℕ). nat_eq number m.number) applied.namespaces n e in
           ⊎_elim (λ old. inl (ap change_in
           (namespace_found world.namespaces given.is.namespaces.one_namespace n old number at)))
-          (λ new. inr (ap change_in (none_found new at (found_in world.namespaces) refl)))
+          (λ new. inr (ap change_in (none_found new.0 at (found_in world.namespaces) refl)))
           (namespaces_go_on world fresh task permit n
           (found_among (λ (m : Namespace ℕ). nat_eq number m.number) applied.namespaces n e))
         where

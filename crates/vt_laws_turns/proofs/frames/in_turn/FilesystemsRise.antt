@@ -51,7 +51,7 @@ module _ {world : World ℕ} {fresh : Fresh ℕ} (given : IsCallIn world fresh) 
       number (eq-eqb number has.0.number (sym (has.2 ∙ is))) in
       same ∙ ap (λ n. (filesystem_numbered nat_eq world n).change) is
       ∙ ap (λ o. (unwrap_or o (no_filesystem number)).change) found ∙ sym (ap change_in found)
-  was_change before is (New new) = absurd (other (cc))
+  was_change before is (New new zero) = absurd (other (cc))
 
   granted_rises : Rises (filesystem_change_of nat_eq world number) (filesystem_change_of nat_eq later number)
   granted_rises = by (found_in (settled nat_eq applied).filesystems) refl

@@ -84,7 +84,7 @@ module _ {world : World ℕ} {fresh : Fresh ℕ} (given : IsCallIn world fresh) 
       let at : nat_eq number n.number ≡ true =
       found_passes (λ (m : Namespace ℕ). nat_eq number m.number) applied.namespaces n e in
       ⊎_elim (λ old. ap change_in (namespace_found world.namespaces given.is.namespaces.one_namespace n old number at))
-      (λ new. absurd (other (cc (eqb-true number n.number at)))) (namespaces_go_on world fresh task permit n
+      (λ new. absurd (other (cc (new.0, eqb-true number n.number at)))) (namespaces_go_on world fresh task permit n
       (found_among (λ (m : Namespace ℕ). nat_eq number m.number) applied.namespaces n e))
 
   granted_rises : Rises (namespace_change_of nat_eq world number) (namespace_change_of nat_eq later number)
