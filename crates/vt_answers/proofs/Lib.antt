@@ -1,2 +1,3 @@
+pub mod CountersSmall
 pub mod ChangeNumbers
 pub mod SpareNumbers

@@ -4,11 +4,13 @@ use Rattle.vt_spec.specs.declared.errors.Deny.{Deny}
 use Rattle.vt_spec.specs.declared.errors.Rule.TheVariants.{S5}
 use Rattle.vt_spec.specs.Errors.{denial}
 use Rattle.vt_spec.specs.Language.Answers as spec
-use Rattle.vt_spec.specs.Language.Calls.{Call, TaskName}
+use Rattle.vt_spec.specs.Language.Calls.{Call, Directive, TaskName}
+use Rattle.vt_spec.specs.Language.Calls.Directive.{AskPeers}
 use Rattle.vt_spec.specs.Machine.Filesystems.{raised}
 use Rattle.vt_spec.specs.Machine.Outcomes.{Outcome}
 use Rattle.vt_spec.specs.Machine.Policy.{only_looks, policy}
 use Rattle.vt_spec.specs.Machine.SameWorlds.{SameWorlds}
+use Rattle.vt_spec.specs.Machine.Sealed.{directed}
 use Rattle.vt_spec.specs.Machine.World.{World}
 use Rattle.vt_laws_rules.specs.Numbers.{Allotment}
 use Rattle.vt_laws_trees.specs.Runs.Handed.{may_be_given}
@@ -22,6 +24,12 @@ use Rattle.vt_permits.specs.Memory.{IsAfterReceivers}
 abbrev pub MayBeRefusedMemory : Call → Result spec.Answer Deny → Type 0
 MayBeRefusedMemory call (Ok answer) = ⊤
 MayBeRefusedMemory call (Err refusal) = IsAfterReceivers call refusal
+
+-- A directive answers so: as the definitions say, or it is refused memory for the list that it makes. What tells
+-- whether tasks are sealed off takes none.
+abbrev pub Directs : World ℕ → Directive → Result Answer Deny → Type 0
+Directs world directive result = (result_of result ≡ (directed nat_eq world directive).answer)
+    ⊎ ((result ≡ Err (denial S5)) × (directive ≡ AskPeers))
 
 -- some numbers serve the world, and leave endless numbers over
 abbrev pub HasNumbers : World ℕ → Type 0

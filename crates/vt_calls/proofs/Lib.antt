@@ -3,11 +3,13 @@ pub mod Finishing
 pub mod Supplies
 pub mod NumbersLeft
 pub mod Tied
+pub mod Counting
 pub mod Endings
 pub mod Judging
 pub mod Told
 pub mod Spending
 pub mod Numbered
+pub mod Directing
 pub mod OverlaysJudged
 pub mod OverlayGrants
 pub mod OverlaysHanded

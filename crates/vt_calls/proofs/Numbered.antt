@@ -1,16 +1,12 @@
 -- A kernel's world is that of its events but for its change number, so a call ends alike in both.
-use Rattle.std.proofs.Common.{◌≡◌, refl, sym, ap, subst, ◌∙◌, ℕ, nat_eq, List, Result, Ok, Err, inl, inr, OnErr, is_ok, true}
-use Rattle.vt_spec.proofs.Common.{Call, Fresh, Outcome, PeerList, SameWorlds, TaskName, directed, peer_lines, policy}
+use Rattle.std.proofs.Common.{◌≡◌, refl, sym, ap, subst, ◌∙◌, ℕ, nat_eq, Result, Ok, Err, inl, inr, OnErr, is_ok, true}
+use Rattle.vt_spec.proofs.Common.{Call, Fresh, Outcome, SameWorlds, TaskName, policy}
 use Rattle.vt_spec.specs.declared.errors.Deny.{Deny}
-use Rattle.vt_spec.specs.Language.Answers.{PeerLine}
 use Rattle.vt_laws_rules.specs.Numbers.{Allotment}
-use Rattle.vt_laws_worlds.proofs.one_text.answered.AlikeAnswered.{any_same_worlds_are_answered_alike, any_same_worlds_are_directed_alike}
+use Rattle.vt_laws_worlds.proofs.one_text.answered.AlikeAnswered.{any_same_worlds_are_answered_alike}
 use Rattle.vt_laws_worlds.proofs.one_text.same.SameNumbers.{any_same_worlds_keep_to_numbers}
 use Rattle.vt_laws_worlds.specs.OneText.Answered.{AreAlike}
-use Rattle.vt_request.specs.Requests.{directive_of}
 use Rattle.vt_request.specs.declared.answer.Answer.{Answer}
-use Rattle.vt_request.specs.declared.request.Directive.{Directive}
-use Rattle.vt_request.specs.declared.request.Directive.TheVariants.{Peers}
 use Rattle.vt_laws_trees.proofs.runs.answered.AlikeWorlds.{sameness_is_an_equivalence}
 use Rattle.vt_laws_trees.specs.Runs.Handed.{may_be_given}
 use Rattle.vt_laws_trees.specs.Runs.Runs.{ServesInHand}
@@ -23,7 +19,7 @@ use Rattle.vt_calls.specs.KernelValue.{KernelValue, kernel_world}
 use Rattle.vt_calls.specs.Meets.{Ends, Meets}
 
 -- the same world
-numbered : (kernel : KernelValue) → SameWorlds (world_of kernel.world) (kernel_world kernel)
+pub numbered : (kernel : KernelValue) → SameWorlds (world_of kernel.world) (kernel_world kernel)
 numbered kernel = same_but_for_changes (world_of kernel.world) (kernel_world kernel) refl
 
 -- the same numbers serve it
@@ -88,12 +84,3 @@ kept_where_done A (Err e) done = absurd cc
 pub kept_always : {T E : Type 0} {A : Type 0} (result : Result T E) → A → OnErr result A
 kept_always (Ok t) kept = tt
 kept_always (Err e) kept = kept
-
--- and a directive is answered so
-pub directed_numbered : (seen kernel : KernelValue) → seen ≡ kernel → (directive : Directive) (lines : List PeerLine)
-    → lines ≡ peer_lines nat_eq (world_of seen.world)
-    → (directed nat_eq (kernel_world kernel) (directive_of directive)).answer ≡ Ok (PeerList lines)
-directed_numbered seen kernel is Peers lines told =
-    subst (λ other. (directed nat_eq (kernel_world other) (directive_of Peers)).answer ≡ Ok (PeerList lines)) is
-    (sym (any_same_worlds_are_directed_alike (world_of seen.world) (kernel_world seen) (numbered seen)
-    (directive_of Peers)).answer ∙ ap (λ some. Ok (PeerList some)) (sym told))

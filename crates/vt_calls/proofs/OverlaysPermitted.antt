@@ -20,7 +20,7 @@ use Rattle.vt_calls.specs.Permitted.{EndsGiven, IsGiven}
 module _ (value : WorldValue) (name : TaskName) (new : ToMountOverlay)
     (given : IsGiven value name (granting.Overlay new)) where
   -- only the caller has this name
-  caller_alone : (task : Task ℕ) → task_called (world_of value) name ≡ Some task
+  pub caller_alone : (task : Task ℕ) → task_called (world_of value) name ≡ Some task
       → overlay_permit task new ≡ overlay_permit given.1.task new
   caller_alone task called = ap (λ one. overlay_permit one new) (same_Some _ _ (sym called ∙ given.1.called))
 

@@ -1,4 +1,5 @@
 //! Spends permits: the change that is granted is applied. All memory that a change takes is taken before the change.
+ghost use Rattle.vt_calls.specs.Counting.{CountsForTasks};
 ghost use Rattle.vt_calls.specs.Permitted.{EndsPermitted, MayBeSpent};
 
 use crate::descriptors::change_descriptors;
@@ -24,7 +25,8 @@ pub(crate) fn apply(
     permit: Permit,
 ) -> Result<Answer, Deny>
     requires { MayBeSpent world.old change name.now permit }
-    ensures { EndsPermitted world.old change name.now permit result world.new }
+    ensures ends { EndsPermitted world.old change name.now permit result world.new }
+    ensures counts { CountsForTasks world.old world.new }
 {
     match permit.spend(change) {
         Grant::Look(grant) => look(world, name, grant),

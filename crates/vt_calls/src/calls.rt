@@ -1,8 +1,11 @@
 //! The calls of tasks.
-ghost use Rattle.std.specs.Prelude.{◌≡◌, Err, IfErr, IfOk};
-ghost use Rattle.vt_request.specs.Requests.{call_of};
-ghost use Rattle.vt_answers.specs.Ends.{change_after};
+ghost use Rattle.std.specs.Prelude.{◌≡◌, ◌≤◌, Err, IfErr, IfOk, length};
+ghost use Rattle.vt_request.specs.Requests.{call_of, directive_of};
+ghost use Rattle.vt_answers.specs.Counters.{CountsFew};
+ghost use Rattle.vt_answers.specs.Ends.{Directs, change_after};
 ghost use Rattle.vt_world.specs.Held.{IsHeld};
+ghost use Rattle.vt_world.specs.WorldValue.{world_of};
+ghost use Rattle.vt_calls.specs.Counting.{counters_of, kernel_counters};
 ghost use Rattle.vt_calls.specs.KernelValue.{kernel_world};
 ghost use Rattle.vt_calls.specs.Meets.{Ends};
 ghost use Rattle.vt_calls.specs.Permitted.{IsPermitted};
@@ -44,6 +47,8 @@ impl Kernel {
 impl Calls for Kernel {
     ghost world = { kernel_world };
 
+    ghost counters = { kernel_counters };
+
     fn opening(alloc: Global) -> Result<Kernel, Deny> {
         Ok(Kernel {
             world: World::new(alloc)?,
@@ -63,16 +68,24 @@ impl Calls for Kernel {
         answer
     }
 
-    fn direct(&self, directive: Directive) -> Result<Answer, Deny> {
-        match directive {
-            Directive::Peers => Ok(Answer::PeerList(self.world.peers()?)),
-        }
+    fn direct(&self, directive: &Directive) -> Result<Answer, Deny> {
+        directed(&self.world, directive)
     }
 
     fn end(self) {}
 
     fn forget(self) {
         mem::forget(self);
+    }
+}
+
+// What a directive tells of a world.
+fn directed(world: &World, directive: &Directive) -> Result<Answer, Deny>
+    ensures { Directs (world_of world.now) (directive_of directive.now) result }
+{
+    match directive {
+        Directive::Peers => Ok(Answer::PeerList(world.peers()?)),
+        Directive::Sealed { tasks } => Ok(Answer::YesNo(world.sealed(tasks)?)),
     }
 }
 
@@ -95,6 +108,7 @@ fn judged_call(
     call: Call<'_>,
 ) -> Result<Answer, Deny>
     ensures ends { Ends world.old name.now (call_of call.entry) result world.new }
+    ensures counts { CountsFew (counters_of world.old) (counters_of world.new) }
     ensures held { IsHeld world.old }
 {
     match permit_of(world, change, name, call) {
@@ -110,6 +124,7 @@ fn permit_of(world: &World, change: u64, name: &TaskName, call: Call<'_>) -> Res
     ensures ok { IfOk result (λ permit. IsPermitted world.now change name.now (call_of call.entry) permit) }
     ensures err { IfErr result (λ deny. Ends world.now name.now (call_of call.entry) (Err deny) world.now) }
     ensures held { IsHeld world.now }
+    ensures born { length world.now.tasks ≤ world.now.births }
 {
     let Some(task) = world.task(name) else {
         return Err(Rule::S2.denial());

@@ -1,5 +1,6 @@
 //! Grants to open and close files: open(2), close(2).
 ghost use Rattle.vt_permits.specs.declared.grant.Grant.TheVariants.{Descriptor};
+ghost use Rattle.vt_calls.specs.Counting.{CountsForTasks};
 ghost use Rattle.vt_calls.specs.Permitted.{EndsGiven, IsGiven};
 
 use vt_ns::World;
@@ -16,7 +17,8 @@ pub(crate) fn change_descriptors(
     grant: DescriptorGrant,
 ) -> Result<Answer, Deny>
     requires { IsGiven world.old name.now (Descriptor grant) }
-    ensures { EndsGiven world.old name.now (Descriptor grant) result world.new }
+    ensures ends { EndsGiven world.old name.now (Descriptor grant) result world.new }
+    ensures counts { CountsForTasks world.old world.new }
 {
     match grant {
         DescriptorGrant::Open { file, access } => {

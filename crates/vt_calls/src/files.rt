@@ -1,5 +1,6 @@
 //! Grants to change files: write(2), pwrite(2), chmod(2), chown(2), setxattr(2).
 ghost use Rattle.vt_permits.specs.declared.grant.Grant.TheVariants.{Write};
+ghost use Rattle.vt_calls.specs.Counting.{CountsForTasks};
 ghost use Rattle.vt_calls.specs.Permitted.{EndsGiven, IsGiven};
 
 use crate::answers::done;
@@ -16,7 +17,8 @@ pub(crate) fn change_file(
     grant: WriteGrant,
 ) -> Result<Answer, Deny>
     requires { IsGiven world.old name.now (Write grant) }
-    ensures { EndsGiven world.old name.now (Write grant) result world.new }
+    ensures ends { EndsGiven world.old name.now (Write grant) result world.new }
+    ensures counts { CountsForTasks world.old world.new }
 {
     match grant {
         WriteGrant::Content { file, bytes } => {

@@ -1,5 +1,6 @@
 //! Grants to make names: mkdir(2), symlink(2), mknod(2), link(2).
 ghost use Rattle.vt_permits.specs.declared.grant.Grant.TheVariants.{Make};
+ghost use Rattle.vt_calls.specs.Counting.{CountsForTasks};
 ghost use Rattle.vt_calls.specs.Permitted.{EndsGiven, IsGiven};
 
 use crate::answers::done;
@@ -12,7 +13,8 @@ use vt_spec::errors::Deny;
 #[inline(always)]
 pub(crate) fn make(world: &mut World, name: &TaskName, grant: MakeGrant) -> Result<Answer, Deny>
     requires { IsGiven world.old name.now (Make grant) }
-    ensures { EndsGiven world.old name.now (Make grant) result world.new }
+    ensures ends { EndsGiven world.old name.now (Make grant) result world.new }
+    ensures counts { CountsForTasks world.old world.new }
 {
     match grant {
         MakeGrant::Node(new) => done(world.make(name, new)),

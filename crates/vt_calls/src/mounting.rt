@@ -1,6 +1,7 @@
 //! Grants to change mounts: mount(2), umount(2), pivot_root(2).
 ghost use Rattle.vt_permits.specs.declared.grant.Grant.TheVariants.{Mount, Overlay};
 ghost use Rattle.vt_permits.specs.declared.grant.MountGrant.TheVariants.{Attach};
+ghost use Rattle.vt_calls.specs.Counting.{CountsForTasks};
 ghost use Rattle.vt_calls.specs.Permitted.{EndsGiven, IsGiven};
 
 use crate::answers::done;
@@ -18,7 +19,8 @@ pub(crate) fn change_mounts(
     grant: MountGrant,
 ) -> Result<Answer, Deny>
     requires { IsGiven world.old name.now (Mount grant) }
-    ensures { EndsGiven world.old name.now (Mount grant) result world.new }
+    ensures ends { EndsGiven world.old name.now (Mount grant) result world.new }
+    ensures counts { CountsForTasks world.old world.new }
 {
     match grant {
         MountGrant::Attach(attachment) => attach(world, name, attachment),
@@ -38,7 +40,8 @@ pub(crate) fn change_mounts(
 #[inline(always)]
 fn attach(world: &mut World, name: &TaskName, attachment: Attachment) -> Result<Answer, Deny>
     requires { IsGiven world.old name.now (Mount (Attach attachment)) }
-    ensures { EndsGiven world.old name.now (Mount (Attach attachment)) result world.new }
+    ensures ends { EndsGiven world.old name.now (Mount (Attach attachment)) result world.new }
+    ensures counts { CountsForTasks world.old world.new }
 {
     match attachment {
         Attachment::Plain { destination, flags } => {
@@ -58,7 +61,8 @@ pub(crate) fn mount_overlay(
     new: ToMountOverlay,
 ) -> Result<Answer, Deny>
     requires { IsGiven world.old name.now (Overlay new) }
-    ensures { EndsGiven world.old name.now (Overlay new) result world.new }
+    ensures ends { EndsGiven world.old name.now (Overlay new) result world.new }
+    ensures counts { CountsForTasks world.old world.new }
 {
     done(world.mount_overlay(name, new))
 }

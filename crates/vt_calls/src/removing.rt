@@ -1,5 +1,6 @@
 //! Grants to take names away: unlink(2), rmdir(2), rename(2).
 ghost use Rattle.vt_permits.specs.declared.grant.Grant.TheVariants.{Remove};
+ghost use Rattle.vt_calls.specs.Counting.{CountsForTasks};
 ghost use Rattle.vt_calls.specs.Permitted.{EndsGiven, IsGiven};
 
 use crate::answers::done;
@@ -13,7 +14,8 @@ use vt_spec::errors::Deny;
 #[inline(always)]
 pub(crate) fn remove(world: &mut World, name: &TaskName, grant: RemoveGrant) -> Result<Answer, Deny>
     requires { IsGiven world.old name.now (Remove grant) }
-    ensures { EndsGiven world.old name.now (Remove grant) result world.new }
+    ensures ends { EndsGiven world.old name.now (Remove grant) result world.new }
+    ensures counts { CountsForTasks world.old world.new }
 {
     match grant {
         RemoveGrant::Unlink(gone) => {

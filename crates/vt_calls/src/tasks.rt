@@ -1,5 +1,6 @@
 //! Grants to change tasks: chdir(2), chroot(2), umask(2), capset(2), fork(2), _exit(2), unshare(2), setns(2).
 ghost use Rattle.vt_permits.specs.declared.grant.Grant.TheVariants.{Task};
+ghost use Rattle.vt_calls.specs.Counting.{CountsForTasks};
 ghost use Rattle.vt_calls.specs.Permitted.{EndsGiven, IsGiven};
 
 use crate::answers::done;
@@ -16,7 +17,8 @@ pub(crate) fn change_tasks(
     grant: TaskGrant,
 ) -> Result<Answer, Deny>
     requires { IsGiven world.old name.now (Task grant) }
-    ensures { EndsGiven world.old name.now (Task grant) result world.new }
+    ensures ends { EndsGiven world.old name.now (Task grant) result world.new }
+    ensures counts { CountsForTasks world.old world.new }
 {
     match grant {
         TaskGrant::SetDirectory { directory } => done(world.set_directory(name, directory)),

@@ -1,4 +1,5 @@
 -- What the proofs of src/footholds.rt use.
+pub mod AttachFootholds
 pub mod AttachedAsBefore
 pub mod Binding
 pub mod CopiesHear

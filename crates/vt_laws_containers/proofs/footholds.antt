@@ -1,4 +1,5 @@
 -- What the proofs of src/footholds.rt use.
+pub mod PermitFootholds
 pub mod AsBefore
 pub mod EndsAsBefore
 pub mod FilesGoOn

@@ -1,4 +1,4 @@
--- What the proofs of src/scripts.rt use.
+-- What the proofs of src/sealed_scripts/scripts.rt use.
 pub mod AnsweredAlike
 pub mod Called
 pub mod CallsAlike

@@ -1,4 +1,5 @@
 -- What the proofs of src/footholds.rt use.
+pub mod TypeFootholds
 pub mod GroupsApart
 pub mod Retyping
 pub mod TypesAsBefore

@@ -1,3 +1,4 @@
 -- What the proofs of src/footholds.rt use.
+pub mod UnshareFootholds
 pub mod UnsharedAsBefore
 pub mod Unsharing

@@ -1,10 +1,6 @@
-pub mod Calls
 pub mod Footholds
 pub mod PermitFootholds
 pub mod Scripts
-pub mod AttachedApart
-pub mod TypesApart
-pub mod UnsharedApart
 pub mod SealedScripts
 pub mod SameSets
 pub mod SealedTurns

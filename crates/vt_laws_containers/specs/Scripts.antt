@@ -105,23 +105,6 @@ StaysOnItsSide at name call =
     (member : TaskName) → call ≡ Setns member
     → is_among same_name member at.names ≡ is_among same_name name at.names
 
--- a call of theirs ends in the part of the set as in the world
-abbrev pub EndsInThePart : Stand → TaskName → Call → Type 0
-EndsInThePart at name call =
-    IsCallOfTheirs at.world at.names name call → Serves nat_eq at.world (numbers_for at.number)
-    → EndsAlike at.world at.names name call (numbers_for at.number) (numbers_for at.number)
-
--- a call of theirs gives others no foothold
-abbrev pub KeepsOthersOut : Stand → TaskName → Call → Type 0
-KeepsOthersOut at name call =
-    IsCallOfTheirs at.world at.names name call → Serves nat_eq at.world (numbers_for at.number)
-    → GivesNoFoothold at.world at.names name call (numbers_for at.number)
-
--- Each call of theirs does both.
-pub record EachEndsAlike (others : Bool) (at : Stand) (calls : List Asked) : Type 0 where
-  pub in_part : Along EndsInThePart others at calls
-  pub footholds : Along KeepsOthersOut others at calls
-
 -- A world keeps to some numbers, of which none is handed to the line of this number, or to a later one.
 pub record HasEarlierNumbers (number : ℕ) (world : World ℕ) : Type 0 where
   pub named : ℕ → Bool
@@ -140,15 +123,6 @@ pub record IsSealedOffAt (at : Stand) : Type 0 where
 pub record StaysSealed (at : Stand) (calls : List Asked) : Type 0 where
   pub alone : Along LeavesItSealed false at calls
   pub sides : Along StaysOnItsSide true at calls
-
--- Then the calls of the set have the answers that they have alone, if each of them ends alike in the part of the set,
--- with the calls of others between them and without.
-abbrev pub SetsAreAnsweredAsAlone : Type 0
-SetsAreAnsweredAsAlone =
-    (at : Stand) (grammar : Grammar) (lines : List (List ℕ)) → IsSealedOffAt at
-    → StaysSealed at (map (asked grammar) lines)
-    → EachEndsAlike true at (map (asked grammar) lines) → EachEndsAlike false at (map (asked grammar) lines)
-    → own_answers true at (map (asked grammar) lines) ≡ own_answers false at (map (asked grammar) lines)
 
 -- where a run stands after these lines of a script, from the opening world on, with a set of tasks
 abbrev pub stand_after : Grammar → List (List ℕ) → List TaskName → Stand

@@ -18,12 +18,8 @@
 //! Each public function is a theorem of the written policy, and does nothing.
 #![tactic(auto)]
 
-pub mod attached_apart;
 pub mod footholds;
 pub mod members_turns;
 pub mod same_sets;
-pub mod scripts;
 pub mod sealed_scripts;
 pub mod sealed_turns;
-pub mod types_apart;
-pub mod unshared_apart;

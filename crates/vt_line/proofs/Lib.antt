@@ -1,4 +1,5 @@
 pub mod CallLemmas
+pub mod DirectiveLemmas
 pub mod ListingLemmas
 pub mod NumberLemmas
 pub mod PeerLemmas

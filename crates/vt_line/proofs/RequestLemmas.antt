@@ -1,6 +1,6 @@
 -- What a line asks for, by its texts.
-use Rattle.std.proofs.Common.{inl, inr, ⊎_elim, eqb, IfErr, IfOk, IfSome, Bool, List, None, Ok, Option, Result, Some, Err, [], ap, arith, codes, cond, false, length, lit≤, option_map, refl, subst, suc, sym, true, unwrap_or, ℕ, ◌<◌, ◌≡◌, ◌≤◌, ◌∙◌, ◌∷◌, ◌||◌, ◌⊎◌, leb, IsSomeAnd, bytes_eq}
-use Rattle.vt_spec.proofs.Common.{Asking, Call, Calling, Directive, MountOverlay, MountPlain, Nobody, One, Request, Someone, Two, Version, asked_by, call_words, capabilities_word, denial, each_of, false≢true, groups_word, identity_word, is_plain, is_silent, list_all, longest_line, nat_tests, no_more, options_of, path_word, plain_flags, raw_tokens, request_of, request_of_texts, task_word, then_some, token_text, word_then}
+use Rattle.std.proofs.Common.{inl, inr, ⊎_elim, eqb, IfErr, IfOk, IfSome, Bool, List, None, Ok, Option, Result, Some, Err, [], ap, arith, codes, cond, false, length, nat_le, lit≤, option_map, refl, subst, suc, sym, true, unwrap_or, ℕ, ◌<◌, ◌≡◌, ◌≤◌, ◌∙◌, ◌∷◌, ◌&&◌, ◌||◌, ◌⊎◌, leb, IsSomeAnd, bytes_eq}
+use Rattle.vt_spec.proofs.Common.{AskSealed, Asking, Call, Calling, MountOverlay, MountPlain, Nobody, One, Request, Someone, Two, Version, and-false, asked_by, call_words, capabilities_word, denial, each_of, false≢true, groups_word, identity_word, is_plain, is_silent, list_all, longest_line, nat_tests, no_more, options_of, path_word, plain_flags, raw_tokens, request_of, request_of_texts, task_word, then_some, token_text, word_then}
 use Rattle.vt_spec.specs.declared.errors.Deny.{Deny}
 use Rattle.vt_spec.specs.declared.errors.Rule.TheVariants.{S1, S5}
 use Rattle.vt_spec.specs.Language.Calls as asked
@@ -45,13 +45,19 @@ may_have-stops read b [] h = absurd (omega arith)
 may_have-stops read b (word ∷ rest) h = none_then (read word) (λ a. no_more (b (Some a)) rest)
     (λ a. no_more-stops (b (Some a)) rest (omega arith))
 
-module _ (version : Version) (words : List (List ℕ)) (many : 4 < length words) where
-  -- a branch of the grammar, and those after it
-  neither : {B : Type 0} (test : Bool) (this others : Option B) → this ≡ None → others ≡ None
-      → cond test this others ≡ None
-  neither true this others e f = e
-  neither false this others e f = f
+-- a branch of the grammar, and those after it
+neither : {B : Type 0} (test : Bool) (this others : Option B) → this ≡ None → others ≡ None → cond test this others ≡ None
+neither true this others e f = e
+neither false this others e f = f
 
+-- `sealed` names so many tasks at most
+some_tasks-many : (words : List (List ℕ)) → 64 < length words → some_tasks words ≡ None
+some_tasks-many words many =
+    let over : nat_le (length words) 64 ≡ false = grind (arith, nat_tests) in
+    ap (λ few. cond (nat_le 1 (length words) && few) (option_map AskSealed (each_of task_word words)) None) over
+    ∙ ap (λ test. cond test (option_map AskSealed (each_of task_word words)) None) (and-false (nat_le 1 (length words)))
+
+module _ (version : Version) (words : List (List ℕ)) (many : 4 < length words) where
   by : {B : Type 0} (most : ℕ) (read : List (List ℕ) → Option B) → Stops most read → most ≤ 4 → read words ≡ None
   by most read stops few = stops words (omega arith)
 
@@ -250,32 +256,28 @@ module _ (version : Version) where
   asked-none true task call e = ap (λ call. option_map (Calling task) (as_read call)) e
   asked-none false task call e = refl
 
-  -- the directive has no words
-  directive-many : (name word : List ℕ) (words : List (List ℕ)) → directive_asked (overlays version) (name ∷ word ∷ words) ≡ None
-  directive-many name word words = by (bytes_eq name (codes "peers")) where
-    others : Option Directive
-    others = cond (bytes_eq name (codes "sealed")) (some_tasks (word ∷ words)) None
+  -- no directive has more words than tasks may be named
+  directive-many : (name : List ℕ) (words : List (List ℕ)) → 64 < length words
+      → directive_asked (overlays version) (name ∷ words) ≡ None
+  directive-many name words many = ap (option_map Asking) (neither (bytes_eq name (codes "peers")) _ _
+      (no_more-stops asked.Directive.AskPeers words (omega arith))
+      (neither (bytes_eq name (codes "sealed")) _ _ (some_tasks-many words many) refl))
 
-    by : (test : Bool) → cond test (option_map Asking (cond test None others)) None ≡ None
-    by true = refl
-    by false = refl
-
-  request-many : (texts : List (List ℕ)) → 6 < length texts → request_of_texts (overlays version) texts ≡ None
+  request-many : (texts : List (List ℕ)) → 66 < length texts → request_of_texts (overlays version) texts ≡ None
   request-many [] h = absurd (omega arith)
   request-many (first ∷ []) h = absurd (omega arith)
-  request-many (first ∷ name ∷ []) h = absurd (omega arith)
-  request-many (first ∷ name ∷ word ∷ words) h = by_test (bytes_eq first (codes "!")) refl where
+  request-many (first ∷ name ∷ words) h = by_test (bytes_eq first (codes "!")) refl where
     by_test : (test : Bool) → bytes_eq first (codes "!") ≡ test
-        → request_of_texts (overlays version) (first ∷ name ∷ word ∷ words) ≡ None
-    by_test true e = texts-nobodys first (name ∷ word ∷ words) e ∙ directive-many name word words
+        → request_of_texts (overlays version) (first ∷ name ∷ words) ≡ None
+    by_test true e = texts-nobodys first (name ∷ words) e ∙ directive-many name words (omega arith)
     by_test false e =
-        texts-someones first (name ∷ word ∷ words) e ∙ someone-asked (task_word first) (name ∷ word ∷ words)
-        ∙ none_then (task_word first) (λ task. call_asked (overlays version) task (name ∷ word ∷ words))
+        texts-someones first (name ∷ words) e ∙ someone-asked (task_word first) (name ∷ words)
+        ∙ none_then (task_word first) (λ task. call_asked (overlays version) task (name ∷ words))
         (λ task. asked-none ((overlays version).knows name) task
-        (call_words version name (word ∷ words)) (call-none version (word ∷ words) (omega arith) name))
+        (call_words version name words) (call-none version words (omega arith) name))
 
   -- the texts are as many as the tokens
-  many_texts : (texts : Option (List (List ℕ))) → ((all : List (List ℕ)) → texts ≡ Some all → 6 < length all)
+  many_texts : (texts : Option (List (List ℕ))) → ((all : List (List ℕ)) → texts ≡ Some all → 66 < length all)
       → then_some texts (request_of_texts (overlays version)) ≡ None
   many_texts None many = refl
   many_texts (Some all) many = request-many all (many all refl)
@@ -283,13 +285,13 @@ module _ (version : Version) where
   pub request-few : (line : List ℕ)
       → request_of (overlays version) line ≡ then_some (few_texts line) (request_of_texts (overlays version))
   unfolding request_of
-  request-few line = by_test (leb (length (raw_tokens line)) 6) refl where
-    by_test : (test : Bool) → leb (length (raw_tokens line)) 6 ≡ test →
+  request-few line = by_test (leb (length (raw_tokens line)) 66) refl where
+    by_test : (test : Bool) → leb (length (raw_tokens line)) 66 ≡ test →
         then_some (each_of token_text (raw_tokens line)) (request_of_texts (overlays version))
         ≡ then_some (cond test (each_of token_text (raw_tokens line)) None) (request_of_texts (overlays version))
     by_test true e = refl
     by_test false e =
-        let many : 6 < length (raw_tokens line) = grind (arith, nat_tests) in
+        let many : 66 < length (raw_tokens line) = grind (arith, nat_tests) in
         many_texts (each_of token_text (raw_tokens line))
         (λ all is. let same = each_of-length token_text (raw_tokens line) all is in omega arith)
 

@@ -156,19 +156,19 @@ pub plain-tokens : (line : List ℕ) → list_all (λ byte. eqb byte 32 || is_pl
 plain-tokens line e = plain-texts (parts 32 line) (line-parts line e)
 
 -- the texts of a line by the number of its tokens
-pub few_texts-few : (line : List ℕ) → length (raw_tokens line) ≤ 6
+pub few_texts-few : (line : List ℕ) → length (raw_tokens line) ≤ 66
     → few_texts line ≡ each_of token_text (raw_tokens line)
 few_texts-few line few =
-    let test : leb (length (raw_tokens line)) 6 ≡ true = grind (arith, nat_tests) in
+    let test : leb (length (raw_tokens line)) 66 ≡ true = grind (arith, nat_tests) in
     ap (λ test. cond test (each_of token_text (raw_tokens line)) None) test
 
-pub few_texts-many : (line : List ℕ) → 6 < length (raw_tokens line) → few_texts line ≡ None
+pub few_texts-many : (line : List ℕ) → 66 < length (raw_tokens line) → few_texts line ≡ None
 few_texts-many line many =
-    let test : leb (length (raw_tokens line)) 6 ≡ false = grind (arith, nat_tests) in
+    let test : leb (length (raw_tokens line)) 66 ≡ false = grind (arith, nat_tests) in
     ap (λ test. cond test (each_of token_text (raw_tokens line)) None) test
 
 pub few_texts-wrong : (line : List ℕ) → each_of token_text (raw_tokens line) ≡ None → few_texts line ≡ None
-few_texts-wrong line wrong = cond-None (leb (length (raw_tokens line)) 6) (each_of token_text (raw_tokens line)) wrong
+few_texts-wrong line wrong = cond-None (leb (length (raw_tokens line)) 66) (each_of token_text (raw_tokens line)) wrong
 
 -- the sum of sizes
 pub sum-cons : (size : ℕ) (sizes : List ℕ) → sum (size ∷ sizes) ≡ size + sum sizes

@@ -1,7 +1,8 @@
 -- Calls as their words are read, and what becomes of a line that asks for one.
-use Rattle.std.specs.Prelude.{List, None, Option, Some, length, true, ℕ, ◌<◌, ◌≡◌, ◌⊎◌, IsSomeAnd, Result, Ok, Err}
+use Rattle.std.specs.Prelude.{List, None, Option, Some, length, true, ℕ, ⊤, ◌<◌, ◌≡◌, ◌⊎◌, IsSomeAnd, Result, Ok, Err}
 use Rattle.vt_spec.specs.Language.Calls as spec
 use Rattle.vt_spec.specs.Language.Calls.Call.{Fork, Pwrite, Setns, Write}
+use Rattle.vt_spec.specs.Language.Calls.Directive.{AskPeers, AskSealed}
 use Rattle.vt_spec.specs.Language.Script.{Request, Version, call_read, call_words, mount_words, names_no_upper, no_more, path_word, word_then}
 use Rattle.vt_spec.specs.Language.Script.Request.{Asking, Calling}
 use Rattle.vt_spec.specs.Lists.{then_some, when}
@@ -9,6 +10,7 @@ use Rattle.vt_spec.specs.Errors.{denial}
 use Rattle.vt_spec.specs.declared.errors.Deny.{Deny}
 use Rattle.vt_spec.specs.declared.errors.Rule.TheVariants.{S1, S5}
 use Rattle.vt_request.specs.declared.request.Call.{Call}
+use Rattle.vt_request.specs.declared.request.Directive.{Directive}
 use Rattle.vt_request.specs.declared.task.TheConstants.{INLINE_NUMBERS}
 use Rattle.vt_request.specs.Requests.{call_of, capabilities_of, directive_of}
 use Rattle.vt_line.specs.Names.{name_text}
@@ -28,10 +30,15 @@ KeepsWords (Fork (Some words)) = 0 < length words.groups
 KeepsWords (Setns task) = INLINE_NUMBERS < length task
 KeepsWords call = ⊥
 
--- A request takes memory for what its call keeps, and for a task's name of many numbers.
+-- A directive takes memory for the tasks that it names.
+abbrev pub KeepsNames : spec.Directive → Type 0
+KeepsNames AskPeers = ⊥
+KeepsNames (AskSealed tasks) = ⊤
+
+-- A request takes memory for what its call keeps, and for a task's name of many numbers, or for what its directive keeps.
 abbrev pub TakesMemory : Request → Type 0
 TakesMemory (Calling task call) = KeepsWords call ⊎ (INLINE_NUMBERS < length task)
-TakesMemory (Asking directive) = ⊥
+TakesMemory (Asking directive) = KeepsNames directive
 
 -- a call as the grammar reads it, which knows no options of an upper layer
 abbrev pub as_read : Option spec.Call → Option spec.Call
@@ -54,7 +61,13 @@ IsCallRead asked (Ok call) = asked ≡ Some (call_of call)
 IsCallRead asked (Err Grammar) = asked ≡ None
 IsCallRead asked (Err Memory) = IsSomeAnd asked KeepsWords
 
--- the refusal of a line of which no call was read
+-- a directive was read, or why none was
+abbrev pub IsDirectiveRead : Option spec.Directive → Result Directive ReadError → Type 0
+IsDirectiveRead asked (Ok directive) = asked ≡ Some (directive_of directive)
+IsDirectiveRead asked (Err Grammar) = asked ≡ None
+IsDirectiveRead asked (Err Memory) = IsSomeAnd asked KeepsNames
+
+-- the refusal of a line of which no call or directive was read
 abbrev pub refusal : ReadError → Deny
 refusal Grammar = denial S1
 refusal Memory = denial S5

@@ -16,7 +16,7 @@ abbrev pub IsSpoken : List ℕ → Type 0
 IsSpoken text = (length text ≤ longest_line) × (is_silent text ≡ false)
 
 -- the line is what the text says, in a version of the grammar of the calls on files, tasks, mounts and namespaces, of
--- whiteouts and opaque directories, and of the list of peer groups
+-- whiteouts and opaque directories, and of the directives
 abbrev pub IsReadingOf : Version → List ℕ → Line → Type 0
 IsReadingOf version text Silent = IsSilent text
 IsReadingOf version text (Call task call) =

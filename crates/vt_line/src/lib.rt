@@ -2,6 +2,7 @@
 #![tactic(auto)]
 
 mod calls;
+mod directives;
 pub mod fault;
 mod hex;
 pub mod line;

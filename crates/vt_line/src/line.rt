@@ -1,19 +1,18 @@
 //! The lines of a script.
 ghost use Rattle.std.specs.Prelude.{◌≡◌, ◌<◌, ◌≤◌, ◌↔◌, ◌⊎◌, ◌∷◌, None, length, option_map, IfOk, IfErr, IsSomeAnd};
 ghost use Rattle.vt_spec.specs.Errors.{denial};
-ghost use Rattle.vt_spec.specs.Language.Script.{asked_by, directive_asked, overlays};
+ghost use Rattle.vt_spec.specs.Language.Script.{asked_by, overlays};
 ghost use Rattle.vt_spec.specs.Language.Script.{request_of, request_of_texts, task_word};
-ghost use Rattle.vt_spec.specs.Language.Script.Request.{Asking};
 ghost use Rattle.vt_spec.specs.Language.Script.Version.{One};
 ghost use Rattle.vt_spec.specs.Language.Script.Who.{Someone};
 ghost use Rattle.vt_spec.specs.Language.Limits.{longest_line};
 ghost use Rattle.vt_spec.specs.declared.errors.Rule.TheVariants.{S1, S5};
-ghost use Rattle.vt_request.specs.Requests.{directive_of};
 ghost use Rattle.vt_line.specs.Calls.{IsRequestRead, TakesMemory};
 ghost use Rattle.vt_line.specs.Lines.{IsSilent, IsSpoken, IsReadingOf};
 ghost use Rattle.vt_line.specs.Versions.{version_of};
 
 use crate::calls::call;
+use crate::directives::directive;
 use crate::names::CallName;
 pub use crate::token::Unescaped;
 use crate::token::{is_silent, is_unescaped};
@@ -78,18 +77,6 @@ fn task_call<'a>(
     Ok(Line::Call(task, call))
 }
 
-/// The directive of this name, with these words. Both versions of the language read it alike.
-fn directive(name: &[u8], words: &Words<'_>) -> Option<Directive>
-    ensures { option_map (λ directive. Asking (directive_of directive)) result
-        ≡ directive_asked (overlays One) (name.now ∷ words.now) }
-{
-    if name != b"peers".as_slice() {
-        return None;
-    }
-    words.end()?;
-    Some(Directive::Peers)
-}
-
 /// What a line asks for, by its words. Inlined, so that what was read is not moved as a whole.
 #[inline(always)]
 fn words_request<'a>(
@@ -105,10 +92,10 @@ fn words_request<'a>(
     if who != b"!".as_slice() {
         return task_call(version, alloc, who, name, &mut words);
     }
-    let Some(directive) = directive(name, &words) else {
-        return Err(Rule::S1.denial());
-    };
-    Ok(Line::Ask(directive))
+    match directive(alloc, name, &mut words) {
+        Ok(directive) => Ok(Line::Ask(directive)),
+        Err(error) => Err(Deny::from(error)),
+    }
 }
 
 /// What a line asks for that has escapes, or bytes that no token has. Out of line, since the texts take much of the

@@ -1,6 +1,6 @@
 //! How answers are printed, without taking memory.
 ghost use Rattle.std.specs.List.{flat_map};
-ghost use Rattle.std.specs.Prelude.{◌≡◌, ◌+◌, ◌/◌, ◌%◌, ◌^◌, ◌<◌, [], ◌∷◌, ◌++◌, codes, decimal, false, length, slice_index, All, IsTrue, IfErr};
+ghost use Rattle.std.specs.Prelude.{if◌then◌else◌, ◌≡◌, ◌+◌, ◌/◌, ◌%◌, ◌^◌, ◌<◌, [], ◌∷◌, ◌++◌, codes, decimal, false, length, slice_index, All, IsTrue, IfErr};
 ghost use Rattle.vt_spec.specs.Language.Printed.{hex_digit, owner_words, printed_byte, printed_line, printed_mode, printed_rows, printed_text, printed_value, reply_line, spaced, stat_words};
 ghost use Rattle.vt_spec.specs.Language.Script.{is_plain};
 ghost use Rattle.vt_io.specs.Sink.{Prints};
@@ -248,6 +248,24 @@ fn write_child<W: Sink>(sink: &mut W, number: u64, name: &TaskName) -> Result<()
     write_all(sink, b"\n")
 }
 
+/// A truth value as a word.
+fn yes_or_no_text(yes: bool) -> &'static [u8]
+    ensures { result.now ≡ if yes then codes "yes" else codes "no" }
+{
+    if yes { b"yes" } else { b"no" }
+}
+
+/// The line of an answer that is `yes` or `no`.
+fn write_yes_or_no<W: Sink>(sink: &mut W, number: u64, yes: bool) -> Result<(), SinkFailed>
+    requires countable { W.failures sink.old + 1 < 2 ^ 64 }
+    ensures printed { let words = codes "ok" ∷ (if yes then codes "yes" else codes "no") ∷ [] in
+        Prints W.Sink (printed_line number words) result sink.old sink.new }
+{
+    let mut buffer = Buffer::new();
+    let digits = buffer.format(number).as_bytes();
+    write_parts(sink, &[digits, b" ok ", yes_or_no_text(yes), b"\n"])
+}
+
 /// The first line of an answer.
 fn write_answer<W: Sink>(sink: &mut W, number: u64, answer: &Answer) -> Result<(), SinkFailed>
     requires countable { W.failures sink.old + 1 < 2 ^ 64 }
@@ -263,6 +281,7 @@ fn write_answer<W: Sink>(sink: &mut W, number: u64, answer: &Answer) -> Result<(
         Answer::Child(name) => write_child(sink, number, name),
         Answer::MountList(lines) => write_counted(sink, number, lines.len() as u64),
         Answer::PeerList(lines) => write_counted(sink, number, lines.len() as u64),
+        Answer::YesNo(yes_or_no) => write_yes_or_no(sink, number, *yes_or_no),
     }
 }
 

@@ -10,9 +10,10 @@ use arrayvec::ArrayVec;
 use memchr::memchr;
 use std::marker::Model;
 use vt_io::line::LONGEST_LINE;
+use vt_request::request::MOST_NAMED_TASKS;
 
-/// The most texts that a line of the grammar has: those of `fork` with a child's credentials.
-pub const MOST_TEXTS: usize = 6;
+/// The most texts that a line of the grammar has: those of `sealed` with the most tasks.
+pub const MOST_TEXTS: usize = 2 + MOST_NAMED_TASKS;
 
 /// How many bytes of a line the processor looks at together.
 const GROUP: usize = 8;

@@ -359,6 +359,16 @@ impl<'a> Words<'a> {
         }
     }
 
+    /// The same words once more, to be read ahead.
+    pub fn again(&self) -> Self
+        ensures { result ≡ self.now }
+    {
+        Words {
+            bytes: self.bytes,
+            sizes: self.sizes,
+        }
+    }
+
     /// The next word.
     #[inline(always)]
     pub fn next(&mut self) -> Option<&'a [u8]>

@@ -42,7 +42,7 @@ pub fn answer_told<C: Calls, T: Teller<C>>(
             let outcome = world.call(&name, call);
             teller.after(world, name, kind, &outcome);
         }
-        Ok(Line::Ask(directive)) => teller.alone(&world.direct(directive)),
+        Ok(Line::Ask(directive)) => teller.alone(&world.direct(&directive)),
         Err(deny) => teller.alone(&Err(deny)),
     }
 }

@@ -1,6 +1,6 @@
 //! Worked examples: sealed.
 ghost use Rattle.std.specs.Prelude.{◌≡◌, [], codes, ◌++◌};
-ghost use Rattle.vt_spec.specs.Machine.Run.{machine_text};
+ghost use Rattle.vt_spec.specs.Machine.Run.{machine_text, script_text_as};
 ghost use Rattle.vt_spec.specs.Language.Script.{Version};
 
 /// A container whose lower layer is the whole outer tree is sealed.
@@ -22,6 +22,12 @@ pub fn sealed_container_left_alone()
 
 /// A lone task is sealed, a child over a shared tree is not, both together are.
 pub fn sealed_or_not()
+    ensures { (version : Version) → script_text_as version [] (codes "! sealed t\nt fork\nt.1 unshare\n! sealed t.1\n! sealed t t.1\n! sealed t.9\n")
+        ≡ codes "1 ok yes\n2 ok t.1\n3 ok\n4 ok no\n5 ok yes\n6 deny 3 ESRCH S2\n" }
+{}
+
+/// The same of the whole machine.
+pub fn sealed_or_not_in_the_whole()
     ensures { (version : Version) → machine_text version [] (codes "! sealed t\nt fork\nt.1 unshare\n! sealed t.1\n! sealed t t.1\n! sealed t.9\n")
         ≡ codes "1 ok yes\n2 ok t.1\n3 ok\n4 ok no\n5 ok yes\n6 deny 3 ESRCH S2\n" }
 {}

@@ -28,6 +28,7 @@ pub mod PointsMoved
 pub mod ReadableFiles
 pub mod RemainingTasks
 pub mod RenamedOver
+pub mod SealedWorlds
 pub mod SlotsFilled
 pub mod StoresKept
 pub mod TypesDone

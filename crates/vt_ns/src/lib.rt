@@ -21,6 +21,7 @@ mod reading;
 mod removing;
 mod renaming;
 mod retyping;
+mod sealing;
 mod showing;
 mod tasks;
 mod trees;

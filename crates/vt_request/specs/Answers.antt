@@ -12,7 +12,7 @@ use Rattle.vt_request.specs.declared.answer.StatLine.{StatLine}
 use Rattle.vt_request.specs.declared.answer.TypeLine.{TypeLine}
 use Rattle.vt_request.specs.declared.answer.TypeLine.TheVariants.{Private, Shared, Slave, Unbindable}
 use Rattle.vt_request.specs.declared.answer.Answer.{Answer}
-use Rattle.vt_request.specs.declared.answer.Answer.TheVariants.{Done, Bytes, Names, Told, Opened, Child, MountList, PeerList}
+use Rattle.vt_request.specs.declared.answer.Answer.TheVariants.{Done, Bytes, Names, Told, Opened, Child, MountList, PeerList, YesNo}
 
 -- what is told of an object
 abbrev pub stat_line_of : StatLine → spec.StatLine
@@ -63,6 +63,7 @@ answer_of (Opened descriptor) = spec.Answer.Opened descriptor
 answer_of (Child name) = spec.Answer.Child name
 answer_of (MountList lines) = spec.Answer.MountList (map mount_line_of lines.items)
 answer_of (PeerList lines) = spec.Answer.PeerList (map peer_line_of lines.items)
+answer_of (YesNo yes_or_no) = spec.Answer.YesNo yes_or_no
 
 -- how a call or a directive ended, in the policy's words
 abbrev pub result_of : Result Answer Deny → Result spec.Answer Deny

@@ -10,7 +10,7 @@ use Rattle.vt_request.specs.declared.request.Access.{Access}
 use Rattle.vt_request.specs.declared.request.Access.TheVariants.{Read, Write, ReadWrite}
 use Rattle.vt_request.specs.declared.request.Creation.{Creation}
 use Rattle.vt_request.specs.declared.request.Directive.{Directive}
-use Rattle.vt_request.specs.declared.request.Directive.TheVariants.{Peers}
+use Rattle.vt_request.specs.declared.request.Directive.TheVariants.{Peers, Sealed}
 use Rattle.vt_request.specs.declared.request.Creation.TheVariants.{Never, OrCreate, Exclusive}
 use Rattle.vt_request.specs.declared.request.ForkWords.{ForkWords}
 use Rattle.vt_request.specs.declared.request.TypeWord.{TypeWord}
@@ -145,3 +145,4 @@ call_of (call.Mount asked) = mount_call_of asked
 -- a directive, in the policy's words
 abbrev pub directive_of : Directive → spec.Directive
 directive_of Peers = spec.Directive.AskPeers
+directive_of (Sealed tasks) = spec.Directive.AskSealed tasks.items

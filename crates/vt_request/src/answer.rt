@@ -89,4 +89,6 @@ pub enum Answer {
     MountList(Vec<MountLine>),
     /// The peer groups of all namespaces.
     PeerList(Vec<PeerLine>),
+    /// Whether tasks are sealed off from all others.
+    YesNo(bool),
 }

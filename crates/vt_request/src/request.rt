@@ -266,9 +266,15 @@ pub enum MountCall<'a> {
     },
 }
 
+/// The most tasks that a directive names.
+pub const MOST_NAMED_TASKS: usize = 64;
+
 /// What a line asks of all namespaces together. It is no task's, and needs no right.
-#[derive(Clone, Copy, Debug, PartialEq, Eq)]
+#[derive(Debug, Drop, PartialEq, Eq)]
 pub enum Directive {
     /// The peer groups of all namespaces.
     Peers,
+    /// Whether these tasks, [`MOST_NAMED_TASKS`] at most, are sealed off from all others. A name that stands twice
+    /// counts once.
+    Sealed { tasks: Vec<TaskName> },
 }

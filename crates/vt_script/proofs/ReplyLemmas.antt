@@ -1,6 +1,6 @@
 -- One line is answered by its step.
-use Rattle.std.proofs.Common.{◌≡◌, ◌⊎◌, ℕ, ◌≤◌, ◌<◌, Bool, true, false, List, [], length, Option, Some, None, Result, Ok, Err, refl, sym, ap, ◌∙◌, subst, nat_eq, nat_lt, inl, inr, arith, IfErr, IfOk, IsSomeAnd, take_all}
-use Rattle.vt_spec.proofs.Common.{Answered, Asking, Call, Calling, Chmod, Chown, Close, Directive, Drop, Exec, Exit, Fresh, Lstat, Opaque, Remount, Request, SameWorlds, SetType, Silent, Stat, TaskName, ToPrivate, ToShared, ToSlave, ToUnbindable, Umask, Version, World, denial, denied, directed, is_silent, line_step, line_step_by, longest_line, nat_tests, policy, reply_line, request_of, requested, step_text, step_world}
+use Rattle.std.proofs.Common.{◌≡◌, ◌⊎◌, ℕ, ◌≤◌, ◌<◌, Bool, true, false, List, [], length, Option, Some, None, Result, Ok, Err, refl, sym, ap, ◌∙◌, subst, nat_eq, nat_lt, inl, inr, arith, IsSomeAnd, take_all}
+use Rattle.vt_spec.proofs.Common.{Answered, Asking, Call, Calling, Chmod, Chown, Close, Directive, Drop, Exec, Exit, Fresh, Lstat, Opaque, Remount, Request, SameWorlds, SetType, Silent, Stat, TaskName, ToPrivate, ToShared, ToSlave, ToUnbindable, Umask, Version, World, denial, denied, is_silent, line_step, line_step_by, longest_line, nat_tests, policy, reply_line, request_of, requested, step_text, step_world}
 use Rattle.vt_spec.specs.declared.errors.Deny.{Deny}
 use Rattle.vt_spec.specs.declared.errors.Rule.TheVariants.{S1, S5}
 use Rattle.vt_spec.specs.Language.Script.{overlays}
@@ -15,11 +15,11 @@ use Rattle.vt_io.specs.Sink.{Wrote, WroteFront, Prints}
 use Rattle.vt_io.specs.LineBuffer.{LineSoFar, Holds}
 use Rattle.vt_io.proofs.Printing.{Wrote-nothing}
 use Rattle.vt_request.specs.declared.answer.Answer.{Answer}
-use Rattle.vt_request.specs.Answers.{answer_of, result_of}
+use Rattle.vt_request.specs.Answers.{result_of}
 use Rattle.vt_line.specs.Calls as words
 use Rattle.vt_line.specs.Lines.{IsSilent, IsSpoken}
 use Rattle.vt_permits.specs.Allocating as calls
-use Rattle.vt_answers.specs.Ends.{Ends, HasNumbers, Meets}
+use Rattle.vt_answers.specs.Ends.{Directs, Ends, HasNumbers, Meets}
 use Rattle.vt_script.specs.Handed.{IsHanded, step_of}
 use Rattle.vt_script.specs.Refused.{MayFail}
 use Rattle.vt_script.specs.Session.{IsLeftBy, Replied, Replies}
@@ -215,21 +215,20 @@ module _ {W : Type 0} (version : Version) (sink : Ghosts W) where
   -- the reply to a directive, which changes nothing
   pub replies_direct : {T E : Type 0} (r : Result T E) (world : World ℕ) (line : List ℕ) (number : ℕ)
       (directive : Directive) (answer : Result Answer Deny) (x y : W) → HasNumbers world →
-      IsSpoken line → request_of (overlays version) line ≡ Some (Asking directive) →
-      IfOk answer (λ answer. (directed nat_eq world directive).answer ≡ Ok (answer_of answer)) →
-      IfErr answer (λ deny. deny ≡ denial S5) →
+      IsSpoken line → request_of (overlays version) line ≡ Some (Asking directive) → Directs world directive answer →
       Prints sink (reply_line number (result_of answer)) r x y → Replies sink version world line number r world x y
-  replies_direct r world line number directive (Ok answer) x y some spoken asks told memory wrote =
+  replies_direct r world line number directive answer x y some spoken asks (inl told) wrote =
       let step = step_spoken version world line some.0.new _ spoken asks in
       let left : step_world world (step_of version world line (Some some.0)) ≡ world =
       ap (step_world world) step ∙ directive_changes_nothing world directive in
       replies_step r world world line _ number (Some some.0) x y some.1
-      (ap (reply_line number) (sym told) ∙ ap (step_text number) (sym step))
+      (ap (reply_line number) told ∙ ap (step_text number) (sym step))
       (same_worlds (step_world world (step_of version world line (Some some.0))) world left) some wrote
-  replies_direct r world line number directive (Err deny) x y some spoken asks told memory wrote =
-      replies_denied r world line number None deny x y some
+  replies_direct r world line number directive answer x y some spoken asks (inr short) wrote =
+      replies_denied r world line number None (denial S5) x y some
       (some.0, some.1, (spoken, subst (λ asked. IsSomeAnd asked (MayFail world some.0.new)) (sym asks) tt))
-      (step_refused version world line spoken ∙ ap (λ d. Answered (denied world d)) (sym memory)) wrote
+      (step_refused version world line spoken)
+      (subst (λ answer. Prints sink (reply_line number (result_of answer)) r x y) short.0 wrote)
 
 -- The world that a line leaves, whatever is told of it
 
@@ -267,11 +266,10 @@ module _ (version : Version) where
   -- a directive
   pub direct_leaves : (world : World ℕ) (line : List ℕ) (directive : Directive) (answer : Result Answer Deny)
       → HasNumbers world → IsSpoken line → request_of (overlays version) line ≡ Some (Asking directive)
-      → IfOk answer (λ answer. (directed nat_eq world directive).answer ≡ Ok (answer_of answer))
-      → IfErr answer (λ deny. deny ≡ denial S5) → IsLeftBy version world line world
-  direct_leaves world line directive answer some spoken asks told memory =
+      → Directs world directive answer → IsLeftBy version world line world
+  direct_leaves world line directive answer some spoken asks directs =
       left_by world world line (replies_direct version nowhere done world line 0 directive answer tt tt some
-      spoken asks told memory (untold (reply_line 0 (result_of answer))))
+      spoken asks directs (untold (reply_line 0 (result_of answer))))
 
   -- a call
   pub call_leaves : {V : Type 0} (seen : V → World ℕ) (old new : V) (line : List ℕ) (task : TaskName) (call : Call)

@@ -14,7 +14,7 @@ use Rattle.vt_spec.specs.Machine.World.{World}
 
 -- A request may fail in a world for what is kept of its words. Or its call allocates, and the policy, which hands it
 -- these numbers, grants it, or refuses it by a rule that is checked after receivers are gathered. A directive may fail
--- for what it tells.
+-- for what it tells, or for the tasks that it names.
 abbrev pub MayFail : World ℕ → Fresh ℕ → Request → Type 0
 MayFail world fresh (Calling task call) = words.TakesMemory (Calling task call)
     ⊎ (calls.TakesMemory call × MayBeRefusedMemory call (policy nat_eq fresh world task call).answer)

@@ -66,7 +66,7 @@ fn answer<C: Calls, W: Sink>(
             write_reply(sink, number, &answer)
         }
         Ok(Line::Ask(directive)) => {
-            let answer = world.direct(directive);
+            let answer = world.direct(&directive);
             write_reply(sink, number, &answer)
         }
         Err(deny) => write_reply(sink, number, &Err(deny)),

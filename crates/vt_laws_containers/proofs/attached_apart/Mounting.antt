@@ -9,7 +9,7 @@ use Rattle.vt_laws_containers.specs.Footholds.{GivesNoFoothold}
 use Rattle.vt_laws_containers.proofs.footholds.AsBefore.{OthersAsBefore}
 use Rattle.vt_laws_containers.proofs.footholds.Granting.{denied_out, refused_out}
 use Rattle.vt_laws_containers.proofs.footholds.TasksPermits.{permit_out}
-use Rattle.vt_laws_containers.specs.AttachedApart.AttachFootholds.{PlainMountsGiveNoFoothold}
+use Rattle.vt_laws_containers.proofs.attached_apart.AttachFootholds.{PlainMountsGiveNoFoothold}
 use Rattle.vt_laws_containers.proofs.attached_apart.AttachedAsBefore.{copies_as_before}
 use Rattle.vt_laws_containers.proofs.attached_apart.GroupsApart.{Ours}
 

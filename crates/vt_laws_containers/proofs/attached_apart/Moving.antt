@@ -7,7 +7,7 @@ use Rattle.vt_laws_containers.specs.Footholds.{GivesNoFoothold}
 use Rattle.vt_laws_containers.proofs.footholds.AsBefore.{OthersAsBefore}
 use Rattle.vt_laws_containers.proofs.footholds.Granting.{refused_out}
 use Rattle.vt_laws_containers.proofs.footholds.TasksPermits.{permit_out}
-use Rattle.vt_laws_containers.specs.AttachedApart.AttachFootholds.{MovesGiveNoFoothold}
+use Rattle.vt_laws_containers.proofs.attached_apart.AttachFootholds.{MovesGiveNoFoothold}
 use Rattle.vt_laws_containers.proofs.attached_apart.CopiesHear.{copy_ours, made_ours}
 use Rattle.vt_laws_containers.proofs.attached_apart.GroupsApart.{Ours, groups_apart, source_ours}
 use Rattle.vt_laws_containers.proofs.attached_apart.GrownAsBefore.{grown_as_before}

@@ -7,7 +7,7 @@ use Rattle.vt_laws_members.proofs.new_overlays.LayersTheirs.{MountsOverlay, all_
 use Rattle.vt_laws_containers.specs.Footholds.{GivesNoFoothold}
 use Rattle.vt_laws_containers.proofs.footholds.Granting.{denied_out, refused_out}
 use Rattle.vt_laws_containers.proofs.footholds.TasksPermits.{permit_out}
-use Rattle.vt_laws_containers.specs.AttachedApart.AttachFootholds.{OverlayMountsGiveNoFoothold}
+use Rattle.vt_laws_containers.proofs.attached_apart.AttachFootholds.{OverlayMountsGiveNoFoothold}
 use Rattle.vt_laws_containers.proofs.attached_apart.Mounting.{mounted_as_before}
 
 pub overlay_mounts_give_no_foothold : OverlayMountsGiveNoFoothold

@@ -17,7 +17,7 @@ use Rattle.vt_laws_members.proofs.detached.lazily.Order.{same_turns, turns_own}
 use Rattle.vt_laws_members.proofs.detached.lazily.Turns.{SameButGroups, TookAway, events_alike, took, took_none}
 use Rattle.vt_laws_members.proofs.detached.removals.Going.{going_with, own_go}
 use Rattle.vt_laws_containers.specs.Footholds.{GivesNoFoothold}
-use Rattle.vt_laws_containers.specs.PermitFootholds.{RemovingGivesNoFoothold, is_of_removing}
+use Rattle.vt_laws_containers.proofs.footholds.PermitFootholds.{RemovingGivesNoFoothold, is_of_removing}
 use Rattle.vt_laws_containers.proofs.footholds.AsBefore.{OthersAsBefore}
 use Rattle.vt_laws_containers.proofs.footholds.EndsAsBefore.{swept_as_before}
 use Rattle.vt_laws_containers.proofs.footholds.FilesGoOn.{ChangesFiles, change_changes_files}

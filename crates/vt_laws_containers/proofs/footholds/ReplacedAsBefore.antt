@@ -6,7 +6,7 @@ use Rattle.vt_laws_containers.proofs.Common.{IsApart, IsMember, IsSealed, IsThei
 use Rattle.vt_laws_worlds.specs.Worlds.Permits.{MayPivot}
 use Rattle.vt_laws_sealed.proofs.outsiders.FlagsSet.{set}
 use Rattle.vt_laws_sealed.proofs.outsiders.Raising.{all-map_same}
-use Rattle.vt_laws_containers.specs.PermitFootholds.{ReplacingGivesNoFoothold, is_of_replacing}
+use Rattle.vt_laws_containers.proofs.footholds.PermitFootholds.{ReplacingGivesNoFoothold, is_of_replacing}
 use Rattle.vt_laws_containers.proofs.footholds.AsBefore.{OthersAsBefore}
 use Rattle.vt_laws_containers.proofs.footholds.Mirror.{ShareNone}
 use Rattle.vt_laws_containers.proofs.footholds.TasksAsBefore.{StandsBeside, tasks_beside}

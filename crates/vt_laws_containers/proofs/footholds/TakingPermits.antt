@@ -6,7 +6,7 @@ use Rattle.vt_laws_containers.proofs.Common.{IsApart, IsCallOfTheirs, IsMember, 
 use Rattle.vt_laws_sealed.proofs.outsiders.Unmounting.{others_go}
 use Rattle.vt_laws_members.proofs.changes.letting_go.Entering.{Enters, EntersTheirs, entered_was, enters, stands}
 use Rattle.vt_laws_members.proofs.changes.letting_go.Leaving.{is_task, its, its_name, member, new_old, set_from, set_parts, stays}
-use Rattle.vt_laws_containers.specs.PermitFootholds.{DetachingGivesNoFoothold, is_of_detaching}
+use Rattle.vt_laws_containers.proofs.footholds.PermitFootholds.{DetachingGivesNoFoothold, is_of_detaching}
 use Rattle.vt_laws_containers.proofs.footholds.AsBefore.{OthersAsBefore}
 use Rattle.vt_laws_containers.proofs.footholds.Granting.{EndsInAWorld}
 use Rattle.vt_laws_containers.proofs.footholds.Mirror.{mirror_stands, side, ours_is_not_out, own_out, placed_listed}

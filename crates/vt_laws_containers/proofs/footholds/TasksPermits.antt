@@ -7,7 +7,8 @@ use Rattle.vt_laws_sealed.proofs.outsiders.Opening.{inserted_at}
 use Rattle.vt_laws_members.proofs.changes.letting_go.Moving.{SetsDirectory, SetsRoot, sets_directory, sets_root}
 use Rattle.vt_laws_members.proofs.changes.tasks.Opening.{OpensOn, opens_theirs}
 use Rattle.vt_laws_containers.specs.Footholds.{GivesNoFoothold}
-use Rattle.vt_laws_containers.specs.PermitFootholds.{DenialsGiveNoFoothold, FilesGiveNoFoothold, LooksGiveNoFoothold, TasksGiveNoFoothold, is_of_files, is_of_tasks}
+use Rattle.vt_laws_containers.specs.PermitFootholds.{DenialsGiveNoFoothold, LooksGiveNoFoothold}
+use Rattle.vt_laws_containers.proofs.footholds.PermitFootholds.{FilesGiveNoFoothold, TasksGiveNoFoothold, is_of_files, is_of_tasks}
 use Rattle.vt_laws_containers.proofs.footholds.AsBefore.{GoesOn, OthersAsBefore}
 use Rattle.vt_laws_containers.proofs.footholds.EndsAsBefore.{swept_as_before}
 use Rattle.vt_laws_containers.proofs.footholds.FilesGoOn.{ChangesFiles, change_changes_files, copy_changes_files, write_changes_files}

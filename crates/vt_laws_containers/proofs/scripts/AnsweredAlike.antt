@@ -4,10 +4,27 @@ use Rattle.vt_spec.proofs.Common.{cases_Bool, Asking, Call, Calling, Fresh, Gram
 use Rattle.vt_laws_containers.proofs.Common.{EndsAlike, HasNoMoreFootholds, IsCallOfTheirs, are_all_called, every_call_keeps_worlds, fewer_footholds_seal_too, grown, names_few_groups, outsiders_leave_a_sealed_set, same_used, still_called}
 use Rattle.vt_laws_worlds.proofs.worlds.WordsFew.{lines_name_few, request_names_few}
 use Rattle.vt_laws_containers.specs.Footholds.{GivesNoFoothold, LeavesOthersOut}
-use Rattle.vt_laws_containers.specs.Scripts.{Along, Asked, EachEndsAlike, EndsInThePart, IsSealedOffAt, KeepsOthersOut, LeavesItSealed, SetsAreAnsweredAsAlone, Stand, StaysOnItsSide, after_theirs, asked, asked_by, moved, outcome_at, own_answers, told}
+use Rattle.vt_laws_containers.specs.Scripts.{Along, Asked, IsSealedOffAt, LeavesItSealed, Stand, StaysOnItsSide, StaysSealed, after_theirs, asked, asked_by, moved, outcome_at, own_answers, told}
 use Rattle.vt_laws_containers.proofs.scripts.Called.{members_stay_called}
 use Rattle.vt_laws_containers.proofs.scripts.LineNumbers.{numbers_left, numbers_passed, serves_line}
 use Rattle.vt_laws_containers.proofs.scripts.UsedThere.{used_is_there}
+
+-- a call of theirs ends in the part of the set as in the world
+abbrev pub EndsInThePart : Stand → TaskName → Call → Type 0
+EndsInThePart at name call =
+    IsCallOfTheirs at.world at.names name call → Serves nat_eq at.world (numbers_for at.number)
+    → EndsAlike at.world at.names name call (numbers_for at.number) (numbers_for at.number)
+
+-- a call of theirs gives others no foothold
+abbrev pub KeepsOthersOut : Stand → TaskName → Call → Type 0
+KeepsOthersOut at name call =
+    IsCallOfTheirs at.world at.names name call → Serves nat_eq at.world (numbers_for at.number)
+    → GivesNoFoothold at.world at.names name call (numbers_for at.number)
+
+-- Each call of theirs does both.
+pub record EachEndsAlike (others : Bool) (at : Stand) (calls : List Asked) : Type 0 where
+  pub in_part : Along EndsInThePart others at calls
+  pub footholds : Along KeepsOthersOut others at calls
 
 -- Worlds with one part use the same filesystems.
 pub used_by_parts : (world other : World ℕ) (names : List TaskName)
@@ -288,7 +305,12 @@ lines_are_few grammar (line ∷ lines) = (line_is_few, lines_are_few grammar lin
     line_is_few : IsFew (asked grammar line)
     line_is_few = by (nat_lt longest_line (length line) || is_silent line)
 
-pub sets_are_answered_as_alone : SetsAreAnsweredAsAlone
+-- So the calls of a set have the answers that they have alone, if each of them ends alike in the part of the set, with the
+-- calls of others between them and without.
+pub sets_are_answered_as_alone : (at : Stand) (grammar : Grammar) (lines : List (List ℕ)) → IsSealedOffAt at
+    → StaysSealed at (map (asked grammar) lines)
+    → EachEndsAlike true at (map (asked grammar) lines) → EachEndsAlike false at (map (asked grammar) lines)
+    → own_answers true at (map (asked grammar) lines) ≡ own_answers false at (map (asked grammar) lines)
 sets_are_answered_as_alone at grammar lines off stays full_ends lone_ends = alike _ (lines_are_few _ lines) _ _ _ _
     (record { of_full = off; of_lone = off; parts = refl; no_more = λ filesystem used alone. alone })
     (record { alone = stays.alone; sides = stays.sides; full_ends = full_ends; lone_ends = lone_ends })

@@ -1,16 +1,15 @@
 -- Calls that end alike in every world, and the scripts of these.
 use Rattle.std.proofs.Common.{inl, inr, arith, ◌≡◌, refl, sym, ap, ◌∙◌, ℕ, nat_eq, Bool, true, false, true≢false, List, [], ◌∷◌, Some, None, Ok, Err, ◌||◌, is_ok}
-use Rattle.vt_spec.proofs.Common.{Allowed, Bind, Call, Fresh, Judgement, MountOverlay, MountPlain, MoveMount, Permit, Serves, SetType, Task, TaskName, ToBind, ToChange, ToClose, ToEnterNamespace, ToExit, ToFork, ToList, ToListMounts, ToMake, ToMountOverlay, ToMountPlain, ToMove, ToOpen, ToOpenNew, ToPivot, ToRead, ToReadPart, ToRemoveDirectory, ToRename, ToSetCredentials, ToSetDirectory, ToSetFlags, ToSetRoot, ToSetType, ToSetUmask, ToStat, ToUnmount, ToUnmountLazily, ToUnshare, ToWritePart, Unshare, World, common_steps, denied, finished_by, is_among, judge_in, only_looks, same_name, task_called}
-use Rattle.vt_laws_containers.proofs.Common.{cases_Option, IsCallOfTheirs, each_call_ends_alike, names_few_groups, permits_are_for_their_calls, ran, run_by}
-use Rattle.vt_laws_containers.specs.Calls.{AlwaysEndsAlike, RunsEndAlike, SetsThatKeepOthersOutAreAnsweredAsAlone}
+use Rattle.vt_spec.proofs.Common.{Allowed, Bind, Call, Fresh, Judgement, MountOverlay, MountPlain, MoveMount, Permit, Serves, SetType, Task, TaskName, ToBind, ToChange, ToClose, ToEnterNamespace, ToExit, ToFork, ToList, ToListMounts, ToMake, ToMountOverlay, ToMountPlain, ToMove, ToOpen, ToOpenNew, ToPivot, ToRead, ToReadPart, ToRemoveDirectory, ToRename, ToSetCredentials, ToSetDirectory, ToSetFlags, ToSetRoot, ToSetType, ToSetUmask, ToStat, ToUnmount, ToUnmountLazily, ToUnshare, ToWritePart, Unshare, World, common_steps, denied, finished_by, judge_in, only_looks, task_called}
+use Rattle.vt_laws_containers.proofs.Common.{cases_Option, EndsAlike, IsCallOfTheirs, names_few_groups, permits_are_for_their_calls, ran, run_by}
 use Rattle.vt_laws_containers.specs.Footholds.{GivesNoFoothold}
-use Rattle.vt_laws_containers.specs.PermitFootholds.{is_of_detaching, is_of_files, is_of_removing, is_of_replacing, is_of_tasks}
-use Rattle.vt_laws_containers.specs.Scripts.{Along, Asked, EachEndsAlike, EndsInThePart, Stand, next}
+use Rattle.vt_laws_containers.proofs.footholds.PermitFootholds.{is_of_detaching, is_of_files, is_of_removing, is_of_replacing, is_of_tasks}
+use Rattle.vt_laws_containers.specs.Scripts.{Asked, Stand, next}
 use Rattle.vt_laws_containers.proofs.footholds.RemovingPermits.{removing_gives_no_foothold}
 use Rattle.vt_laws_containers.proofs.footholds.ReplacedAsBefore.{replacing_gives_no_foothold}
 use Rattle.vt_laws_containers.proofs.footholds.TakingPermits.{detaching_gives_no_foothold}
 use Rattle.vt_laws_containers.proofs.footholds.TasksPermits.{denials_give_no_foothold, files_give_no_foothold, tasks_give_no_foothold}
-use Rattle.vt_laws_containers.proofs.scripts.AnsweredAlike.{AreFew, lines_are_few, sets_are_answered_as_alone}
+use Rattle.vt_laws_containers.proofs.scripts.AnsweredAlike.{AreFew, EachEndsAlike}
 
 -- the calls but those that attach or copy mounts, or change their types
 abbrev pub keeps_others_out : Call → Bool
@@ -125,25 +124,18 @@ pub calls_give_no_foothold : (world : World ℕ) (names : List TaskName) (name :
 calls_give_no_foothold world names name call it few fresh serves keeps =
     keeping it few fresh serves keeps
 
--- along a run
-each_so : (others : Bool) (calls : List Asked) → AreFew calls → (at : Stand)
-    → Along (λ here name call. is_among same_name name here.names ≡ true → AlwaysEndsAlike call) others at calls
+-- in each world in which a call is one of theirs, it ends alike and gives others no foothold
+abbrev pub StaysApart : Call → Type 0
+StaysApart call =
+    (world : World ℕ) (names : List TaskName) (name : TaskName) (fresh : Fresh ℕ)
+    → IsCallOfTheirs world names name call → names_few_groups call ≡ true → Serves nat_eq world fresh
+    → EndsAlike world names name call fresh fresh × GivesNoFoothold world names name call fresh
+
+-- where every call does, so does each along a run
+pub each_so : ((call : Call) → StaysApart call) → (others : Bool) (calls : List Asked) → AreFew calls → (at : Stand)
     → EachEndsAlike others at calls
-each_so others [] few at always = record { in_part = tt; footholds = tt }
-each_so others (None ∷ calls) few at always = grind (arith, common_steps, each_so _ calls few.1 _ always.1)
-each_so others (Some call ∷ calls) few at always = grind (arith, common_steps, each_so _ calls few.1 _ always.1)
-
-pub runs_end_alike : RunsEndAlike
-runs_end_alike others at grammar lines always = each_so _ _ (lines_are_few _ lines) at always
-
--- every call of theirs ends alike, along each run
-all_in_part : (others : Bool) (calls : List Asked) (at : Stand) → Along EndsInThePart others at calls
-all_in_part others [] at = tt
-all_in_part others (None ∷ calls) at = (tt, all_in_part others calls (next others at None))
-all_in_part others (Some call ∷ calls) at =
-    grind (arith, common_steps, each_call_ends_alike, all_in_part others calls (next others at (Some call)))
-
-pub sets_that_keep_others_out_are_answered_as_alone : SetsThatKeepOthersOutAreAnsweredAsAlone
-sets_that_keep_others_out_are_answered_as_alone at grammar lines off stays full lone =
-    sets_are_answered_as_alone at grammar lines off stays (record { in_part = all_in_part true _ at; footholds = full })
-    (record { in_part = all_in_part false _ at; footholds = lone })
+each_so always others [] few at = record { in_part = tt; footholds = tt }
+each_so always others (None ∷ calls) few at =
+    grind (arith, common_steps, each_so always others calls few.1 (next others at None))
+each_so always others (Some call ∷ calls) few at =
+    grind (arith, common_steps, always, each_so always others calls few.1 (next others at (Some call)))

@@ -7,7 +7,7 @@ use Rattle.vt_laws_containers.specs.Footholds.{GivesNoFoothold}
 use Rattle.vt_laws_containers.proofs.footholds.AsBefore.{OthersAsBefore}
 use Rattle.vt_laws_containers.proofs.footholds.Granting.{denied_out, refused_out}
 use Rattle.vt_laws_containers.proofs.footholds.TasksPermits.{swept_out}
-use Rattle.vt_laws_containers.specs.TypesApart.TypeFootholds.{TypesGiveNoFoothold}
+use Rattle.vt_laws_containers.proofs.types_apart.TypeFootholds.{TypesGiveNoFoothold}
 use Rattle.vt_laws_containers.proofs.types_apart.TypesAsBefore.{types_as_before}
 
 module _ {world : World ℕ} {names : List TaskName} {name : TaskName} {path : List ℕ} {word : TypeWord}

@@ -6,7 +6,7 @@ use Rattle.vt_laws_containers.specs.Footholds.{GivesNoFoothold}
 use Rattle.vt_laws_containers.proofs.footholds.AsBefore.{OthersAsBefore}
 use Rattle.vt_laws_containers.proofs.footholds.Granting.{denied_out, refused_out}
 use Rattle.vt_laws_containers.proofs.footholds.TasksPermits.{permit_out}
-use Rattle.vt_laws_containers.specs.UnsharedApart.UnshareFootholds.{UnsharesGiveNoFoothold}
+use Rattle.vt_laws_containers.proofs.unshared_apart.UnshareFootholds.{UnsharesGiveNoFoothold}
 use Rattle.vt_laws_containers.proofs.unshared_apart.UnsharedAsBefore.{unshared_as_before}
 
 -- by whether another task is in the namespace of the caller

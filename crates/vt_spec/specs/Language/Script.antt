@@ -531,8 +531,8 @@ abbrev pub pivoting_call_names : List (List ℕ)
 pivoting_call_names = codes "pivot_root" ∷ []
 
 -- the calls on files, tasks, mounts and namespaces, those that make whiteouts and opaque directories, overlays without
--- an upper layer, and the list of peer groups, which the product has today, in a version of the language: the second has
--- the flag nosymfollow and pivot_root too
+-- an upper layer, and the directives, which the product has today, in a version of the language: the second has the flag
+-- nosymfollow and pivot_root too
 abbrev pub overlays : Version → Grammar
 overlays version = record {
   version = version;
@@ -540,7 +540,7 @@ overlays version = record {
       (file_call_names ++ mounting_call_names ++ marking_call_names ++ pivoting_call_names);
   has = λ call. true;
   options = names_no_upper;
-  directs = λ name. bytes_eq name (codes "peers");
+  directs = λ name. true;
 }
 
 -- the whole language

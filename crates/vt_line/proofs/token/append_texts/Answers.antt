@@ -29,8 +29,8 @@ returns-then-is_full-clause-value c =
     (YieldsList-from_filter _ (λ part. not (eqb (length part) 0)) split (cc) (λ x b q k. search (rules, tests))) in
     let n = length c.loop-token.yielded in
     let turn = YieldsList-turn road c.loop-token.yielded _ c.loop-token.yielded_by _ _ c.in-Some.token c.in-Some.is c.next.ensures.steps in
-    let full : eqb (length c.loop-token.sizes.items) 6 ≡ true = sym c.is_full.ensures.value ∙ c.if-is_full.true in
-    let many : length c.loop-token.sizes.items ≡ 6 = grind (arith, nat_tests) in
+    let full : eqb (length c.loop-token.sizes.items) 66 ≡ true = sym c.is_full.ensures.value ∙ c.if-is_full.true in
+    let many : length c.loop-token.sizes.items ≡ 66 = grind (arith, nat_tests) in
     let count = c.loop-token.invariant.count in
     sym (few_texts-many line (omega (arith, turn.0, many, count)))
 

@@ -9,7 +9,7 @@ invariant-loop-token l = record {
   can_next : (goal.iterator-loop-token).can_next l.token-iterator;
   is_finite : (goal.iterator-loop-token).is_finite l.token-iterator;
   count : length l.sizes.items ≡ length l.yielded;
-  few : length l.sizes.items ≤ 6;
+  few : length l.sizes.items ≤ 66;
   room : length l.bytes.items + sum_by length (drop (length l.yielded) (raw_tokens l.line)) ≤ sum_by length
       (raw_tokens l.line);
   whole : sum l.sizes.items ≡ length l.bytes.items;

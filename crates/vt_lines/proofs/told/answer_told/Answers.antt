@@ -19,7 +19,7 @@ pub returns-in-Ok-Ask : goal.returns-in-Ok-Ask
 returns-in-Ok-Ask g c =
     let asks = subst (IsReadingOf (version_of c.args.version) c.args.line.now) c.in-Ok-Ask.field-0-is c.in-Ok-Ask.ensures.reading in
     λ numbers. direct_leaves (version_of c.args.version) (g.C.Calls.world c.args.world.now) c.args.line.now _
-    c.direct.result numbers asks.0 asks.1 c.direct.ensures.ok c.direct.ensures.memory
+    c.direct.result numbers asks.0 asks.1 c.direct.ensures
 
 pub returns-in-Err : goal.returns-in-Err
 returns-in-Err g c = λ numbers.

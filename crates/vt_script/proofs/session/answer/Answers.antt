@@ -21,8 +21,8 @@ returns-in-Ok-Ask-clause-replies g c = λ numbers.
     let asks = subst (IsReadingOf (version_of c.args.version) c.args.line.now) c.in-Ok-Ask.field-0-is
     c.in-Ok-Ask.ensures.reading in
     replies_direct (version_of c.args.version) g.W.Sink c.write_reply-in-Ok-Ask.result (g.C.Calls.world c.args.world.now) c.args.line.now c.args.number _
-    c.direct-answer.result _ _ numbers asks.0 asks.1 c.direct-answer.ensures.ok
-    c.direct-answer.ensures.memory c.write_reply-in-Ok-Ask.ensures.printed
+    c.direct-answer.result _ _ numbers asks.0 asks.1 c.direct-answer.ensures
+    c.write_reply-in-Ok-Ask.ensures.printed
 
 pub returns-in-Err-clause-replies : goal.returns-in-Err-clause-replies
 returns-in-Err-clause-replies g c = λ numbers.

@@ -10,3 +10,6 @@ returns-clause-opened c = (
   allotted_numbers_open 0 3 (inode_number 2 0) refl,
   c.in_ok-new.ensures.opening,
 )
+
+pub returns-clause-counts : goal.returns-clause-counts
+returns-clause-counts c = λ i. record { numbers = c.in_ok-new.ensures.counts i; births = c.in_ok-new.ensures.births i }
