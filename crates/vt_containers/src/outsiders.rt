@@ -1,0 +1,10 @@
+//! Calls of tasks outside a sealed set.
+ghost use Rattle.vt_containers.specs.Outsiders.{OutsidersLeaveSealedSets};
+
+use vt_answers::Calls;
+
+/// After a call of a task outside a sealed set (`IsCallOfAnother`) the set is sealed off, its part is the same, and
+/// others have no foothold on a filesystem where they had none. The call is no `setns` into a namespace of the set.
+pub fn outsiders_leave_sealed_sets<C: Calls>()
+    ensures { OutsidersLeaveSealedSets C.world }
+{}
