@@ -7,8 +7,8 @@ use std::alloc::{AllocError, Global};
 use std::marker::Model;
 use vt_node::{Attr, Kind, NewNode, Node, NodeId, copied_bytes};
 
-/// An inode that is to be copied: its owner, group, mode and content. A copy of a directory has no entries and no mark,
-/// and its parent is where the copy is made.
+/// An inode that is to be copied: its owner, group, mode and content. A copy of a directory has no entries and no
+/// mark, and its parent is where the copy is made.
 #[derive(Debug, Drop)]
 pub struct CopiedNode {
     attr: Attr,

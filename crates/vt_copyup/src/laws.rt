@@ -1,8 +1,8 @@
 //! Laws of plans.
 ghost use Rattle.vt_copyup.specs.Laws.{PlansMakeCopies, PromisesAreGivenBack};
 
-/// What a plan makes is the definitions' copy of the path with its missing parents, if the copies have the numbers that
-/// are handed out.
+/// What a plan makes is the definitions' copy of the path with its missing parents, if the copies have the numbers
+/// that are handed out.
 pub fn plans_make_copies()
     ensures { PlansMakeCopies }
 {}

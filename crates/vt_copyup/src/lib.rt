@@ -1,5 +1,5 @@
-//! Copy-up: what an overlay's upper layer lacks of an object and of the directories above it is copied there. A copy is
-//! planned with all its memory, and then made where nothing may fail.
+//! Copy-up: what an overlay's upper layer lacks of an object and of the directories above it is copied there. A copy
+//! is planned with all its memory, and then made where nothing may fail.
 #![tactic(auto)]
 
 mod copied;

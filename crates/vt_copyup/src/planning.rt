@@ -24,11 +24,11 @@ use vt_location::{Birth, FilesystemId, InodeRef, NodeRef};
 use vt_node::{EntryRoom, Node, copied_bytes};
 use vt_overlay::{LayerEntry, LayerRef, MergedDirectory, Way, entry_in, first_entry, slot_of};
 
-/// Plans the copy of the object at a path with those of its missing parents, and takes all the memory that it needs, so
-/// that it can be made where nothing may fail. Nothing changes that anyone sees.
+/// Plans the copies of the object at a path and of its missing parents. It allocates all that they need, so that they
+/// can be made where nothing may fail. Nothing changes that anyone sees.
 ///
 /// The layers of the overlay are given with the upper one first. `room` is kept from plan to plan, so that a plan in a
-/// large directory mostly finds the room that an earlier one made.
+/// large directory mostly finds the room that an earlier one made. It fails only if an allocation does.
 pub fn plan<W: Way>(
     alloc: Global,
     trees: &mut Filesystems,
@@ -73,7 +73,7 @@ fn upper_of(layers: &[LayerRef]) -> LayerRef
     layers[0]
 }
 
-// Makes room for the name of the first copy in the directory that is there, if anything is copied.
+// Makes room for the name of the first copy in the directory that exists, if anything is copied.
 fn room_for_first(
     trees: &Filesystems,
     directory: InodeRef,
@@ -118,7 +118,7 @@ struct Led {
     inode: InodeRef,
 }
 
-// The longest front of a path that leads somewhere from a directory.
+// The longest prefix of a path that leads somewhere from a directory.
 fn led_above<W: Way>(trees: &Filesystems, directory: InodeRef, path: &W) -> Led
     ensures leads { at_path (opened trees.now directory) (take result.names (W.names path.now))
         ≡ Some (inode_of result.inode) }
@@ -147,7 +147,7 @@ fn led_above<W: Way>(trees: &Filesystems, directory: InodeRef, path: &W) -> Led
     }
 }
 
-// The copies of what is shown at each longer front of a path than this one, the longest first.
+// The copies of what is shown at each prefix of a path that is longer than this one, the longest first.
 fn pieces_from<W: Way>(
     alloc: Global,
     trees: &Filesystems,
@@ -179,7 +179,7 @@ fn pieces_from<W: Way>(
     Ok(pieces)
 }
 
-// Room for one name of a directory that is copied; in one that is there none is made here.
+// Room for one name in a directory that is copied. For a directory that exists, none is made here.
 fn room_of_copy(alloc: Global, is_copied: bool) -> Result<EntryRoom, AllocError>
     ensures { is_copied ≡ true → IfOk result (λ room. 0 < room) }
 {
@@ -190,7 +190,7 @@ fn room_of_copy(alloc: Global, is_copied: bool) -> Result<EntryRoom, AllocError>
     Ok(room)
 }
 
-// A front of a path, of so many names.
+// A prefix of a path, of so many names.
 #[derive(Clone, Copy, Debug)]
 struct Start<'a, W: Way> {
     path: &'a W,
@@ -209,7 +209,7 @@ impl<'a, W: Way> Way for Start<'a, W> {
     }
 }
 
-// The copy of what is shown at the front of a path with one name more.
+// The copy of what is shown at the prefix of a path with one name more.
 fn copy_at<W: Way>(
     alloc: Global,
     trees: &Filesystems,

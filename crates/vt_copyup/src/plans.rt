@@ -26,16 +26,16 @@ pub struct PlannedCopy {
     pub born: NodeRef,
 }
 
-// A copy, and room for its name in the directory that is copied before it. The first has none: it goes into a directory
-// that is there.
+// A copy, and room for its name in the directory that is copied before it. The first has none: it goes into a
+// directory that is there.
 #[derive(Debug, Drop)]
 pub(crate) struct Piece {
     pub(crate) copy: PlannedCopy,
     pub(crate) room: EntryRoom,
 }
 
-/// What is copied for one object: each front of its path that the upper layer lacks. It owns all memory that the copies
-/// take, and inodes and births are promised to it. It must be applied or given back.
+/// What is copied for one object: each prefix of its path that the upper layer lacks. It owns all memory that the
+/// copies take, and inodes and births are promised to it. It must be applied or given back.
 #[derive(Debug)]
 pub struct Plan {
     // The upper layer's directory for the first copy; where nothing is planned, the object itself.
@@ -45,8 +45,8 @@ pub struct Plan {
 }
 
 impl Plan {
-    /// Makes the copies, each in the one before, and their births. It gives the object's inode in the upper layer. It
-    /// does not allocate.
+    /// Makes the copies, each in the one before, and their births. It returns the object's inode in the upper layer.
+    /// It does not allocate.
     pub fn apply(
         self,
         alloc: Global,
@@ -87,7 +87,7 @@ impl Plan {
 }
 
 impl PlannedCopy {
-    // Makes the copy in a directory, and gives its inode. It does not allocate.
+    // Makes the copy in a directory, and returns its inode. It does not allocate.
     fn make(
         self,
         alloc: Global,
