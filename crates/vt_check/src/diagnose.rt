@@ -52,9 +52,13 @@ static ESCAPES: [(&str, &str); 8] = [
     ("\\'", "\\x27"),
 ];
 
-// Writes the escape that stands for a text of other languages, or what begins the rest in lower case, as an escape of two
-// upper-case digits is meant, and says how many bytes of the rest it stands for.
+// Writes the escape that stands for a text of other languages, or what begins the rest in lower case, as an escape of
+// two upper-case digits is meant, and says how many bytes of the rest it stands for.
 fn write_escape(text: &mut Draft, rest: &str, width: usize) -> Option<usize> {
+    if rest.starts_with("\\ ") {
+        text.push("\\x20");
+        return Some(2);
+    }
     let given = rest.get(..width)?;
     for (from, escape) in &ESCAPES {
         if *from == given {

@@ -38,6 +38,11 @@ impl Draft {
         self.text.ends_with(end)
     }
 
+    /// Whether an allocation failed so far.
+    pub fn is_failed(&self) -> bool {
+        self.failed
+    }
+
     /// Notes that an allocation failed.
     pub fn fail(&mut self) {
         self.failed = true;

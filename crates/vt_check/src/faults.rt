@@ -1,13 +1,11 @@
 //! What is wrong with the words of a refused line: the first of them that no line could have there.
 use crate::finding::Diagnosis;
-use crate::grammar::{CallWords, Kind, MOUNT_OVERLAY, PEERS, call_named};
+use crate::grammar::{CallWords, Kind, MOUNT_OVERLAY, PEERS, SEALED, call_named};
 use crate::unmodelled::unmodelled_in;
 use crate::words::{Given, Word, parts_of};
 use vt_line::version::Version;
 use vt_lines::reading::is_taken;
-
-/// The directive of a later version.
-const SEALED: &str = "sealed";
+use vt_request::request::MOST_NAMED_TASKS;
 
 /// What is wrong.
 #[derive(Clone, Copy)]
@@ -18,12 +16,11 @@ pub enum Wrong {
     NoDirective,
     /// The line ends behind its task, or behind `!`.
     LacksCall,
-    /// A word of a later version, and the form of the message that this version has none of this name.
-    Later(&'static str),
     /// A word of version 2 of the language, where version 1 is read, and what it is there.
     OfSecond(&'static str),
-    /// A word of Linux that is not modelled, and what stands in its place.
-    Unmodelled(&'static str),
+    /// A word of Linux that is not modelled, what comes nearest, and of which kind the word at its place is to be, if
+    /// it is one that is bad.
+    Unmodelled(&'static str, Option<Kind>),
     /// A word that begins as an option, where calls have none.
     NoOption(&'static CallWords),
     /// A word that is not of its kind, or has a part that is not, and what this is to be.
@@ -69,12 +66,8 @@ impl<'a> Fault<'a> {
             Wrong::NoCall => ("no call `{}`", word, word),
             Wrong::NoDirective => ("no directive `{}`", word, word),
             Wrong::LacksCall => ("the line ends before its call", word, word),
-            Wrong::Later(form) => {
-                found.note = "not in this version";
-                (form, word, word)
-            }
             Wrong::OfSecond(what) => ("`{}` is a {} of script version 2", word, what),
-            Wrong::Unmodelled(_) => ("`{}` is not modelled", word, word),
+            Wrong::Unmodelled(..) => ("`{}` is not modelled", word, word),
             Wrong::NoOption(call) => ("`{}` has no option `{}`", call.name, word),
             Wrong::Bad(_, meant) => {
                 if meant.starts_with('`') {
@@ -83,7 +76,12 @@ impl<'a> Fault<'a> {
                     ("`{}` is no {}", word, meant)
                 }
             }
-            Wrong::Further(call) => ("`{}` is a word too many for {}", word, call.usage),
+            Wrong::Further(call) => {
+                if call.name == "sealed" {
+                    found.note = "at most 64 tasks are named";
+                }
+                ("`{}` is a word too many for {}", word, call.usage)
+            }
             Wrong::Lacks(call, kind) => {
                 let name = call.name_at(self.place, kind);
                 ("the line ends before {} of {}", name, call.usage)
@@ -120,8 +118,8 @@ fn is_option(kind: Kind, text: &str) -> bool {
         && text.starts_with('-')
 }
 
-// What is wrong with a bad word at this place of a call's line: a flag that only version 2 knows, the first text between
-// its commas that is bad alone, or the word itself.
+// What is wrong with a bad word at this place of a call's line: a flag that only version 2 knows, the first text
+// between its commas that is bad alone, or the word itself.
 fn of_word<'a>(
     found: &mut Diagnosis,
     call: &CallWords,
@@ -182,11 +180,36 @@ fn of_call<'a>(found: &mut Diagnosis, line: Given<'a>, call: &'static CallWords)
     Fault::at(line, place, wrong)
 }
 
+// What is wrong with the tasks that `sealed` names.
+fn of_sealed<'a>(found: &mut Diagnosis, line: Given<'a>) -> Fault<'a> {
+    if line.arguments().is_empty() {
+        return Fault::at(line, 2, Wrong::Lacks(&SEALED, Kind::Task));
+    }
+    let most = MOST_NAMED_TASKS.saturating_add(2);
+    for (place, word) in line.words.iter().enumerate().skip(2) {
+        if place == most {
+            return Fault::at(line, place, Wrong::Further(&SEALED));
+        }
+        if !fits(found, Kind::Task, word.text) {
+            return Fault::at(line, place, Wrong::Bad(Kind::Task, "TASK"));
+        }
+    }
+    Fault::at(line, 1, Wrong::Other)
+}
+
 // The call of this name, in a version of the language, as its first word says which it is.
 fn call_of(line: Given<'_>, name: &str) -> Option<&'static CallWords> {
     match line.words.get(2) {
         Some(word) if name == "mount" && word.text == "overlay" => Some(&MOUNT_OVERLAY),
         _ => call_named(line.version, name),
+    }
+}
+
+// Whether a call of this name is given bytes, in which each word may stand.
+fn takes_bytes(line: Given<'_>, name: &str) -> bool {
+    match call_of(line, name) {
+        Some(call) => matches!(call.words.last(), Some(Kind::Bytes)),
+        None => false,
     }
 }
 
@@ -197,20 +220,23 @@ fn of_task<'a>(found: &mut Diagnosis, line: Given<'a>, name: &str) -> Fault<'a> 
         None => {
             let wrong = match call_named(Version::Two, name) {
                 Some(_) => Wrong::OfSecond("call"),
-                None if name == SEALED => Wrong::Later("no call `{}`"),
                 None => Wrong::NoCall,
             };
             Fault::at(line, 1, wrong)
         }
     };
-    if matches!(fault.wrong, Wrong::OfSecond(_) | Wrong::Later(_)) {
+    if matches!(fault.wrong, Wrong::OfSecond(_)) {
         return fault;
     }
-    if let Some(word) = unmodelled_in(found, line.arguments()) {
-        fault.wrong = Wrong::Unmodelled(match fault.wrong {
-            Wrong::Bad(kind, _) => kind.words(line.version).said,
-            _ => "",
-        });
+    if takes_bytes(line, name) {
+        return fault;
+    }
+    if let Some((word, said)) = unmodelled_in(found, line.arguments()) {
+        let kind = match fault.wrong {
+            Wrong::Bad(kind, _) => Some(kind),
+            _ => None,
+        };
+        fault.wrong = Wrong::Unmodelled(said, kind);
         fault.word = word;
     }
     fault
@@ -231,7 +257,7 @@ pub fn first_fault<'a>(found: &mut Diagnosis, line: Given<'a>) -> Fault<'a> {
     match name.text {
         name if !is_directive => of_task(found, line, name),
         "peers" => of_call(found, line, &PEERS),
-        SEALED => Fault::at(line, 1, Wrong::Later("no directive `{}`")),
+        "sealed" => of_sealed(found, line),
         _ => Fault::at(line, 1, Wrong::NoDirective),
     }
 }

@@ -41,6 +41,14 @@ impl Diagnosis {
         Draft::new(self.alloc)
     }
 
+    /// Says of a whole line what is wrong with it and what to write, and that something is wrong.
+    pub fn tell(&mut self, line: &[u8], (message, words): (&str, &'static str)) -> bool {
+        self.width = line.len();
+        self.message.push(message);
+        self.words = words;
+        true
+    }
+
     /// Notes that an allocation failed.
     pub fn fail(&mut self) {
         self.message.fail();

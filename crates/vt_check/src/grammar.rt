@@ -56,13 +56,14 @@ pub struct CallWords {
 }
 
 impl CallWords {
-    /// What the word at a place of a line, which is of this kind, is called: as in the usage, or by the words that stand
-    /// there to choose from.
+    /// What the word at a place of a line, which is of this kind, is called: as in the usage, or by the words that
+    /// stand there to choose from.
     pub fn name_at(&self, place: usize, kind: Kind) -> &'static str {
         match kind {
             Kind::Access => "`r`, `w` or `rw`",
             Kind::Creation => "`create` or `excl`",
             Kind::Filesystem => "`plain` or `overlay`",
+            Kind::Task => "TASK",
             Kind::YesOrNo => "`yes` or `no`",
             _ => {
                 let word = self.usage.split(' ').nth(place.saturating_sub(1));
@@ -461,7 +462,7 @@ static KEPT_IDENTITY_WORDS: KindWords = KindWords {
 static MODE_WORDS: KindWords = KindWords {
     before: "t umask ",
     after: "",
-    said: "MODE is one to four octal digits, at most 1777; read is 4, write 2, execute 1",
+    said: "MODE is the whole mode, one to four octal digits, at most 1777: `u=rwx,go=rx` is 755, `u=rw,go=r` is 644",
     plain: "644",
     part: "",
     choices: &[],
@@ -537,22 +538,6 @@ static YES_OR_NO_WORDS: KindWords = KindWords {
     ],
 };
 
-// Flags as other systems spell them.
-const FLAG_SYNONYMS: &[(&str, &str)] = &[
-    ("defaults", "rw"),
-    ("noexec", "rw,noexec"),
-    ("noexec,rw", "rw,noexec"),
-    ("noexec,ro", "ro,noexec"),
-    ("readonly", "ro"),
-    ("MS_RDONLY", "ro"),
-    ("MS_NOEXEC", "rw,noexec"),
-    ("nosymfollow", "rw,nosymfollow"),
-    ("MS_NOSYMFOLLOW", "rw,nosymfollow"),
-    ("nosymfollow,rw", "rw,nosymfollow"),
-    ("nosymfollow,ro", "ro,nosymfollow"),
-    ("noexec,nosymfollow", "rw,noexec,nosymfollow"),
-];
-
 static FIRST_FLAGS_WORDS: KindWords = KindWords {
     before: "t remount / ",
     after: "",
@@ -560,7 +545,7 @@ static FIRST_FLAGS_WORDS: KindWords = KindWords {
     plain: "rw",
     part: "",
     choices: &["rw", "ro", "rw,noexec", "ro,noexec"],
-    synonyms: FLAG_SYNONYMS,
+    synonyms: &[],
 };
 
 static SECOND_FLAGS_WORDS: KindWords = KindWords {
@@ -579,7 +564,7 @@ static SECOND_FLAGS_WORDS: KindWords = KindWords {
         "rw,noexec,nosymfollow",
         "ro,noexec,nosymfollow",
     ],
-    synonyms: FLAG_SYNONYMS,
+    synonyms: &[],
 };
 
 impl Kind {
@@ -610,12 +595,20 @@ impl Kind {
     }
 }
 
-/// The directive of `!`, written as a call.
+/// The directives of `!`, written as calls.
 pub static PEERS: CallWords = CallWords {
     name: "peers",
     usage: "`! peers`",
     words: &[],
     needed: 0,
+};
+
+/// Further tasks may stand behind the first.
+pub static SEALED: CallWords = CallWords {
+    name: "sealed",
+    usage: "`! sealed TASK ..`",
+    words: &[Kind::Task],
+    needed: 1,
 };
 
 /// The calls of a version of the language.

@@ -1,13 +1,18 @@
 //! What the lines of a script leave for later ones, as far as it is known without a run, and warnings that come of it.
 use crate::draft::Draft;
 use crate::finding::Diagnosis;
-use crate::words::{Word, word_at};
+use crate::nearest::write_options;
+use crate::unmodelled::nearest_to;
+use crate::words::{Word, parts_of, word_at};
 use std::alloc::{AllocError, Global};
 use std::collections::BTreeMap;
+use std::mem;
 use vt_layers::LayerOptions;
 use vt_line::line::Line;
 use vt_line::version::Version;
-use vt_request::{Call, Creation, DescriptorCall, MakeCall, MountCall, TaskCall, TaskName};
+use vt_request::{
+    Call, Creation, DescriptorCall, MakeCall, MountCall, RemoveCall, TaskCall, TaskName, WriteCall,
+};
 use vt_spec::attributes::Mode;
 
 // The umask of the first task.
@@ -16,6 +21,8 @@ const UMASK: u16 = 0o022;
 // What is said of the options of an overlay.
 const READ_ONLY: &str =
     "an overlay is read here, and not written: `lowerdir=/high:/low`, the top layer first";
+
+const UPPER: &str = "`upperdir` is not in this version: a run refuses it";
 
 const OPTIONS: &str =
     "options are `lowerdir=`, `workdir=`, `index=off`, `metacopy=off`, `redirect_dir=off` and `xino=off`; \
@@ -26,10 +33,34 @@ const OPTIONS: &str =
 struct Task {
     forks: u64,
     umask: u16,
+    // Whether `/` is what it is for the first task, as far as is known.
+    has_first_root: bool,
     // The line of a change of its root behind which its working directory was not changed.
     chroot: Option<u64>,
     // A line that was to fork a child, and is refused.
     refused_fork: Option<u64>,
+}
+
+// Proposes the line with the options of its overlay that a run takes, if they name two layers.
+fn propose_options(found: &mut Diagnosis, line: &str) {
+    let mut text = found.draft();
+    let mut is_clear = true;
+    let whole = Word {
+        column: 0,
+        text: line,
+    };
+    let words = parts_of(found, whole, [' ', ' ']);
+    for (place, word) in words.iter().enumerate() {
+        if place == 4 {
+            text.push_char(' ');
+            is_clear = write_options(found, word.text, &mut text);
+        } else {
+            text.push_word(word.text);
+        }
+    }
+    if is_clear {
+        found.propose(text);
+    }
 }
 
 // Appends the name of the task that these numbers name.
@@ -47,6 +78,10 @@ pub struct History {
     version: Version,
     alloc: Global,
     tasks: BTreeMap<Vec<u8>, Task>,
+    // Of the scripts that came to their end.
+    chroots: Vec<u64>,
+    // The lines that make files, by the files' paths from the root of the first task.
+    files: BTreeMap<Vec<u8>, u64>,
     pub failed: bool,
 }
 
@@ -57,20 +92,40 @@ impl History {
             version,
             alloc,
             tasks: BTreeMap::new(alloc),
+            chroots: Vec::new(alloc),
+            files: BTreeMap::new(alloc),
             failed: false,
         };
-        history.meet(&[], UMASK);
+        history.meet(&[], UMASK, true);
         history
     }
 
+    /// Begins anew, as a new script does; the changes of roots above are kept.
+    pub fn begin(&mut self) {
+        self.keep_unfollowed();
+        self.tasks.clear();
+        self.files.clear();
+        self.meet(&[], UMASK, true);
+    }
+
+    // Keeps the lines that change a task's root, and behind which its working directory was not changed.
+    fn keep_unfollowed(&mut self) {
+        for task in self.tasks.values() {
+            if let Some(line) = task.chroot {
+                self.failed |= self.chroots.push(line).is_err();
+            }
+        }
+    }
+
     // Begins to speak of a task, and says whether it is new.
-    fn meet(&mut self, numbers: &[u8], umask: u16) -> bool {
+    fn meet(&mut self, numbers: &[u8], umask: u16, has_first_root: bool) -> bool {
         if self.tasks.contains_key(numbers) {
             return false;
         }
         let task = Task {
             forks: 0,
             umask,
+            has_first_root,
             chroot: None,
             refused_fork: None,
         };
@@ -102,10 +157,10 @@ impl History {
     }
 
     // Begins to speak of a child of the task of these numbers, if there is memory for it.
-    fn meet_child(&mut self, numbers: &[u8], child: u64, umask: u16) -> Result<(), AllocError> {
+    fn meet_child(&mut self, numbers: &[u8], parent: Task) -> Result<(), AllocError> {
         let mut numbers = numbers.to_vec(self.alloc)?;
-        numbers.push(u8::try_from(child).unwrap_or(u8::MAX))?;
-        self.meet(numbers.as_slice(), umask);
+        numbers.push(u8::try_from(parent.forks).unwrap_or(u8::MAX))?;
+        self.meet(numbers.as_slice(), parent.umask, parent.has_first_root);
         Ok(())
     }
 
@@ -113,15 +168,15 @@ impl History {
     fn fork(&mut self, line: &[u8], numbers: &[u8]) -> Option<Diagnosis> {
         let task = self.tasks.get_mut(numbers)?;
         task.forks = task.forks.saturating_add(1);
-        let (child, umask, refused) = (task.forks, task.umask, task.refused_fork);
+        let parent = *task;
         task.refused_fork = None;
-        self.failed |= self.meet_child(numbers, child, umask).is_err();
-        let refused = refused?;
+        self.failed |= self.meet_child(numbers, parent).is_err();
+        let refused = parent.refused_fork?;
         let help = "a refused line uses no number: mend it, or number the tasks anew";
         let mut found = self.warning(line, 1, "this makes `", help);
         push_task(&mut found.message, numbers);
         found.message.push_char('.');
-        found.message.push_number(child);
+        found.message.push_number(parent.forks);
         found.message.push("`, since line ");
         found.message.push_number(refused);
         found.message.push(" is refused and forks nothing");
@@ -145,31 +200,32 @@ impl History {
         Some(found)
     }
 
-    // A warning about the first option of an overlay that a run refuses, if there is one.
+    // What is said of an option of an overlay that a run refuses, if it does: a form of the message, and what to do.
+    fn said_of_option(option: &[u8]) -> Option<(&'static str, &'static str)> {
+        match LayerOptions::parse(option) {
+            Some(known) if known.upper().is_some() => Some((UPPER, READ_ONLY)),
+            Some(_) => None,
+            None if option.is_empty() => Some(("an empty option: a run refuses it", OPTIONS)),
+            None => match nearest_to(str::from_utf8(option).unwrap_or_default()) {
+                Some(said) => Some(("`{}` is not modelled: a run refuses it", said)),
+                None => Some((
+                    "`{}` is no option of an overlay here: a run refuses it",
+                    OPTIONS,
+                )),
+            },
+        }
+    }
+
+    // A warning about the first option of an overlay that a run refuses, if there is one, and the line without those
+    // that are not modelled.
     fn of_option(&self, line: &[u8], options: &[u8]) -> Option<Diagnosis> {
-        for item in options.split(|byte| *byte == b',') {
-            match LayerOptions::parse(item) {
-                Some(option) if option.upper().is_some() => {
-                    let message = "`upperdir` is not in this version: a run refuses it";
-                    return Some(self.warning(line, 4, message, READ_ONLY));
-                }
-                Some(_) => {}
-                None if item.is_empty() => {
-                    return Some(self.warning(
-                        line,
-                        4,
-                        "an empty option: a run refuses it",
-                        OPTIONS,
-                    ));
-                }
-                None => {
-                    let mut found = self.warning(line, 4, "`", OPTIONS);
-                    found.message.push_bytes(item);
-                    found
-                        .message
-                        .push("` is no option of an overlay here: a run refuses it");
-                    return Some(found);
-                }
+        for option in options.split(|byte| *byte == b',') {
+            if let Some((form, help)) = Self::said_of_option(option) {
+                let mut found = self.warning(line, 4, "", help);
+                let option = str::from_utf8(option).unwrap_or_default();
+                found.message.fill(form, &[option]);
+                propose_options(&mut found, str::from_utf8(line).unwrap_or_default());
+                return Some(found);
             }
         }
         None
@@ -209,8 +265,16 @@ impl History {
         let umask = task.umask;
         match call {
             Call::Task(TaskCall::Umask { mode }) => task.umask = mode.bits(),
-            Call::Task(TaskCall::Chroot { .. }) => task.chroot = Some(number),
-            Call::Task(TaskCall::Chdir { .. } | TaskCall::Setns { .. }) => task.chroot = None,
+            Call::Task(TaskCall::Chroot { .. }) => {
+                task.chroot = Some(number);
+                task.has_first_root = false;
+            }
+            Call::Task(TaskCall::Chdir { .. }) => task.chroot = None,
+            Call::Task(TaskCall::Setns { .. }) => {
+                task.chroot = None;
+                task.has_first_root = false;
+            }
+            Call::Mount(MountCall::Pivot { .. }) => task.has_first_root = false,
             Call::Make(
                 MakeCall::Mkdir {
                     mode: Some(mode),
@@ -233,6 +297,46 @@ impl History {
         None
     }
 
+    // Notes the file that a call makes in the line of this number, or takes away, where the path is known to lead from
+    // the first task's root.
+    fn follow_file(&mut self, number: u64, numbers: &[u8], call: &Call<'_>) {
+        let has_first_root = match self.tasks.get(numbers) {
+            Some(task) => task.has_first_root,
+            None => false,
+        };
+        match call {
+            Call::Write(WriteCall::Write { path, .. })
+                if has_first_root && path.starts_with(b"/") => {
+                match path.to_vec(self.alloc) {
+                    Ok(path) => self.failed |= self.files.insert(path, number).is_err(),
+                    Err(_) => self.failed = true,
+                }
+            }
+            Call::Remove(RemoveCall::Unlink { path } | RemoveCall::Rename { old: path, .. }) => {
+                let _ = self.files.remove(*path);
+            }
+            _ => {}
+        }
+    }
+
+    // A warning where the source of a bind is a file, as far as is known.
+    fn of_bind(&self, line: &[u8], numbers: &[u8], source: &[u8]) -> Option<Diagnosis> {
+        let made = *self.files.get(source)?;
+        if !self.tasks.get(numbers)?.has_first_root {
+            return None;
+        }
+        let help = "bind the directory that holds it; later answers may differ from those of Linux";
+        let mut found = self.warning(
+            line,
+            2,
+            "mounts of single files are not modelled: line ",
+            help,
+        );
+        found.message.push_number(made);
+        found.message.push(" makes this file, and W3 refuses its bind, where Linux takes it");
+        Some(found)
+    }
+
     /// Goes on by a task's call in the line of this number, and warns of what is seldom meant.
     pub fn call(
         &mut self,
@@ -242,11 +346,13 @@ impl History {
         call: &Call<'_>,
     ) -> Option<Diagnosis> {
         let numbers = name.numbers();
-        let is_new = self.meet(numbers, UMASK);
+        let is_new = self.meet(numbers, UMASK, false);
         let warning = match call {
             Call::Task(TaskCall::Fork { .. }) => self.fork(line, numbers),
+            Call::Mount(MountCall::Bind { source, .. }) => self.of_bind(line, numbers, source),
             _ => self.apply(number, line, numbers, call),
         };
+        self.follow_file(number, numbers, call);
         if is_new {
             Some(self.unforked(line, numbers))
         } else {
@@ -272,13 +378,8 @@ impl History {
 
     /// The lines that change a task's root, and behind which its working directory was not changed, in order.
     pub fn unfollowed_chroots(&mut self) -> Vec<u64> {
-        let mut lines = Vec::new(self.alloc);
-        for task in self.tasks.values() {
-            if let Some(line) = task.chroot {
-                self.failed |= lines.push(line).is_err();
-            }
-        }
-        self.failed |= lines.sort().is_err();
-        lines
+        self.keep_unfollowed();
+        self.failed |= self.chroots.sort().is_err();
+        mem::replace(&mut self.chroots, Vec::new(self.alloc))
     }
 }

@@ -19,14 +19,14 @@ pub fn push_found(
     }
     let mut message = Draft::new(alloc);
     message.push_draft(&found.message);
-    let mut object = Object::new(alloc);
+    let mut object = Object::of_kind(alloc, "finding");
     object.put_text("file", name);
     object.put_number("line", finding.line);
     object.put_number("column", (found.column as u64).saturating_add(1));
     object.put_number("width", found.width as u64);
     object.put_bytes("text", finding.text);
-    object.put_text("level", finding.level(strict));
-    object.put_text("rule", if finding.is_error { "S1" } else { "" });
+    object.put_text("level", finding.told_level(strict));
+    object.put_text("rule", finding.rule());
     object.put_draft("message", message);
     object.put("write", lines.end());
     object.put_text("help", found.words);
@@ -36,7 +36,7 @@ pub fn push_found(
 
 /// Appends how much was found in the file of this name, as an object and a newline.
 pub fn push_summary(text: &mut Draft, alloc: Global, name: &str, report: &Report<'_>) {
-    let mut object = Object::new(alloc);
+    let mut object = Object::of_kind(alloc, "file");
     object.put_text("file", name);
     object.put_number("errors", report.errors);
     object.put_number("warnings", report.warnings);

@@ -1,6 +1,7 @@
 //! What is wrong with the lines of a script, told before it is run: where, why, and what to write in its place.
 #![tactic(auto)]
 
+pub mod answers;
 pub mod bytes;
 pub mod check;
 pub mod diagnose;

@@ -1,7 +1,10 @@
-//! JSON objects, one a line.
+//! JSON objects, one a line. docs/FORMATS.md has what each holds.
 use crate::draft::Draft;
 use serde_json::{Map, Value};
 use std::alloc::{AllocError, Global};
+
+/// The first line of an output of JSON.
+pub const HEAD: &str = "{\"format\":1,\"kind\":\"output\"}\n";
 
 /// An object that is being written. An allocation that fails is noted, and told at the end.
 #[derive(Drop)]
@@ -19,6 +22,13 @@ impl Object {
             members: Map::new(alloc),
             failed: false,
         }
+    }
+
+    /// An object of this kind.
+    pub fn of_kind(alloc: Global, kind: &str) -> Self {
+        let mut object = Object::new(alloc);
+        object.put_text("kind", kind);
+        object
     }
 
     /// Adds a member.

@@ -6,12 +6,14 @@ use crate::nearest::{nearest_call, write_corrected};
 use crate::rewrites::{is_known, rewrite};
 use crate::words::{Given, Word};
 
+const DIRECTIVES: &str = "the directives are `! peers` and `! sealed TASK ..`";
+
 const LINE: &str = "a line is a task, a call and its words; a comment begins with `#`";
 
-const OF_TEST: &str =
-    "names of scripts and answers that are wanted stand in files for `vtree test`";
+const SECOND: &str =
+    "`--script 2` reads the file in that version, and so does a first line `#!vtree --script 2`";
 
-const SECOND: &str = "`--script 2` reads the file in that version";
+const QUOTES: &str = "words have no quotes: a space in a word is `\\x20`";
 
 const SET_ID: &str =
     "the bits of set-user-ID and set-group-ID are not modelled; MODE is at most 1777";
@@ -52,7 +54,11 @@ fn mend(found: &mut Diagnosis, line: Given<'_>, kind: Kind, place: usize) -> boo
         return false;
     };
     let next = place.saturating_add(1);
-    is_clear && propose_between(found, line.words, place, text.as_str(), next)
+    let is_mended = is_clear && propose_between(found, line.words, place, text.as_str(), next);
+    if is_mended && matches!(kind, Kind::Mode) && word.text.contains(['=', '+']) {
+        found.words = kind.words(line.version).said;
+    }
+    is_mended
 }
 
 // Proposes the line with its words from one on as one word, with spaces and without the quotes around them.
@@ -88,20 +94,47 @@ fn complete(found: &mut Diagnosis, line: Given<'_>, call: &CallWords) -> bool {
     found.propose(text)
 }
 
+// Proposes a line of a shell, whose words begin at this place, as one of the first task.
+fn help_shell(found: &mut Diagnosis, line: Given<'_>, first: usize) -> bool {
+    let words = line.words.get(first..).unwrap_or_default();
+    let Some(call) = words.first() else {
+        return false;
+    };
+    if !is_known(call.text) && call_named(line.version, call.text).is_none() {
+        return false;
+    }
+    let mut all = Vec::new(found.alloc);
+    let task = Word {
+        column: 0,
+        text: "t",
+    };
+    if all.push(task).is_err() || all.extend_from_slice(words).is_err() {
+        found.fail();
+        return false;
+    }
+    let given = Given {
+        words: all.as_slice(),
+        ..line
+    };
+    propose_between(found, given.words, usize::MAX, "", usize::MAX) || rewrite(found, given)
+}
+
 // Help where a word is no task: a comment, the task that is missing before a call, or the task that is meant.
 fn help_task(found: &mut Diagnosis, line: Given<'_>, who: &str) {
-    let mut words = LINE;
-    let is_helped = if who.starts_with("//") || who.starts_with(';') || who.starts_with("--") {
+    let is_comment = who.starts_with("//") || who.starts_with(';') || who.starts_with("--");
+    let is_helped = if is_comment {
         let text = line.text.trim_start_matches([' ', '/', ';', '-']);
         propose_text(found, "# ", text)
-    } else if call_named(line.version, who).is_some() {
-        propose_between(found, line.words, 0, "t", 0)
     } else {
-        words = Kind::Task.words(line.version).said;
-        mend(found, line, Kind::Task, 0)
+        let first = if matches!(who, "sudo" | "$") { 1 } else { 0 };
+        help_shell(found, line, first) || mend(found, line, Kind::Task, 0)
     };
     if !is_helped {
-        found.words = words;
+        found.words = if is_comment {
+            LINE
+        } else {
+            Kind::Task.words(line.version).said
+        };
     }
 }
 
@@ -168,16 +201,22 @@ fn help_parents(found: &mut Diagnosis, line: Given<'_>) -> bool {
     true
 }
 
-// Whether the line is one of a test, with the answer that it wants, or the name of a script.
-fn is_of_test(line: Given<'_>) -> bool {
-    for (place, word) in line.words.iter().enumerate() {
-        match word.text {
-            "=>" => return true,
-            "==" if place == 0 => return true,
-            _ => {}
-        }
+// Proposes the line with the words of a text in quotes as one word, and says whether there is one.
+fn join_quoted(found: &mut Diagnosis, line: Given<'_>) -> bool {
+    let mut text = found.draft();
+    let mut is_open = false;
+    let mut has_quotes = false;
+    for word in line.words {
+        let begins = !is_open && word.text.starts_with(['"', '\'']);
+        let ends = (is_open || begins) && word.text.ends_with(['"', '\'']);
+        text.push_after(
+            if is_open { "\\x20" } else { " " },
+            word.text.trim_matches(['"', '\'']),
+        );
+        has_quotes |= begins;
+        is_open = (is_open || begins) && !ends;
     }
-    false
+    has_quotes && !is_open && found.propose(text)
 }
 
 // Whether a mode has the bits of set-user-ID or set-group-ID.
@@ -190,15 +229,16 @@ fn help_fault(found: &mut Diagnosis, line: Given<'_>, fault: Fault<'_>) {
     let word = fault.word.text;
     found.words = match fault.wrong {
         Wrong::NoTask => return help_task(found, line, word),
+        Wrong::NoCall if matches!(word, "peers" | "sealed") => {
+            propose_between(found, line.words, 0, "!", 1);
+            return;
+        }
         Wrong::NoCall => return help_call(found, line, word),
         Wrong::NoDirective if call_named(line.version, word).is_some() => {
             propose_between(found, line.words, 0, "t", 1);
             return;
         }
-        Wrong::NoDirective => {
-            propose_text(found, "! peers", "");
-            return;
-        }
+        Wrong::NoDirective => DIRECTIVES,
         Wrong::Bad(Kind::Mode, _) if has_set_id(word) => SET_ID,
         Wrong::Bad(Kind::Propagation, _) if mend(found, line, Kind::Propagation, fault.place) => {
             return;
@@ -207,8 +247,7 @@ fn help_fault(found: &mut Diagnosis, line: Given<'_>, fault: Fault<'_>) {
         Wrong::Bad(kind, _) | Wrong::Lacks(_, kind) => kind.words(line.version).said,
         Wrong::Further(call) => return help_further(found, line, call),
         Wrong::NoOption(call) => call.usage,
-        Wrong::Unmodelled(said) => said,
-        Wrong::Later(_) => return,
+        Wrong::Unmodelled(said, _) => said,
         Wrong::OfSecond(_) => SECOND,
         Wrong::LacksCall | Wrong::Other => LINE,
     };
@@ -217,8 +256,8 @@ fn help_fault(found: &mut Diagnosis, line: Given<'_>, fault: Fault<'_>) {
 /// Writes what to write in the place of a line with this fault. A bad word is mended alone, if it can be, but for a
 /// type: `rshared` is the type of another call. Else the line may be a call in other words.
 pub fn write_help(found: &mut Diagnosis, line: Given<'_>, fault: Fault<'_>) {
-    if is_of_test(line) {
-        found.words = OF_TEST;
+    if join_quoted(found, line) {
+        found.words = QUOTES;
         return;
     }
     let is_helped = match fault.wrong {
@@ -226,7 +265,18 @@ pub fn write_help(found: &mut Diagnosis, line: Given<'_>, fault: Fault<'_>) {
             let is_type = matches!(kind, Kind::Propagation);
             (!is_type && mend(found, line, kind, fault.place)) || rewrite(found, line)
         }
-        Wrong::Later(_) | Wrong::Unmodelled(_) | Wrong::OfSecond(_) => false,
+        Wrong::Unmodelled(said, kind) => {
+            let is_mended = match kind {
+                Some(kind) => mend(found, line, kind, fault.place),
+                None => false,
+            };
+            if !is_mended {
+                rewrite(found, line);
+            }
+            found.words = said;
+            return;
+        }
+        Wrong::OfSecond(_) => false,
         Wrong::NoOption(call) if matches!((call.name, fault.word.text), ("mkdir", "-p")) => {
             help_parents(found, line)
         }

@@ -2,7 +2,9 @@
 ghost use Rattle.std.specs.Prelude.{◌≡◌, IfOk};
 ghost use Rattle.vt_line.specs.Versions.{version_of};
 ghost use Rattle.vt_lines.specs.Refused.{is_refused, refused_in};
+ghost use Rattle.vt_wanted.specs.Headers.{names_no_version};
 
+use crate::answers::{NO_NAME, NOTHING_ABOVE, of_answer};
 use crate::bytes::{TOLD_ONCE, byte_fault};
 use crate::diagnose::diagnosis;
 use crate::draft::Draft;
@@ -15,9 +17,21 @@ use vt_line::line::{Line, Unescaped};
 use vt_line::version::Version;
 use vt_lines::lines::first_line;
 use vt_lines::reading::{free, reading};
+use vt_wanted::entry::{Entry, entry_of};
+use vt_wanted::header::{VersionWord, wrong_version};
 
-/// The most findings of a file that are shown.
+/// The most findings of a file that are shown where nothing else is asked for.
 pub const MOST_SHOWN: usize = 50;
+
+/// How grave a finding is.
+#[derive(Clone, Copy)]
+pub enum Level {
+    /// A run refuses the line by S1.
+    Refused,
+    /// The file is at fault, and not a line of a script.
+    OfFile,
+    Warning,
+}
 
 /// Something found in a line.
 #[derive(Drop)]
@@ -26,18 +40,24 @@ pub struct Finding<'a> {
     pub line: u64,
     /// The line itself.
     pub text: &'a [u8],
-    /// Whether a run refuses the line by S1; else it is warned of.
-    pub is_error: bool,
+    pub level: Level,
     pub diagnosis: Diagnosis,
 }
 
 impl<'a> Finding<'a> {
-    /// How grave it is, where warnings are errors or not.
-    pub fn level(&self, strict: bool) -> &'static str {
-        if self.is_error || strict {
-            "error"
-        } else {
-            "warning"
+    /// How grave it is told to be, where warnings are errors or not.
+    pub fn told_level(&self, strict: bool) -> &'static str {
+        match self.level {
+            Level::Warning if !strict => "warning",
+            _ => "error",
+        }
+    }
+
+    /// The rule by which a run refuses the line, or nothing.
+    pub fn rule(&self) -> &'static str {
+        match self.level {
+            Level::Refused => "S1",
+            Level::OfFile | Level::Warning => "",
         }
     }
 }
@@ -49,6 +69,8 @@ pub struct Report<'a> {
     pub findings: Vec<Finding<'a>>,
     /// How many lines a run refuses by S1.
     pub errors: u64,
+    /// Whether the first line of the file names a version that does not exist.
+    pub names_no_version: bool,
     pub warnings: u64,
     /// How many lines have each of the faults that are told once, in the order of [`crate::bytes::ByteKind`].
     pub told: [u64; TOLD_ONCE],
@@ -69,11 +91,25 @@ pub fn line_at(text: &[u8], number: u64) -> &[u8] {
     }
 }
 
+// Whether a line wants a denial as its answer.
+fn wants_denial(line: &[u8]) -> bool {
+    match entry_of(line) {
+        Entry::Line(_, Some(answer)) => answer.starts_with(b"deny"),
+        _ => false,
+    }
+}
+
 // What is found so far. An allocation that fails is noted with the history, and told at the end.
 #[derive(Drop)]
 struct Scan<'a> {
     version: Version,
     alloc: Global,
+    // How many findings are kept at most.
+    most: usize,
+    // The lines of the file that were not taken yet.
+    rest: &'a [u8],
+    // Whether an answer that is wanted stands above, in this script.
+    has_answer: bool,
     history: History,
     findings: Vec<Finding<'a>>,
     warnings: u64,
@@ -96,11 +132,11 @@ impl<'a> Scan<'a> {
     }
 
     // Keeps a finding.
-    fn find(&mut self, line: u64, text: &'a [u8], is_error: bool, diagnosis: Diagnosis) {
+    fn find(&mut self, line: u64, text: &'a [u8], level: Level, diagnosis: Diagnosis) {
         let kept = self.findings.push(Finding {
             line,
             text,
-            is_error,
+            level,
             diagnosis,
         });
         self.history.failed |= kept.is_err();
@@ -142,29 +178,30 @@ impl<'a> Scan<'a> {
         }
     }
 
-    // Keeps what is wrong with a refused line.
-    fn refuse(&mut self, number: u64, line: &'a [u8]) {
-        self.refuse_fork(number, str::from_utf8(line).unwrap_or_default());
-        if !self.is_told(line) && self.findings.len() < MOST_SHOWN {
-            let found = diagnosis(self.version, self.alloc, line);
-            self.find(number, line, true, found);
+    // Keeps what is wrong with a refused line, of which this is the call.
+    fn refuse(&mut self, number: u64, line: &'a [u8], call: &[u8]) {
+        self.refuse_fork(number, str::from_utf8(call).unwrap_or_default());
+        if !self.is_told(call) && self.findings.len() < self.most {
+            let found = diagnosis(self.version, self.alloc, call);
+            self.find(number, line, Level::Refused, found);
         }
     }
 
     // Keeps a warning about a line.
     fn warn(&mut self, number: u64, line: &'a [u8], warning: Diagnosis) {
         self.warnings = self.warnings.saturating_add(1);
-        if self.findings.len() < MOST_SHOWN {
-            self.find(number, line, false, warning);
+        if self.findings.len() < self.most {
+            self.find(number, line, Level::Warning, warning);
         }
     }
 
-    // Goes on by a line as a run reads it, or by one that it refuses.
-    fn follow(&mut self, number: u64, line: &'a [u8], read: &Option<Line<'_>>) {
+    // Goes on by a line whose call is this text, as a run reads it, or by one that it refuses. A call that is to be
+    // denied leaves nothing.
+    fn follow(&mut self, number: u64, line: &'a [u8], text: &[u8], read: &Option<Line<'_>>) {
         match read {
-            None => self.refuse(number, line),
-            Some(Line::Call(name, call)) => {
-                if let Some(warning) = self.history.call(number, line, name, call) {
+            None => self.refuse(number, line, text),
+            Some(Line::Call(name, call)) if !wants_denial(line) => {
+                if let Some(warning) = self.history.call(number, text, name, call) {
                     self.warn(number, line, warning);
                 }
             }
@@ -172,30 +209,65 @@ impl<'a> Scan<'a> {
         }
     }
 
-    // Goes on by a line, and says whether a run refuses it, in this version of the language. One place serves for the
-    // texts of each line in turn.
+    // The next line of the file.
+    fn next_line(&mut self) -> &'a [u8] {
+        match first_line(self.rest) {
+            Some((line, after)) => {
+                self.rest = after;
+                line
+            }
+            None => self.rest,
+        }
+    }
+
+    // Warns of the form of the answer that a line of the file wants, and begins anew where a script does.
+    fn follow_entry(&mut self, number: u64, line: &'a [u8]) {
+        let mut found = Diagnosis::new(self.version, self.alloc);
+        let is_bad = match entry_of(line) {
+            Entry::Name(name) => {
+                self.history.begin();
+                self.has_answer = false;
+                name.is_empty() && found.tell(line, NO_NAME)
+            }
+            Entry::More(_) => !self.has_answer && found.tell(line, NOTHING_ABOVE),
+            Entry::Line(call, answer) => {
+                self.has_answer |= answer.is_some();
+                call.len() < line.len() && of_answer(&mut found, line, call.len())
+            }
+        };
+        if is_bad {
+            self.warn(number, line, found);
+        } else if found.message.is_failed() {
+            self.history.failed = true;
+        }
+    }
+
+    // Goes on by a line of the file, of which this is the call, and says whether a run refuses it, in this version of
+    // the language. One place serves for the texts of each line in turn.
     fn take(
         &mut self,
         version: Version,
         number: u64,
-        line: &'a [u8],
+        call: &[u8],
         texts: &mut Option<Unescaped>,
     ) -> Result<bool, AllocError>
-        ensures { IfOk result (λ refused. refused ≡ is_refused (version_of version) line.now) }
+        ensures { IfOk result (λ refused. refused ≡ is_refused (version_of version) call.now) }
     {
-        let read = reading(version, self.alloc, line, texts)?;
+        let line = self.next_line();
+        let read = reading(version, self.alloc, call, texts)?;
         let refused = read.is_none();
-        self.follow(number, line, &read);
+        self.follow(number, line, call, &read);
         free(read);
+        self.follow_entry(number, line);
         Ok(refused)
     }
 
-    // Goes on by all lines of a text in this version of the language, and says how many a run refuses.
+    // Goes on by all calls of a file in this version of the language, and says how many a run refuses.
     #[tactic(auto, using(vt_lines::proofs::LineLemmas::refused_lines))]
-    fn take_all(&mut self, version: Version, text: &'a [u8]) -> Result<u64, AllocError>
-        ensures { IfOk result (λ errors. errors ≡ refused_in (version_of version) text.now) }
+    fn take_all(&mut self, version: Version, calls: &[u8]) -> Result<u64, AllocError>
+        ensures { IfOk result (λ errors. errors ≡ refused_in (version_of version) calls.now) }
     {
-        let mut rest = text;
+        let mut rest = calls;
         let mut number: u64 = 0;
         let mut errors: u64 = 0;
         let mut texts = None;
@@ -209,16 +281,28 @@ impl<'a> Scan<'a> {
         Ok(errors)
     }
 
-    // Goes on behind the last line: warns of changes of the root that no change of the working directory follows, and
-    // puts the findings in the order of their lines. Only of those that are shown the line is looked for.
-    fn finish(&mut self, text: &'a [u8]) {
+    // Keeps that the first line of the file names a version that does not exist, by this word.
+    fn find_version(&mut self, file: &'a [u8], word: VersionWord<'_>) {
+        let mut found = Diagnosis::new(self.version, self.alloc);
+        found.column = word.column;
+        found.width = word.text.len();
+        found
+            .message
+            .fill("no version `{}` of scripts", &[word.shown()]);
+        found.words = "`--script 1` and `--script 2` are the versions";
+        self.find(1, line_at(file, 1), Level::OfFile, found);
+    }
+
+    // Goes on behind the last line of a file: warns of changes of the root that no change of the working directory
+    // follows, and puts the findings in the order of their lines. Only of those that are shown the line is looked for.
+    fn finish(&mut self, file: &'a [u8]) {
         let numbers = self.history.unfollowed_chroots();
         self.warnings = self.warnings.saturating_add(numbers.len() as u64);
-        let room = MOST_SHOWN.saturating_sub(self.findings.len());
+        let room = self.most.saturating_sub(self.findings.len());
         for number in numbers.get(..room).unwrap_or(&numbers) {
-            let line = line_at(text, *number);
+            let line = line_at(file, *number);
             let warning = self.history.unfollowed(line);
-            self.find(*number, line, false, warning);
+            self.find(*number, line, Level::Warning, warning);
         }
         let sorted = self.findings.sort_by_key(|finding| finding.line);
         self.history.failed |= sorted.is_err();
@@ -226,8 +310,9 @@ impl<'a> Scan<'a> {
 }
 
 // The report of a scan that has come to the end of a text.
-fn ended<'a>(scan: Scan<'a>, errors: u64) -> Result<Report<'a>, AllocError>
-    ensures { IfOk result (λ report. report.errors ≡ errors) }
+fn ended<'a>(scan: Scan<'a>, errors: u64, names_no_version: bool) -> Result<Report<'a>, AllocError>
+    ensures errors { IfOk result (λ report. report.errors ≡ errors) }
+    ensures version { IfOk result (λ report. report.names_no_version ≡ names_no_version) }
 {
     if scan.history.failed {
         return Err(AllocError);
@@ -236,27 +321,43 @@ fn ended<'a>(scan: Scan<'a>, errors: u64) -> Result<Report<'a>, AllocError>
     Ok(Report {
         findings: scan.findings,
         errors,
+        names_no_version,
         warnings: scan.warnings,
         told,
     })
 }
 
-/// What is found in a script, in a version of its language. As many lines are errors as a run refuses by S1.
-pub fn report_of(version: Version, alloc: Global, text: &[u8]) -> Result<Report<'_>, AllocError>
-    ensures { IfOk result (λ report. report.errors ≡ refused_in (version_of version) text.now) }
+/// What is found in a file, of which these are the calls, in a version of its language; so many findings are kept at
+/// most. As many lines are errors as a run of the calls refuses by S1.
+pub fn report_of<'a>(
+    version: Version,
+    alloc: Global,
+    file: &'a [u8],
+    calls: &[u8],
+    most: usize,
+) -> Result<Report<'a>, AllocError>
+    ensures errors { IfOk result (λ report. report.errors ≡ refused_in (version_of version) calls.now) }
+    ensures version { IfOk result (λ report. report.names_no_version ≡ names_no_version file.now) }
 {
     let mut scan = Scan {
         version,
         alloc,
+        most,
+        rest: file,
+        has_answer: false,
         history: History::new(version, alloc),
         findings: Vec::new(alloc),
         warnings: 0,
         told: [0; TOLD_ONCE],
     };
-    match scan.take_all(version, text) {
+    let wrong = wrong_version(file);
+    if let Some(word) = wrong {
+        scan.find_version(file, word);
+    }
+    match scan.take_all(version, calls) {
         Ok(errors) => {
-            scan.finish(text);
-            ended(scan, errors)
+            scan.finish(file);
+            ended(scan, errors, wrong.is_some())
         }
         Err(error) => Err(error),
     }

@@ -105,8 +105,12 @@ fn push_help(text: &mut Draft, finding: &Finding<'_>) {
 
 /// Appends what is found in a line, as several lines and an empty one.
 pub fn push_found(text: &mut Draft, name: &str, strict: bool, finding: &Finding<'_>) {
-    text.push(finding.level(strict));
-    text.push(if finding.is_error { "[S1]: " } else { ": " });
+    text.push(finding.told_level(strict));
+    match finding.rule() {
+        "" => {}
+        rule => text.fill("[{}]", &[rule]),
+    }
+    text.push(": ");
     text.push_draft(&finding.diagnosis.message);
     text.push_char('\n');
     push_excerpt(text, name, finding);

@@ -2,5 +2,7 @@
 #![tactic(auto)]
 
 pub mod markdown;
-pub mod pages;
 pub mod told;
+
+pub use vt_check::answers::meant;
+pub use vt_rule_table::pages;

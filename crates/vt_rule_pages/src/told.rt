@@ -2,6 +2,8 @@
 use crate::pages::{RULES, page_of};
 use std::alloc::{AllocError, Global};
 use vt_check::draft::Draft;
+use vt_check::grammar::{MOUNT_OVERLAY, call_named, calls};
+use vt_line::version::Version;
 use vt_spec::errors::Rule;
 
 // The most columns of a line of words.
@@ -72,7 +74,22 @@ pub fn order(alloc: Global) -> Result<String, AllocError> {
     text.end()
 }
 
-/// What is told of a word: of a rule its page, of an error or a call its rules. Empty where it is none of these.
+// Appends the forms in which a call of this name is written, if there is one.
+fn push_forms(text: &mut Draft, name: &str) {
+    for call in calls(Version::Two) {
+        if call.name == name {
+            let is_first = call_named(Version::One, name).is_some();
+            let version = if is_first { "" } else { " (script version 2)" };
+            text.fill("form: {}{}\n", &[call.usage.trim_matches('`'), version]);
+        }
+    }
+    if name == MOUNT_OVERLAY.name {
+        text.fill("form: {}\n", &[MOUNT_OVERLAY.usage.trim_matches('`')]);
+    }
+}
+
+/// What is told of a word: of a rule its page, of an error its rules, of a call its forms and its rules. Empty where
+/// it is none of these.
 pub fn told(alloc: Global, word: &str) -> Result<String, AllocError> {
     let mut text = Draft::new(alloc);
     // What `mount` mounts is no call of its own.
@@ -80,6 +97,7 @@ pub fn told(alloc: Global, word: &str) -> Result<String, AllocError> {
         "plain" | "overlay" => "mount",
         _ => word,
     };
+    push_forms(&mut text, call);
     for rule in &RULES {
         if rule.name() == word {
             push_rule(&mut text, *rule);

@@ -1,4 +1,7 @@
 //! The answers of a run beside those that are wanted.
+ghost use Rattle.std.specs.Prelude.{List, OnOk, map};
+ghost use Rattle.vt_verdict.specs.Compared.{Line, differing, line_of};
+
 use crate::suite::{Script, SuiteFault, scripts};
 use std::alloc::{AllocError, Global};
 use vt_lines::answers::answers;
@@ -33,8 +36,26 @@ pub fn given_lines(alloc: Global, answers: &[u8]) -> Result<Vec<Answer<'_>>, All
 
 /// Who is told how the answers of a script differ.
 pub trait Comparing {
+    // how it goes on by the lines of a script that are answered otherwise than is wanted
+    ghost goes_on: { Self → List Line → Self → Type 0 };
+
     /// Goes on by the lines of a script that are answered otherwise than is wanted.
-    fn tell(&mut self, script: &Script<'_>, found: &[Difference<'_>]);
+    fn tell(&mut self, script: &Script<'_>, found: &[Difference<'_>])
+        ensures { goes_on self.old (map line_of found.now) self.new };
+}
+
+// Tells how these answers to a script differ from those that it wants.
+fn compare<T: Comparing>(
+    alloc: Global,
+    script: &Script<'_>,
+    given: &[Answer<'_>],
+    told: &mut T,
+) -> Result<(), AllocError>
+    ensures { OnOk result (T.goes_on told.old (differing script.now.wanted.items given.now) told.new) }
+{
+    let found = differences(alloc, script.wanted.as_slice(), given)?;
+    told.tell(script, found.as_slice());
+    Ok(())
 }
 
 // Runs a script, and tells how its answers differ from those that it wants.
@@ -45,9 +66,7 @@ fn compare_script<C: Calls, T: Comparing>(
 ) -> Result<(), AllocError> {
     let written = answers::<C>(script.version, alloc, script.text.as_slice(), PIECE)?;
     let given = given_lines(alloc, written.bytes())?;
-    let found = differences(alloc, script.wanted.as_slice(), given.as_slice())?;
-    told.tell(script, found.as_slice());
-    Ok(())
+    compare(alloc, script, given.as_slice(), told)
 }
 
 /// Runs the scripts of a file, all in this version of their language, and tells of each how its answers differ.

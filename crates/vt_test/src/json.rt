@@ -42,7 +42,7 @@ pub fn push_outcome(
     script: &Script<'_>,
     found: &[Difference<'_>],
 ) {
-    let mut object = Object::new(alloc);
+    let mut object = Object::of_kind(alloc, "script");
     object.put_text("file", file);
     object.put_number("line", script.before.saturating_add(1));
     let mut name = object.draft();
@@ -55,7 +55,7 @@ pub fn push_outcome(
 
 /// Appends a file that cannot be tested, as an object and a newline.
 pub fn push_fault(text: &mut Draft, alloc: Global, file: &str, said: &str) {
-    let mut object = Object::new(alloc);
+    let mut object = Object::of_kind(alloc, "fault");
     object.put_text("file", file);
     object.put_text("error", said);
     object.push_line(text);
@@ -63,7 +63,7 @@ pub fn push_fault(text: &mut Draft, alloc: Global, file: &str, said: &str) {
 
 /// Appends how many scripts have passed and failed, as an object and a newline.
 pub fn push_totals(text: &mut Draft, alloc: Global, passed: u64, failed: u64) {
-    let mut object = Object::new(alloc);
+    let mut object = Object::of_kind(alloc, "totals");
     object.put_number("passed", passed);
     object.put_number("failed", failed);
     object.push_line(text);

@@ -1,15 +1,15 @@
 //! The outcome of scripts as JUnit's XML.
 use crate::compare::Difference;
 use crate::suite::Script;
+use crate::test::Totals;
 use crate::text::{push_failure, push_name};
 use std::alloc::Global;
 use vt_check::draft::Draft;
 
-/// What stands before all scripts, and behind them.
-pub const HEAD: &str =
-    "<?xml version=\"1.0\" encoding=\"UTF-8\"?>\n<testsuites>\n<testsuite name=\"vtree test\">\n";
+/// What stands before all files, and behind them.
+pub const HEAD: &str = "<?xml version=\"1.0\" encoding=\"UTF-8\"?>\n<testsuites>\n";
 
-pub const FOOT: &str = "</testsuite>\n</testsuites>\n";
+pub const FOOT: &str = "</testsuites>\n";
 
 // Appends a text as XML has it; a control character is shown as a replacement, since XML has none.
 fn push_text(text: &mut Draft, part: &str) {
@@ -39,6 +39,31 @@ fn push_class(text: &mut Draft, file: &str) {
     text.push("<testcase classname=\"");
     push_text(text, file);
     text.push("\" name=\"");
+}
+
+// Appends an attribute that is a number.
+fn push_count(text: &mut Draft, name: &str, count: u64) {
+    text.push(name);
+    text.push("=\"");
+    text.push_number(count);
+    text.push_char('"');
+}
+
+/// Appends a file as a test suite of these test cases, of which so many failed, and the last one because of an error.
+pub fn push_file(text: &mut Draft, file: &str, cases: &Draft, totals: Totals, is_error: bool) {
+    let errors = if is_error { 1 } else { 0 };
+    text.push("<testsuite name=\"");
+    push_text(text, file);
+    push_count(
+        text,
+        "\" tests",
+        totals.passed.saturating_add(totals.failed),
+    );
+    push_count(text, " failures", totals.failed.saturating_sub(errors));
+    push_count(text, " errors", errors);
+    text.push(">\n");
+    text.push_draft(cases);
+    text.push("</testsuite>\n");
 }
 
 /// Appends a script as a test case.

@@ -1,9 +1,12 @@
 //! A file of scripts with the answers that are given.
+ghost use Rattle.std.specs.Prelude.{⊤};
+
 use crate::compare::{Comparing, Difference, compare_all};
-use crate::suite::{Answer, Entry, Script, SuiteFault, entry_of};
+use crate::suite::{Answer, Script, SuiteFault};
 use std::alloc::{AllocError, Global};
 use vt_lines::lines::first_line;
 use vt_script::{Calls, Version};
+use vt_wanted::entry::{Entry, entry_of};
 
 // The lines of a script that are answered otherwise, by their numbers in the file, each with its answers as they are
 // written there.
@@ -32,6 +35,8 @@ struct Changes {
 }
 
 impl Comparing for Changes {
+    ghost goes_on = { λ old lines new. ⊤ };
+
     fn tell(&mut self, script: &Script<'_>, found: &[Difference<'_>]) {
         for one in found {
             let line = script.before.saturating_add(one.number);

@@ -1,16 +1,16 @@
 //! Files of scripts, each line beside its answer.
 //!
-//! `== NAME` begins a script, on a new world. `LINE => ANSWER` is a line and its answer, `LINE =>` one that has none, `LINE`
-//! one that is answered `ok`, and `=> MORE` a further line of the answer above. A comment and a line of spaces have no
-//! answer. What stands before the first name is a script too.
+//! `== NAME` begins a script, on a new world. `LINE => ANSWER` is a line and its answer, `LINE =>` one that has none,
+//! `LINE` one that is answered `ok`, and `=> MORE` a further line of the answer above. A comment and a line of spaces
+//! have no answer. What stands before the first name is a script too.
 use std::alloc::{AllocError, Global};
 use std::collections::BTreeMap;
 use std::mem;
 use thiserror::Error;
-use vt_io::line::LONGEST_LINE;
 use vt_lines::lines::first_line;
 use vt_script::Version;
 pub use vt_verdict::compare::Answer;
+use vt_wanted::entry::{Entry, entry_of, is_silent};
 
 /// A script with what it wants. Lines of the file that are none of the script are empty lines of it.
 #[derive(Drop)]
@@ -44,76 +44,6 @@ impl From<AllocError> for SuiteFault {
     }
 }
 
-/// What a line of a file is.
-#[derive(Clone, Copy)]
-pub enum Entry<'a> {
-    /// The name of a new script.
-    Name(&'a [u8]),
-    /// A further line of the answer above.
-    More(&'a [u8]),
-    /// A line of a script, and its answer if it has one.
-    Line(&'a [u8], Option<&'a [u8]>),
-}
-
-// A text without the spaces before it.
-fn without_front(text: &[u8]) -> &[u8] {
-    for (place, byte) in text.iter().enumerate() {
-        if *byte != b' ' {
-            return text.get(place..).unwrap_or_default();
-        }
-    }
-    &[]
-}
-
-/// A text without the spaces behind it.
-pub fn without_end(text: &[u8]) -> &[u8] {
-    let mut end: usize = 0;
-    for (place, byte) in text.iter().enumerate() {
-        if *byte != b' ' {
-            end = place.saturating_add(1);
-        }
-    }
-    text.get(..end).unwrap_or_default()
-}
-
-// A text without the spaces around it.
-fn trimmed(text: &[u8]) -> &[u8] {
-    without_front(without_end(text))
-}
-
-// Where the first mark ` =>` begins that a space follows, or the line's end.
-fn mark_in(line: &[u8]) -> Option<usize> {
-    for place in 0..line.len() {
-        let rest = line.get(place..).unwrap_or_default();
-        if rest.starts_with(b" =>") && matches!(rest.get(3), None | Some(b' ')) {
-            return Some(place);
-        }
-    }
-    None
-}
-
-/// What a line of a file is. One that is a comment or of spaces alone, and not too long to be one, has no answer.
-pub fn entry_of(line: &[u8]) -> Entry<'_> {
-    if let Some(name) = line.strip_prefix(b"==") {
-        if matches!(name.first(), None | Some(b' ')) {
-            return Entry::Name(trimmed(name));
-        }
-    }
-    if let Some(more) = line.strip_prefix(b"=> ") {
-        return Entry::More(trimmed(more));
-    }
-    let is_silent = matches!(without_front(line).first(), None | Some(b'#'));
-    if is_silent && line.len() <= LONGEST_LINE {
-        return Entry::Line(line, None);
-    }
-    let Some(mark) = mark_in(line) else {
-        return Entry::Line(line, Some(b"ok"));
-    };
-    let call = line.get(..mark).unwrap_or_default();
-    let answer = trimmed(line.get(mark.saturating_add(3)..).unwrap_or_default());
-    Entry::Line(call, (!answer.is_empty()).then_some(answer))
-}
-
 impl<'a> Script<'a> {
     fn new(version: Version, alloc: Global, name: &'a [u8], before: u64) -> Self {
         Script {
@@ -129,7 +59,7 @@ impl<'a> Script<'a> {
     fn has_call(&self) -> bool {
         let mut rest = self.text.as_slice();
         while let Some((line, after)) = first_line(rest) {
-            if !matches!(without_front(line).first(), None | Some(b'#')) {
+            if !is_silent(line) {
                 return true;
             }
             rest = after;

@@ -1,4 +1,7 @@
 //! Files of scripts, tested.
+ghost use Rattle.std.specs.Prelude.{◌≡◌, length};
+ghost use Rattle.vt_verdict.specs.Counts.{counted};
+
 use crate::compare::{Comparing, Difference, compare_all};
 use crate::suite::{Script, SuiteFault};
 use crate::text::push_failure;
@@ -7,6 +10,7 @@ use std::alloc::Global;
 use std::io::{self, Write};
 use vt_check::draft::Draft;
 use vt_script::{Calls, Version};
+pub use vt_verdict::counts::Totals;
 
 /// The form in which outcomes are written.
 #[derive(Clone, Copy)]
@@ -14,23 +18,6 @@ pub enum Format {
     Text,
     Json,
     Junit,
-}
-
-/// How many scripts have passed, and how many have failed. A file that is none of scripts counts as one that fails.
-#[derive(Clone, Copy)]
-pub struct Totals {
-    pub passed: u64,
-    pub failed: u64,
-}
-
-impl Totals {
-    /// None yet.
-    pub fn new() -> Self {
-        Totals {
-            passed: 0,
-            failed: 0,
-        }
-    }
 }
 
 // What is to be said of the scripts of a file.
@@ -41,39 +28,76 @@ struct Tested<'a> {
     file: &'a str,
     format: Format,
     totals: Totals,
+    // Whether something keeps the file from being tested.
+    has_fault: bool,
+}
+
+impl<'a> Tested<'a> {
+    // Nothing yet.
+    fn new(alloc: Global, file: &'a str, format: Format) -> Self {
+        Tested {
+            text: Draft::new(alloc),
+            alloc,
+            file,
+            format,
+            totals: Totals::new(),
+            has_fault: false,
+        }
+    }
+
+    // Goes on by what keeps the whole file from being tested.
+    fn fail(&mut self, said: &str) {
+        self.totals.failed = self.totals.failed.saturating_add(1);
+        self.has_fault = true;
+        let (text, file) = (&mut self.text, self.file);
+        match self.format {
+            Format::Text => {
+                text.fill("error: {}: ", &[file]);
+                text.push(said);
+                text.push_char('\n');
+            }
+            Format::Json => json::push_fault(text, self.alloc, file, said),
+            Format::Junit => junit::push_fault(text, file, said),
+        }
+    }
+
+    // Writes what is to be said of the file.
+    fn write<W: Write>(self, output: &mut W) -> io::Result<Totals> {
+        let totals = self.totals;
+        let text = match self.format {
+            Format::Text | Format::Json => self.text,
+            Format::Junit => {
+                let mut text = Draft::new(self.alloc);
+                junit::push_file(&mut text, self.file, &self.text, totals, self.has_fault);
+                text
+            }
+        };
+        write_text(output, text)?;
+        Ok(totals)
+    }
 }
 
 impl Tested<'_> {
-    // Goes on by a fault of the whole file.
-    fn fail(&mut self, fault: &SuiteFault) {
-        self.totals.failed = self.totals.failed.saturating_add(1);
-        let (text, file) = (&mut self.text, self.file);
-        match format!(in self.alloc; "{fault}") {
-            Ok(said) => match self.format {
-                Format::Text => text.fill("error: {}: {}\n", &[file, said.as_str()]),
-                Format::Json => json::push_fault(text, self.alloc, file, said.as_str()),
-                Format::Junit => junit::push_fault(text, file, said.as_str()),
-            },
-            Err(_) => text.fail(),
+    // Says how the answers of a script differ.
+    fn say(&mut self, script: &Script<'_>, found: &[Difference<'_>])
+        ensures { self.new.totals ≡ self.old.totals }
+    {
+        let (text, alloc, file) = (&mut self.text, self.alloc, self.file);
+        match self.format {
+            Format::Text if found.is_empty() => {}
+            Format::Text => push_failure(text, alloc, file, script, found),
+            Format::Json => json::push_outcome(text, alloc, file, script, found),
+            Format::Junit => junit::push_outcome(text, alloc, file, script, found),
         }
     }
 }
 
 impl Comparing for Tested<'_> {
+    ghost goes_on = { λ old lines new. new.totals ≡ counted (length lines) old.totals };
+
     fn tell(&mut self, script: &Script<'_>, found: &[Difference<'_>]) {
-        let passes = found.is_empty();
-        if passes {
-            self.totals.passed = self.totals.passed.saturating_add(1);
-        } else {
-            self.totals.failed = self.totals.failed.saturating_add(1);
-        }
-        let (text, alloc, file) = (&mut self.text, self.alloc, self.file);
-        match self.format {
-            Format::Text if passes => {}
-            Format::Text => push_failure(text, alloc, file, script, found),
-            Format::Json => json::push_outcome(text, alloc, file, script, found),
-            Format::Junit => junit::push_outcome(text, alloc, file, script, found),
-        }
+        self.totals.count(found.len());
+        self.say(script, found);
     }
 }
 
@@ -94,19 +118,30 @@ pub fn test_file<C: Calls, W: Write>(
     format: Format,
     output: &mut W,
 ) -> io::Result<Totals> {
-    let mut tested = Tested {
-        text: Draft::new(alloc),
-        alloc,
-        file,
-        format,
-        totals: Totals::new(),
-    };
+    let mut tested = Tested::new(alloc, file, format);
     if let Err(fault) = compare_all::<C, _>(version, alloc, content, &mut tested) {
-        tested.fail(&fault);
+        match format!(in alloc; "{fault}") {
+            Ok(said) => tested.fail(said.as_str()),
+            Err(_) => tested.text.fail(),
+        }
     }
-    let totals = tested.totals;
-    write_text(output, tested.text)?;
-    Ok(totals)
+    tested.write(output)
+}
+
+/// Writes that a file cannot be read, as JSON or JUnit; it counts as one that fails. As text nothing is written.
+pub fn unread_file<W: Write>(
+    alloc: Global,
+    file: &str,
+    why: &str,
+    format: Format,
+    output: &mut W,
+) -> io::Result<Totals> {
+    let mut tested = Tested::new(alloc, file, format);
+    match format {
+        Format::Text => tested.totals.failed = 1,
+        Format::Json | Format::Junit => tested.fail(why),
+    }
+    tested.write(output)
 }
 
 /// Writes what stands before all files.

@@ -1,10 +1,11 @@
 //! The outcome of a script as text.
 use crate::compare::Difference;
-use crate::suite::{Answer, Script, without_end};
+use crate::suite::{Answer, Script};
 use std::alloc::{AllocError, Global};
 use vt_check::check::push_explained;
 use vt_check::draft::Draft;
 use vt_check::report::line_at;
+use vt_wanted::entry::without_end;
 
 /// The most differences of a script that are shown.
 pub const MOST_SHOWN: usize = 50;

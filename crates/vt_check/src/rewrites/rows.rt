@@ -43,6 +43,7 @@ truncate * 0 => write $1 \\e
 truncate -s 0 * => write $3 \\e
 truncate ... # `write` sets the whole content of a file
 ln -s * * => symlink $2 $3
+ln -sf * * => symlink $2 $3 # `unlink` takes away first what stands there
 ln -s * # `symlink TEXT PATH` makes a symlink with this text
 ln * * => link $1 $2
 test -e * => stat $2
@@ -62,7 +63,17 @@ creat * * => open $1 w create $2 | write $1 \\e # `write` empties a file that wa
 fstat ... # of descriptors there are `open`, `pread`, `pwrite` and `close`
 fchmod ... # of descriptors there are `open`, `pread`, `pwrite` and `close`
 fchown ... # of descriptors there are `open`, `pread`, `pwrite` and `close`
-fchdir ... # of descriptors there are `open`, `pread`, `pwrite` and `close`
+fchdir ... # a directory has no descriptor here: `chdir PATH` is given a path
+openat ... # a directory has no descriptor here: `open PATH r` is given a path
+openat2 ... # a directory has no descriptor here: `open PATH r` is given a path
+mkdirat ... # a directory has no descriptor here: `mkdir PATH` is given a path
+unlinkat ... # a directory has no descriptor here: `unlink PATH` and `rmdir PATH` are given a path
+renameat ... # a directory has no descriptor here: `rename OLD NEW` is given paths
+linkat ... # a directory has no descriptor here: `link OLD NEW` is given paths
+symlinkat ... # a directory has no descriptor here: `symlink TEXT PATH` is given a path
+fchownat ... # a directory has no descriptor here: `chown PATH UID GID` is given a path
+fchmodat ... # a directory has no descriptor here: `chmod PATH MODE` is given a path
+name_to_handle_at ... # a directory has no descriptor here
 open * O_RDONLY => open $1 r
 open * O_WRONLY => open $1 w
 open * O_RDWR => open $1 rw
@@ -85,35 +96,41 @@ chown * root => chown $1 0 -
 chown root * => chown $2 0 -
 chown root:root * => chown $2 0 0
 chown * root:root => chown $1 0 0
+chown * /* => chown $2 @1
+chown * /* => chown $2 $1 -
 chown * * => chown $1 $2 - # `-` leaves what is there
 chown * - - # one of UID and GID is a number
 
 # Mounts of overlays, as mount(8) has them.
-mount -t overlay -o * * * => mount overlay $6 $4
-mount -t overlay * -o * * => mount overlay $6 $5
-mount -t overlay * * -o * => mount overlay $4 $6
-mount -o * -t overlay * * => mount overlay $6 $2
-mount overlay -o * * => mount overlay $4 $3
-mount overlay overlay -o * * => mount overlay $5 $4
-mount overlay * -o * => mount overlay $2 $4
-overlay * * => mount overlay $1 $2
-mount -t overlay ... # `mount overlay PATH OPTIONS` mounts layers, as in `mount overlay /m lowerdir=/high:/low`
+mount -t overlay -o * * * => mount overlay $6 ^4 # an overlay is read here, and not written
+mount -t overlay * -o * * => mount overlay $6 ^5 # an overlay is read here, and not written
+mount -t overlay * * -o * => mount overlay $4 ^6 # an overlay is read here, and not written
+mount -o * -t overlay * * => mount overlay $6 ^2 # an overlay is read here, and not written
+mount overlay -o * * => mount overlay $4 ^3
+mount overlay overlay -o * * => mount overlay $5 ^4
+mount overlay * -o * => mount overlay $2 ^4
+overlay * * => mount overlay $1 ^2
+mount -t overlay ... # an overlay is read here, and not written, and has two layers at least: `mount overlay /m \
+lowerdir=/high:/low`
 
 # New mounts, as mount(8) and findmnt(8) have them.
 mount => mounts
 findmnt ... => mounts
 mounts ... => mounts
 mount tmpfs * => mount plain $2
-mount tmpfs * * => mount plain $2 $3
 mount tmpfs tmpfs * => mount plain $3
+mount tmpfs * * => mount plain $2 %3
 mount -t tmpfs * => mount plain $3
 mount -t tmpfs * * => mount plain $4
-mount -t tmpfs -o * * * => mount plain $6 $4
-mount -t tmpfs * * -o * => mount plain $4 $6
-mount -o * -t tmpfs * * => mount plain $6 $2
-mount -t proc ... # new, empty filesystems and overlays alone are modelled: `mount plain`, `mount overlay`
-mount -t sysfs ... # new, empty filesystems and overlays alone are modelled: `mount plain`, `mount overlay`
-mount -t ... # new, empty filesystems and overlays alone are modelled: `mount plain`, `mount overlay`
+mount -t tmpfs -o * * * => mount plain $6 %4
+mount -t tmpfs * -o * * => mount plain $6 %5
+mount -t tmpfs * * -o * => mount plain $4 %6
+mount -o * -t tmpfs * * => mount plain $6 %2
+mount -t bind * * => bind $3 $4
+mount -t rbind * * => rbind $3 $4
+mount -t * * /* => mount plain $4 # of filesystems only new, empty ones and overlays are modelled: `mkdir` and \
+`write` fill one
+mount -t ... # of filesystems only new, empty ones and overlays are modelled: `mount plain`, `mount overlay`
 
 # Binds and moves, as mount(8) has them.
 mount --bind * * => bind $2 $3
@@ -127,29 +144,35 @@ mount rbind * * => rbind $2 $3
 mount --move * * => move $2 $3
 mount -M * * => move $2 $3
 mount move * * => move $2 $3
-mount --bind -o * * * => bind $4 $5 | remount $5 $3 # a bind has the flags of its source until then
-mount -o bind,ro * * => bind $3 $4 | remount $4 ro # a bind has the flags of its source until then
-mount -o ro,bind * * => bind $3 $4 | remount $4 ro # a bind has the flags of its source until then
-mount -o rbind,ro * * => rbind $3 $4 | remount $4 ro # a bind has the flags of its source until then
-bind * * ro => bind $1 $2 | remount $2 ro # a bind has the flags of its source until then
-bind * * * => bind $1 $2 | remount $2 $3 # a bind has the flags of its source until then
-bind -o * * * => bind $3 $4 | remount $4 $2 # a bind has the flags of its source until then
-rbind -o * * * => rbind $3 $4 | remount $4 $2 # a bind has the flags of its source until then
-rbind * * * => rbind $1 $2 | remount $2 $3 # a bind has the flags of its source until then
+mount --bind -o * * * => bind $4 $5 | remount $5 %3 # a bind has the flags of its source until then
+mount -o * --bind * * => bind $4 $5 | remount $5 %2 # a bind has the flags of its source until then
+mount -o ~bind * * => bind $3 $4 | remount $4 %2 # a bind has the flags of its source until then
+mount -o ~rbind * * => rbind $3 $4 | remount $4 %2 # a bind has the flags of its source until then
+bind * * * => bind $1 $2 | remount $2 %3 # a bind has the flags of its source until then
+bind -o * * * => bind $3 $4 | remount $4 %2 # a bind has the flags of its source until then
+rbind -o * * * => rbind $3 $4 | remount $4 %2 # a bind has the flags of its source until then
+rbind * * * => rbind $1 $2 | remount $2 %3 # a bind has the flags of its source until then
 
 # The flags of mounts, and unmounts, as mount(8), umount(8) and umount2(2) have them.
-mount -o remount,ro * => remount $3 ro
-mount -o remount,rw * => remount $3 rw
-mount -o remount,bind,ro * => remount $3 ro
-mount -o remount,bind,rw * => remount $3 rw
-mount -o bind,remount,ro * => remount $3 ro
-mount -o bind,remount,rw * => remount $3 rw
-mount -o remount,ro,bind * => remount $3 ro
+mount -o ~remount * => remount $3 %2
+mount -o ~remount * * => remount $4 %2
+mount * -o ~remount => remount $1 %3
 mount /* => mount plain $1
-mount /* * => mount plain $1 $2
-remount * * => remount $2 $1
-remount -o * * => remount $3 $2
-remount -o remount,ro * => remount $3 ro
+mount /* * => mount plain $1 %2
+remount * /* => remount $2 %1
+remount /* -o * => remount $1 %3
+remount -o * * => remount $3 %2
+mount_setattr /* * => remount $1 %2 # it changes the flags of one mount; `rtype` alone changes the mounts below too
+mount_setattr ... # `remount PATH FLAGS` changes the flags of one mount, and `rtype PATH TYPE` the types of a tree
+open_tree ... # a mount without a place has no descriptor here: `bind SOURCE PATH` puts a copy where it is to be
+move_mount /* /* => move $1 $2
+move_mount ... # a mount without a place has no descriptor here: `move SOURCE PATH` moves one that has a place
+fsopen ... # `mount plain PATH` makes a new filesystem and mounts it, `mount overlay PATH OPTIONS` an overlay
+fsconfig ... # `mount plain PATH` makes a new filesystem and mounts it, `mount overlay PATH OPTIONS` an overlay
+fsmount ... # `mount plain PATH` makes a new filesystem and mounts it, `mount overlay PATH OPTIONS` an overlay
+fspick ... # `remount PATH FLAGS` changes the flags of a mount
+statmount ... => mounts
+listmount ... => mounts
 umount -l * => lazy $2
 umount --lazy * => lazy $2
 umount * lazy => lazy $1
@@ -167,14 +190,28 @@ unshare -m => unshare # unshare(1) then makes all mounts private, as `rtype / pr
 unshare --mount => unshare # unshare(1) then makes all mounts private, as `rtype / private` does
 unshare -m --propagation unchanged => unshare
 unshare -m --propagation * => unshare | rtype / $3 # it is the type of all its mounts
+unshare --mount --propagation unchanged => unshare
+unshare --mount --propagation * => unshare | rtype / $3 # it is the type of all its mounts
 unshare -m ... => unshare # unshare(1) then makes all mounts private, as `rtype / private` does
+unshare --mount ... => unshare # unshare(1) then makes all mounts private, as `rtype / private` does
+unshare -U ... # user namespaces are not modelled: `fork UID GID GROUPS CAPS` gives a child its rights
+unshare -Ur ... # user namespaces are not modelled: `fork UID GID GROUPS CAPS` gives a child its rights
+unshare -r ... # user namespaces are not modelled: `fork UID GID GROUPS CAPS` gives a child its rights
+unshare -rm ... => unshare # user namespaces are not modelled: `fork UID GID GROUPS CAPS` gives a child its rights
+unshare -mr ... => unshare # user namespaces are not modelled: `fork UID GID GROUPS CAPS` gives a child its rights
+unshare -Um ... => unshare # user namespaces are not modelled: `fork UID GID GROUPS CAPS` gives a child its rights
+unshare -Urm ... => unshare # user namespaces are not modelled: `fork UID GID GROUPS CAPS` gives a child its rights
+unshare -Umr ... => unshare # user namespaces are not modelled: `fork UID GID GROUPS CAPS` gives a child its rights
 unshare CLONE_NEWNS => unshare
 unshare NEWNS => unshare
 unshare mount => unshare
 unshare mnt => unshare
 unshare ... # of namespaces only those of mounts are modelled: `unshare`
 nsenter ... # `setns TASK` enters the namespace of a task
+clone CLONE_NEWNS => fork # the child then makes its namespace by `unshare`: `fork` answers its name
+clone NEWNS => fork # the child then makes its namespace by `unshare`: `fork` answers its name
 clone ... => fork
+clone3 ... => fork
 vfork => fork
 chroot -- * ... => chroot $2 | chdir / # a task goes on with `exec`
 chroot /* ... => chroot $1 | chdir / # a task goes on with `exec`
@@ -275,16 +312,24 @@ df ... # filesystems have no size here
 du ... # filesystems have no size here
 utime ... # time is not modelled
 getxattr ... # of extended attributes none is modelled
+getfattr ... # of extended attributes none is modelled
+getfacl ... # of access control lists none is modelled
 setxattr ... # of extended attributes none is modelled
 setfacl ... # of access control lists none is modelled
 socket ... # devices, pipes and sockets are not modelled
-find ... # `ls PATH` lists one directory
+find ... # `ls PATH` lists one directory, and `vtree show --files FILE` all trees
+tree ... # `vtree show --files FILE` writes the trees as they are at the end of a script
+files ... # `vtree show --files FILE` writes the trees as they are at the end of a script
+show ... # `vtree show FILE` shows the world as it is at the end of a script, `vtree show --at LINE FILE` before a \
+line
+tasks ... # `vtree show FILE` shows the tasks as they are at the end of a script
+ps ... # `vtree show FILE` shows the tasks as they are at the end of a script
 tar ... # no call copies; `read` answers the content of a file, and `write` sets it
 echo ... # `write PATH BYTES` sets the content of a file
 ";
 
-/// The rows, by what they are about, in the order in which they are tried. The text is named here alone: each name of it
-/// costs its whole proof.
+/// The rows, by what they are about, in the order in which they are tried. The text is named here alone: each name of
+/// it costs its whole proof.
 pub fn all_rows() -> &'static str {
     ROWS
 }

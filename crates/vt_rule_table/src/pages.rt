@@ -70,6 +70,11 @@ pub static RULES: [Rule; 52] = [
     Rule::M12,
 ];
 
+/// The rules, in the order in which they are asked. Each name of the table itself costs its whole proof.
+pub fn rules() -> &'static [Rule] {
+    &RULES
+}
+
 // All calls, and those that are given a path.
 const ALL: [&str; 40] = [
     "ls",
@@ -158,7 +163,7 @@ static S2: RulePage = RulePage {
     meaning: "no task has this name",
     calls: &ALL,
     manual: "a choice of this machine",
-    script: "t fork => ok t.1\nt.2 ls / => deny 3 ESRCH S2\n",
+    script: "t fork => ok t.1\nt.2 ls / => deny 3 ESRCH S2\n! sealed t t.2 => deny 3 ESRCH S2\n",
 };
 
 static S3: RulePage = RulePage {
