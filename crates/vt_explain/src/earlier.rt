@@ -1,6 +1,7 @@
-//! The lines that opened files and mounted overlays.
+//! The lines that opened files and mounted overlays, and since which one a cause holds.
 use std::alloc::Global;
 use vt_calls::Kernel;
+use vt_causes::Cause;
 use vt_lines::lines::first_line;
 use vt_lines::told::{Teller, answer_told};
 use vt_location::FilesystemId;
@@ -27,8 +28,13 @@ struct Making {
 
 /// The descriptors that the lines of a script opened and the overlays that they mounted, in the order of the lines.
 #[derive(Drop)]
-pub struct Earlier {
+pub struct Earlier<'a> {
     makings: Vec<Making>,
+    // The cause that is looked for, whether it holds after the lines so far, and how many lines are before the one since
+    // which it does.
+    cause: Option<Cause<'a>>,
+    held: bool,
+    began: Option<u64>,
     // How many lines the script has.
     lines: u64,
     /// Whether an allocation failed, so that some are missing.
@@ -43,7 +49,7 @@ fn newest_filesystem(world: &World, task: &TaskName) -> Option<FilesystemId> {
     Some(mount.root.filesystem)
 }
 
-impl Earlier {
+impl<'a> Earlier<'a> {
     /// The line that opened what a descriptor of a task is after the script, where the line after the script has this
     /// number.
     pub fn line_of(&self, task: &TaskName, descriptor: u8, number: u64) -> Option<u64> {
@@ -74,6 +80,28 @@ impl Earlier {
         None
     }
 
+    /// How many lines of the script are before the one since which the cause holds; none where it always did.
+    pub fn since(&self) -> Option<u64> {
+        self.began
+    }
+
+    /// The number of the line before which the script has so many, where the line after the script has this number.
+    pub fn numbered(&self, before: u64, number: u64) -> u64 {
+        number.saturating_sub(self.lines).saturating_add(before)
+    }
+
+    // Looks whether the cause holds in a world: since the line that was answered, if it did not before.
+    fn look(&mut self, world: &World) {
+        let Some(cause) = self.cause else {
+            return;
+        };
+        let holds = cause.holds(world);
+        if holds && !self.held {
+            self.began = Some(self.lines);
+        }
+        self.held = holds;
+    }
+
     // Answers the lines of a script, and records what they open and mount.
     fn record_lines(
         &mut self,
@@ -96,12 +124,14 @@ impl Earlier {
     // The same in a world of which nothing is left then.
     fn record_all(&mut self, version: Version, alloc: Global, kernel: Kernel, script: &[u8]) {
         let mut kernel = kernel;
+        self.look(kernel.world());
+        self.began = None;
         self.record_lines(version, alloc, &mut kernel, script);
         kernel.end();
     }
 }
 
-impl Teller<Kernel> for Earlier {
+impl Teller<Kernel> for Earlier<'_> {
     fn before(&mut self, _kernel: &Kernel, _name: &TaskName, _call: &Call<'_>) {}
 
     fn after(
@@ -129,15 +159,25 @@ impl Teller<Kernel> for Earlier {
             };
             self.failed |= self.makings.push(making).is_err();
         }
+        self.look(kernel.world());
     }
 
     fn alone(&mut self, _outcome: &Result<Answer, Deny>) {}
 }
 
-/// What the lines of a script open and mount. They are answered once more, in a world of their own.
-pub fn earlier_lines(version: Version, alloc: Global, script: &[u8]) -> Earlier {
+/// What the lines of a script open and mount, and since which line a cause holds. They are answered once more, in a
+/// world of their own.
+pub fn earlier_lines<'a>(
+    version: Version,
+    alloc: Global,
+    script: &[u8],
+    cause: Option<Cause<'a>>,
+) -> Earlier<'a> {
     let mut earlier = Earlier {
         makings: Vec::new(alloc),
+        cause,
+        held: false,
+        began: None,
         lines: 0,
         failed: false,
     };

@@ -2,21 +2,19 @@
 //! an overlay or locks a layer, and which mounts come, go and change.
 #![tactic(auto)]
 
-mod asked;
-mod changes;
+mod causes;
 mod earlier;
 mod explaining;
+mod head;
 mod holders;
 mod later;
-mod layers;
 mod lines;
 mod locks;
 mod mounters;
-mod mounts;
-mod report;
-mod rights;
-mod walked;
+mod refused;
+mod sealed;
 
-pub use explaining::{Numbered, explain};
+pub use explaining::explain;
+pub use head::Numbered;
 pub use lines::{is_spoken, line_at, nearest_call};
 pub use vt_check::check::Format;

@@ -1,15 +1,13 @@
 //! Who mounted an overlay, and which bits of an object in it count for its mounter.
 use crate::holders::Look;
-use crate::report::{Heads, Section};
-use crate::rights::push_rights;
 use vt_location::Location;
-use vt_show::cells::{Cell, push_cells};
-use vt_show::names::push_task;
+use vt_sections::report::{Heads, Section};
+use vt_show::cells::Cell;
 use vt_show::tasks::ids_of;
 
 pub static HEADS: Heads = Heads {
     title: "WHO MOUNTED IT",
-    section: "mounter",
+    kind: "mounter",
     words: &[
         "OVERLAY",
         "MOUNTED BY",
@@ -18,7 +16,7 @@ pub static HEADS: Heads = Heads {
         "AT",
         "MOUNTER",
     ],
-    members: &["overlay", "by", "ids", "capabilities", "at", "mounter"],
+    members: &["line", "mounter", "overlay", "task"],
 };
 
 /// Adds who mounted the overlay of an object, if there is an object and it is in one: the task and the line, and which
@@ -32,24 +30,23 @@ pub fn add_mounter(look: &Look<'_, '_>, section: &mut Section, at: Option<Locati
         return;
     };
     let cred = overlay.mounter();
-    let table = &mut section.table;
-    table.add(&Cell::Filesystem(true, look.picture.number_of(id)));
+    section.add_overlay(look.picture.number_of(id));
     match look.earlier.mounter_of(id, look.line) {
         Some((task, line)) => {
-            push_task(&mut table.text, task);
-            table.text.push(", line ");
-            table.text.push_number(line);
+            section.tell(&[Cell::Task(task), Cell::Text(", line "), Cell::Number(line)]);
+            section.put("task", &Cell::Task(task));
+            section.put("line", &Cell::Number(line));
         }
-        None => table.text.push_char('-'),
+        None => section.tell(&[Cell::Nothing]),
     }
-    table.end_word();
-    push_cells(&mut table.text, &ids_of(cred));
-    table.end_word();
-    table.add(&Cell::Capabilities(cred.caps()));
-    table.add_place(look.world, at);
+    section.tell(&ids_of(cred));
+    section.put("uid", &Cell::Number(u64::from(cred.uid())));
+    section.put("gid", &Cell::Number(u64::from(cred.gid())));
+    section.put("groups", &Cell::Ids(cred.groups()));
+    section.add("capabilities", &Cell::Capabilities(cred.caps()));
+    section.add_place(look.world, "at", at);
     if let Some(node) = look.world.store().object(at.node) {
-        push_rights(&mut table.text, cred, &node.attr(), node.kind());
-        table.end_word();
+        section.add_rights("mounter", cred, &node.attr(), node.kind());
     }
-    table.end_row();
+    section.end_row();
 }

@@ -83,17 +83,6 @@ pub fn push_cells(text: &mut Draft, cells: &[Cell<'_>]) {
     }
 }
 
-/// Appends a text with a backslash before each quote and backslash in it. It has no other character that Graphviz would
-/// want escaped.
-pub fn push_escaped(text: &mut Draft, words: &str) {
-    for character in words.chars() {
-        if matches!(character, '"' | '\\') {
-            text.push_char('\\');
-        }
-        text.push_char(character);
-    }
-}
-
 // Numbers of groups, as a list.
 fn ids_value(alloc: Global, ids: &[u32]) -> Result<Value, AllocError> {
     let mut list = List::new(alloc);
@@ -101,6 +90,32 @@ fn ids_value(alloc: Global, ids: &[u32]) -> Result<Value, AllocError> {
         list.push(Ok(Value::from(u64::from(*id))));
     }
     list.end()
+}
+
+// The words of a text between commas, as a list.
+fn words_value(alloc: Global, text: Draft) -> Result<Value, AllocError> {
+    let text = text.end()?;
+    let mut list = List::new(alloc);
+    for word in text.split(',') {
+        if !word.is_empty() {
+            list.push_text(word);
+        }
+    }
+    list.end()
+}
+
+// The flags of a mount, as a list.
+fn flags_value(alloc: Global, flags: MountFlags) -> Result<Value, AllocError> {
+    let mut text = Draft::new(alloc);
+    names::push_flags(&mut text, flags);
+    words_value(alloc, text)
+}
+
+// Capabilities, as a list of their names.
+fn capabilities_value(alloc: Global, caps: Caps) -> Result<Value, AllocError> {
+    let mut text = Draft::new(alloc);
+    names::push_capability_names(&mut text, caps);
+    words_value(alloc, text)
 }
 
 // Mounts, as a list.
@@ -134,16 +149,25 @@ pub fn root_value(alloc: Global, root: &Option<String>) -> Result<Value, AllocEr
     }
 }
 
-// A part as a value of JSON.
-fn value_of(alloc: Global, cell: &Cell<'_>) -> Result<Value, AllocError> {
+/// A part as a value of JSON.
+pub fn value_of(alloc: Global, cell: &Cell<'_>) -> Result<Value, AllocError> {
     match cell {
         Cell::Nothing => Ok(Value::Null),
         Cell::Root(root) => root_value(alloc, *root),
         Cell::Number(number) => Ok(Value::from(*number)),
         Cell::Ids(ids) => ids_value(alloc, *ids),
         Cell::Mounts(places) => mounts_value(alloc, *places),
+        Cell::Flags(flags) => flags_value(alloc, *flags),
+        Cell::Capabilities(caps) => capabilities_value(alloc, *caps),
         _ => text_value(alloc, cell),
     }
+}
+
+/// An object of JSON of this kind, with these members.
+pub fn object_of_kind(alloc: Global, kind: &str, members: &[&str], cells: &[Cell<'_>]) -> Object {
+    let mut object = object_of(alloc, members, cells);
+    object.put_text("kind", kind);
+    object
 }
 
 /// An object of JSON with these members.
@@ -155,7 +179,13 @@ pub fn object_of(alloc: Global, members: &[&str], cells: &[Cell<'_>]) -> Object 
     object
 }
 
-/// Appends an object with these members, and a newline.
-pub fn push_line(alloc: Global, text: &mut Draft, members: &[&str], cells: &[Cell<'_>]) {
-    object_of(alloc, members, cells).push_line(text);
+/// Appends an object of this kind with these members, and a newline.
+pub fn push_line(
+    alloc: Global,
+    text: &mut Draft,
+    kind: &str,
+    members: &[&str],
+    cells: &[Cell<'_>],
+) {
+    object_of_kind(alloc, kind, members, cells).push_line(text);
 }

@@ -3,8 +3,8 @@
 
 pub mod cells;
 pub mod columns;
-mod dot;
-mod mounts;
+mod graph;
+pub mod mounts;
 pub mod names;
 pub mod overlays;
 pub mod picture;

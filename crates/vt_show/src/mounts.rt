@@ -19,11 +19,12 @@ static HEADS: [&str; 6] = [
     "PROPAGATION",
 ];
 
-static MEMBERS: [&str; 10] = [
+static MEMBERS: [&str; 11] = [
     "filesystem",
     "group",
     "master",
     "mount",
+    "namespace",
     "options",
     "parent",
     "propagation",
@@ -147,19 +148,25 @@ pub fn push_namespace(world: &World, text: &mut Draft, mounts: &[MountShown]) {
     }
 }
 
-/// Appends a mount as an object of JSON and a newline.
-pub fn push_mount_object(alloc: Global, text: &mut Draft, shown: &MountShown) {
-    let (word, group, master) = match shown.kind {
+/// A type in parts: its word, the peer group of the mount, and the group from which the mount receives.
+pub fn parts_of(kind: TypeLine) -> (&'static str, Option<usize>, Option<usize>) {
+    match kind {
         TypeLine::Shared { group, master } => ("shared", Some(group), master),
         TypeLine::Slave { master } => ("slave", None, Some(master)),
         TypeLine::Private => ("private", None, None),
         TypeLine::Unbindable => ("unbindable", None, None),
-    };
+    }
+}
+
+/// Appends a mount as an object of JSON and a newline.
+pub fn push_mount_object(alloc: Global, text: &mut Draft, shown: &MountShown) {
+    let (word, group, master) = parts_of(shown.kind);
     let cells = [
         Cell::count(shown.filesystem),
         count_or_nothing(group),
         count_or_nothing(master),
         Cell::Mount(shown.place),
+        Cell::count(shown.place.namespace),
         Cell::Flags(shown.mount.flags),
         match shown.parent {
             Some(parent) => Cell::Mount(parent),
@@ -170,5 +177,5 @@ pub fn push_mount_object(alloc: Global, text: &mut Draft, shown: &MountShown) {
         Cell::Root(&shown.target),
         Cell::Text(filesystem_type(shown.is_overlay)),
     ];
-    push_line(alloc, text, &MEMBERS, &cells);
+    push_line(alloc, text, "mount", &MEMBERS, &cells);
 }

@@ -194,9 +194,19 @@ pub fn push_capabilities(text: &mut Draft, caps: Caps) {
     if !tells_has {
         text.push("all but ");
     }
+    push_names(text, caps, tells_has);
+}
+
+/// Appends the names of capabilities between commas.
+pub fn push_capability_names(text: &mut Draft, caps: Caps) {
+    push_names(text, caps, true);
+}
+
+// Appends the names of the capabilities that are among these, or of those that are not.
+fn push_names(text: &mut Draft, caps: Caps, are_among: bool) {
     let mut is_first = true;
     for (one, name) in &CAPABILITIES {
-        if caps.contains(*one) == tells_has {
+        if caps.contains(*one) == are_among {
             if !is_first {
                 text.push_char(',');
             }

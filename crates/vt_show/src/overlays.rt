@@ -62,8 +62,8 @@ fn push_overlay(
     }
 }
 
-// The directory of a layer, as an object.
-fn layer_value(
+/// The directory of a layer, as an object.
+pub fn layer_value(
     world: &World,
     picture: &Picture,
     mount: &Mount,
@@ -102,7 +102,7 @@ fn push_overlay_object(
         Cell::Number(u64::from(cred.uid())),
     ];
     let mounter = object_of(alloc, &["capabilities", "gid", "groups", "uid"], &cells);
-    let mut object = Object::new(alloc);
+    let mut object = Object::of_kind(alloc, "overlay");
     object.put("layers", layers.end());
     object.put("mounter", mounter.end());
     object.put_number("overlay", shown.filesystem as u64);

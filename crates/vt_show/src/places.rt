@@ -1,11 +1,15 @@
 //! Where mounts and objects are, as paths from the root mount of their namespace.
-use crate::names::{GONE, push_mount, push_name};
+use crate::names::{push_filesystem, push_mount, push_name};
 use crate::tree_walk::push_path_to;
+use indexmap::IndexSet;
 use std::alloc::AllocError;
 use vt_check::draft::Draft;
-use vt_location::{Location, Mount, MountId, NamespaceId};
+use vt_location::{FilesystemId, Location, Mount, MountId, NamespaceId};
 use vt_ns::World;
 use vt_request::{MountPlace, Spot};
+
+// What is told of an object that has no name.
+const NO_NAME: &str = "(no name)";
 
 /// The number of a namespace, by its creation among those that did not end, from 1.
 pub fn namespace_number(world: &World, id: NamespaceId) -> usize {
@@ -32,7 +36,8 @@ pub fn place_of(world: &World, id: MountId) -> Option<MountPlace> {
     }
 }
 
-// Appends the path from a mount's root to a directory that it shows, nothing for the root, and says whether there is one.
+// Appends the path from a mount's root to a directory that it shows, nothing for the root, and says whether there is
+// one.
 fn push_spot(text: &mut Draft, spot: Result<Spot, AllocError>) -> bool {
     match spot {
         Ok(Spot::Gone) => false,
@@ -113,19 +118,98 @@ pub fn push_path(world: &World, at: Location, path: &mut Draft) -> Option<MountP
     if is_reached { Some(place) } else { None }
 }
 
-/// Appends where an object is.
-pub fn push_place(world: &World, at: Location, text: &mut Draft) {
+// Adds the filesystems of a namespace's mounts, and says whether an allocation failed.
+fn add_filesystems(
+    world: &World,
+    namespace: NamespaceId,
+    filesystems: &mut IndexSet<FilesystemId>,
+) -> bool {
+    let mut failed = false;
+    for id in world.all_mounts().attached_in(namespace) {
+        if let Some(mount) = world.all_mounts().get(*id) {
+            failed |= filesystems.insert(mount.root.filesystem).is_err();
+        }
+    }
+    failed
+}
+
+// The number of a filesystem that an attached mount shows: where it first stands among all mounts, from 1.
+fn filesystem_number(world: &World, id: FilesystemId) -> Result<Option<usize>, AllocError> {
+    let mut filesystems = IndexSet::new(world.alloc());
+    let mut failed = false;
+    for namespace in world.namespaces() {
+        failed |= add_filesystems(world, *namespace, &mut filesystems);
+    }
+    if failed {
+        return Err(AllocError);
+    }
+    match filesystems.get_index_of(&id) {
+        Some(index) => Ok(Some(index.saturating_add(1))),
+        None => Ok(None),
+    }
+}
+
+/// What is known of an object that no path leads to.
+#[derive(Drop)]
+pub struct Gone {
+    /// The path that leads to it in its filesystem, if it has a name.
+    pub path: Option<String>,
+    pub is_overlay: bool,
+    /// The number of its filesystem, if an attached mount shows that.
+    pub filesystem: Option<usize>,
+    /// The mount through which it is seen, if that is attached.
+    pub mount: Option<MountPlace>,
+}
+
+/// What is known of an object that no path leads to.
+pub fn gone_at(world: &World, at: Location) -> Result<Gone, AllocError> {
+    let id = at.node.filesystem;
     let mut path = Draft::new(world.alloc());
-    match push_path(world, at, &mut path) {
+    let is_named = match world.store().root(id) {
+        Some(root) => push_path_to(world, root, at.node, &mut path),
+        None => false,
+    };
+    path.push_if_empty("/");
+    let path = path.end()?;
+    Ok(Gone {
+        path: if is_named { Some(path) } else { None },
+        is_overlay: world.store().is_overlay(id),
+        filesystem: filesystem_number(world, id)?,
+        mount: place_of(world, at.mount),
+    })
+}
+
+// Appends an object that no path leads to: its path in its filesystem, that, and the mount.
+fn push_gone(text: &mut Draft, gone: &Gone) {
+    text.push(match &gone.path {
+        Some(path) => path.as_str(),
+        None => NO_NAME,
+    });
+    text.push(" on ");
+    push_filesystem(text, gone.is_overlay, gone.filesystem);
+    match gone.mount {
         Some(mount) => {
-            text.push_draft(&path);
-            text.push(" on ");
+            text.push(", through ");
             push_mount(text, mount);
         }
-        None => {
-            // That an allocation failed is told here too.
-            text.push_part(&path, 0, 0);
-            text.push(GONE);
-        }
+        None => text.push(", on a detached mount"),
+    }
+}
+
+/// Appends where an object is. Of one that no path leads to it tells the path in its filesystem, if it has a name
+/// there, and whether the mount through which it is seen is detached.
+pub fn push_place(world: &World, at: Location, text: &mut Draft) {
+    let mut path = Draft::new(world.alloc());
+    if let Some(mount) = push_path(world, at, &mut path) {
+        text.push_draft(&path);
+        text.push(" on ");
+        push_mount(text, mount);
+        return;
+    }
+    // That an allocation failed is told here too.
+    text.push_part(&path, 0, 0);
+    match gone_at(world, at) {
+        Ok(gone) => push_gone(text, &gone),
+        Err(_) => text.fail(),
     }
 }

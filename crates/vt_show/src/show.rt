@@ -1,7 +1,7 @@
 //! A world shown, whole or of one task.
 use crate::cells::{Cell, count_or_nothing, push_line};
 use crate::columns::Table;
-use crate::dot::push_graph;
+use crate::graph::{DOT, MERMAID, push_graph};
 use crate::mounts::{push_mount_object, push_namespace};
 use crate::names;
 use crate::overlays::push_overlays;
@@ -20,8 +20,10 @@ use vt_tasks::Task;
 pub enum Format {
     Text,
     Json,
-    /// A graph of who receives from whom, for Graphviz.
+    /// A graph of the mounts, and of who receives from whom, for Graphviz.
     Dot,
+    /// The same for Mermaid.
+    Mermaid,
 }
 
 /// How a world is shown.
@@ -118,8 +120,8 @@ fn push_objects(text: &mut Draft, world: &World, tasks: &[&Task], picture: &Pict
             Cell::count(line.group),
             Cell::Mounts(&line.slaves),
         ];
-        let members = ["master", "members", "peers", "slaves"];
-        push_line(alloc, text, &members, &cells);
+        let members = ["master", "members", "group", "slaves"];
+        push_line(alloc, text, "group", &members, &cells);
     }
 }
 
@@ -140,11 +142,15 @@ fn written(
     match options.format {
         Format::Text => push_world(&mut text, world, tasks, picture),
         Format::Json => push_objects(&mut text, world, tasks, picture),
-        Format::Dot => push_graph(&mut text, picture),
+        Format::Dot => push_graph(&mut text, world, &DOT, tasks, picture),
+        Format::Mermaid => push_graph(&mut text, world, &MERMAID, tasks, picture),
     }
-    if options.files && !matches!(options.format, Format::Dot) {
-        let as_objects = matches!(options.format, Format::Json);
-        push_trees(&mut text, world, picture, as_objects);
+    if options.files {
+        match options.format {
+            Format::Text => push_trees(&mut text, world, picture, false),
+            Format::Json => push_trees(&mut text, world, picture, true),
+            Format::Dot | Format::Mermaid => {}
+        }
     }
     text.end()
 }

@@ -1,7 +1,7 @@
 //! Tasks, and whose credentials they have.
-use crate::cells::{Cell, object_of, push_cells};
+use crate::cells::{Cell, count_or_nothing, object_of, object_of_kind, push_cells, root_value};
 use crate::names;
-use crate::places::{namespace_number, push_path, push_place};
+use crate::places::{gone_at, namespace_number, push_path, push_place};
 use serde_json::Value;
 use std::alloc::AllocError;
 use vt_check::draft::Draft;
@@ -103,8 +103,25 @@ pub fn push_task(world: &World, text: &mut Draft, task: &Task) {
     push_descriptors(world, text, task);
 }
 
-// Where an object is, as an object of its mount and its path, or null.
-fn place_value(world: &World, at: Location) -> Result<Value, AllocError> {
+// An object that no path leads to, as an object: of its path in its filesystem, that, and the mount.
+fn gone_value(world: &World, at: Location) -> Result<Value, AllocError> {
+    let gone = gone_at(world, at)?;
+    let cells = [
+        count_or_nothing(gone.filesystem),
+        match gone.mount {
+            Some(mount) => Cell::Mount(mount),
+            None => Cell::Nothing,
+        },
+        Cell::Nothing,
+    ];
+    let mut object = object_of(world.alloc(), &["filesystem", "mount", "path"], &cells);
+    object.put_text("type", names::filesystem_type(gone.is_overlay));
+    object.put("within", root_value(world.alloc(), &gone.path));
+    object.end()
+}
+
+/// Where an object is, as an object of its mount and its path; of one that no path leads to, what is known of it.
+pub fn place_value(world: &World, at: Location) -> Result<Value, AllocError> {
     let alloc = world.alloc();
     let mut path = Draft::new(alloc);
     match push_path(world, at, &mut path) {
@@ -114,7 +131,7 @@ fn place_value(world: &World, at: Location) -> Result<Value, AllocError> {
         }
         None => {
             path.end()?;
-            Ok(Value::Null)
+            gone_value(world, at)
         }
     }
 }
@@ -147,7 +164,7 @@ pub fn push_task_object(world: &World, text: &mut Draft, task: &Task) {
         Cell::Number(u64::from(cred.uid())),
         Cell::Octal(task.umask.bits(), 3),
     ];
-    let mut object = object_of(world.alloc(), &MEMBERS, &cells);
+    let mut object = object_of_kind(world.alloc(), "task", &MEMBERS, &cells);
     object.put("directory", place_value(world, task.directory));
     object.put("open", open_value(world, task));
     object.put("root", place_value(world, task.root));

@@ -12,7 +12,7 @@ use vt_ns::World;
 
 static HEADS: [&str; 5] = ["MODE", "UID", "GID", "SIZE", "NAME"];
 
-static MEMBERS: [&str; 7] = ["filesystem", "gid", "kind", "mode", "path", "size", "uid"];
+static MEMBERS: [&str; 7] = ["filesystem", "gid", "type", "mode", "path", "size", "uid"];
 
 // Adds the row of an object: its name behind two spaces for each name above it, and what a symlink leads to. An overlay
 // shows no mark of a layer.
@@ -48,7 +48,7 @@ fn push_object(alloc: Global, text: &mut Draft, filesystem: usize, found: &Found
         Cell::count(node.bytes().len()),
         Cell::Number(u64::from(attr.uid)),
     ];
-    push_line(alloc, text, &MEMBERS, &cells);
+    push_line(alloc, text, "object", &MEMBERS, &cells);
 }
 
 // Appends the tree of a filesystem of this number, as a table or as objects.

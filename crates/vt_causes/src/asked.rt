@@ -53,9 +53,9 @@ fn path_changed<'a>(call: &Call<'a>) -> Option<PathAsked<'a>> {
         Call::Make(
             MakeCall::Mkdir { path, .. }
             | MakeCall::Symlink { path, .. }
-            | MakeCall::Whiteout { path }
-            | MakeCall::Link { old: path, .. },
+            | MakeCall::Whiteout { path },
         ) => (*path, Last::Name),
+        Call::Make(MakeCall::Link { old, .. }) => (*old, unfollowed(old)),
         Call::Remove(
             RemoveCall::Unlink { path }
             | RemoveCall::Rmdir { path }

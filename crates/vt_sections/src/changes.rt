@@ -1,19 +1,21 @@
 //! The mounts that come, go and change in a call.
 use crate::mounts::{find, has_namespace, parent};
 use crate::report::{Heads, Section};
+use std::alloc::Global;
+use vt_check::check::Format;
 use vt_check::draft::Draft;
 use vt_location::MountId;
 use vt_request::CallKind;
-use vt_show::cells::Cell;
-use vt_show::columns::Table;
+use vt_show::cells::{Cell, count_or_nothing};
+use vt_show::mounts::parts_of;
 use vt_show::names::{push_flags, push_mount, push_type};
 use vt_show::picture::{MountShown, Picture};
 
-pub static HEADS: Heads = Heads {
+static HEADS: Heads = Heads {
     title: "MOUNTS THAT COME (+), GO (-) AND CHANGE (~)",
-    section: "change",
+    kind: "change",
     words: &["", "MOUNT", "TARGET", "OPTIONS", "PROPAGATION", "WHY"],
-    members: &["change", "mount", "target", "options", "propagation", "why"],
+    members: &["group", "master", "target", "why"],
 };
 
 /// The mounts before a call and after it, and the one that it is about: on which another is put, or which goes.
@@ -87,46 +89,61 @@ fn push_what_it_was(text: &mut Draft, old: &MountShown, new: &MountShown) {
     }
 }
 
-// Adds a mount, without why it is told.
-fn add_mount(table: &mut Table, sign: &str, shown: &MountShown) {
-    table.text.push(sign);
-    table.end_word();
-    table.add(&Cell::Mount(shown.place));
-    table.text.push(shown.path());
-    table.end_word();
-    table.add_words(&[Cell::Flags(shown.mount.flags), Cell::Type(shown.kind)]);
-}
-
-// Ends the row of a mount: why it is told stands in it if there is something to tell.
-fn end_mount(table: &mut Table) {
-    if table.written() > 0 {
-        table.end_word();
+// Adds a mount, and why it is listed, if there is a reason.
+fn add_mount(section: &mut Section, sign: &str, shown: &MountShown, why: &Draft) {
+    section.add_text("change", sign);
+    section.add_mount("mount", shown.place);
+    section.tell(&[Cell::Text(shown.path())]);
+    section.put("target", &Cell::Root(&shown.target));
+    section.add("options", &Cell::Flags(shown.mount.flags));
+    section.tell_type(shown.kind);
+    let (word, group, master) = parts_of(shown.kind);
+    section.put_text("propagation", word);
+    section.put("group", &count_or_nothing(group));
+    section.put("master", &count_or_nothing(master));
+    if why.len() > 0 {
+        section.add("why", &Cell::whole(why));
     }
-    table.end_row();
+    section.end_row();
 }
 
-/// Adds the mounts that come, go and change.
-pub fn add_changes(section: &mut Section, sides: Sides<'_>) {
-    let table = &mut section.table;
+// Adds the mounts that go.
+fn add_old(section: &mut Section, alloc: Global, sides: Sides<'_>) {
     for old in &sides.before.mounts {
         if find(sides.after, old.mount.number).is_none() {
-            add_mount(table, "-", old);
-            push_why_it_goes(&mut table.text, sides, old);
-            end_mount(table);
+            let mut why = Draft::new(alloc);
+            push_why_it_goes(&mut why, sides, old);
+            add_mount(section, "-", old, &why);
         }
     }
+}
+
+// Adds a mount, if it comes or has changed.
+fn add_new(section: &mut Section, alloc: Global, sides: Sides<'_>, new: &MountShown) {
+    let old = find(sides.before, new.mount.number);
+    if matches!(old, Some(old) if old.mount == new.mount) {
+        return;
+    }
+    let mut why = Draft::new(alloc);
+    let sign = match old {
+        Some(old) => {
+            push_what_it_was(&mut why, old, new);
+            "~"
+        }
+        None => {
+            push_why_it_comes(&mut why, sides, new);
+            "+"
+        }
+    };
+    add_mount(section, sign, new, &why);
+}
+
+/// Appends the mounts that come, go and change.
+pub fn push_changes(alloc: Global, format: Format, sides: Sides<'_>, text: &mut Draft) {
+    let mut section = Section::new(alloc, format, &HEADS);
+    add_old(&mut section, alloc, sides);
     for new in &sides.after.mounts {
-        match find(sides.before, new.mount.number) {
-            Some(old) if old.mount == new.mount => continue,
-            Some(old) => {
-                add_mount(table, "~", new);
-                push_what_it_was(&mut table.text, old, new);
-            }
-            None => {
-                add_mount(table, "+", new);
-                push_why_it_comes(&mut table.text, sides, new);
-            }
-        }
-        end_mount(table);
+        add_new(&mut section, alloc, sides, new);
     }
+    section.write(b"", text);
 }

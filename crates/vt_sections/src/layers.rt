@@ -1,22 +1,21 @@
 //! Where the layers of an overlay that is to be mounted lead.
-use crate::asked::{Last, PathAsked};
 use crate::report::{Heads, Section};
-use crate::walked::{View, Walked, push_walk};
+use crate::walked::{View, push_walk};
+use vt_causes::Walked;
+use vt_causes::asked::{Last, PathAsked};
 use vt_check::check::Format;
 use vt_check::draft::Draft;
 use vt_layers::LayerOptions;
 use vt_location::Location;
-use vt_show::cells::Cell;
-use vt_show::columns::Table;
 use vt_spec::errors::Deny;
 use vt_text::path::PathText;
 use vt_walk::source_walk;
 
 static HEADS: Heads = Heads {
     title: "LAYERS",
-    section: "layer",
+    kind: "layer",
     words: &["LAYER", "PATH", "LEADS TO"],
-    members: &["layer", "path", "leads_to"],
+    members: &["at", "stopped"],
 };
 
 // Where the path of a layer leads.
@@ -26,25 +25,22 @@ fn reached(view: View<'_>, path: &[u8]) -> Result<Location, Deny> {
 
 // Adds the layers of these options, each by its place from the top, up to the first one to which the walk is refused,
 // and returns that one's path.
-fn add_layers<'a>(view: View<'_>, table: &mut Table, options: &'a [u8]) -> Option<&'a [u8]> {
+fn add_layers<'a>(view: View<'_>, section: &mut Section, options: &'a [u8]) -> Option<&'a [u8]> {
     let mut paths = LayerOptions::known(options)?.lowers();
     let mut place: u64 = 0;
     while let Some(path) = paths.next() {
         place = place.saturating_add(1);
-        table.add(&Cell::Number(place));
-        table.text.push_bytes(path);
-        table.end_word();
+        section.add_number("layer", place);
+        section.add_bytes("path", "", path);
         match reached(view, path) {
-            Ok(at) => {
-                table.add_place(view.world, at);
-                table.end_row();
-            }
+            Ok(at) => section.add_place(view.world, "at", at),
             Err(deny) => {
-                table.text.push("stopped by ");
-                table.add_row(&[Cell::Text(deny.rule.name())]);
+                section.add_stop(deny.rule);
+                section.end_row();
                 return Some(path);
             }
         }
+        section.end_row();
     }
     None
 }
@@ -56,13 +52,14 @@ pub fn push_layers(
     options: &[u8],
     format: Format,
     text: &mut Draft,
+    halt: &mut Vec<u8>,
 ) -> Option<Walked> {
-    let mut section = Section::new(view.world.alloc(), &HEADS);
-    let refused = add_layers(view, &mut section.table, options);
-    section.write(format, b"", text);
+    let mut section = Section::new(view.world.alloc(), format, &HEADS);
+    let refused = add_layers(view, &mut section, options);
+    section.write(b"", text);
     let path = PathAsked {
         text: refused?,
         last: Last::Object,
     };
-    push_walk(view, path, format, text)
+    push_walk(view, path, format, text, halt)
 }

@@ -1,17 +1,18 @@
 //! Where a path leads, word by word.
-use crate::asked::{Last, PathAsked};
 use crate::report::{Heads, Section};
-use crate::rights::push_rights;
 use std::alloc::{AllocError, Global};
+use vt_causes::asked::{Last, PathAsked};
+use vt_causes::{MOST_LINKS, Walked};
 use vt_check::check::Format;
 use vt_check::draft::Draft;
-use vt_cred::Kind;
+use vt_cred::{Attr, Kind};
 use vt_location::Location;
 use vt_looks::Look;
 use vt_node::copied_bytes;
 use vt_ns::World;
+use vt_show::cells::Cell;
 use vt_show::names;
-use vt_show::places::{place_of, push_place};
+use vt_show::places::place_of;
 use vt_spec::errors::{Deny, Rule};
 use vt_tasks::Task;
 use vt_text::path::PathText;
@@ -19,30 +20,18 @@ use vt_walk::{place_walk, symlink_walk};
 
 static HEADS: Heads = Heads {
     title: "PATH ",
-    section: "path",
+    kind: "step",
     words: &["WORD", "LEADS TO", "MODE", "OWNER", "CALLER"],
-    members: &["word", "leads_to", "mode", "owner", "caller", "note"],
+    members: &[
+        "at", "caller", "enters", "gid", "leaves", "link", "mode", "stopped", "type", "uid", "word",
+    ],
 };
-
-/// The most symlinks of a path that are followed.
-const MOST_LINKS: usize = 40;
 
 /// Who walks, and in which world.
 #[derive(Clone, Copy)]
 pub struct View<'a> {
     pub world: &'a World,
     pub who: &'a Task,
-}
-
-/// Where a walk along a path came to.
-#[derive(Clone, Copy)]
-pub struct Walked {
-    /// Where the path leads, if it leads somewhere.
-    pub end: Option<Location>,
-    /// Where its last word was looked for.
-    pub directory: Location,
-    /// The rule that stopped the walk.
-    pub stopped: Option<Rule>,
 }
 
 // The next word of a path: its place, and what it is taken for.
@@ -76,7 +65,7 @@ fn word_from(text: &[u8], from: usize) -> Option<Word> {
     })
 }
 
-// Where a front of a path leads, its last word not followed; nowhere where that may be missing.
+// Where a prefix of a path leads, its last word not followed; nowhere where that may be missing.
 fn reached(view: View<'_>, front: &[u8], last: Last) -> Result<Option<Location>, Deny> {
     let path = PathText::parse(front)?;
     if matches!(last, Last::Name) {
@@ -113,15 +102,34 @@ fn spliced(
     Ok(spliced)
 }
 
+// Adds what an object is, its mode, and whose it is.
+fn add_attr(section: &mut Section, kind: Kind, attr: &Attr) {
+    let (kind, bits) = (names::kind(kind), attr.mode.bits());
+    let (uid, gid) = (u64::from(attr.uid), u64::from(attr.gid));
+    section.tell(&[Cell::Text(kind), Cell::Text(" "), Cell::Octal(bits, 1)]);
+    section.tell(&[Cell::Number(uid), Cell::Text(":"), Cell::Number(gid)]);
+    section.put("type", &Cell::Text(kind));
+    section.put("mode", &Cell::Octal(bits, 4));
+    section.put("uid", &Cell::Number(uid));
+    section.put("gid", &Cell::Number(gid));
+}
+
+// Whether a word of a text is `..`.
+fn is_parent(text: &[u8], word: Word) -> bool {
+    text.get(word.begin..word.end) == Some(b"..".as_slice())
+}
+
 // A walk along a path, of which some words are walked. The text of each symlink that was followed stands in its place.
 #[derive(Drop)]
 struct Walk<'a> {
     view: View<'a>,
-    // What the last word is taken for.
+    // The path, and what its last word is taken for.
+    path: &'a [u8],
     last: Last,
     text: Vec<u8>,
-    // How many of its bytes are walked.
+    // How many of its bytes are walked, and the word that is walked then.
     walked: usize,
+    word: Option<Word>,
     links: usize,
     here: Location,
     // Where the last of them was looked for.
@@ -134,55 +142,54 @@ struct Walk<'a> {
 }
 
 impl<'a> Walk<'a> {
-    // Before the first word of a path, whose begin is told.
-    fn new(view: View<'a>, asked: PathAsked<'_>) -> Self {
+    // Before the first word of a path; its first row is where the walk begins.
+    fn new(view: View<'a>, asked: PathAsked<'a>, format: Format) -> Self {
         let is_absolute = asked.text.first() == Some(&b'/');
-        let (word, here) = if is_absolute {
-            ("(root)", view.who.root)
+        let (what, word, here) = if is_absolute {
+            ("root", "(root)", view.who.root)
         } else {
-            ("(directory)", view.who.directory)
+            ("directory", "(directory)", view.who.directory)
         };
         let alloc = view.world.alloc();
         let mut walk = Walk {
             view,
+            path: asked.text,
             last: asked.last,
             text: Vec::new(alloc),
             walked: 0,
+            word: None,
             links: 0,
             here,
             directory: here,
             stopped: None,
             is_over: false,
             end: None,
-            section: Section::new(alloc, &HEADS),
+            section: Section::new(alloc, format, &HEADS),
         };
         if walk.text.extend_from_slice(asked.text).is_err() {
-            walk.section.table.text.fail();
+            walk.section.fail();
         }
-        walk.section.table.text.push(word);
-        walk.section.table.end_word();
+        walk.begin(what);
+        walk.section.tell(&[Cell::Text(word)]);
         walk.add_location(here);
-        walk.section.table.end_row();
+        walk.section.end_row();
         walk
+    }
+
+    // Begins a row, with the path.
+    fn begin(&mut self, what: &str) {
+        self.section.put_bytes("path", self.path);
+        self.section.put_text("step", what);
     }
 
     // Adds a location, what is there, and which of its bits count for the caller.
     fn add_location(&mut self, at: Location) {
-        let table = &mut self.section.table;
-        push_place(self.view.world, at, &mut table.text);
-        table.end_word();
-        if let Some(node) = self.view.world.node(at) {
-            let attr = node.attr();
-            table.text.push(names::kind(node.kind()));
-            table.text.push_char(' ');
-            table.text.push_octal(attr.mode.bits(), 1);
-            table.end_word();
-            table.text.push_number(u64::from(attr.uid));
-            table.text.push_char(':');
-            table.text.push_number(u64::from(attr.gid));
-            table.end_word();
-            push_rights(&mut table.text, &self.view.who.cred, &attr, node.kind());
-            table.end_word();
+        let View { world, who } = self.view;
+        self.section.add_place(world, "at", at);
+        if let Some(node) = world.node(at) {
+            add_attr(&mut self.section, node.kind(), &node.attr());
+            self.section
+                .add_rights("caller", &who.cred, &node.attr(), node.kind());
         }
     }
 
@@ -190,25 +197,16 @@ impl<'a> Walk<'a> {
     fn stop(&mut self, rule: Option<Rule>) {
         self.is_over = true;
         self.stopped = rule;
-        let table = &mut self.section.table;
         match rule {
-            Some(rule) => {
-                table.text.push("stopped by ");
-                table.text.push(rule.name());
-            }
-            None => table.text.push("(missing)"),
+            Some(rule) => self.section.add_stop(rule),
+            None => self.section.tell(&[Cell::Text("(missing)")]),
         }
-        table.end_word();
-        table.end_row();
+        self.section.end_row();
     }
 
     // Follows the symlink that a word leads to, if that may be: its text stands in the place of the word.
     fn follow(&mut self, word: Word, at: Location, link: &[u8]) {
-        let table = &mut self.section.table;
-        table.text.push("-> ");
-        table.text.push_bytes(link);
-        table.end_word();
-        table.end_row();
+        self.section.add_bytes("link", "-> ", link);
         let world = self.view.world;
         let rule = match world.all_mounts().get(at.mount) {
             Some(mount) if mount.flags.is_nosymfollow() => Some(Rule::W9),
@@ -216,10 +214,13 @@ impl<'a> Walk<'a> {
             _ => None,
         };
         if rule.is_some() {
-            self.section.table.end_word();
+            self.directory = at;
+            self.section.break_row();
+            self.section.tell(&[]);
             self.stop(rule);
             return;
         }
+        self.section.end_row();
         self.links = self.links.saturating_add(1);
         self.walked = word.begin;
         if link.first() == Some(&b'/') {
@@ -228,26 +229,24 @@ impl<'a> Walk<'a> {
         }
         match spliced(world.alloc(), &self.text, self.walked, word.end, link) {
             Ok(text) => self.text = text,
-            Err(_) => self.section.table.text.fail(),
+            Err(_) => self.section.fail(),
         }
     }
 
-    // Goes on where a word leads, and tells which mount it enters or leaves.
+    // Goes on where a word leads, and adds which mount it enters or leaves.
     fn pass(&mut self, word: Word, at: Location) {
         if self.here.mount != at.mount {
-            let bytes = self.text.get(word.begin..word.end).unwrap_or_default();
-            let (what, mount) = if bytes == b"..".as_slice() {
-                ("leaves ", self.here.mount)
+            let (what, member, mount) = if is_parent(&self.text, word) {
+                ("leaves ", "leaves", self.here.mount)
             } else {
-                ("enters ", at.mount)
+                ("enters ", "enters", at.mount)
             };
             if let Some(place) = place_of(self.view.world, mount) {
-                self.section.table.text.push(what);
-                names::push_mount(&mut self.section.table.text, place);
-                self.section.table.end_word();
+                self.section.tell(&[Cell::Text(what), Cell::Mount(place)]);
+                self.section.put(member, &Cell::Mount(place));
             }
         }
-        self.section.table.end_row();
+        self.section.end_row();
         self.here = at;
         self.walked = word.end;
     }
@@ -263,13 +262,12 @@ impl<'a> Walk<'a> {
             word.last = self.last;
         }
         self.directory = self.here;
+        self.word = Some(word);
         let front = self.text.get(..word.end).unwrap_or_default();
         let reached = reached(self.view, front, word.last);
-        let table = &mut self.section.table;
-        table
-            .text
-            .push_bytes(front.get(word.begin..).unwrap_or_default());
-        table.end_word();
+        let bytes = front.get(word.begin..).unwrap_or_default();
+        self.section.add_bytes("word", "", bytes);
+        self.begin("word");
         match reached {
             Ok(Some(at)) => {
                 let world = self.view.world;
@@ -286,6 +284,14 @@ impl<'a> Walk<'a> {
         }
     }
 
+    // The word that was walked last.
+    fn last_word(&self) -> &[u8] {
+        match self.word {
+            Some(word) => self.text.get(word.begin..word.end).unwrap_or_default(),
+            None => &[],
+        }
+    }
+
     // Goes over to the root of the topmost mount over a destination.
     fn go_over(&mut self) {
         let (Last::Destination, Some(at)) = (self.last, self.end) else {
@@ -293,28 +299,29 @@ impl<'a> Walk<'a> {
         };
         let top = self.view.world.topmost(at);
         if top != at {
-            self.section.table.end_word();
+            self.begin("over");
+            self.section.tell(&[]);
             self.add_location(top);
-            self.section.table.text.push("stands over it");
-            self.section.table.end_word();
-            self.section.table.end_row();
+            self.section.tell(&[Cell::Text("stands over it")]);
+            self.section.end_row();
             self.end = Some(top);
         }
     }
 }
 
-/// Appends where a path leads, word by word, each by the walk of the path up to it; and returns where it came to, if the
-/// path has words.
+/// Appends where a path leads, word by word, each by the walk of the path up to it; and returns where it came to, if
+/// the path has words. Of the first path that leads nowhere the last word is kept.
 pub fn push_walk(
     view: View<'_>,
     asked: PathAsked<'_>,
     format: Format,
     text: &mut Draft,
+    halt: &mut Vec<u8>,
 ) -> Option<Walked> {
     if asked.text.is_empty() {
         return None;
     }
-    let mut walk = Walk::new(view, asked);
+    let mut walk = Walk::new(view, asked, format);
     for _ in 0..u64::MAX {
         if walk.is_over {
             break;
@@ -322,7 +329,10 @@ pub fn push_walk(
         walk.step();
     }
     walk.go_over();
-    walk.section.write(format, asked.text, text);
+    if walk.end.is_none() && halt.is_empty() && halt.extend_from_slice(walk.last_word()).is_err() {
+        text.fail();
+    }
+    walk.section.write(asked.text, text);
     Some(Walked {
         end: walk.end,
         directory: walk.directory,
