@@ -5,7 +5,8 @@ ghost use Rattle.vt_run.specs.Status.{IsOfWords};
 use crate::explaining::LineAsked;
 use crate::line::command_line;
 use crate::showing::WorldAsked;
-use crate::tools::Job;
+use crate::tools::{Job, Work};
+use crate::turning::OrdersAsked;
 use clap::error::ErrorKind;
 use clap::{ArgMatches, Error};
 use std::alloc::{AllocError, Global};
@@ -13,6 +14,9 @@ use std::rt::Env;
 use std::{env, io};
 use vt_check::check;
 use vt_check::draft::Draft;
+use vt_check::report::MOST_SHOWN;
+use vt_converting::{Conversion, Kind};
+use vt_orders::report;
 use vt_run::fault::Fault;
 use vt_script::{RunFault, Version};
 use vt_show::show;
@@ -23,6 +27,17 @@ const NO_LINE: &str = "`--at` takes the number of a line, from 1";
 const NO_NUMBER: &str = "LINE is the number of a line, from 1";
 
 const NO_INPUT: &str = "`--write` takes files, and not the standard input";
+
+const NO_MOST: &str = "`--most` takes a number of orders";
+
+const NO_MOST_SHOWN: &str = "`--most` takes a number of findings, or `all`";
+
+const NO_TASK: &str = "`--task` takes NAME=FILE, the table of mounts of a further task";
+
+const OF_TABLES: &str = "`--task` and `--check` are of `mountinfo` alone";
+
+// The most orders of a script that are tried, where no other number is asked for.
+const MOST_ORDERS: u64 = 100_000;
 
 const NOT_UTF_8: &str =
     "a word is not UTF-8; a script with such a name is given as `vtree run - < FILE`";
@@ -35,6 +50,8 @@ enum CommandName {
     Test,
     Show,
     Explain,
+    Turns,
+    From,
     New,
     Rules,
 }
@@ -45,11 +62,15 @@ pub enum Order<'a, 'm> {
     /// The script in this file is answered.
     Run(Version, &'a str),
     /// Something is done with each of these files.
-    Work(&'m [&'a str], Job),
+    Work(&'m [&'a str], Work),
     /// A world of this file is shown.
     Show(&'a str, WorldAsked<'a>),
     /// A line of this file is explained.
     Explain(&'a str, LineAsked),
+    /// Every order of the lines of this file's scripts is tried.
+    Turns(&'a str, OrdersAsked),
+    /// What a file of a system holds becomes a script.
+    From(Conversion<'a, 'm>),
     /// The example of this name is written, or all are listed.
     New(Option<&'a str>),
     /// The rules of this word are told, or all, or all as a page.
@@ -145,11 +166,11 @@ fn files_of<'a, 'm>(given: &'m ArgMatches<'a>) -> &'m [&'a str] {
     given.get_strs("FILE").unwrap_or_default()
 }
 
-// The version of the scripts' language that is asked for.
-fn version_asked(given: &ArgMatches<'_>) -> Version {
-    match given.get_str("script") {
-        Some("2") => Version::Two,
-        _ => Version::One,
+// The version of the scripts' language that is asked for, if one is.
+fn version_asked(given: &ArgMatches<'_>) -> Option<Version> {
+    match given.get_str("script")? {
+        "2" => Some(Version::Two),
+        _ => Some(Version::One),
     }
 }
 
@@ -161,33 +182,52 @@ fn form_asked(given: &ArgMatches<'_>) -> check::Format {
     }
 }
 
+// What is done with each of the files.
+fn work_order<'a, 'm>(given: &'m ArgMatches<'a>, job: Job) -> Order<'a, 'm> {
+    let version = version_asked(given);
+    Order::Work(files_of(given), Work { version, job })
+}
+
+// The most findings that are asked for, if the word is a number or `all`.
+fn most_shown(word: Option<&str>) -> Option<usize> {
+    match word {
+        None => Some(MOST_SHOWN),
+        Some("all") => Some(usize::MAX),
+        Some(word) => word.parse::<usize>().ok(),
+    }
+}
+
 // What `vtree check` is asked for.
-fn check_order<'a, 'm>(given: &'m ArgMatches<'a>) -> Order<'a, 'm> {
-    let options = check::Options {
-        version: version_asked(given),
+fn check_order<'a, 'm>(alloc: Global, given: &'m ArgMatches<'a>) -> Result<Order<'a, 'm>, Fault>
+    ensures { IfErr result IsOfWords }
+{
+    let Some(most) = most_shown(given.get_str("most")) else {
+        return Err(refusal(alloc, NO_MOST_SHOWN));
+    };
+    let job = Job::Check {
         format: form_asked(given),
         strict: given.get_flag("warnings"),
+        most,
     };
-    Order::Work(files_of(given), Job::Check(options))
+    Ok(work_order(given, job))
 }
 
 // What `vtree test` is asked for.
 fn test_order<'a, 'm>(alloc: Global, given: &'m ArgMatches<'a>) -> Result<Order<'a, 'm>, Fault>
     ensures { IfErr result IsOfWords }
 {
-    let (version, files) = (version_asked(given), files_of(given));
     if given.get_flag("write") {
-        if files.contains(&"-") {
+        if files_of(given).contains(&"-") {
             return Err(refusal(alloc, NO_INPUT));
         }
-        return Ok(Order::Work(files, Job::Write(version)));
+        return Ok(work_order(given, Job::Write));
     }
-    let format = match given.get_str("format") {
-        Some("json") => test::Format::Json,
-        Some("junit") => test::Format::Junit,
-        _ => test::Format::Text,
+    let (format, tells_all) = match given.get_str("format") {
+        Some("json") => (test::Format::Json, false),
+        Some("junit") => (test::Format::Junit, false),
+        _ => (test::Format::Text, given.get_flag("verbose")),
     };
-    Ok(Order::Work(files, Job::Test(version, format)))
+    Ok(work_order(given, Job::Test { format, tells_all }))
 }
 
 // The number of a line, if the word is one.
@@ -217,21 +257,19 @@ fn explain_order<'a, 'm>(alloc: Global, given: &ArgMatches<'a>) -> Result<Order<
 fn show_order<'a, 'm>(alloc: Global, given: &ArgMatches<'a>) -> Result<Order<'a, 'm>, Fault>
     ensures { IfErr result IsOfWords }
 {
-    let line = match given.get_str("at") {
-        Some(word) => line_number(word),
-        None => Some(u64::MAX),
-    };
-    let Some(line) = line else {
+    let line = given.get_str("at").map(line_number);
+    if line == Some(None) {
         return Err(refusal(alloc, NO_LINE));
-    };
+    }
     let format = match given.get_str("format") {
         Some("json") => show::Format::Json,
         Some("dot") => show::Format::Dot,
+        Some("mermaid") => show::Format::Mermaid,
         _ => show::Format::Text,
     };
     let asked = WorldAsked {
         version: version_asked(given),
-        line,
+        line: line.flatten(),
         options: show::Options {
             format,
             files: given.get_flag("files"),
@@ -239,6 +277,63 @@ fn show_order<'a, 'm>(alloc: Global, given: &ArgMatches<'a>) -> Result<Order<'a,
         },
     };
     Ok(Order::Show(file_of(given), asked))
+}
+
+// What `vtree turns` is asked for.
+fn turns_order<'a, 'm>(alloc: Global, given: &ArgMatches<'a>) -> Result<Order<'a, 'm>, Fault>
+    ensures { IfErr result IsOfWords }
+{
+    let most = match given.get_str("most") {
+        Some(word) => word.parse::<u64>().ok(),
+        None => Some(MOST_ORDERS),
+    };
+    let Some(most) = most else {
+        return Err(refusal(alloc, NO_MOST));
+    };
+    let asked = OrdersAsked {
+        version: version_asked(given),
+        options: report::Options {
+            format: form_asked(given),
+            unborn: given.get_flag("unborn"),
+            most,
+        },
+    };
+    Ok(Order::Turns(file_of(given), asked))
+}
+
+// Whether each of the words has the form NAME=FILE.
+fn are_tasks(words: &[&str]) -> bool {
+    for word in words {
+        if !word.contains('=') {
+            return false;
+        }
+    }
+    true
+}
+
+// What `vtree from` is asked for.
+fn from_order<'a, 'm>(alloc: Global, given: &'m ArgMatches<'a>) -> Result<Order<'a, 'm>, Fault>
+    ensures { IfErr result IsOfWords }
+{
+    let tasks = given.get_strs("task").unwrap_or_default();
+    if !are_tasks(tasks) {
+        return Err(refusal(alloc, NO_TASK));
+    }
+    let checks = given.get_flag("check");
+    let kind = match given.get_str("KIND") {
+        Some("oci") => Kind::Oci,
+        _ => Kind::Mountinfo { checks },
+    };
+    let is_of_tables = matches!(kind, Kind::Mountinfo { .. });
+    if !is_of_tables && (checks || !tasks.is_empty()) {
+        return Err(refusal(alloc, OF_TABLES));
+    }
+    Ok(Order::From(Conversion {
+        kind,
+        file: file_of(given),
+        tasks,
+        script: given.get_str("output"),
+    }))
 }
 
 // The words, read by clap as those of a command.
@@ -267,6 +362,8 @@ fn command_named(name: &str) -> Option<CommandName> {
         "test" => Some(CommandName::Test),
         "show" => Some(CommandName::Show),
         "explain" => Some(CommandName::Explain),
+        "turns" => Some(CommandName::Turns),
+        "from" => Some(CommandName::From),
         "new" => Some(CommandName::New),
         "rules" => Some(CommandName::Rules),
         _ => None,
@@ -283,11 +380,16 @@ pub fn order_of<'a, 'm>(alloc: Global, matches: &'m ArgMatches<'a>) -> Result<Or
         return Err(Fault::Words(String::new(alloc)));
     };
     match command_named(name) {
-        Some(CommandName::Run) => Ok(Order::Run(version_asked(given), file_of(given))),
-        Some(CommandName::Check) => Ok(check_order(given)),
+        Some(CommandName::Run) => {
+            let version = version_asked(given).unwrap_or(Version::One);
+            Ok(Order::Run(version, file_of(given)))
+        }
+        Some(CommandName::Check) => check_order(alloc, given),
         Some(CommandName::Test) => test_order(alloc, given),
         Some(CommandName::Show) => show_order(alloc, given),
         Some(CommandName::Explain) => explain_order(alloc, given),
+        Some(CommandName::Turns) => turns_order(alloc, given),
+        Some(CommandName::From) => from_order(alloc, given),
         Some(CommandName::New) => Ok(Order::New(given.get_str("NAME"))),
         Some(CommandName::Rules) => Ok(Order::Rules {
             word: given.get_str("WORD"),

@@ -2,17 +2,27 @@
 ghost use Rattle.std.specs.Prelude.{◌≡◌, false, true, IfErr};
 ghost use Rattle.vt_run.specs.Status.{comes_before_output};
 
-use crate::tools::hand_on_text;
-use std::alloc::Global;
+use std::alloc::{AllocError, Global};
 use std::fs::File;
 use std::io::{self, Write};
 use std::rt::Files;
-use vt_cookbook::examples::{LIST, options_of, script_of};
+use vt_cookbook::examples::{LIST, meant, options_of, script_of};
+use vt_files::hand_on_text;
 use vt_run::fault::{Fault, out_of_memory};
 
-// That a word is the name of no example.
+// That a word is the name of no example, and which is like it.
+fn unknown_told(alloc: Global, name: &str) -> Result<String, AllocError> {
+    match meant(name) {
+        Some(other) => {
+            format!(in alloc; "no example `{name}`; `vtree new {other}` may be meant")
+        }
+        None => format!(in alloc; "no example `{name}`; `vtree new` lists them"),
+    }
+}
+
+// The fault of a word that is the name of no example.
 fn unknown(alloc: Global, name: &str) -> Fault {
-    match format!(in alloc; "no example `{name}`; `vtree new` lists them") {
+    match unknown_told(alloc, name) {
         Ok(text) => Fault::Words(text),
         Err(error) => out_of_memory(error),
     }

@@ -11,7 +11,8 @@ use vt_script::Version;
 /// The line that is explained, and how.
 #[derive(Clone, Copy)]
 pub struct LineAsked {
-    pub version: Version,
+    /// Of the script's language, unless its first line says so.
+    pub version: Option<Version>,
     /// Its number in the file, from 1.
     pub line: u64,
     pub format: Format,

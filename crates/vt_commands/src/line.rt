@@ -11,19 +11,29 @@ const ABOUT: &str =
 const STATUSES: &str = "Exit status:
   0  all is well; of run: all was read and answered, denials included
   1  something was found, a file cannot be read or written, or there was no memory at the start
-  2  the words are refused, or ask for help or the version";
+  2  the words are refused, or ask for help or the version; of turns: there are too many orders";
 
 // How an argument is written.
 #[derive(Clone, Copy)]
 enum Form {
     /// `-W`
     Letter(char),
+    /// `-o SCRIPT`
+    LetterWord(char, &'static str),
     /// `--write`
     Flag,
+    /// `--all`, which may not be left out.
+    RequiredFlag,
     /// `--at LINE`
     Word(&'static str),
-    /// `--script VERSION`, one of some words; the first where it is left out.
+    /// `--task NAME=FILE`, any number of times.
+    Words(&'static str),
+    /// `--format FORM`, one of some words; the first where it is left out.
     OneOf(&'static str, &'static [&'static str]),
+    /// `--script VERSION`, one of some words, or left out.
+    OneOrNone(&'static str, &'static [&'static str]),
+    /// `KIND`, one of some words.
+    Choice(&'static [&'static str]),
     /// `[NAME]`
     Optional,
     /// `FILE`
@@ -57,22 +67,34 @@ const FILE: Argument = Argument {
 const FILES: Argument = Argument {
     name: "FILE",
     form: Form::Several,
-    help: "The scripts; - is standard input",
+    help: "The scripts, or folders of which all .vt files are taken; - is standard input",
 };
 
-const SCRIPT: Argument = Argument {
+const RUN_SCRIPT: Argument = Argument {
     name: "script",
     form: Form::OneOf("VERSION", &["1", "2"]),
     help: "The version of the scripts' language; 2 has pivot_root and nosymfollow too",
 };
 
+const SCRIPT: Argument = Argument {
+    name: "script",
+    form: Form::OneOrNone("VERSION", &["1", "2"]),
+    help: "The version of the scripts' language; else that of a first line `#!.. --script 2`, or 1",
+};
+
+const TEXT_OR_JSON: Argument = Argument {
+    name: "format",
+    form: Form::OneOf("FORM", &["text", "json"]),
+    help: FORMAT,
+};
+
 const FORMAT: &str = "The form of what is written; json is one object a line";
 
-static COMMANDS: [Taking; 7] = [
+static COMMANDS: [Taking; 9] = [
     Taking {
         name: "run",
         about: "Answers each line of a script",
-        arguments: &[SCRIPT, FILE],
+        arguments: &[RUN_SCRIPT, FILE],
     },
     Taking {
         name: "check",
@@ -83,12 +105,13 @@ static COMMANDS: [Taking; 7] = [
                 form: Form::Letter('W'),
                 help: "Warnings are errors",
             },
-            SCRIPT,
             Argument {
-                name: "format",
-                form: Form::OneOf("FORM", &["text", "json"]),
-                help: FORMAT,
+                name: "most",
+                form: Form::Word("N"),
+                help: "The most findings of a file that are shown, or all; 50 where it is left out",
             },
+            SCRIPT,
+            TEXT_OR_JSON,
             FILES,
         ],
     },
@@ -100,6 +123,11 @@ static COMMANDS: [Taking; 7] = [
                 name: "write",
                 form: Form::Flag,
                 help: "Puts the given answers into the files",
+            },
+            Argument {
+                name: "verbose",
+                form: Form::Letter('v'),
+                help: "Tells of each file how many scripts pass",
             },
             SCRIPT,
             Argument {
@@ -132,7 +160,7 @@ static COMMANDS: [Taking; 7] = [
             SCRIPT,
             Argument {
                 name: "format",
-                form: Form::OneOf("FORM", &["text", "json", "dot"]),
+                form: Form::OneOf("FORM", &["text", "json", "dot", "mermaid"]),
                 help: FORMAT,
             },
             FILE,
@@ -143,16 +171,67 @@ static COMMANDS: [Taking; 7] = [
         about: "Explains why a line of a script is answered as it is",
         arguments: &[
             SCRIPT,
-            Argument {
-                name: "format",
-                form: Form::OneOf("FORM", &["text", "json"]),
-                help: FORMAT,
-            },
+            TEXT_OR_JSON,
             FILE,
             Argument {
                 name: "LINE",
                 form: Form::Required,
                 help: "The number of the line, from 1",
+            },
+        ],
+    },
+    Taking {
+        name: "turns",
+        about: "Tries the orders of lines in which tasks may run, and tells which answers differ",
+        arguments: &[
+            Argument {
+                name: "all",
+                form: Form::RequiredFlag,
+                help: "Every order that keeps the order of each task's lines",
+            },
+            Argument {
+                name: "unborn",
+                form: Form::Flag,
+                help: "Orders too in which a line comes before its task is born",
+            },
+            Argument {
+                name: "most",
+                form: Form::Word("N"),
+                help: "The most orders that are tried; 100000 where it is left out",
+            },
+            SCRIPT,
+            TEXT_OR_JSON,
+            FILE,
+        ],
+    },
+    Taking {
+        name: "from",
+        about: "Makes a script of a table of mounts, or of a container's configuration",
+        arguments: &[
+            Argument {
+                name: "task",
+                form: Form::Words("NAME=FILE"),
+                help: "Of mountinfo: the table of a further task; any number of times",
+            },
+            Argument {
+                name: "output",
+                form: Form::LetterWord('o', "SCRIPT"),
+                help: "The file that becomes the script; the standard output where it is left out",
+            },
+            Argument {
+                name: "check",
+                form: Form::Flag,
+                help: "Of mountinfo: runs the script, and tells what its mounts differ in from the tables",
+            },
+            Argument {
+                name: "KIND",
+                form: Form::Choice(&["mountinfo", "oci"]),
+                help: "What FILE holds: /proc/PID/mountinfo, or the config.json of an OCI bundle",
+            },
+            Argument {
+                name: "FILE",
+                form: Form::Required,
+                help: "The table or configuration; - is standard input",
             },
         ],
     },
@@ -196,8 +275,17 @@ fn argument_of<'a>(alloc: Global, argument: &Argument) -> Arg<'a> {
         Form::Letter(letter) => named(alloc, argument)
             .short(letter)
             .action(ArgAction::SetTrue),
+        Form::LetterWord(letter, word) => named(alloc, argument).short(letter).value_name(word),
         Form::Flag => named(alloc, argument).long(name).action(ArgAction::SetTrue),
+        Form::RequiredFlag => named(alloc, argument)
+            .long(name)
+            .action(ArgAction::SetTrue)
+            .required(true),
         Form::Word(word) => named(alloc, argument).long(name).value_name(word),
+        Form::Words(word) => named(alloc, argument)
+            .long(name)
+            .value_name(word)
+            .action(ArgAction::Append),
         Form::OneOf(word, words) => {
             let first = words.first().copied().unwrap_or_default();
             named(alloc, argument)
@@ -206,6 +294,11 @@ fn argument_of<'a>(alloc: Global, argument: &Argument) -> Arg<'a> {
                 .value_parser(words)
                 .default_value(first)
         }
+        Form::OneOrNone(word, words) => named(alloc, argument)
+            .long(name)
+            .value_name(word)
+            .value_parser(words),
+        Form::Choice(words) => named(alloc, argument).value_parser(words).required(true),
         Form::Optional => named(alloc, argument),
         Form::Required => named(alloc, argument).required(true),
         Form::Several => named(alloc, argument).required(true).num_args(1..),

@@ -2,11 +2,11 @@
 ghost use Rattle.std.specs.Prelude.{◌≡◌, true, IfErr};
 ghost use Rattle.vt_run.specs.Status.{comes_before_output};
 
-use crate::tools::hand_on_text;
 use std::alloc::{AllocError, Global};
 use std::io::Write;
-use vt_rule_pages::markdown;
+use vt_files::hand_on_text;
 use vt_rule_pages::told::{order, told};
+use vt_rule_pages::{markdown, meant};
 use vt_run::fault::{Fault, out_of_memory};
 
 // What is told: of a word, of all rules, or all rules as a page.
@@ -18,9 +18,21 @@ fn text_of(alloc: Global, word: Option<&str>, page: bool) -> Result<String, Allo
     }
 }
 
-// That a word is none of which something is told.
+// That a word is none of which something is told, and which is like it.
+fn unknown_told(alloc: Global, word: &str) -> Result<String, AllocError> {
+    match meant(alloc, word)? {
+        Some(name) => {
+            format!(in alloc; "no rule, error or call `{word}`; `vtree rules {name}` may be meant")
+        }
+        None => {
+            format!(in alloc; "no rule, error or call `{word}`; `vtree rules` has the rules")
+        }
+    }
+}
+
+// The fault of a word of which nothing is told.
 fn unknown(alloc: Global, word: &str) -> Fault {
-    match format!(in alloc; "no rule, error or call `{word}`; `vtree rules` has the rules") {
+    match unknown_told(alloc, word) {
         Ok(text) => Fault::Words(text),
         Err(error) => out_of_memory(error),
     }

@@ -2,27 +2,28 @@
 ghost use Rattle.std.specs.Prelude.{◌≡◌, false, IfErr};
 ghost use Rattle.vt_run.specs.Status.{comes_before_output};
 
-use crate::tools::{hand_on, readable, told};
-use std::alloc::AllocError;
+use crate::ended::no_task;
+use crate::noting::{ScriptRead, note_second};
 use std::io::Write;
 use std::rt::Files;
 use vt_calls::{Calls, Kernel};
+use vt_check::object::HEAD;
+use vt_files::{hand_on, readable, refuse_text, spoken, told};
 use vt_lines::reached::reached_before;
 use vt_run::fault::{Fault, out_of_memory};
 use vt_script::Version;
-use vt_show::show::{Options, show as show_world};
+use vt_show::show::{Format, Options, show as show_world};
 use vt_test::suite::{Script, scripts};
 
 /// The world that is shown, and how.
 #[derive(Clone, Copy)]
 pub struct WorldAsked<'a> {
-    pub version: Version,
+    /// Of the scripts' language, unless their first line says so.
+    pub version: Option<Version>,
     /// The line before which it is, by its number in the file, from 1; where there is none, it is the world at the end.
-    pub line: u64,
+    pub line: Option<u64>,
     pub options: Options<'a>,
 }
-
-const NO_TASK: &str = "there is no such task; without `--task` all are shown";
 
 /// The text of the script in which a line of the file is, the last one that begins before it, and how many lines of the
 /// file come before that; nothing where there is no such script.
@@ -36,25 +37,6 @@ pub fn script_at<'b>(all: &'b [Script<'_>], line: u64) -> (&'b [u8], u64) {
     found
 }
 
-/// Says on the error output what keeps a file from being shown.
-pub fn refuse<R: Eprint>(rt: &R, name: &str, why: &str) -> Fault
-    ensures { comes_before_output result ≡ false }
-{
-    let name = told(name);
-    let _ = eprintln!(rt; "vtree: {name}: {why}");
-    Fault::Found
-}
-
-/// Says on the error output what keeps a file from being shown, if there was memory for that.
-pub fn refuse_text<R: Eprint>(rt: &R, name: &str, why: Result<String, AllocError>) -> Fault
-    ensures { comes_before_output result ≡ false }
-{
-    match why {
-        Ok(why) => refuse(rt, name, why.as_str()),
-        Err(error) => out_of_memory(error),
-    }
-}
-
 /// Says on the error output how many lines were refused.
 pub fn count_refused<R: Eprint>(rt: &R, name: &str, refused: u64) {
     if refused > 0 {
@@ -65,28 +47,44 @@ pub fn count_refused<R: Eprint>(rt: &R, name: &str, refused: u64) {
     }
 }
 
+// What stands before all that is shown in this form.
+fn head_of(format: Format) -> &'static [u8] {
+    match format {
+        Format::Json => HEAD.as_bytes(),
+        Format::Text | Format::Dot | Format::Mermaid => &[],
+    }
+}
+
 // Shows the world that a run of the script has before a line.
 fn show_script<R: Eprint + AllocGlobal, W: Write>(
     rt: &R,
-    name: &str,
-    script: &[u8],
-    asked: WorldAsked<'_>,
+    script: ScriptRead<'_>,
+    line: u64,
+    options: Options<'_>,
     output: &mut W,
 ) -> Result<(), Fault>
     ensures { IfErr result (λ fault. comes_before_output fault ≡ false) }
 {
     let alloc = rt.alloc();
-    let reached = match reached_before::<Kernel>(asked.version, alloc, script, asked.line) {
+    let is_for_people = matches!(options.format, Format::Text);
+    note_second(rt, script, is_for_people, output)?;
+    let reached = match reached_before::<Kernel>(script.version, alloc, script.text, line) {
         Ok(reached) => reached,
         Err(fault) => return Err(Fault::Run(fault)),
     };
-    count_refused(rt, name, reached.refused);
+    count_refused(rt, script.name, reached.refused);
     let mut shown = Vec::new(alloc);
-    let outcome = show_world(alloc, reached.world.world(), asked.options, &mut shown);
+    let outcome = show_world(alloc, reached.world.world(), options, &mut shown);
     reached.world.end();
     match outcome {
-        Ok(true) => hand_on(output, shown.as_slice()),
-        Ok(false) => Err(refuse(rt, name, NO_TASK)),
+        Ok(true) => {
+            hand_on(output, head_of(options.format))?;
+            hand_on(output, shown.as_slice())
+        }
+        Ok(false) => {
+            let why = no_task(alloc, script, line, options);
+            Err(refuse_text(rt, script.name, why))
+        }
         Err(error) => Err(out_of_memory(error)),
     }
 }
@@ -107,6 +105,37 @@ pub fn scripts_in<'a, R: Eprint + AllocGlobal>(
     }
 }
 
+// How many lines a text has.
+fn lines_in(text: &[u8]) -> u64 {
+    let mut lines: u64 = 0;
+    for byte in text {
+        lines = lines.saturating_add(u64::from(*byte == b'\n'));
+    }
+    match text.last() {
+        None | Some(b'\n') => lines,
+        Some(_) => lines.saturating_add(1),
+    }
+}
+
+// Refuses a line that a file does not have.
+fn check_line<R: Eprint + AllocGlobal>(
+    rt: &R,
+    name: &str,
+    content: &[u8],
+    line: Option<u64>,
+) -> Result<(), Fault>
+    ensures { IfErr result (λ fault. comes_before_output fault ≡ false) }
+{
+    let last = lines_in(content);
+    match line {
+        Some(line) if line > last => {
+            let why = format!(in rt.alloc(); "there is no line {line}; the last one is {last}");
+            Err(refuse_text(rt, name, why))
+        }
+        _ => Ok(()),
+    }
+}
+
 // Shows a world of the content of a file.
 fn show_content<R: Eprint + AllocGlobal, W: Write>(
     rt: &R,
@@ -117,10 +146,21 @@ fn show_content<R: Eprint + AllocGlobal, W: Write>(
 ) -> Result<(), Fault>
     ensures { IfErr result (λ fault. comes_before_output fault ≡ false) }
 {
-    let all = scripts_in(rt, asked.version, name, content)?;
-    let (text, before) = script_at(all.as_slice(), asked.line);
-    let line = asked.line.saturating_sub(before);
-    let outcome = show_script(rt, name, text, WorldAsked { line, ..asked }, output);
+    check_line(rt, name, content, asked.line)?;
+    let Some(version) = spoken(rt, name, asked.version, content) else {
+        return Err(Fault::Found);
+    };
+    let all = scripts_in(rt, version, name, content)?;
+    let line = asked.line.unwrap_or(u64::MAX);
+    let (text, before) = script_at(all.as_slice(), line);
+    let line = line.saturating_sub(before);
+    let script = ScriptRead {
+        name,
+        version,
+        text,
+        before,
+    };
+    let outcome = show_script(rt, script, line, asked.options, output);
     drop(all);
     outcome
 }

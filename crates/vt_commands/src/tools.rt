@@ -1,96 +1,24 @@
 //! The commands that look at files of scripts before or after a run.
-ghost use Rattle.std.specs.Prelude.{◌≡◌, false, IfErr};
-ghost use Rattle.vt_run.specs.Status.{comes_before_output};
+ghost use Rattle.std.specs.Prelude.{◌≡◌, false, true, IfErr, IfOk};
+ghost use Rattle.vt_run.specs.Status.{comes_before_output, is_of_run};
 
+use crate::folders::{is_folder, scripts_below};
 use std::alloc::{AllocError, Global};
-use std::fs::{self, File};
-use std::io::{self, Read, Write};
-use std::rt::Files;
+use std::io::{self, Write};
+use std::rt::{Files, Runtime};
 use vt_calls::Kernel;
-use vt_check::check::{Options, check as check_script};
-use vt_run::fault::{Fault, out_of_memory};
+use vt_check::check;
+use vt_check::object::HEAD;
+use vt_files::{hand_on, readable, replace, spoken, told};
+use vt_run::fault::Fault;
 use vt_script::{RunFault, Version};
-use vt_test::test::{Format, Totals, begin, end, test_file};
+use vt_test::test::{Format, Totals, begin, end, test_file, unread_file};
 use vt_test::with_given_answers;
+use vt_wanted::header::version_of_file;
 
-const INPUT: &str = "standard input";
+const UNREAD: &str = "it cannot be read";
 
-/// The name of a file as it is told.
-pub fn told(name: &str) -> &str {
-    if name == "-" { INPUT } else { name }
-}
-
-// The content of a file, or of the standard input where its name is `-`.
-fn content<R: Files + Input + AllocGlobal>(rt: &R, name: &str) -> io::Result<Vec<u8>> {
-    if name != "-" {
-        return fs::read(rt, name);
-    }
-    let mut bytes = Vec::new(rt.alloc());
-    rt.reader().read_to_end(&mut bytes)?;
-    Ok(bytes)
-}
-
-/// The content of a file, or nothing where it cannot be read, which is said on the error output.
-pub fn readable<R: Files + Input + Eprint + AllocGlobal>(rt: &R, name: &str) -> Option<Vec<u8>> {
-    match content(rt, name) {
-        Ok(bytes) => Some(bytes),
-        Err(cause) => {
-            let name = told(name);
-            let _ = eprintln!(rt;
-                "vtree: cannot read {name}: {cause}; check its name, and that you may read it"
-            );
-            None
-        }
-    }
-}
-
-/// Hands a text on to the output.
-pub fn hand_on<W: Write>(output: &mut W, text: &[u8]) -> Result<(), Fault>
-    ensures { IfErr result (λ fault. comes_before_output fault ≡ false) }
-{
-    match output.write_all(text) {
-        Ok(()) => Ok(()),
-        Err(cause) => Err(Fault::Write { cause }),
-    }
-}
-
-/// Hands a text on to the output, if there was memory for it.
-pub fn hand_on_text<W: Write>(text: Result<String, AllocError>, output: &mut W) -> Result<(), Fault>
-    ensures { IfErr result (λ fault. comes_before_output fault ≡ false) }
-{
-    match text {
-        Ok(text) => hand_on(output, text.as_bytes()),
-        Err(error) => Err(out_of_memory(error)),
-    }
-}
-
-// Writes a new file beside one, with its permissions, and puts it into its place.
-fn replace<R: Files + AllocGlobal>(rt: &R, name: &str, text: &[u8]) -> io::Result<()> {
-    let whole = fs::canonicalize(rt, name)?;
-    let whole = whole.as_str();
-    let beside = format!(in rt.alloc(); "{whole}.vtree-new")?;
-    let beside = beside.as_str();
-    let mut file = File::create_new(rt, beside)?;
-    let written = fill(rt, &mut file, whole, beside, text);
-    if written.is_err() {
-        let _ = fs::remove_file(rt, beside);
-    }
-    written
-}
-
-// Writes the text into a new file, and puts it into the place of the old one.
-fn fill<R: Files + AllocGlobal>(
-    rt: &R,
-    file: &mut R::File,
-    name: &str,
-    beside: &str,
-    text: &[u8],
-) -> io::Result<()> {
-    file.write_all(text)?;
-    let permissions = fs::metadata(rt, name)?.permissions();
-    fs::set_permissions(rt, beside, permissions)?;
-    fs::rename(rt, beside, name)
-}
+const NO_VERSION: &str = "its first line names a version that does not exist";
 
 // Says on the error output what keeps a file from being written, if there was memory for that.
 fn refuse_writing<R: Eprint + AllocGlobal>(
@@ -129,11 +57,56 @@ fn write_file<R: Files + Input + Eprint + AllocGlobal>(
 #[derive(Clone, Copy)]
 pub enum Job {
     /// Tells what is wrong with its lines.
-    Check(Options),
-    /// Runs its scripts, and tells where their answers are not those that they want.
-    Test(Version, Format),
+    Check {
+        format: check::Format,
+        strict: bool,
+        most: usize,
+    },
+    /// Runs its scripts, and tells where their answers are not those that they want. How many pass may be told of each
+    /// file.
+    Test {
+        format: Format,
+        tells_all: bool,
+    },
     /// Puts the answers that are given into it, through a new file beside it.
-    Write(Version),
+    Write,
+}
+
+/// What is done with each file, and in which version of the language its scripts are. Where none is asked for, their first
+/// lines may name one.
+#[derive(Clone, Copy)]
+pub struct Work {
+    pub version: Option<Version>,
+    pub job: Job,
+}
+
+// Counts the scripts of a file.
+fn count(totals: &mut Totals, more: Totals) {
+    totals.passed = totals.passed.saturating_add(more.passed);
+    totals.failed = totals.failed.saturating_add(more.failed);
+}
+
+// Appends what `test` says of a file whose scripts are not run, and why; it counts as one that fails.
+fn pass_over(
+    alloc: Global,
+    name: &str,
+    why: &str,
+    job: Job,
+    totals: &mut Totals,
+    text: &mut Vec<u8>,
+) -> io::Result<bool> {
+    if let Job::Test { format, .. } = job {
+        count(totals, unread_file(alloc, told(name), why, format, text)?);
+    }
+    Ok(true)
+}
+
+// The version in which a file is read; of one that names none `check` tells itself.
+fn version_of<R: Eprint>(rt: &R, name: &str, content: &[u8], work: Work) -> Option<Version> {
+    match work.job {
+        Job::Check { .. } => Some(version_of_file(work.version, content)),
+        Job::Test { .. } | Job::Write => spoken(rt, name, work.version, content),
+    }
 }
 
 // Checks, tests or rewrites a file: appends what is to be said of it, and returns whether something was found.
@@ -141,20 +114,38 @@ fn work_on<R: Files + Input + Eprint + AllocGlobal>(
     rt: &R,
     name: &str,
     content: &[u8],
-    job: Job,
+    work: Work,
     totals: &mut Totals,
     text: &mut Vec<u8>,
 ) -> io::Result<bool> {
     let (alloc, file) = (rt.alloc(), told(name));
-    match job {
-        Job::Check(options) => check_script(alloc, file, content, options, text),
-        Job::Test(version, format) => {
-            let of_file = test_file::<Kernel, _>(version, alloc, file, content, format, text)?;
-            totals.passed = totals.passed.saturating_add(of_file.passed);
-            totals.failed = totals.failed.saturating_add(of_file.failed);
-            Ok(of_file.failed > 0)
+    let Some(version) = version_of(rt, name, content, work) else {
+        return pass_over(alloc, name, NO_VERSION, work.job, totals, text);
+    };
+    match work.job {
+        Job::Check {
+            format,
+            strict,
+            most,
+        } => {
+            let options = check::Options {
+                version,
+                format,
+                strict,
+                most,
+            };
+            check::check(alloc, file, content, options, text)
         }
-        Job::Write(version) => {
+        Job::Test { format, tells_all } => {
+            let tested = test_file::<Kernel, _>(version, alloc, file, content, format, text)?;
+            count(totals, tested);
+            let Totals { passed, failed } = tested;
+            if tells_all {
+                writeln!(text, "{file}: {passed} passed, {failed} failed")?;
+            }
+            Ok(failed > 0)
+        }
+        Job::Write => {
             let Some(changes) = write_file(rt, version, name, content) else {
                 return Ok(true);
             };
@@ -168,24 +159,60 @@ fn work_on<R: Files + Input + Eprint + AllocGlobal>(
 fn work_on_named<R: Files + Input + Eprint + AllocGlobal, W: Write>(
     rt: &R,
     name: &str,
-    job: Job,
+    work: Work,
     totals: &mut Totals,
     text: &mut Vec<u8>,
     output: &mut W,
 ) -> Result<bool, Fault>
     ensures { IfErr result (λ fault. comes_before_output fault ≡ false) }
 {
-    let Some(content) = readable(rt, name) else {
-        return Ok(true);
+    let outcome = match readable(rt, name) {
+        Some(content) => work_on(rt, name, content.as_slice(), work, totals, text),
+        None => pass_over(rt.alloc(), name, UNREAD, work.job, totals, text),
     };
-    let outcome = work_on(rt, name, content.as_slice(), job, totals, text);
-    drop(content);
     let Ok(is_bad) = outcome else {
         return Err(Fault::Run(RunFault::Memory));
     };
     hand_on(output, text.as_slice())?;
     text.clear();
     Ok(is_bad)
+}
+
+// Checks, tests or rewrites the scripts of a folder, and returns whether something was found.
+fn work_on_folder<R: Runtime + AllocGlobal, W: Write>(
+    rt: &R,
+    folder: &str,
+    work: Work,
+    totals: &mut Totals,
+    text: &mut Vec<u8>,
+    output: &mut W,
+) -> Result<bool, Fault>
+    ensures { IfErr result (λ fault. comes_before_output fault ≡ false) }
+{
+    let Some(names) = scripts_below(rt, folder) else {
+        return Ok(true);
+    };
+    let mut found = names.is_empty();
+    for name in &names {
+        found |= work_on_named(rt, name.as_str(), work, totals, text, output)?;
+    }
+    Ok(found)
+}
+
+// Appends what is said before all files.
+fn begin_all(job: Job, text: &mut Vec<u8>) -> io::Result<()> {
+    match job {
+        Job::Check {
+            format: check::Format::Json,
+            ..
+        }
+        | Job::Test {
+            format: Format::Json,
+            ..
+        } => text.write_all(HEAD.as_bytes()),
+        Job::Test { format, .. } => begin(format, text),
+        Job::Check { .. } | Job::Write => Ok(()),
+    }
 }
 
 // Hands on what is to be said of all files, and tells whether something was found.
@@ -197,22 +224,24 @@ fn finish<W: Write>(
     text: &mut Vec<u8>,
     output: &mut W,
 ) -> Result<(), Fault>
-    ensures { IfErr result (λ fault. comes_before_output fault ≡ false) }
+    ensures output { IfErr result (λ fault. comes_before_output fault ≡ false) }
+    ensures found { IfOk result (λ done. found ≡ false) }
+    ensures run { IfErr result (λ fault. found ≡ false → is_of_run fault ≡ true) }
 {
-    if let Job::Test(_, format) = job {
-        if end(alloc, format, totals, text).is_err() {
-            return Err(Fault::Run(RunFault::Memory));
-        }
-        hand_on(output, text.as_slice())?;
+    if let Job::Test { format, .. } = job
+        && end(alloc, format, totals, text).is_err()
+    {
+        return Err(Fault::Run(RunFault::Memory));
     }
+    hand_on(output, text.as_slice())?;
     if found { Err(Fault::Found) } else { Ok(()) }
 }
 
 // Checks, tests or rewrites these files, with one text for what is to be said of each.
-fn work_through<R: Files + Input + Eprint + AllocGlobal, W: Write>(
+fn work_through<R: Runtime + AllocGlobal, W: Write>(
     rt: &R,
     files: &[&str],
-    job: Job,
+    work: Work,
     text: &mut Vec<u8>,
     output: &mut W,
 ) -> Result<(), Fault>
@@ -220,28 +249,30 @@ fn work_through<R: Files + Input + Eprint + AllocGlobal, W: Write>(
 {
     let mut totals = Totals::new();
     let mut found = false;
-    if let Job::Test(_, format) = job
-        && begin(format, text).is_err()
-    {
+    if begin_all(work.job, text).is_err() {
         return Err(Fault::Run(RunFault::Memory));
     }
     for name in files {
-        found |= work_on_named(rt, name, job, &mut totals, text, output)?;
+        found |= if is_folder(rt, name) {
+            work_on_folder(rt, name, work, &mut totals, text, output)?
+        } else {
+            work_on_named(rt, name, work, &mut totals, text, output)?
+        };
     }
-    finish(rt.alloc(), job, totals, found, text, output)
+    finish(rt.alloc(), work.job, totals, found, text, output)
 }
 
-/// Checks, tests or rewrites these files, and tells what it finds.
-pub fn work_on_all<R: Files + Input + Eprint + AllocGlobal, W: Write>(
+/// Checks, tests or rewrites these files, and the scripts of these folders, and tells what it finds.
+pub fn work_on_all<R: Runtime + AllocGlobal, W: Write>(
     rt: &R,
     files: &[&str],
-    job: Job,
+    work: Work,
     output: &mut W,
 ) -> Result<(), Fault>
     ensures { IfErr result (λ fault. comes_before_output fault ≡ false) }
 {
     let mut text = Vec::new(rt.alloc());
-    let outcome = work_through(rt, files, job, &mut text, output);
+    let outcome = work_through(rt, files, work, &mut text, output);
     drop(text);
     outcome
 }

@@ -16,9 +16,11 @@ mod pods_share_a_volume;
 mod private_volume;
 mod release_and_service;
 mod replace_by_rename;
+mod replaced_while_opened;
 mod runc_pivot;
 mod runc_root;
 mod sandbox;
+mod sealed_sandbox;
 mod secret_file;
 mod slave_root;
 mod sticky_tmp;
@@ -47,17 +49,19 @@ sandbox                a sandbox of a build tool\n\
 release-and-service    a release behind a symlink\n\
 image-build            an image build\n\
 replace-by-rename      a file replaced without a gap\n\
+replaced-while-opened  a file is replaced while another task opens it, in every order (vtree turns --all)\n\
 volume-propagation     propagation of a Kubernetes volume\n\
 private-volume         Docker's private volumes\n\
 slave-root             runc's slaves\n\
 image-layer            a layer of an image, unpacked: whiteouts and opaque directories\n\
 image-of-three-layers  what a read-only container sees of three layers\n\
 two-users-of-an-image  who may read what an image holds\n\
+sealed-sandbox         whether a sandbox is sealed off from the host, and what unseals it (version 2)\n\
 denials                each kind of denial\n\
 ";
 
 // Their names.
-static NAMES: [&str; 26] = [
+static NAMES: [&str; 28] = [
     "docker-volumes",
     "pods-share-a-volume",
     "runc-pivot",
@@ -77,12 +81,14 @@ static NAMES: [&str; 26] = [
     "release-and-service",
     "image-build",
     "replace-by-rename",
+    "replaced-while-opened",
     "volume-propagation",
     "private-volume",
     "slave-root",
     "image-layer",
     "image-of-three-layers",
     "two-users-of-an-image",
+    "sealed-sandbox",
     "denials",
 ];
 
@@ -108,13 +114,15 @@ fn script_at(place: usize) -> Option<&'static str> {
         16 => Some(release_and_service::SCRIPT),
         17 => Some(image_build::SCRIPT),
         18 => Some(replace_by_rename::SCRIPT),
-        19 => Some(volume_propagation::SCRIPT),
-        20 => Some(private_volume::SCRIPT),
-        21 => Some(slave_root::SCRIPT),
-        22 => Some(image_layer::SCRIPT),
-        23 => Some(image_of_three_layers::SCRIPT),
-        24 => Some(two_users_of_an_image::SCRIPT),
-        25 => Some(denials::SCRIPT),
+        19 => Some(replaced_while_opened::SCRIPT),
+        20 => Some(volume_propagation::SCRIPT),
+        21 => Some(private_volume::SCRIPT),
+        22 => Some(slave_root::SCRIPT),
+        23 => Some(image_layer::SCRIPT),
+        24 => Some(image_of_three_layers::SCRIPT),
+        25 => Some(two_users_of_an_image::SCRIPT),
+        26 => Some(sealed_sandbox::SCRIPT),
+        27 => Some(denials::SCRIPT),
         _ => None,
     }
 }
@@ -129,10 +137,20 @@ pub fn script_of(name: &str) -> Option<&'static str> {
     None
 }
 
+/// The first example, in the order of the cookbook, whose name begins with this text.
+pub fn meant(text: &str) -> Option<&'static str> {
+    for name in &NAMES {
+        if name.starts_with(text) {
+            return Some(*name);
+        }
+    }
+    None
+}
+
 /// The options by which the example of this name is read, with a space behind them.
 pub fn options_of(name: &str) -> &'static str {
     match name {
-        "runc-pivot" | "bwrap-pivots" | "nspawn-pivot" => "--script 2 ",
+        "runc-pivot" | "bwrap-pivots" | "nspawn-pivot" | "sealed-sandbox" => "--script 2 ",
         _ => "",
     }
 }

@@ -62,7 +62,7 @@ fn push_outcome(
     outcome: &Outcome,
     shares: &[Share],
 ) {
-    let mut object = Object::new(asked.alloc);
+    let mut object = Object::of_kind(asked.alloc, "outcome");
     object.put_text("script", asked.name);
     object.put_number("orders", outcome.orders);
     object.put("answers", answers_of(asked, outcomes, outcome));
@@ -83,7 +83,7 @@ pub fn push_orders(
     for (outcome, shares) in outcomes.outcomes.iter().zip(schedules) {
         push_outcome(text, asked, outcomes, outcome, shares.as_slice());
     }
-    let mut object = Object::new(asked.alloc);
+    let mut object = Object::of_kind(asked.alloc, "orders");
     object.put_text("script", asked.name);
     object.put_number("orders", outcomes.orders);
     object.put_number("outcomes", outcomes.outcomes.len() as u64);

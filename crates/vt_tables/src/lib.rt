@@ -12,5 +12,5 @@ mod staging;
 mod tables;
 
 pub use building::{Converted, script_of};
-pub use comparing::differences;
+pub use comparing::{Compared, differences};
 pub use tables::Tables;

@@ -6,11 +6,13 @@ use std::alloc::{AllocError, Global};
 use std::io::Write;
 use std::rt::Files;
 use vt_calls::{Calls, Kernel};
+use vt_check::check::Format;
+use vt_check::object::HEAD;
 use vt_commands::{
-    Explainer, Fault, LineAsked, count_refused, hand_on_text, readable, refuse_text, script_at,
-    scripts_in,
+    Explainer, Fault, LineAsked, ScriptRead, count_refused, note_second, script_at, scripts_in,
 };
 use vt_explain::{Numbered, explain, is_spoken, line_at, nearest_call};
+use vt_files::{hand_on, hand_on_text, readable, refuse_text, spoken};
 use vt_lines::reached::reached_before;
 use vt_run::fault::out_of_memory;
 
@@ -24,21 +26,25 @@ fn no_call(alloc: Global, line: u64, nearest: Option<u64>) -> Result<String, All
     }
 }
 
-// A script of a file that is explained.
+// A line of a script that is explained.
 #[derive(Clone, Copy)]
 struct Explained<'a> {
-    // The name of the file.
-    name: &'a str,
-    script: &'a [u8],
-    // How many lines of the file come before it.
-    before: u64,
+    script: ScriptRead<'a>,
     asked: LineAsked,
 }
 
 impl Explained<'_> {
     // The number of the line in the script.
     fn number(&self) -> u64 {
-        self.asked.line.saturating_sub(self.before)
+        self.asked.line.saturating_sub(self.script.before)
+    }
+}
+
+// What stands before what is told in this form.
+fn head_of(format: Format) -> &'static [u8] {
+    match format {
+        Format::Json => HEAD.as_bytes(),
+        Format::Text => &[],
     }
 }
 
@@ -52,21 +58,19 @@ fn explain_call<R: Eprint + AllocGlobal, W: Write>(
     ensures { IfErr result (λ fault. comes_before_output fault ≡ false) }
 {
     let alloc = rt.alloc();
-    let LineAsked {
-        version,
-        format,
-        ..
-    } = explained.asked;
+    let (script, format) = (explained.script, explained.asked.format);
+    note_second(rt, script, matches!(format, Format::Text), output)?;
     let number = explained.number();
-    let mut reached = match reached_before::<Kernel>(version, alloc, explained.script, number) {
+    let mut reached = match reached_before::<Kernel>(script.version, alloc, script.text, number) {
         Ok(reached) => reached,
         Err(fault) => return Err(Fault::Run(fault)),
     };
-    let told = explain(version, alloc, &mut reached.world, line, format);
+    let told = explain(script.version, alloc, &mut reached.world, line, format);
     let refused = reached.refused;
     reached.world.end();
     if told.is_ok() {
-        count_refused(rt, explained.name, refused);
+        count_refused(rt, script.name, refused);
+        hand_on(output, head_of(format))?;
     }
     hand_on_text(told, output)
 }
@@ -76,12 +80,12 @@ fn refuse_line<R: Eprint + AllocGlobal>(rt: &R, explained: &Explained<'_>) -> Fa
     ensures { comes_before_output result ≡ false }
 {
     let alloc = rt.alloc();
-    let LineAsked { version, line, .. } = explained.asked;
-    let nearest = match nearest_call(version, alloc, explained.script, explained.number()) {
-        Some(nearest) => Some(nearest.saturating_add(explained.before)),
+    let (script, line) = (explained.script, explained.asked.line);
+    let nearest = match nearest_call(script.version, alloc, script.text, explained.number()) {
+        Some(nearest) => Some(nearest.saturating_add(script.before)),
         None => None,
     };
-    refuse_text(rt, explained.name, no_call(alloc, line, nearest))
+    refuse_text(rt, script.name, no_call(alloc, line, nearest))
 }
 
 // Explains a line of a script.
@@ -93,9 +97,9 @@ fn explain_script<R: Eprint + AllocGlobal, W: Write>(
     ensures { IfErr result (λ fault. comes_before_output fault ≡ false) }
 {
     let alloc = rt.alloc();
-    let LineAsked { version, line, .. } = explained.asked;
-    match line_at(alloc, explained.script, explained.number()) {
-        Ok(Some((before, text))) if is_spoken(version, alloc, text) => {
+    let (script, line) = (explained.script, explained.asked.line);
+    match line_at(alloc, script.text, explained.number()) {
+        Ok(Some((before, text))) if is_spoken(script.version, alloc, text) => {
             let line = Numbered {
                 number: line,
                 text,
@@ -118,14 +122,18 @@ fn explain_content<R: Eprint + AllocGlobal, W: Write>(
 ) -> Result<(), Fault>
     ensures { IfErr result (λ fault. comes_before_output fault ≡ false) }
 {
-    let all = scripts_in(rt, asked.version, name, content)?;
-    let (script, before) = script_at(all.as_slice(), asked.line);
-    let explained = Explained {
-        name,
-        script,
-        before,
-        asked,
+    let Some(version) = spoken(rt, name, asked.version, content) else {
+        return Err(Fault::Found);
     };
+    let all = scripts_in(rt, version, name, content)?;
+    let (text, before) = script_at(all.as_slice(), asked.line);
+    let script = ScriptRead {
+        name,
+        version,
+        text,
+        before,
+    };
+    let explained = Explained { script, asked };
     let outcome = explain_script(rt, &explained, output);
     drop(all);
     outcome

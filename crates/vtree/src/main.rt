@@ -21,9 +21,10 @@ fn main(rt: HostRuntime) -> ExitCode {
         },
         Err(fault) => Err(fault),
     };
-    // A fault of the error output changes nothing more.
+    // A fault of the error output changes nothing more. Of a reader of the answers that went away nothing is said.
     let _ = match &outcome {
         Ok(()) | Err(Fault::Found) => Ok(()),
+        Err(Fault::Write { cause }) if cause.kind() == io::ErrorKind::BrokenPipe => Ok(()),
         Err(Fault::Help(text)) => print!(rt; "{text}"),
         Err(fault) => eprintln!(rt; "vtree: {fault}"),
     };

@@ -2,6 +2,7 @@
 
 /// The script.
 pub static SCRIPT: &str = "\
+#!/usr/bin/env -S vtree test --script 2\n\
 # In version 2 (`--script 2`). bwrap --ro-bind /usr /usr --tmpfs /tmp --dir /etc, which changes its root twice. The first\n\
 # pivot makes a tmpfs the root, with the host's root at `oldroot`: what is bound from there into `newroot` may stand\n\
 # anywhere. The second makes `newroot` the root.\n\

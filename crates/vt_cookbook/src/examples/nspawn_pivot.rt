@@ -2,6 +2,7 @@
 
 /// The script.
 pub static SCRIPT: &str = "\
+#!/usr/bin/env -S vtree test --script 2\n\
 # In version 2 (`--script 2`). systemd-nspawn: all mounts become slaves, the tree of the container is bound onto itself and\n\
 # becomes the root by pivot_root(\".\", \".\"), the old root is unmounted lazily, and what is left becomes shared. Where the\n\
 # kernel refuses the pivot, as on a rootfs, the tree is moved to `/` instead: `nspawn.vt`.\n\

@@ -2,6 +2,7 @@
 
 /// The script.
 pub static SCRIPT: &str = "\
+#!/usr/bin/env -S vtree test --script 2\n\
 # In version 2 (`--script 2`). How runc makes a root: all mounts become slaves, the mount of the bundle private, and the\n\
 # bundle is bound onto itself and filled. After pivot_root(\".\", \".\") the old root stands on top of the new one, and is\n\
 # unmounted from there, lazily. runc goes back to it by a descriptor; here the way is down into a directory and up again.\n\

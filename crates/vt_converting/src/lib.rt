@@ -1,0 +1,10 @@
+//! What a system has, read from files, becomes a script: the command `vtree from`.
+#![tactic(auto)]
+
+mod bundles;
+mod conversion;
+mod reading;
+mod tables;
+mod telling;
+
+pub use conversion::{Conversion, Kind, convert};
