@@ -21,6 +21,8 @@ pub enum Tool {
     Show(Version, ShowOptions<'static>),
     /// The last line of a script in this version of its language is explained.
     Explain(Version, ExplainFormat),
+    /// The same, but the cause alone is compared.
+    Cause(Version),
 }
 
 impl Tool {
@@ -40,6 +42,16 @@ impl Tool {
                 }
             }
             Tool::Explain(version, format) => return explained(version, alloc, script, format),
+            Tool::Cause(version) => {
+                let told = explained(version, alloc, script, ExplainFormat::Text)?;
+                let told = str::from_utf8(told.as_slice()).unwrap_or_default();
+                for line in told.lines() {
+                    if let Some(cause) = line.strip_prefix("  cause        ") {
+                        text.extend_from_slice(cause.as_bytes())?;
+                        text.push(b'\n')?;
+                    }
+                }
+            }
         }
         Ok(text)
     }

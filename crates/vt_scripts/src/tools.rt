@@ -3,12 +3,19 @@
 
 use crate::cases::{Tool, check as check_cases};
 use crate::files;
-use anyhow::Result;
+use anyhow::{Result, bail};
+use std::fs;
 use std::rt::Runtime;
 use vt_check::check;
+use vt_check::report::MOST_SHOWN;
 use vt_explain::Format;
+use vt_rule_pages::pages::{RULES, page_of};
 use vt_script::Version;
 use vt_show::show;
+use vt_spec::errors::Rule;
+
+// The folders of the causes of all rules, in either version of the language.
+const CAUSES: [&str; 2] = ["tools/causes", "tools/causes-2"];
 
 // How the scripts of a folder are checked.
 fn checked(version: Version, format: check::Format, strict: bool) -> Tool {
@@ -16,6 +23,7 @@ fn checked(version: Version, format: check::Format, strict: bool) -> Tool {
         version,
         format,
         strict,
+        most: MOST_SHOWN,
     })
 }
 
@@ -34,6 +42,27 @@ fn check_folder<R: Runtime + AllocGlobal>(rt: &R, folder: &str, tool: Tool) -> R
     for file in &files(rt, folder, "")? {
         let count = check_cases(rt, file.as_str(), tool)?;
         println!(rt; "{file}: {count} texts")?;
+    }
+    Ok(())
+}
+
+// An error if no case shows the cause of a rule that answers in this version: its name begins the case's.
+fn check_causes<R: Runtime + AllocGlobal>(rt: &R) -> Result<()> {
+    let alloc = rt.alloc();
+    let mut cases = String::new(alloc);
+    for folder in CAUSES {
+        cases.push_str(fs::read_to_string(
+            rt,
+            format!(in alloc; "{folder}/rules")?.as_str(),
+        )?.as_str())?;
+    }
+    for rule in RULES {
+        let name = rule.name();
+        let title = format!(in alloc; "== {name}: ")?;
+        let answers = !page_of(rule).calls.is_empty() && rule != Rule::S5;
+        if answers && !cases.as_str().contains(title.as_str()) {
+            bail!("{name}: no case shows its cause");
+        }
     }
     Ok(())
 }
@@ -78,6 +107,10 @@ pub fn check_all<R: Runtime + AllocGlobal>(rt: &R) -> Result<()> {
             shown(Version::One, show::Format::Dot, false, None),
         ),
         (
+            "tools/show-mermaid",
+            shown(Version::One, show::Format::Mermaid, false, None),
+        ),
+        (
             "tools/show-task",
             shown(Version::One, show::Format::Text, true, Some("t.1")),
         ),
@@ -87,9 +120,11 @@ pub fn check_all<R: Runtime + AllocGlobal>(rt: &R) -> Result<()> {
             "tools/explain-json",
             Tool::Explain(Version::One, Format::Json),
         ),
+        (CAUSES[0], Tool::Cause(Version::One)),
+        (CAUSES[1], Tool::Cause(Version::Two)),
     ];
     for (folder, tool) in tools {
         check_folder(rt, folder, tool)?;
     }
-    Ok(())
+    check_causes(rt)
 }

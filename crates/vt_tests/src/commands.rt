@@ -31,7 +31,7 @@ fn owned(alloc: Global, words: &[&str]) -> Result<Vec<String>, AllocError> {
 }
 
 // Words that are faults, the status of each, and its text.
-const FAULTS: [(&[&str], u8, &str); 10] = [
+const FAULTS: [(&[&str], u8, &str); 14] = [
     (
         &["vtree", "chek", "a"],
         2,
@@ -58,14 +58,34 @@ const FAULTS: [(&[&str], u8, &str); 10] = [
         "the following required arguments were not provided: <FILE>; `vtree --help` says what it takes",
     ),
     (
+        &["vtree", "turns", "a"],
+        2,
+        "the following required arguments were not provided: --all; `vtree --help` says what it takes",
+    ),
+    (
+        &["vtree", "turns", "--all", "--most", "few", "a"],
+        2,
+        "`--most` takes a number of orders; `vtree --help` says what it takes",
+    ),
+    (
+        &["vtree", "from", "oci", "--check", "a"],
+        2,
+        "`--task` and `--check` are of `mountinfo` alone; `vtree --help` says what it takes",
+    ),
+    (
+        &["vtree", "from", "mountinfo", "--task", "web", "a"],
+        2,
+        "`--task` takes NAME=FILE, the table of mounts of a further task; `vtree --help` says what it takes",
+    ),
+    (
         &["vtree", "run", "a", "b"],
         2,
         "unexpected argument 'b' found; `vtree --help` says what it takes",
     ),
     (
-        &["vtree", "frob"],
+        &["vtree", "quux"],
         2,
-        "unrecognized subcommand 'frob'; `vtree --help` says what it takes",
+        "unrecognized subcommand 'quux'; `vtree --help` says what it takes",
     ),
     (&["vtree", "--version"], 2, "vtree 0.4.0\n"),
     (
@@ -128,7 +148,17 @@ const NOSYMFOLLOW: &str = "t mkdir /a\nt mount plain /a ro,nosymfollow\n";
 
 const WANTED: &str = "# one\nt ls / => ok a\n";
 
-static CASES: [Case; 11] = [
+const RACE: &str = "t mkdir /d\nt fork\nt ls /\nt.1 mkdir /x\n";
+
+const AGREEING: &str = "t mkdir /d\nt fork\nt.1 stat /d\nt stat /d\n";
+
+const SECOND: &str =
+    "#!/usr/bin/env -S vtree run --script 2\nt mkdir /a\nt mount plain /a ro,nosymfollow\n";
+
+const TABLE: &str =
+    "22 1 0:20 / / rw shared:1 - tmpfs a rw\n23 22 0:21 / /mnt ro shared:2 - tmpfs b rw\n";
+
+static CASES: [Case; 20] = [
     Case {
         file: "t mkdir /d\nt ls /\n",
         words: &["vtree", "run"],
@@ -205,6 +235,73 @@ static CASES: [Case; 11] = [
         status: 0,
         written: Written::End(": 1 answers written\n"),
         left: "# one\nt ls / => ok\n",
+    },
+    Case {
+        file: SECOND,
+        words: &["vtree", "check"],
+        status: 0,
+        written: Written::Whole(""),
+        left: SECOND,
+    },
+    Case {
+        file: SECOND,
+        words: &["vtree", "run"],
+        status: 0,
+        written: Written::Whole("2 ok\n3 deny 22 EINVAL S1\n"),
+        left: SECOND,
+    },
+    Case {
+        file: SECOND,
+        words: &["vtree", "show", "--at", "4"],
+        status: 1,
+        written: Written::Whole(""),
+        left: SECOND,
+    },
+    Case {
+        file: RACE,
+        words: &["vtree", "turns", "--all"],
+        status: 1,
+        written: Written::End(
+            ": 2 orders, 2 outcomes\n2 were tried\n2 left out, where a line comes before its task is born\n\n\
+             OUTCOME 1 of 1 order\n3: t ls / => ok d\norder: 1 2 3 4\nschedule: t t t t t.1 t.1\n\n\
+             OUTCOME 2 of 1 order\n3: t ls / => ok d x\norder: 1 2 4 3\nschedule: t t t t.1 t.1 t\n",
+        ),
+        left: RACE,
+    },
+    Case {
+        file: RACE,
+        words: &["vtree", "turns", "--all", "--most", "1"],
+        status: 2,
+        written: Written::Whole(""),
+        left: RACE,
+    },
+    Case {
+        file: RACE,
+        words: &["vtree", "turns", "--all", "--unborn"],
+        status: 1,
+        written: Written::Part(": 4 orders, "),
+        left: RACE,
+    },
+    Case {
+        file: AGREEING,
+        words: &["vtree", "turns", "--all", "--format", "json"],
+        status: 0,
+        written: Written::Part("\"orders\":2,\"outcomes\":1,\"script\""),
+        left: AGREEING,
+    },
+    Case {
+        file: TABLE,
+        words: &["vtree", "from", "mountinfo", "--check"],
+        status: 0,
+        written: Written::End(":\nequal\n"),
+        left: TABLE,
+    },
+    Case {
+        file: "{}",
+        words: &["vtree", "from", "oci"],
+        status: 1,
+        written: Written::Whole(""),
+        left: "{}",
     },
 ];
 
