@@ -13,6 +13,7 @@ users   files of eight users, made, linked, renamed, written and read by descrip
 links   files that are made, linked, renamed, read by descriptor and removed through chains of up to 40 links
 mounts  binds, moves and unmounts in a namespace of some 4,000 mounts, and files written and read through them
 spaces  200 namespaces of 20 mounts each: unshared, entered and left, with mounts of their own in between
+sealed  the same namespaces, then for each in turn whether its task is sealed off
 received60, received600, received2000
         one mount and its unmount, which so many namespaces receive, and files read on a copy
 services60, services600, services2000
@@ -202,11 +203,14 @@ def mounts_round(i, count):
 SPACES = 200
 
 
-def spaces(lines):
+SPACES_MADE = 38 + 10 + 2 * SPACES
+
+
+def spaces_made(names):
+    """The namespaces, each with a task of its own."""
     for i in range(19):
         yield f't mkdir /m{i}'
         yield f't mount plain /m{i}'
-    names = []
     for i in range(10):
         yield 't fork'
         for k in range(SPACES // 10):
@@ -214,7 +218,19 @@ def spaces(lines):
             names.append(f't.{i + 1}.{k + 1}')
     for name in names:
         yield f'{name} unshare'
-    yield from rounds(lines - 38 - 10 - 2 * SPACES, SPACES, lambda i, count: spaces_round(i, names))
+
+
+def spaces(lines):
+    names = []
+    yield from spaces_made(names)
+    yield from rounds(lines - SPACES_MADE, SPACES, lambda i, count: spaces_round(i, names))
+
+
+def sealed(lines):
+    names = []
+    yield from spaces_made(names)
+    for i in range(lines - SPACES_MADE):
+        yield f'! sealed {names[i % SPACES]}'
 
 
 def spaces_round(i, names):
@@ -535,7 +551,7 @@ def stacks(lines):
 
 KINDS = {
     'files': files, 'listed': listed, 'escaped': escaped, 'deep': deep, 'one': one, 'users': users, 'links': links, 'mounts': mounts,
-    'spaces': spaces,
+    'spaces': spaces, 'sealed': sealed,
     'received60': lambda lines: received(lines, 60), 'received600': lambda lines: received(lines, 600),
     'received2000': lambda lines: received(lines, 2000),
     'services60': lambda lines: services(lines, 60), 'services600': lambda lines: services(lines, 600),
