@@ -1,0 +1,10 @@
+pub mod Chains
+pub mod Endings
+pub mod FilesWalked
+pub mod ForkRules
+pub mod LeftToRight
+pub mod Refused
+pub mod RoutesAdded
+pub mod RoutesWalked
+pub mod Searched
+pub mod WordsWalked

@@ -1,0 +1,16 @@
+use Rattle.std.proofs.Common.{◌≡◌, nat_eq}
+use Rattle.vt_spec.specs.Machine.Walking.{symlink_walked}
+use Rattle.vt_tasks.specs.TaskValue.{task_of}
+use Rattle.vt_steps.specs.StepsValue.{here_of}
+use Rattle.vt_steps.proofs.LeftToRight.{walked_on}
+use Rattle.vt_steps.proofs.words.+words_walked.Given as goal
+
+abbrev pub decreases-words_walked : goal.decreases-words_walked
+decreases-words_walked g l = l.depth
+
+abbrev pub invariant-loop-word : goal.invariant-loop-word
+invariant-loop-word g l =
+    walked_on (g.L.Look.looks l.world) (task_of l.who)
+    (symlink_walked nat_eq l.depth (g.L.Look.looks l.world) (task_of l.who)) (here_of l.here) l.words
+    ≡ walked_on (g.L.Look.looks l.world) (task_of l.who)
+    (symlink_walked nat_eq l.depth (g.L.Look.looks l.world) (task_of l.who)) (here_of l.fn.start) l.fn.words

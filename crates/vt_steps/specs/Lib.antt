@@ -1,0 +1,2 @@
+pub mod RouteValue
+pub mod StepsValue
