@@ -1,5 +1,5 @@
-//! Overlays with an upper layer: the kernel's overlayfs document. No merged tree is kept: a node is named by where it was
-//! born, also after it was copied up, and what it is is looked up in the trees of the layers.
+//! Overlays with an upper layer: the kernel's overlayfs document. No merged tree is kept. A node is named by where it
+//! was born, also after it was copied up, and its inode is looked up in the trees of the layers.
 #![tactic(auto)]
 
 mod laws;

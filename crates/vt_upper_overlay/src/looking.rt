@@ -36,8 +36,8 @@ impl UpperOverlay {
         Some(self.node_for(root.filesystem, root))
     }
 
-    /// The inode of the real object of a node that is there. Owner, group, mode, kind and content are the node's; entries
-    /// and the parent are those of one layer. No way is looked for, and it does not allocate.
+    /// The inode of the real object of a node that is there. Owner, group, mode, kind and content are the node's;
+    /// entries and the parent are those of one layer. No way is looked for, and it does not allocate.
     pub fn inode<'a>(&self, trees: &'a Filesystems, node: NodeRef) -> Option<&'a Node>
         requires standing { StandsAbove trees.now self.now }
         requires own { node.filesystem ≡ self.now.layers.number }
@@ -49,9 +49,9 @@ impl UpperOverlay {
         real_of(trees, real)
     }
 
-    /// The way to a directory of the overlay: the names that lead to it from the root, found by going up in the layer in
-    /// which its object is. There is none to a node that is no directory, or that the layers do not show. It does not
-    /// allocate.
+    /// The way to a directory of the overlay: the names that lead to it from the root, found by going up in the layer
+    /// in which its object is. There is none to a node that is no directory, or that the layers do not show. It does
+    /// not allocate.
     pub fn way<'a>(&self, trees: &'a Filesystems, node: NodeRef) -> Option<WayDown<'a>>
         requires standing { StandsAbove trees.now self.now }
         requires own { node.filesystem ≡ self.now.layers.number }
@@ -62,8 +62,8 @@ impl UpperOverlay {
         self.layers.way(trees, through)
     }
 
-    /// What a name of a node that is there leads to; what is no directory, or is kept without a name, has no names. It does
-    /// not allocate. Where the highest layer with the directory has the name, no way is looked for.
+    /// What a name of a node that is there leads to; what is no directory, or is kept without a name, has no names. It
+    /// does not allocate. Where the highest layer with the directory has the name, no way is looked for.
     pub fn entry<'a>(&self, trees: &'a Filesystems, node: NodeRef, name: &[u8]) -> Option<Entry<'a>>
         requires standing { StandsAbove trees.now self.now }
         requires own { node.filesystem ≡ self.now.layers.number }
@@ -163,7 +163,8 @@ impl UpperOverlay {
         }
     }
 
-    /// Whether a directory other than the root has no name; what is no directory counts as removed. It does not allocate.
+    /// Whether a directory other than the root has no name; what is no directory counts as removed. It does not
+    /// allocate.
     pub fn is_removed(&self, trees: &Filesystems, directory: NodeRef) -> bool
         requires standing { StandsAbove trees.now self.now }
         requires own { directory.filesystem ≡ self.now.layers.number }

@@ -11,8 +11,9 @@ use vt_location::{Birth, FilesystemId, InodeRef, NodeRef};
 use vt_overlay::{LayerRef, Real};
 
 impl UpperOverlay {
-    /// The real object of a node that is there, found without a way: in the upper layer if the node was born there or
-    /// copied up, else in the layer in which it was born. It takes one hash, and none for what was born above.
+    /// The real object of a node that is there, found without a way. It is in the upper layer if the node was born
+    /// there or copied up, else in the layer in which it was born. It takes one hash, and none for what was born
+    /// above.
     pub fn real(&self, node: NodeRef) -> Option<Real>
         ensures value { result ≡ real_at self.now node }
         ensures small { is_small_node node ≡ true }
@@ -54,8 +55,8 @@ impl UpperOverlay {
         self.nodes.kept.has(node)
     }
 
-    // The node of what the layers show: in the upper layer the node whose copy it is, or one that was born there. Given is
-    // the node that it would be if the upper layer were the highest lower one.
+    // The node of what the layers show: in the upper layer the node whose copy it is, or one that was born there.
+    // Given is the node that it would be if the upper layer were the highest lower one.
     pub(crate) fn node_for(&self, overlay: FilesystemId, node: NodeRef) -> NodeRef
         requires own { overlay ≡ self.now.layers.number }
         ensures value { result ≡ node_for self.now node.slot node.birth }
